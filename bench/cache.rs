@@ -62,19 +62,19 @@ struct Entry {
     older: u32,
 }
 
-struct Cache {
+pub struct Cache {
     pages: Vec<AtlasAllocator>,
     numbers: HashMap<u32, u32, BuildHasherDefault<Folded>>,
     entries: Vec<Entry>,
     unused: Vec<u32>,
     newest: u32,
     oldest: u32,
-    frame: u64,
-    answers: Answers,
+    pub frame: u64,
+    pub answers: Answers,
 }
 
 impl Cache {
-    fn new() -> Cache {
+    pub fn new() -> Cache {
         Cache {
             pages: Vec::new(),
             numbers: HashMap::default(),
@@ -117,7 +117,7 @@ impl Cache {
     }
 
     /// Whether the key is known; it is used in this frame then.
-    fn get(&mut self, key: u32) -> bool {
+    pub fn get(&mut self, key: u32) -> bool {
         self.answers.calls += 1;
         let Some(&number) = self.numbers.get(&key) else {
             self.answers.add(u64::MAX);
@@ -131,9 +131,8 @@ impl Cache {
     }
 
     /// Adds a key that isn't known, if there is room for it.
-    fn insert(&mut self, key: u32) {
+    pub fn insert(&mut self, key: u32, size: Size) {
         self.answers.calls += 1;
-        let size = size_of(key);
         let asked = size2(size.width + 2 * PADDING, size.height + 2 * PADDING);
         loop {
             let granted = (self.pages.iter_mut().enumerate())
@@ -195,7 +194,7 @@ pub fn run(calls: u32) -> Answers {
             cache.frame += 1;
         }
         if let Some(key) = wanted.take() {
-            cache.insert(key);
+            cache.insert(key, size_of(key));
             continue;
         }
         let key = key_of(next_rank(&mut random));

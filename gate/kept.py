@@ -60,6 +60,7 @@ def take(name, path):
 def keep(name, path):
     """Keeps a file or a folder under a name: copied apart and then renamed, so that no other run meets half of it. Where there is no room
     for it nothing is kept."""
+    path = pathlib.Path(path)
     if has(name):
         return
     with contextlib.suppress(OSError):

@@ -440,6 +440,12 @@ export interface Sheet extends Size {
  */
 export function pack(sprites: Iterable<Size>, options?: SheetOptions): Sheet | null;
 
+/**
+ * The sheet of `pack`, or one with fewer pixels, in which no whole cuts part the sprites and none is turned: each, the highest first,
+ * lies as high up as it can, and there as far left. Never one with more pixels. Takes longer. Throws as `pack`.
+ */
+export function packDense(sprites: Iterable<Size>, options?: SheetOptions): Sheet | null;
+
 /** Where a sprite lies on one of several sheets: the number of the sheet, counted from 0, and its place there. */
 export interface OnPage extends Placed {
   page: number;

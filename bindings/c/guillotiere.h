@@ -3,8 +3,9 @@
  * An atlas is one large rectangle, often a texture, that hands out boxes and takes them back. A simple allocator hands
  * out boxes and takes none back. A cache keeps rectangles under keys in the pages of a texture array, and tells what its
  * caller has to do to the textures. guillotiere_pack takes sprites that all are known beforehand and packs them into one
- * small sheet, guillotiere_pack_pages into several, and guillotiere_fill as many of them as one sheet takes; these need no
- * handle. Lengths and coordinates are in pixels, areas in unit squares; y grows downwards.
+ * small sheet, guillotiere_pack_dense into one that is as a rule smaller, guillotiere_pack_pages into several, and
+ * guillotiere_fill as many of them as one sheet takes; these need no handle. Lengths and coordinates are in pixels, areas in
+ * unit squares; y grows downwards.
  *
  * Handles. A handle is a place for an allocator, which its owner keeps:
  *
@@ -566,6 +567,12 @@ uint32_t guillotiere_cache_statistics(const guillotiere_cache *cache, guillotier
  * GREAT_SPRITE, and then `sprite` has the number of the sprite, counted from 0, and is else as before; MEMORY. */
 uint32_t guillotiere_pack(const guillotiere_size *sprites, size_t sprites_len, const guillotiere_sheet_options *options,
                           guillotiere_placed *places, size_t places_len, guillotiere_size *size, size_t *sprite);
+
+/* Packs as guillotiere_pack, and then tries smaller sheets of those allowed, in which no whole cuts part the sprites: each
+ * sprite, the highest first, as high up as it can lie, and there as far left. The sheet never has more pixels than that of
+ * guillotiere_pack; in one that has fewer no sprite is turned. It takes longer. All else as guillotiere_pack. */
+uint32_t guillotiere_pack_dense(const guillotiere_size *sprites, size_t sprites_len, const guillotiere_sheet_options *options,
+                                guillotiere_placed *places, size_t places_len, guillotiere_size *size, size_t *sprite);
 
 /* Packs all sprites into as few sheets as are found: into the greatest of those allowed what guillotiere_fill places there,
  * then the same with the sprites that are left, and the last of them into as small a sheet as guillotiere_pack finds. With

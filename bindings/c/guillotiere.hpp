@@ -596,26 +596,46 @@ inline status refused(std::uint32_t answer, std::size_t number, std::size_t *bad
 
 } // namespace detail
 
-// Packs all sprites into the smallest allowed sheet that is found; nothing where not even the greatest took them all. After
-// status::empty_sprite and status::great_sprite `bad` has the number of the sprite, if it isn't null; so in the calls below.
-inline result<std::optional<sheet>> pack(const size *sprites, std::size_t count, const sheet_options &with,
-                                         std::size_t *bad = nullptr) {
+namespace detail {
+
+// The sheet that one of the two calls for a whole sheet finds.
+template <class Call>
+inline result<std::optional<sheet>> packed_by(Call call, const size *sprites, std::size_t count, const sheet_options &with,
+                                              std::size_t *bad) {
     const size none{};
     std::size_t number = 0;
     sheet made{{}, std::vector<placed>(count + 1)};
-    const auto asked = detail::asked(with);
-    const auto answer = guillotiere_pack(count == 0 ? &none : sprites, count, &asked, made.places.data(), count, &made.size,
-                                         &number);
+    const auto options = asked(with);
+    const auto answer = call(count == 0 ? &none : sprites, count, &options, made.places.data(), count, &made.size, &number);
     if (answer == GUILLOTIERE_DONE) {
         made.places.resize(count);
         return std::optional<sheet>(std::move(made));
     }
     if (answer == GUILLOTIERE_NO_ROOM) return std::optional<sheet>();
-    return detail::refused(answer, number, bad);
+    return refused(answer, number, bad);
+}
+
+} // namespace detail
+
+// Packs all sprites into the smallest allowed sheet that is found; nothing where not even the greatest took them all. After
+// status::empty_sprite and status::great_sprite `bad` has the number of the sprite, if it isn't null; so in the calls below.
+inline result<std::optional<sheet>> pack(const size *sprites, std::size_t count, const sheet_options &with,
+                                         std::size_t *bad = nullptr) {
+    return detail::packed_by(guillotiere_pack, sprites, count, with, bad);
 }
 inline result<std::optional<sheet>> pack(const std::vector<size> &sprites, const sheet_options &with,
                                          std::size_t *bad = nullptr) {
     return pack(sprites.data(), sprites.size(), with, bad);
+}
+
+// The sheet of `pack`, or one with fewer pixels in which no whole cuts part the sprites and none is turned; never one with more.
+inline result<std::optional<sheet>> pack_dense(const size *sprites, std::size_t count, const sheet_options &with,
+                                               std::size_t *bad = nullptr) {
+    return detail::packed_by(guillotiere_pack_dense, sprites, count, with, bad);
+}
+inline result<std::optional<sheet>> pack_dense(const std::vector<size> &sprites, const sheet_options &with,
+                                               std::size_t *bad = nullptr) {
+    return pack_dense(sprites.data(), sprites.size(), with, bad);
 }
 
 // Packs all sprites into as few sheets as are found, each but the last the greatest that is allowed; nothing where a sprite is

@@ -454,16 +454,25 @@ static void add_placed(const guillotiere_placed *it) {
     add(it->turned);
 }
 
-static void pack(void) {
+static void pack_by(uint32_t (*packing)(const guillotiere_size *, size_t, const guillotiere_sheet_options *, guillotiere_placed *,
+                                       size_t, guillotiere_size *, size_t *)) {
     const asked it = some_sprites();
     guillotiere_size size = {7, 7};
     guillotiere_placed places[SPRITES];
     size_t sprite = 7;
     for (uint32_t i = 0; i < SPRITES; i++) places[i] = unplaced;
-    add(guillotiere_pack(it.sprites, it.count, &it.options, places, it.room, &size, &sprite));
+    add(packing(it.sprites, it.count, &it.options, places, it.room, &size, &sprite));
     add_size(&size);
     add_wide(sprite);
     for (uint32_t i = 0; i < SPRITES; i++) add_placed(&places[i]);
+}
+
+static void pack(void) {
+    pack_by(guillotiere_pack);
+}
+
+static void pack_dense(void) {
+    pack_by(guillotiere_pack_dense);
 }
 
 /* Greatest sides so small that many sprites need several sheets. */
@@ -509,6 +518,7 @@ static const struct {
     {10, make_simple},    {20, start_simple_again}, {40, grow_simple},  {100, describe_simple}, {900, insert},
     {700, ask_cache},     {80, let_go},           {100, next_frame},    {80, describe_cache}, {6, make_cache},
     {8, pack},           {30, know_cache},        {4, pack_pages},      {4, fill},
+    {4, pack_dense},
 };
 
 static void any_call(void) {

@@ -150,7 +150,8 @@ static void reserve(void) {
 
 /* Each request of a packing is refused in turn: it is answered, or done without; then nothing is written, and nothing is
  * lost. */
-static void pack(void) {
+static void pack(uint32_t (*packing)(const guillotiere_size *, size_t, const guillotiere_sheet_options *, guillotiere_placed *,
+                                     size_t, guillotiere_size *, size_t *)) {
     guillotiere_size sprites[40], size;
     guillotiere_sheet_options options = GUILLOTIERE_DEFAULT_SHEET_OPTIONS;
     guillotiere_placed places[40], untouched[40];
@@ -168,7 +169,7 @@ static void pack(void) {
             memcpy(untouched, places, sizeof places);
             size.width = 77;
             left = nth;
-            const uint32_t status = guillotiere_pack(sprites, 40, &options, places, 40, &size, &sprite);
+            const uint32_t status = packing(sprites, 40, &options, places, 40, &size, &sprite);
             left = -1;
             CHECK(blocks == before && sprite == 99);
             CHECK(status == GUILLOTIERE_DONE || status == GUILLOTIERE_MEMORY);
@@ -268,7 +269,8 @@ static void caches(void) {
 int main(void) {
     caches();
     reserve();
-    pack();
+    pack(guillotiere_pack);
+    pack(guillotiere_pack_dense);
     pages_and_fill();
     for (long nth = 0;; nth++) {
         guillotiere_atlas atlas = GUILLOTIERE_NONE, copy = GUILLOTIERE_NONE;

@@ -115,6 +115,20 @@ static void sheets_of_sprites() {
     CHECK(pack(sprites, with).error() == status::bad_call);
 }
 
+static void sheets_without_whole_cuts() {
+    const std::vector<size> sprites = {{4, 2}, {10, 6}, {4, 2}, {6, 4}};
+    auto made = pack_dense(sprites, sheet_options::of_squares(1, 64));
+    CHECK(made && *made && (*made)->size.width == 10 && (*made)->size.height == 10 && (*made)->places.size() == 4);
+    CHECK((*made)->places[2].area.min_x == 6 && (*made)->places[2].area.min_y == 8);
+    made = pack_dense(sprites, sheet_options::of_squares(1, 9));
+    CHECK(made && !*made);
+    made = pack_dense(nullptr, 0, sheet_options::of_squares(2, 9));
+    CHECK(made && *made && (*made)->size.width == 2 && (*made)->places.empty());
+    std::size_t bad = 77;
+    CHECK(pack_dense(sprites, sheet_options::of_squares(9, 8), &bad).error() == status::empty_range && bad == 77);
+    CHECK(pack_dense({{3, 5}, {0, 5}}, sheet_options(), &bad).error() == status::empty_sprite && bad == 1);
+}
+
 static void several_sheets() {
     const std::vector<size> sprites = {{4, 4}, {4, 4}, {4, 4}, {4, 4}, {4, 4}};
     const auto with = sheet_options::of_squares(1, 8);
@@ -197,6 +211,7 @@ int main() {
     blank_keys();
     caches();
     sheets_of_sprites();
+    sheets_without_whole_cuts();
     several_sheets();
     makes();
     moves();

@@ -18,9 +18,13 @@ static guillotiere_sheet_options options_of(uint32_t allowed) {
     return options;
 }
 
+/* The call that is tested: guillotiere_pack, and then guillotiere_pack_dense, which keeps to the same. */
+static uint32_t (*packing)(const guillotiere_size *, size_t, const guillotiere_sheet_options *, guillotiere_placed *, size_t,
+                           guillotiere_size *, size_t *);
+
 static uint32_t pack(const guillotiere_size *sprites, size_t count, const guillotiere_sheet_options *options, size_t room,
                      written *into) {
-    return guillotiere_pack(sprites, count, options, into->places, room, &into->size, &into->sprite);
+    return packing(sprites, count, options, into->places, room, &into->size, &into->sprite);
 }
 
 static bool is_at(const guillotiere_placed *placed, int32_t x, int32_t y, int32_t width, int32_t height) {
@@ -236,6 +240,48 @@ static void ends_of_ranges(void) {
     CHECK(is_at(&into.places[0], 65535, 65535, INT32_MAX - 131070, 1));
 }
 
+/* By height these come as 10 x 6, 6 x 4, 4 x 2 and 4 x 2. Each as high up as it can lie they fill 10 x 10. In 9 x 9 there is no
+ * room for the first. */
+static void by_height(void) {
+    const guillotiere_size sprites[] = {{4, 2}, {10, 6}, {4, 2}, {6, 4}};
+    guillotiere_sheet_options options = options_of(GUILLOTIERE_SQUARES);
+    written into;
+    CHECK(pack(sprites, 4, &options, 4, &into) == GUILLOTIERE_DONE && into.size.width == 10 && into.size.height == 10);
+    CHECK(is_at(&into.places[1], 0, 0, 10, 6) && is_at(&into.places[3], 0, 6, 6, 4));
+    CHECK(is_at(&into.places[0], 6, 6, 4, 2) && is_at(&into.places[2], 6, 8, 4, 2));
+    options.greatest = 9;
+    refused(GUILLOTIERE_NO_ROOM, sprites, 4, &options, 4, SIZE_MAX);
+}
+
+static int64_t pixels_by(const guillotiere_size *sprites, size_t count, const guillotiere_sheet_options *options) {
+    guillotiere_placed places[ROOM];
+    guillotiere_size size;
+    size_t sprite;
+    CHECK(packing(sprites, count, options, places, ROOM, &size, &sprite) == GUILLOTIERE_DONE);
+    return (int64_t)size.width * size.height;
+}
+
+/* A dense sheet has no more pixels than that of guillotiere_pack, and mostly fewer. */
+static void never_larger(void) {
+    uint32_t state = 5, fewer = 0;
+    for (uint32_t round = 0; round < 40; round++) {
+        guillotiere_size sprites[ROOM];
+        guillotiere_sheet_options options = options_of(round % 2 ? GUILLOTIERE_SQUARES : GUILLOTIERE_HEIGHTS);
+        const size_t count = 60 + next(&state) % (ROOM - 60);
+        for (size_t i = 0; i < count; i++)
+            sprites[i] = (guillotiere_size){4 + (int32_t)(next(&state) % 40), 4 + (int32_t)(next(&state) % 40)};
+        options.width = 512;
+        options.turn = round / 2 % 2;
+        packing = guillotiere_pack;
+        const int64_t plain = pixels_by(sprites, count, &options);
+        packing = guillotiere_pack_dense;
+        const int64_t dense = pixels_by(sprites, count, &options);
+        CHECK(dense <= plain);
+        fewer += dense < plain;
+    }
+    CHECK(fewer >= 20);
+}
+
 /* What a packing into several sheets and a filling write, with as much room as `room` says. */
 typedef struct {
     guillotiere_on_page places[ROOM];
@@ -380,7 +426,8 @@ static void bad_calls_of_both(void) {
     both_refuse(GUILLOTIERE_EMPTY_ALIGNMENT, sprites, 2, &options, 2, SIZE_MAX);
 }
 
-int main(void) {
+/* What both calls for one sheet keep to. */
+static void one_sheet(void) {
     one_sprite();
     one_size();
     two_sprites();
@@ -389,6 +436,15 @@ int main(void) {
     bad_options();
     bad_sprites();
     ends_of_ranges();
+}
+
+int main(void) {
+    packing = guillotiere_pack;
+    one_sheet();
+    packing = guillotiere_pack_dense;
+    one_sheet();
+    by_height();
+    never_larger();
     five_sprites();
     too_large_sprite();
     random_pages();

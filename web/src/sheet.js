@@ -58,11 +58,16 @@ export function refused(status, words, bad) {
   return failure(code, code.endsWith('_SPRITE') ? { sprite: words[bad >>> 2] >>> 0 } : undefined);
 }
 
-export function pack(sprites, given) {
+/** The sheet that a call finds. */
+export function packedBy(call, sprites, given) {
   const { runtime, many, at, places, told, bad } = written(sprites, given, 5);
-  const status = runtime.calls.pack(at, many, runtime.at, places, many, told, bad);
+  const status = runtime.calls[call](at, many, runtime.at, places, many, told, bad);
   const words = runtime.words();
   if (status === DONE) return { ...reading.size(words, told >>> 2), places: reading.list(words, places >>> 2, many, 5, placed) };
   if (status === NO_ROOM) return null;
   throw refused(status, words, bad);
+}
+
+export function pack(sprites, given) {
+  return packedBy('pack', sprites, given);
 }

@@ -5,7 +5,7 @@ import { test } from 'node:test';
 import * as wollemigo from '../node.js';
 import { refused, simpleState, stateOf } from './support.js';
 
-const { Atlas, MOST_SLOTS, SimpleAtlas, TextureCache, fill, pack, packPages } = wollemigo;
+const { Atlas, MOST_SLOTS, SimpleAtlas, TextureCache, fill, pack, packDense, packPages } = wollemigo;
 await wollemigo.load();
 
 function box(x, y, width, height) {
@@ -131,6 +131,17 @@ test('sheets that were worked by hand', () => {
   assert.deepEqual(pack([]), { width: 1, height: 1, places: [] });
 });
 
+test('a sheet with no whole cuts', () => {
+  // By height they come as 10 x 6, 6 x 4, 4 x 2 and 4 x 2.
+  const sprites = [[4, 2], [10, 6], [4, 2], [6, 4]].map(([width, height]) => ({ width, height }));
+  const places = [[6, 6, 4, 2], [0, 0, 10, 6], [6, 8, 4, 2], [0, 6, 6, 4]].map((each) => ({ ...box(...each), turned: false }));
+  assert.deepEqual(packDense(sprites), { width: 10, height: 10, places });
+  assert.equal(packDense(sprites, { sheets: { kind: 'squares', greatest: 9 } }), null);
+  assert.deepEqual(packDense([]), { width: 1, height: 1, places: [] });
+  const turned = { turn: true, sheets: { kind: 'size', width: 8, height: 4 } };
+  assert.deepEqual(packDense([{ width: 4, height: 8 }], turned), { width: 8, height: 4, places: [{ ...box(0, 0, 8, 4), turned: true }] });
+});
+
 test('several sheets, and one that is filled', () => {
   const four = { width: 4, height: 4 };
   const sheets = { kind: 'squares', greatest: 8 };
@@ -160,9 +171,9 @@ test('bad sheets', () => {
     [{ padding: 65536 }, 'BAD_CALL'],
   ];
   for (const [options, code] of cases) {
-    for (const call of [pack, packPages, fill]) refused(() => call(sprites.slice(0, 1), options), code, code);
+    for (const call of [pack, packDense, packPages, fill]) refused(() => call(sprites.slice(0, 1), options), code, code);
   }
-  for (const call of [packPages, fill]) assert.equal(refused(() => call(sprites), 'EMPTY_SPRITE', 'empty').sprite, 1);
+  for (const call of [packDense, packPages, fill]) assert.equal(refused(() => call(sprites), 'EMPTY_SPRITE', 'empty').sprite, 1);
 });
 
 test('the seed and the effort of a sheet', () => {

@@ -5,7 +5,7 @@ import { test } from 'node:test';
 import * as wollemigo from '../node.js';
 import { NO_GIVEN_NUMBERS, NO_NUMBERS, cacheState, named, refused, simpleState, stateOf } from './support.js';
 
-const { Atlas, SimpleAtlas, TextureCache, fill, pack, packPages } = wollemigo;
+const { Atlas, SimpleAtlas, TextureCache, fill, pack, packDense, packPages } = wollemigo;
 await wollemigo.load();
 const NO_LENGTHS = [...NO_NUMBERS, 2 ** 31];
 const NO_COUNTS = [...NO_NUMBERS, -1];
@@ -91,7 +91,7 @@ test('numbers of a sheet', () => {
     refused(() => pack(sprites, { sheets }), 'BAD_OPTION', JSON.stringify(sheets));
   }
   for (const value of [null, undefined, 5, {}, { length: 1, 0: sprites[0] }]) {
-    for (const call of [pack, packPages, fill]) refused(() => call(value), 'BAD_OPTION', named(value));
+    for (const call of [pack, packDense, packPages, fill]) refused(() => call(value), 'BAD_OPTION', named(value));
   }
 });
 

@@ -9,6 +9,7 @@ ghost use Rattle.atlas_model.specs.States.{live_in, used_in, started, after_free
 ghost use Rattle.atlas_store.specs.Visits.{AreFreeAreas, free_areas};
 ghost use Rattle.atlas_store.specs.Slots.{nodes};
 ghost use Rattle.atlas_store.specs.Stored.{state_of};
+ghost use Rattle.atlas_store.specs.Store.Holdings.{shelf_of};
 ghost use Rattle.atlas_model.specs.Changes.{only};
 ghost use Rattle.atlas_model.specs.Laws.TreeLaws.{is_among};
 ghost use Rattle.atlas_store.specs.Batches.{AreLiveOnce};
@@ -29,16 +30,12 @@ use atlas_model::{
     AllocId, Allocation, AllocatorOptions, AtlasError, ChangeList, DEFAULT_OPTIONS, MOST_SLOTS,
     Rectangle, Size, SlotCount,
 };
-use atlas_store::search::bands::Scale;
-use atlas_store::search::table::Table;
-use atlas_store::slots::batch::are_named_once;
+use atlas_search::link::{Link, NO_SLOT};
+use atlas_store::slots::NodeKind;
 use atlas_store::slots::walks::{named_slot, slot_number};
-use atlas_store::slots::{Link, NO_SLOT, NodeKind};
 use atlas_store::store::Store;
-use atlas_store::store::turns::Turns;
 use atlas_tree::freeing::free_leaf;
 use atlas_tree::growth::{grow_tree, grow_whole, growth_for, slots_for};
-use atlas_tree::requests::make_room;
 use std::alloc::{Allocator, Global};
 use std::marker::Model;
 use std::ops::Index;
@@ -59,16 +56,15 @@ pub struct AtlasAllocator<A: Allocator + Copy = Global> {
 }
 
 impl<A: Allocator + Copy> Model for AtlasAllocator<A> {
-    ghost use Rattle.std.specs.Prelude.{vec_capacity};
     ghost use Rattle.atlas_store.specs.Stored.{AtlasValue, IsAtlas};
-    ghost use Rattle.atlas_store.specs.Store.Holdings.{shelf_of};
+    ghost use Rattle.atlas_store.specs.Store.Holdings.{capacity_in, shelf_of, turns_in};
 
     ghost Value = { AtlasValue };
 
     ghost view = { λ a. record {
       stored = record { shelf = shelf_of a.store; first = a.first; used = a.used; size = a.size; limit = a.limit };
-      turns = a.store.turns.count;
-      capacity = vec_capacity a.store.slots;
+      turns = (turns_in a.store).count;
+      capacity = capacity_in a.store;
     } };
 
     ghost invariant = { λ a. IsAtlas
@@ -137,15 +133,7 @@ impl<A: Allocator + Copy> AtlasAllocator<A> {
         ensures turns { IfOk result (λ it. it.turns ≡ 0) }
         ensures sound { IfOk result (λ it. IsSound (state_of it)) }
     {
-        let none = Link::NONE;
-        let mut store = Store {
-            slots: Vec::with_capacity(alloc, 1)?,
-            lists: Table::new(alloc)?,
-            unused: none,
-            options: Scale::new(options),
-            turns: Turns::new(),
-        };
-        store.start(size, options);
+        let store = Store::new(alloc, size, options)?;
         Ok(AtlasAllocator {
             store,
             first: Link { number: 0 },
@@ -194,7 +182,7 @@ impl<A: Allocator + Copy> AtlasAllocator<A> {
     {
         SlotCount {
             used: self.used,
-            kept: self.store.slots.len() as u32,
+            kept: self.store.slots().len() as u32,
             limit: self.limit,
         }
     }
@@ -206,8 +194,9 @@ impl<A: Allocator + Copy> AtlasAllocator<A> {
         ensures within { IfSome result (λ rectangle. IsWithin (state_of self.now).size (box_of rectangle)) }
         ensures lies { IfSome result (LiesWithin (state_of self.now).size) }
     {
-        let at = named_slot(&self.store.slots, id)?;
-        Some(self.store.slots[at].node.area)
+        let slots = self.store.slots();
+        let at = named_slot(slots, id)?;
+        Some(slots[at].node.area)
     }
 
     /// Grants a request: the part of the rounded size at the `min` of the free rectangle that is picked. None if the
@@ -310,7 +299,7 @@ impl<A: Allocator + Copy> AtlasAllocator<A> {
         }
         let growth = growth_for(&self.store, self.first, self.size, new_size);
         let added = slots_for(&self.store, growth);
-        make_room(&mut self.store, self.used, self.limit, added)?;
+        self.store.make_room(self.used, self.limit, added)?;
         self.first = grow_tree(&mut self.store, self.first, growth);
         self.used += added;
         self.size = new_size;
@@ -357,8 +346,8 @@ impl<A: Allocator + Copy> AtlasAllocator<A> {
             (state_of self.old).limit) }
     {
         let order = self.refit_order()?;
-        let alloc = *self.store.slots.allocator();
-        let options = self.store.options.plain();
+        let alloc = self.store.allocator();
+        let options = self.store.options();
         let mut placed = AtlasAllocator::with_slot_limit(alloc, new_size, &options, self.limit)?;
         let list = refit(&mut placed, order)?;
         self.become_like(placed);
@@ -388,10 +377,7 @@ impl<A: Allocator + Copy> AtlasAllocator<A> {
             size,
             limit,
         } = other;
-        self.store.slots = store.slots;
-        self.store.lists = store.lists;
-        self.store.unused = store.unused;
-        self.store.options = store.options;
+        self.store.replace(store);
         (self.first, self.used) = (first, used);
         (self.size, self.limit) = (size, limit);
     }
@@ -409,7 +395,7 @@ impl<A: Allocator + Copy> AtlasAllocator<A> {
         ensures frame { KeepsFrame (state_of self.old) (state_of self.new) }
     {
         let size = self.size;
-        let options = self.store.options.plain();
+        let options = self.store.options();
         self.restart(size, &options);
         Ok(())
     }
@@ -488,7 +474,7 @@ impl<A: Allocator + Copy> AtlasAllocator<A> {
         ensures same { self.new ≡ self.old }
         ensures sound { IsSound (state_of self.old) }
     {
-        are_named_once(&mut self.store.slots, ids)
+        self.store.are_named_once(ids)
     }
 
     // Whether an id is live.
@@ -496,7 +482,7 @@ impl<A: Allocator + Copy> AtlasAllocator<A> {
         ensures live { IsTrue result ↔ IsLive (state_of self.now) id }
         ensures sound { IsSound (state_of self.now) }
     {
-        named_slot(&self.store.slots, id).is_some()
+        named_slot(self.store.slots(), id).is_some()
     }
 
     // Frees the box of a live id.
@@ -516,8 +502,8 @@ impl<A: Allocator + Copy> AtlasAllocator<A> {
 /// The slots and the options, for a simple allocator that takes over the free rectangles. `guillotiere` doesn't give
 /// this function to its callers.
 pub fn store_of<A: Allocator + Copy>(atlas: &AtlasAllocator<A>) -> &Store<A>
-    ensures options { options_of result.now.options ≡ (state_of atlas.now).options }
-    ensures areas { AreFreeAreas (state_of atlas.now) (free_areas (nodes result.now.slots.items)) }
+    ensures options { options_of (shelf_of result.now).options ≡ (state_of atlas.now).options }
+    ensures areas { AreFreeAreas (state_of atlas.now) (free_areas (nodes (shelf_of result.now).slots)) }
 {
     &atlas.store
 }
@@ -534,8 +520,9 @@ impl<A: Allocator + Copy> Index<AllocId> for AtlasAllocator<A> {
 
     /// The rectangle of an id. Requires that the id is live: `get` is the test.
     fn index(&self, id: AllocId) -> &Rectangle {
-        match named_slot(&self.store.slots, id) {
-            Some(at) => &self.store.slots[at].node.area,
+        let slots = self.store.slots();
+        match named_slot(slots, id) {
+            Some(at) => &slots[at].node.area,
             None => unreachable!(),
         }
     }

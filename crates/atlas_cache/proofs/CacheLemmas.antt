@@ -1,5 +1,5 @@
 -- What a cache keeps, step by step.
-use Rattle.std.proofs.Common.{ℕ, ℤ, ◌≡◌, inl, inr, true, false, ◌≤◌, List, ◌∷◌, ◌++◌, length, None, Some, IsSome, refl, sym, ◌∙◌, arith}
+use Rattle.std.proofs.Common.{ℕ, ℤ, ◌≡◌, inl, inr, false, ◌≤◌, List, ◌∷◌, ◌++◌, length, None, Some, IsSome, refl, sym, ◌∙◌, arith}
 use Rattle.std.proofs.lemmas.{Bool.{cases_Bool}}
 use Rattle.std.proofs.lemmas.Bool.{false≢true}
 use Rattle.std.proofs.lemmas.Option.{slice_get_past}

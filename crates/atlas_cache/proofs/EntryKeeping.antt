@@ -10,7 +10,7 @@ use Rattle.std.proofs.lemmas.Option.{same_Some, none-some, slice_get_within}
 use Rattle.guillotiere.specs.declared.Rectangle.{Rectangle}
 use Rattle.atlas_cache.specs.declared.entries.Entry.{Entry}
 use Rattle.atlas_cache.specs.Entries.{AreNumbered, IsNumber, entry_at, keys, moved, number_of, numbers, touched, without_number}
-use Rattle.atlas_cache.specs.Orders.{IsEntry, IsFreshNumber, Order, gone, with_newest, times_in, one_if_same, used, without_first}
+use Rattle.atlas_cache.specs.Orders.{IsEntry, IsFreshNumber, Order, gone, with_newest, with_reserve, times_in, one_if_same, used, without_first}
 use Rattle.atlas_cache.specs.Tables.{AreKept, numbered}
 use Rattle.atlas_cache.proofs.RingLemmas.{times_in-without, one_if_same-self, one_if_same-ne}
 use Rattle.atlas_cache.proofs.EntryLemmas.{entry_at-none, entry_at-numbered, first-stored, number-occurs, number_of-none, number_of-some, numbered-cons, numbered-moved, numbered-same, numbered-without, numbers-numbered, option_is, slice_get-set_other, slice_get-set_same}
@@ -66,6 +66,17 @@ module _ {K S : Type 0} (eq : K → K → Bool) (map : HashMap K ℕ S) (order :
     once = h.once;
     found = λ k n e. h.found k n (sym (same_get k) ∙ e);
     known = λ k n w. same_get k ∙ h.known k n w;
+    own = h.own;
+  }
+
+  -- What is in reserve doesn't matter.
+  pub kept-reserved : (n : ℕ) → AreKept eq map (with_reserve n order) items
+  kept-reserved n = record {
+    made = h.made;
+    inside = h.inside;
+    once = h.once;
+    found = λ k m e. let w = h.found k m e in record { listed = w.listed; entry = w.entry; stored = w.stored; same = w.same };
+    known = λ k m w. h.known k m (record { listed = w.listed; entry = w.entry; stored = w.stored; same = w.same });
     own = h.own;
   }
 

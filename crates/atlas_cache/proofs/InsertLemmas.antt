@@ -1,5 +1,5 @@
 -- What an insert of a new key answers, and what it leaves as it is.
-use Rattle.std.proofs.Common.{ℕ, ◌≡◌, ◌<◌, arith, List, [], ◌∷◌, Result, Ok, Err, sym, ap, subst, ◌∙◌}
+use Rattle.std.proofs.Common.{ℕ, ◌≡◌, ◌+◌, ◌<◌, ◌≤◌, arith, List, [], ◌∷◌, Result, Ok, Err, sym, ap, subst, ◌∙◌}
 use Rattle.std.specs.List.{AllByRecursion}
 use Rattle.guillotiere.specs.declared.Size.{Size}
 use Rattle.atlas_cache.specs.declared.changes.CacheChange.{CacheChange}
@@ -10,7 +10,7 @@ use Rattle.atlas_cache.specs.declared.inserted.Inserted.{Inserted}
 use Rattle.atlas_cache.specs.declared.inserted.Inserted.TheVariants.{Placed, Held, FrameFull, NeverFits}
 use Rattle.atlas_cache.specs.declared.places.Place.{Place}
 use Rattle.atlas_cache.specs.Caches.{CacheState, FramesFall}
-use Rattle.atlas_cache.specs.Changes.{Does, Inserts, Leads}
+use Rattle.atlas_cache.specs.Changes.{Does, Inserts, InsertsBlank, Leads}
 use Rattle.atlas_cache.proofs.LoopLemmas.{does_options}
 
 module _ {K : Type 0} where
@@ -56,6 +56,39 @@ module _ {K : Type 0} where
   inserts_stay asked key size (Err error) before after s t ins =
       let led = led_stays asked ins.made s ins.done ins.leads in
       (ins.ends.keeps.options ∙ led.0, ins.ends.keeps.frame ∙ led.1)
+
+  does_reserved : (c : CacheChange K) (s t : CacheState K) → Does c s t → t.reserved ≡ s.reserved
+  does_reserved (PageAdded page size) s t does = does.keeps.reserved
+  does_reserved (PageGrown page size) s t does = does.keeps.reserved
+  does_reserved (Evicted key place) s t does = does.reserved
+  does_reserved (Moved key from to) s t does = absurd does
+  does_reserved (PageRemoved page) s t does = absurd does
+
+  led_reserved : (asked : Size) (cs : List (CacheChange K)) (s t : CacheState K) → Leads asked cs s t → t.reserved ≡ s.reserved
+  led_reserved asked [] s t same = ap (λ (u : CacheState K). u.reserved) (sym same)
+  led_reserved asked (c ∷ cs) s t leads =
+      led_reserved asked cs leads.0 t leads.3 ∙ does_reserved c s leads.0 leads.2
+
+  -- An insert takes at most one of the entries in reserve.
+  pub inserts_take : (asked : Size) (key : K) (size : Size) (result : Result Inserted CacheError)
+      (before after : List (CacheChange K)) (s t : CacheState K) → Inserts asked key size result before after s t
+      → s.reserved ≤ t.reserved + 1
+  inserts_take asked key size (Ok (Placed place)) before after s t ins =
+      omega (arith, led_reserved asked ins.made s ins.done ins.leads, ins.ends.reserved)
+  inserts_take asked key size (Ok (Held place)) before after s t ins = absurd ins.ends
+  inserts_take asked key size (Ok FrameFull) before after s t ins =
+      omega (arith, led_reserved asked ins.made s ins.done ins.leads, ap (λ (u : CacheState K). u.reserved) ins.ends.0)
+  inserts_take asked key size (Ok NeverFits) before after s t ins = absurd ins.ends
+  inserts_take asked key size (Err error) before after s t ins =
+      omega (arith, led_reserved asked ins.made s ins.done ins.leads, ins.ends.keeps.reserved)
+
+  pub blank_takes : (key : K) (size : Size) (result : Result Inserted CacheError) (s t : CacheState K)
+      → InsertsBlank key size result s t → s.reserved ≤ t.reserved + 1
+  blank_takes key size (Ok (Placed place)) s t ins = omega (arith, ins.reserved)
+  blank_takes key size (Ok (Held place)) s t ins = absurd ins
+  blank_takes key size (Ok FrameFull) s t ins = absurd ins
+  blank_takes key size (Ok NeverFits) s t ins = absurd ins
+  blank_takes key size (Err error) s t ins = omega (arith, ap (λ (u : CacheState K). u.reserved) ins.0)
 
   -- Whatever was used in no later frame than this one wasn't used in a later one.
   pub unused_all : (frame later : ℕ) (es : List (Entry K)) → frame < later → FramesFall frame es

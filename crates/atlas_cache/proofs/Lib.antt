@@ -7,6 +7,7 @@ pub mod Moves
 pub mod RelocateLemmas
 pub mod RepackLemmas
 pub mod RepackTelling
+pub mod ReserveLemmas
 pub mod RingCalls
 pub mod RingLemmas
 pub mod RoomLemmas

@@ -7,8 +7,8 @@ use Rattle.atlas_cache.proofs.RingLemmas.{length-line, one_if_same-self, times_i
 use Rattle.atlas_cache.proofs.SpareLemmas.{IsRecency-made, order-is, HasSpare-same, HasSpare-given, new-free, none-spare}
 
 -- The stored order.
-abbrev pub stored : List Link → (ends : Link) → (count : ℕ) → Order
-stored links ends count = record { entries = run links ends count; made = length links }
+abbrev pub stored : List Link → (ends : Link) → (count reserved : ℕ) → Order
+stored links ends count reserved = record { entries = run links ends count; made = length links; reserved = reserved }
 
 pub record IsTouched (links : List Link) (ends : Link) (new : List Link) (last : Link) (i : ℕ) : Type 0 where
   pub ring : (xs : List ℕ) → IsRing links ends xs → 0 < times_in i xs → IsRing new last (i ∷ without_first i xs)
@@ -30,20 +30,20 @@ module _ (links new : List Link) (ends last : Link) (u n i : ℕ) (h : IsRecency
       let xs = run links ends n in
       IsRecency-made new last u n (i ∷ without_first i xs) (omega (arith, h.short, w.size)) (w.ring xs h.ring l) (HasSpare-same links new ends last u xs (i ∷ without_first i xs) w.size (λ k. omega (arith, times_in-without i xs l k)) (omega (arith, length-without_first i xs l)) (λ k m z. w.others xs k h.ring l m z) h.rest) (omega (arith, length-run, length-without_first i xs l))
 
-  pub touched-is : IsTouched links ends new last i → stored new last n ≡ used i (stored links ends n)
-  touched-is w =
+  pub touched-is : (reserved : ℕ) → IsTouched links ends new last i → stored new last n reserved ≡ used i (stored links ends n reserved)
+  touched-is reserved w =
       let xs = run links ends n in
-      order-is new last n (length links) (i ∷ without_first i xs) (w.ring xs h.ring l) (omega (arith, length-run, length-without_first i xs l)) w.size
+      order-is new last n (length links) reserved (i ∷ without_first i xs) (w.ring xs h.ring l) (omega (arith, length-run, length-without_first i xs l)) w.size
 
   pub IsRecency-given : IsGiven links ends new last i u → IsRecency new last i (n - 1)
   IsRecency-given w =
       let xs = run links ends n in
       IsRecency-made new last i (n - 1) (without_first i xs) (omega (arith, h.short, w.size)) (w.ring xs h.ring l) (HasSpare-given links new ends last u i xs w.size l (h.ring.once i) w.own (λ k m z _. w.others xs k h.ring l m z) h.rest) (omega (arith, length-run, length-without_first i xs l))
 
-  pub given-is : IsGiven links ends new last i u → stored new last (n - 1) ≡ gone i (stored links ends n)
-  given-is w =
+  pub given-is : (reserved : ℕ) → IsGiven links ends new last i u → stored new last (n - 1) reserved ≡ gone i (stored links ends n reserved)
+  given-is reserved w =
       let xs = run links ends n in
-      order-is new last (n - 1) (length links) (without_first i xs) (w.ring xs h.ring l) (omega (arith, length-run, length-without_first i xs l)) w.size
+      order-is new last (n - 1) (length links) reserved (without_first i xs) (w.ring xs h.ring l) (omega (arith, length-run, length-without_first i xs l)) w.size
 
 pub count-fits : (links : List Link) (ends : Link) (u n : ℕ) → IsRecency links ends u n → n ≤ 4294967295
 count-fits links ends u n h =
@@ -74,12 +74,12 @@ module _ (links mid new : List Link) (ends last : Link) (u v n i : ℕ) (h : IsR
       let xs = run links ends n in
       IsRecency-made new last v (n + 1) (i ∷ xs) (omega (arith, w.short, w.size)) joined-ring (HasSpare-same mid new ends last v (i ∷ xs) (i ∷ xs) w.size (λ k. refl) refl (λ k m z. w.others k (λ q. omega (arith, q, m, w.short)) (λ q. omega (arith, z, one_if_same-self i, ap (λ x. one_if_same x i) q))) (w.rest xs h.rest)) (omega (arith, length-old))
 
-  pub joined-is : stored new last (n + 1) ≡ with_newest i (stored links ends n)
-  joined-is =
-      order-is new last (n + 1) (max (length links) (i + 1)) (i ∷ run links ends n) joined-ring (omega (arith, length-old)) (w.size ∙ w.made)
+  pub joined-is : (reserved : ℕ) → stored new last (n + 1) (reserved - 1) ≡ with_newest i (stored links ends n reserved)
+  joined-is reserved =
+      order-is new last (n + 1) (max (length links) (i + 1)) (reserved - 1) (i ∷ run links ends n) joined-ring (omega (arith, length-old)) (w.size ∙ w.made)
 
-  pub joined-new : i ≤ length links → (i ≡ length links → u ≡ no_entry) → IsFreshNumber i (stored links ends n)
-  joined-new e last = record {
+  pub joined-new : (reserved : ℕ) → i ≤ length links → (i ≡ length links → u ≡ no_entry) → IsFreshNumber i (stored links ends n reserved)
+  joined-new reserved e last = record {
     free = free;
     next = e;
     dense = λ is. none-spare links ends u (run links ends n) h.rest (last is) h.short;

@@ -50,16 +50,14 @@ neighbours-inside links ends i w = (
   elim (next-in_chain (next_at links ends) (previous_at links ends) no_entry i w.0 w.1.chain w.2) [ inl e ↦ inl e | inr m ↦ inr (w.1.inside _ m) ],
 )
 
--- What the four writes of a push make of a ring.
-pub record IsPushed (l0 l1 l2 l3 l4 : List Link) (e0 e1 e2 e3 e4 : Link) (i : ℕ) : Type 0 where
-  pub next1 : (k : ℕ) → next_at l1 e1 k ≡ at_once i (next_at l0 e0 no_entry) (next_at l0 e0) k
-  pub previous1 : (k : ℕ) → previous_at l1 e1 k ≡ previous_at l0 e0 k
-  pub next2 : (k : ℕ) → next_at l2 e2 k ≡ next_at l1 e1 k
-  pub previous2 : (k : ℕ) → previous_at l2 e2 k ≡ at_once i no_entry (previous_at l1 e1) k
-  pub next3 : (k : ℕ) → next_at l3 e3 k ≡ at_once no_entry i (next_at l2 e2) k
-  pub previous3 : (k : ℕ) → previous_at l3 e3 k ≡ previous_at l2 e2 k
-  pub next4 : (k : ℕ) → next_at l4 e4 k ≡ next_at l3 e3 k
-  pub previous4 : (k : ℕ) → previous_at l4 e4 k ≡ at_once (next_at l0 e0 no_entry) i (previous_at l3 e3) k
+-- What the three writes of a push make of a ring.
+pub record IsPushed (l0 l1 l2 l3 : List Link) (e0 e2 e3 : Link) (i : ℕ) : Type 0 where
+  pub next1 : (k : ℕ) → next_at l1 e0 k ≡ at_once i (next_at l0 e0 no_entry) (next_at l0 e0) k
+  pub previous1 : (k : ℕ) → previous_at l1 e0 k ≡ at_once i no_entry (previous_at l0 e0) k
+  pub next2 : (k : ℕ) → next_at l2 e2 k ≡ at_once no_entry i (next_at l1 e0) k
+  pub previous2 : (k : ℕ) → previous_at l2 e2 k ≡ previous_at l1 e0 k
+  pub next3 : (k : ℕ) → next_at l3 e3 k ≡ next_at l2 e2 k
+  pub previous3 : (k : ℕ) → previous_at l3 e3 k ≡ at_once (next_at l0 e0 no_entry) i (previous_at l2 e2) k
 
 -- What stands first isn't an entry that the ring doesn't hold.
 pub first-apart : (links : List Link) (ends : Link) (i : ℕ) (xs : List ℕ) → RunsThrough (next_at links ends) (previous_at links ends) no_entry xs → times_in i xs ≡ 0 → (i ≡ no_entry → ⊥) → i ≡ next_at links ends no_entry → ⊥
@@ -73,23 +71,23 @@ first-inside links ends (x ∷ xs) h =
     let e : next_at links ends no_entry ≡ x = h.chain.0 in
     inr (rw e (h.inside x (omega (arith, one_if_same-self x))))
 
-module _ (l0 l1 l2 l3 l4 : List Link) (e0 e1 e2 e3 e4 : Link) (i : ℕ) (w : IsPushed l0 l1 l2 l3 l4 e0 e1 e2 e3 e4 i) (ni : i ≡ no_entry → ⊥) where
-  pub others-pushed : (k : ℕ) → (k ≡ no_entry → ⊥) → (k ≡ i → ⊥) → next_at l4 e4 k ≡ next_at l0 e0 k
+module _ (l0 l1 l2 l3 : List Link) (e0 e2 e3 : Link) (i : ℕ) (w : IsPushed l0 l1 l2 l3 e0 e2 e3 i) (ni : i ≡ no_entry → ⊥) where
+  pub others-pushed : (k : ℕ) → (k ≡ no_entry → ⊥) → (k ≡ i → ⊥) → next_at l3 e3 k ≡ next_at l0 e0 k
   others-pushed k nk ki =
-      w.next4 k ∙ w.next3 k ∙ at_once-there no_entry i (next_at l2 e2) k nk ∙ w.next2 k ∙ w.next1 k ∙ at_once-there i (next_at l0 e0 no_entry) (next_at l0 e0) k ki
+      w.next3 k ∙ w.next2 k ∙ at_once-there no_entry i (next_at l1 e0) k nk ∙ w.next1 k ∙ at_once-there i (next_at l0 e0 no_entry) (next_at l0 e0) k ki
 
-  pub IsRing-pushed : length l0 ≤ 4294967295 → length l4 ≡ length l0 → i < length l0 → (xs : List ℕ) → IsRing l0 e0 xs → times_in i xs ≡ 0 → IsRing l4 e4 (i ∷ xs)
+  pub IsRing-pushed : length l0 ≤ 4294967295 → length l3 ≡ length l0 → i < length l0 → (xs : List ℕ) → IsRing l0 e0 xs → times_in i xs ≡ 0 → IsRing l3 e3 (i ∷ xs)
   IsRing-pushed short same_length inside xs h z =
       let none = none-occurs l0 e0 xs short h in
       let f = next_at l0 e0 no_entry in
       let apart = first-apart l0 e0 i xs h.chain z ni in
-      let first : next_at l4 e4 no_entry ≡ i = w.next4 no_entry ∙ w.next3 no_entry ∙ at_once-here no_entry i (next_at l2 e2) no_entry refl in
-      let own_next : next_at l4 e4 i ≡ f = w.next4 i ∙ w.next3 i ∙ at_once-there no_entry i (next_at l2 e2) i ni ∙ w.next2 i ∙ w.next1 i ∙ at_once-here i f (next_at l0 e0) i refl in
-      let own_previous : previous_at l4 e4 i ≡ no_entry = w.previous4 i ∙ at_once-there f i (previous_at l3 e3) i apart ∙ w.previous3 i ∙ w.previous2 i ∙ at_once-here i no_entry (previous_at l1 e1) i refl in
-      let after : previous_at l4 e4 f ≡ i = w.previous4 f ∙ at_once-here f i (previous_at l3 e3) f refl in
-      let previous : (k : ℕ) → (k ≡ i → ⊥) → (k ≡ f → ⊥) → previous_at l4 e4 k ≡ previous_at l0 e0 k = (λ k ki kf. w.previous4 k ∙ at_once-there f i (previous_at l3 e3) k kf ∙ w.previous3 k ∙ w.previous2 k ∙ at_once-there i no_entry (previous_at l1 e1) k ki ∙ w.previous1 k) in
+      let first : next_at l3 e3 no_entry ≡ i = w.next3 no_entry ∙ w.next2 no_entry ∙ at_once-here no_entry i (next_at l1 e0) no_entry refl in
+      let own_next : next_at l3 e3 i ≡ f = w.next3 i ∙ w.next2 i ∙ at_once-there no_entry i (next_at l1 e0) i ni ∙ w.next1 i ∙ at_once-here i f (next_at l0 e0) i refl in
+      let own_previous : previous_at l3 e3 i ≡ no_entry = w.previous3 i ∙ at_once-there f i (previous_at l2 e2) i apart ∙ w.previous2 i ∙ w.previous1 i ∙ at_once-here i no_entry (previous_at l0 e0) i refl in
+      let after : previous_at l3 e3 f ≡ i = w.previous3 f ∙ at_once-here f i (previous_at l2 e2) f refl in
+      let previous : (k : ℕ) → (k ≡ i → ⊥) → (k ≡ f → ⊥) → previous_at l3 e3 k ≡ previous_at l0 e0 k = (λ k ki kf. w.previous3 k ∙ at_once-there f i (previous_at l2 e2) k kf ∙ w.previous2 k ∙ w.previous1 k ∙ at_once-there i no_entry (previous_at l0 e0) k ki) in
       record {
-        chain = RunsThrough-pushed (next_at l0 e0) (previous_at l0 e0) (next_at l4 e4) (previous_at l4 e4) i xs h.once z none ni first own_next own_previous after (λ k ki kn. others-pushed k kn ki) previous h.chain;
+        chain = RunsThrough-pushed (next_at l0 e0) (previous_at l0 e0) (next_at l3 e3) (previous_at l3 e3) i xs h.once z none ni first own_next own_previous after (λ k ki kn. others-pushed k kn ki) previous h.chain;
         once = λ k. elim (cases_eq k i) [ inl e ↦ omega (arith, one_if_same-self i, z, ap (λ v. one_if_same v i) e, ap (λ v. times_in v xs) e) | inr ne ↦ omega (arith, one_if_same-ne k i ne, h.once k) ];
         inside = λ k m. elim (cases_eq k i) [ inl e ↦ omega (arith, e, inside, same_length) | inr ne ↦ omega (arith, same_length, h.inside k (omega (arith, one_if_same-ne k i ne, m))) ];
       }

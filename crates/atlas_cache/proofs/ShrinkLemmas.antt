@@ -1,12 +1,11 @@
 -- Pages that go from the end.
-use Rattle.std.proofs.Common.{ℕ, zero, suc, ◌+◌, ◌<◌, ◌≤◌, ◌≡◌, inl, inr, Bool, List, [], ◌∷◌, ◌++◌, Option, None, Some, length, max, refl, sym, ap, subst, ◌∙◌}
+use Rattle.std.proofs.Common.{ℕ, zero, suc, ◌+◌, ◌<◌, ◌≤◌, ◌≡◌, inl, inr, Bool, List, [], ◌∷◌, ◌++◌, None, Some, length, refl, sym, ap, subst, ◌∙◌}
 use Rattle.std.proofs.Common.{append_assoc, arith, eq-eqb, get_or, length-append, slice_get}
 use Rattle.std.specs.Prelude.{take}
 use Rattle.std.specs.List.{AllByRecursion}
 use Rattle.std.proofs.lemmas.List.{take_more, take-map}
 use Rattle.std.proofs.lemmas.Option.{slice_get_cases}
 use Rattle.std.proofs.Math.Seq.{get_or-append_seam, take-append_seam, take-length}
-use Rattle.guillotiere.specs.declared.Rectangle.{Rectangle}
 use Rattle.guillotiere.specs.Pages.{rectangle_on, HasSameRectangles}
 use Rattle.guillotiere.specs.Pixels.{rectangle_of}
 use Rattle.guillotiere.specs.States.{live_in}
@@ -18,7 +17,7 @@ use Rattle.atlas_cache.specs.declared.changes.CacheChange.TheVariants.{PageRemov
 use Rattle.atlas_cache.specs.declared.entries.Entry.{Entry}
 use Rattle.atlas_cache.specs.declared.options.CacheOptions.{CacheOptions}
 use Rattle.atlas_cache.specs.Caches.{CacheState, holders, HoldsEntries}
-use Rattle.atlas_cache.specs.Changes.{Picture, all_changed, changed, picture_of, KeepsEntries, ShowsSame}
+use Rattle.atlas_cache.specs.Changes.{all_changed, changed, picture_of, KeepsEntries, ShowsSame}
 use Rattle.atlas_cache.specs.Clearing.{TellsChanges}
 use Rattle.atlas_cache.specs.Entries.{lying}
 use Rattle.atlas_cache.specs.Rooms.{page_sizes, rooms_of, size_of_page, IsNothingLive, KeepsRooms}
@@ -132,7 +131,7 @@ module _ {K : Type 0} where
       was = sym (append-none s.pages);
       nothing = λ page id. refl;
       listed = sym (append-none before);
-      keeps = record { entries = refl; numbers = refl; options = refl; frame = refl; counts = refl };
+      keeps = record { entries = refl; numbers = refl; reserved = refl; options = refl; frame = refl; counts = refl };
       shows = same_shown eq s;
     }
 
@@ -168,6 +167,7 @@ module _ {K : Type 0} where
           keeps = record {
             entries = one.keeps.entries ∙ h.keeps.entries;
             numbers = one.keeps.numbers ∙ h.keeps.numbers;
+            reserved = one.keeps.reserved ∙ h.keeps.reserved;
             options = one.keeps.options ∙ h.keeps.options;
             frame = one.keeps.frame ∙ h.keeps.frame;
             counts = one.keeps.counts ∙ h.keeps.counts;

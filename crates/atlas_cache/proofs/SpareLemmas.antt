@@ -81,8 +81,8 @@ IsRecency-made links ends u n xs short ring rest e =
     record { short = short; ring = rw same_run ring; rest = rw same_run rest }
 
 -- What is stored of an order.
-pub order-is : (links : List Link) (ends : Link) (n made : ℕ) (xs : List ℕ) → IsRing links ends xs → length xs ≡ n → length links ≡ made → (let o : Order = record { entries = run links ends n; made = length links } in o) ≡ record { entries = xs; made = made }
-order-is links ends n made xs ring e m = rw (run-IsRing links ends n xs ring e, m) refl
+pub order-is : (links : List Link) (ends : Link) (n made reserved : ℕ) (xs : List ℕ) → IsRing links ends xs → length xs ≡ n → length links ≡ made → (let o : Order = record { entries = run links ends n; made = length links; reserved = reserved } in o) ≡ record { entries = xs; made = made; reserved = reserved }
+order-is links ends n made reserved xs ring e m = rw (run-IsRing links ends n xs ring e, m) refl
 
 pub unused-inside : (links : List Link) (ends : Link) (u : ℕ) (xs : List ℕ) → HasSpare links ends u xs → (u ≡ no_entry) ⊎ (u < length links)
 unused-inside links ends u xs h = go h.spare h.line h.inside

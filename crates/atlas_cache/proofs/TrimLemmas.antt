@@ -30,6 +30,7 @@ module _ {K : Type 0} where
     pub unused : AllByRecursion (IsUnusedFor frames s.frame) gone
     pub listed : now ≡ before ++ all_evicted s.options.padding gone
     pub numbers : t.numbers ≡ s.numbers
+    pub reserved : t.reserved ≡ s.reserved
     pub sizes : page_sizes t.pages ≡ page_sizes s.pages
     pub options : t.options ≡ s.options
     pub frame : t.frame ≡ s.frame
@@ -51,6 +52,7 @@ module _ {K : Type 0} where
       unused = tt;
       listed = sym (append-none before);
       numbers = refl;
+      reserved = refl;
       sizes = refl;
       options = refl;
       frame = refl;
@@ -79,6 +81,7 @@ module _ {K : Type 0} where
                 ∙ append_assoc before so_far (Evicted e.key (shown t.options.padding e) ∷ [])
                 ∙ ap (λ (o : CacheOptions). before ++ (so_far ++ Evicted e.key (shown o.padding e) ∷ [])) h.options;
             numbers = one.numbers ∙ h.numbers;
+            reserved = one.reserved ∙ h.reserved;
             sizes = one.sizes ∙ h.sizes;
             options = one.options ∙ h.options;
             frame = one.frame ∙ h.frame;
@@ -96,6 +99,7 @@ module _ {K : Type 0} where
       used = used;
       listed = h.listed;
       numbers = h.numbers;
+      reserved = h.reserved;
       sizes = h.sizes;
       options = h.options;
       frame = h.frame;

@@ -1,5 +1,5 @@
 -- What a cache holds, and what it keeps.
-use Rattle.std.specs.Prelude.{◌≡◌, ◌≢◌, ◌+◌, ◌<◌, ◌≤◌, ◌==◌, ◌&&◌, ℕ, ℤ, Bool, true, false, List, [], ◌∷◌, ◌++◌, length, map, find}
+use Rattle.std.specs.Prelude.{◌≡◌, ◌≢◌, ◌+◌, ◌<◌, ◌≤◌, ◌==◌, ◌&&◌, ℕ, ℤ, max, Bool, true, false, List, [], ◌∷◌, ◌++◌, length, map, find}
 use Rattle.std.specs.Prelude.{if◌then◌else◌}
 use Rattle.std.specs.Prelude.{Option, Some, option_map, slice_get}
 use Rattle.std.specs.List.{AllByRecursion}
@@ -19,16 +19,22 @@ use Rattle.atlas_cache.specs.Entries.{entry_at, is_blank, lying, without_number}
 use Rattle.atlas_cache.specs.Rooms.{growth_left, page_sizes, AreAllLargest}
 
 -- What contracts see of a cache: how it was made, the atlas of each page, the entries, the most recently used first,
--- how many numbers entries had so far, the frame, and how it was used.
+-- how many numbers entries had so far, how many entries are in reserve (for so many that come next there is memory), the
+-- frame, and how it was used.
 pub record CacheState (K : Type 0) : Type 0 where
   pub options : CacheOptions
   pub pages : List AtlasValue
   pub entries : List (Entry K)
   pub numbers : ℕ
+  pub reserved : ℕ
   pub frame : ℕ
   pub counts : Counts
 
 module _ {K : Type 0} where
+  -- At least so many entries are in reserve.
+  abbrev pub with_reserve : ℕ → CacheState K → CacheState K
+  with_reserve n s = record s { reserved = max s.reserved n }
+
   -- The entries without their numbers.
   abbrev pub entries_of : List (ℕ × Entry K) → List (Entry K)
   entries_of es = map (λ e. e.1) es
@@ -157,6 +163,7 @@ module _ {K : Type 0} where
         pages = [];
         entries = [];
         numbers = 0;
+        reserved = 0;
         frame = 0;
         counts = record { hits = 0; misses = 0; evictions = 0 };
       }

@@ -1,5 +1,5 @@
 -- What a cache does, change by change, and what a caller learns of it.
-use Rattle.std.specs.Prelude.{◌≡◌, ◌≢◌, ◌+◌, ◌<◌, ◌≤◌, max, ℕ, Bool, true, false, List, [], ◌∷◌, ◌++◌, length, Option, Some, None}
+use Rattle.std.specs.Prelude.{◌≡◌, ◌≢◌, ◌+◌, ◌-◌, ◌<◌, ◌≤◌, max, ℕ, Bool, true, false, List, [], ◌∷◌, ◌++◌, length, Option, Some, None}
 use Rattle.std.specs.Prelude.{if◌then◌else◌, slice_set, take, Result, Ok, Err}
 use Rattle.guillotiere.specs.declared.Size.{Size}
 use Rattle.guillotiere.specs.Boxes.{IsPositive}
@@ -53,10 +53,11 @@ module _ {K : Type 0} where
     pub places : (k : K) → p.places k ≡ q.places k
     pub pages : p.pages ≡ q.pages
 
-  -- Entries, frame, options and counts stay. The pages may change.
+  -- Entries, frame, options and counts stay, and what is in reserve. The pages may change.
   pub record KeepsEntries (s t : CacheState K) : Type 0 where
     pub entries : t.entries ≡ s.entries
     pub numbers : t.numbers ≡ s.numbers
+    pub reserved : t.reserved ≡ s.reserved
     pub options : t.options ≡ s.options
     pub frame : t.frame ≡ s.frame
     pub counts : t.counts ≡ s.counts
@@ -94,6 +95,7 @@ module _ {K : Type 0} where
     pub leaves : LeavesNoBoxOn s.pages t.pages entry.page entry.id
     pub sizes : page_sizes t.pages ≡ page_sizes s.pages
     pub numbers : t.numbers ≡ s.numbers
+    pub reserved : t.reserved ≡ s.reserved
     pub options : t.options ≡ s.options
     pub frame : t.frame ≡ s.frame
     pub counts : t.counts ≡ record s.counts { evictions = one_more s.counts.evictions }
@@ -129,7 +131,7 @@ module _ {K : Type 0} where
     pub adds : AddsBoxOn old new entry.page entry.id entry.rectangle
 
   -- A key is added, the most recently used from now on. Its number is one that was given out before, or, if all of those
-  -- are in use, the next one.
+  -- are in use, the next one. If entries are in reserve, it is one of them.
   pub record Adds (asked : Size) (key : K) (size : Size) (place : Place) (s t : CacheState K) : Type 0 where
     pub entry : Entry K
     pub first : t.entries ≡ entry ∷ s.entries
@@ -139,6 +141,7 @@ module _ {K : Type 0} where
     pub next : entry.number ≤ s.numbers
     pub dense : entry.number ≡ s.numbers → length s.entries ≡ s.numbers
     pub numbers : t.numbers ≡ max s.numbers (entry.number + 1)
+    pub reserved : t.reserved ≡ s.reserved - 1
     pub sizes : page_sizes t.pages ≡ page_sizes s.pages
     pub options : t.options ≡ s.options
     pub frame : t.frame ≡ s.frame
@@ -157,6 +160,7 @@ module _ {K : Type 0} where
     pub next : entry.number ≤ s.numbers
     pub dense : entry.number ≡ s.numbers → length s.entries ≡ s.numbers
     pub numbers : t.numbers ≡ max s.numbers (entry.number + 1)
+    pub reserved : t.reserved ≡ s.reserved - 1
     pub pages : t.pages ≡ s.pages
     pub options : t.options ≡ s.options
     pub frame : t.frame ≡ s.frame
@@ -207,6 +211,7 @@ module _ {K : Type 0} where
     pub is : t.entries ≡ record entry { frame = s.frame } ∷ (newer ++ older)
     pub pages : t.pages ≡ s.pages
     pub numbers : t.numbers ≡ s.numbers
+    pub reserved : t.reserved ≡ s.reserved
     pub options : t.options ≡ s.options
     pub frame : t.frame ≡ s.frame
 
@@ -236,6 +241,7 @@ module _ {K : Type 0} where
     pub is : t.entries ≡ newer ++ older
     pub leaves : LeavesNoBoxOn s.pages t.pages entry.page entry.id
     pub numbers : t.numbers ≡ s.numbers
+    pub reserved : t.reserved ≡ s.reserved
     pub sizes : page_sizes t.pages ≡ page_sizes s.pages
     pub options : t.options ≡ s.options
     pub frame : t.frame ≡ s.frame

@@ -10,11 +10,12 @@ use Rattle.atlas_cache.specs.Counting.{one_more}
 use Rattle.atlas_cache.specs.Rooms.{page_sizes, IsNothingLive}
 
 module _ {K : Type 0} where
-  -- No entry is left and nothing is live; numbers begin again at 0. The pages keep their sizes, and the frame and the
-  -- counts stay.
+  -- No entry is left and nothing is live; numbers begin again at 0, and what the entries had is in reserve. The pages keep
+  -- their sizes, and the frame and the counts stay.
   pub record Clears (s t : CacheState K) : Type 0 where
     pub entries : t.entries ≡ []
     pub numbers : t.numbers ≡ 0
+    pub reserved : t.reserved ≡ s.reserved + length s.entries
     pub nothing : IsNothingLive t.pages
     pub sizes : page_sizes t.pages ≡ page_sizes s.pages
     pub options : t.options ≡ s.options
@@ -45,6 +46,7 @@ module _ {K : Type 0} where
     pub unused : IsUnusedFor frames s.frame entry
     pub listed : after ≡ before ++ Evicted entry.key (shown s.options.padding entry) ∷ []
     pub numbers : t.numbers ≡ s.numbers
+    pub reserved : t.reserved ≡ s.reserved
     pub sizes : page_sizes t.pages ≡ page_sizes s.pages
     pub options : t.options ≡ s.options
     pub frame : t.frame ≡ s.frame
@@ -59,6 +61,7 @@ module _ {K : Type 0} where
     pub used : AllByRecursion (IsUsedSince frames s.frame) t.entries
     pub listed : after ≡ before ++ all_evicted s.options.padding gone
     pub numbers : t.numbers ≡ s.numbers
+    pub reserved : t.reserved ≡ s.reserved
     pub sizes : page_sizes t.pages ≡ page_sizes s.pages
     pub options : t.options ≡ s.options
     pub frame : t.frame ≡ s.frame

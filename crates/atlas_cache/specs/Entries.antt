@@ -1,5 +1,5 @@
 -- Entries of a cache under their numbers, the most recently used first.
-use Rattle.std.specs.Prelude.{◌≡◌, ◌≤◌, ◌==◌, ℕ, Bool, nat_eq, if◌then◌else◌, List, [], ◌∷◌, length, map, Option, None, Some}
+use Rattle.std.specs.Prelude.{◌≡◌, ◌≤◌, ◌==◌, ℕ, max, Bool, nat_eq, if◌then◌else◌, List, [], ◌∷◌, length, map, Option, None, Some}
 use Rattle.std.specs.Prelude.{IsNone, IsSome}
 use Rattle.std.specs.List.{AllByRecursion}
 use Rattle.std.specs.Option.{option_map_or}
@@ -11,10 +11,12 @@ use Rattle.atlas_cache.specs.declared.entries.Entry.{Entry}
 abbrev pub no_page : ℕ
 no_page = 4294967295
 
--- Entries under their numbers, the most recently used first, and how many numbers were given out so far: 0, 1 and so on.
+-- Entries under their numbers, the most recently used first; how many numbers were given out so far: 0, 1 and so on; and
+-- how many entries are in reserve: for so many that come next there is memory.
 pub record Table (K : Type 0) : Type 0 where
   pub entries : List (ℕ × Entry K)
   pub made : ℕ
+  pub reserved : ℕ
 
 module _ {K : Type 0} where
   -- A blank entry is that of a key with an empty size. It lies on no page, and takes no room.
@@ -56,6 +58,10 @@ module _ {K : Type 0} where
     pub free : IsNone (entry_at n t.entries)
     pub next : n ≤ t.made
     pub dense : n ≡ t.made → length t.entries ≡ t.made
+
+  -- At least so many are in reserve.
+  abbrev pub with_reserve : ℕ → Table K → Table K
+  with_reserve n t = record t { reserved = max t.reserved n }
 
   -- The others, without the entry of a number.
   abbrev pub without_number : ℕ → List (ℕ × Entry K) → List (ℕ × Entry K)

@@ -1,10 +1,12 @@
 -- Entries by their numbers, in the order of their use.
-use Rattle.std.specs.Prelude.{ℕ, ◌+◌, ◌≡◌, ◌<◌, ◌≤◌, ◌==◌, max, if◌then◌else◌, List, [], ◌∷◌, length, Option, None, Some}
+use Rattle.std.specs.Prelude.{ℕ, ◌+◌, ◌-◌, ◌≡◌, ◌<◌, ◌≤◌, ◌==◌, max, if◌then◌else◌, List, [], ◌∷◌, length, Option, None, Some}
 
--- The entries, the most recently used first, and how many numbers were given out so far: 0, 1 and so on.
+-- The entries, the most recently used first; how many numbers were given out so far: 0, 1 and so on; and how many entries
+-- are in reserve: for so many that come next there is memory.
 pub record Order : Type 0 where
   pub entries : List ℕ
   pub made : ℕ
+  pub reserved : ℕ
 
 -- 1 if the numbers are equal.
 abbrev pub one_if_same : ℕ → ℕ → ℕ
@@ -49,6 +51,10 @@ pub record IsFreshNumber (k : ℕ) (o : Order) : Type 0 where
   pub next : k ≤ o.made
   pub dense : k ≡ o.made → length o.entries ≡ o.made
 
--- A new entry is the most recently used.
+-- A new entry is the most recently used. If any are in reserve, it is one of them.
 abbrev pub with_newest : ℕ → Order → Order
-with_newest k o = record { entries = k ∷ o.entries; made = max o.made (k + 1) }
+with_newest k o = record { entries = k ∷ o.entries; made = max o.made (k + 1); reserved = o.reserved - 1 }
+
+-- At least so many are in reserve.
+abbrev pub with_reserve : ℕ → Order → Order
+with_reserve n o = record o { reserved = max o.reserved n }

@@ -56,6 +56,7 @@ module _ {K : Type 0} where
     pub entries : t.entries ≡ filter_map (become page renewed) s.entries
     pub listed : after ≡ before ++ filter_map (told_of s.options.padding page renewed) s.entries
     pub numbers : t.numbers ≡ s.numbers
+    pub reserved : t.reserved ≡ s.reserved
     pub others : KeepsPages s.pages t.pages page
     pub sizes : page_sizes t.pages ≡ page_sizes s.pages
     pub options : t.options ≡ s.options

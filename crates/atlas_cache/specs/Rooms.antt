@@ -5,7 +5,7 @@ use Rattle.guillotiere.specs.declared.Rectangle.{Rectangle}
 use Rattle.guillotiere.specs.declared.Size.{Size}
 use Rattle.guillotiere.specs.Boxes.{box_sides, Fits, Sides}
 use Rattle.guillotiere.specs.Choice.{rounded}
-use Rattle.guillotiere.specs.Pages.{rectangle_on, NoneHasRoomBelow}
+use Rattle.guillotiere.specs.Pages.{rectangle_on, HasRoomFor, NoneHasRoomBelow}
 use Rattle.guillotiere.specs.Pixels.{box_of, natural, options_of, sides_of, size_of}
 use Rattle.guillotiere.specs.Replies.{IsExact}
 use Rattle.guillotiere.specs.States.{IsSound}
@@ -103,6 +103,11 @@ abbrev pub growth_left : CacheOptions → List Size → ℕ
 growth_left o sizes =
     sum_by (λ size. both_sides o.largest_page - both_sides size) sizes
     + (o.pages - length sizes) * both_sides o.largest_page
+
+-- A request has room on no page but those from one on and before another.
+abbrev pub HasRoomOnlyAmong : Size → List AtlasValue → (from to : ℕ) → Type 0
+HasRoomOnlyAmong request pages from to =
+    (k : ℕ) (s : AtlasValue) → slice_get pages k ≡ Some s → HasRoomFor request s → (from ≤ k) × (k < to)
 
 -- Nothing is live on any page.
 abbrev pub IsNothingLive : List AtlasValue → Type 0

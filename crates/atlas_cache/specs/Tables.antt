@@ -1,8 +1,8 @@
 -- How entries are kept: a map from keys to numbers, an order of numbers, and a list with what belongs to each number.
 -- No public clause cites this module.
-use Rattle.std.specs.Prelude.{ℕ, ◌≡◌, ◌<◌, ◌≤◌, Bool, true, List, [], ◌∷◌, length, Some, slice_get}
+use Rattle.std.specs.Prelude.{ℕ, ◌+◌, ◌≡◌, ◌<◌, ◌≤◌, Bool, true, List, [], ◌∷◌, length, Some, slice_get}
 use Rattle.std.specs.Option.{option_map_or}
-use Rattle.std.specs.HashMap.{HashMap, get}
+use Rattle.std.specs.HashMap.{HashMap, get, hash_map_len, spare}
 use Rattle.atlas_cache.specs.declared.entries.Entry.{Entry}
 use Rattle.atlas_cache.specs.Orders.{Order, IsEntry, times_in}
 
@@ -30,3 +30,11 @@ module _ {K : Type 0} where
     pub found : (k : K) (n : ℕ) → get eq map k ≡ Some n → HasKey eq k n order items
     pub known : (k : K) (n : ℕ) → HasKey eq k n order items → get eq map k ≡ Some n
     pub own : (n : ℕ) (e : Entry K) → slice_get items n ≡ Some e → e.number ≡ n
+
+  -- There is memory for what the order has in reserve, beside what the entries have: in the map, and in the list with
+  -- room for so many entries.
+  pub record HasMemory {S : Type 0} (map : HashMap K ℕ S) (order : Order) (room : ℕ) : Type 0 where
+    pub places : order.reserved ≤ spare map
+    pub held : length order.entries ≤ hash_map_len map
+    pub few : length order.entries ≤ order.made
+    pub items : length order.entries + order.reserved ≤ room

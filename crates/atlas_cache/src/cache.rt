@@ -1,14 +1,16 @@
 //! The cache.
-ghost use Rattle.std.specs.Prelude.{◌≡◌, ◌≢◌, ◌↔◌, ◌⊎◌, ◌<◌, [], false, length, slice_get, IfErr, IfOk, IfSome, IsOk};
+ghost use Rattle.std.specs.Prelude.{◌≡◌, ◌≢◌, ◌↔◌, ◌⊎◌, ◌+◌, ◌<◌, ◌≤◌, [], false, length, slice_get, IfErr, IfOk, IfSome, IsOk};
 ghost use Rattle.std.specs.Prelude.{IsSome, IsTrue};
-ghost use Rattle.std.specs.Prelude.{None, Ok, OnErr, vec_capacity, vec_len};
+ghost use Rattle.std.specs.Prelude.{Err, None, Ok, OnErr, vec_capacity, vec_len};
 ghost use Rattle.guillotiere.specs.Boxes.{IsPositive};
+ghost use Rattle.guillotiere.specs.Pages.{KeepsPages};
 ghost use Rattle.guillotiere.specs.Pixels.{sides_of, size_of};
 ghost use Rattle.atlas_cache.specs.Asking.{bordered, AreUsable, CanStand, IsFaultIn};
 ghost use Rattle.atlas_cache.specs.Counting.{one_more};
 ghost use Rattle.atlas_cache.specs.Entries.{lying};
 ghost use Rattle.atlas_cache.specs.Refusals.{IsRefusedNew};
-ghost use Rattle.atlas_cache.specs.Rooms.{page_sizes, IsRefusal};
+ghost use Rattle.atlas_cache.specs.Rooms.{page_sizes, HasRoomOnlyAmong, IsRefusal};
+ghost use Rattle.atlas_cache.specs.declared.error.CacheError.TheVariants.{Memory};
 ghost use Rattle.atlas_cache.specs.declared.inserted.Inserted.TheVariants.{FrameFull, Held, NeverFits, Placed};
 
 mod clearing;
@@ -33,8 +35,8 @@ use std::hash::{BuildHasher, BuildHasherDefault, Hash};
 use std::marker::Model;
 
 /// Rectangles under keys in the pages of a texture array. Contracts see a `CacheState`: how the cache was made, the
-/// atlas of each page, the entries, the most recently used first, how many numbers they had so far, the frame, and how
-/// the cache was used.
+/// atlas of each page, the entries, the most recently used first, how many numbers they had so far, how many more there is
+/// memory for in reserve, the frame, and how the cache was used.
 #[derive(Drop)]
 pub struct TextureCache<
     K: Copy + Eq + Hash,
@@ -57,6 +59,7 @@ impl<K: Copy + Eq + Hash, S: BuildHasher, A: Allocator + Copy> Model for Texture
       pages = c.rooms.pages;
       entries = entries_of c.entries.entries;
       numbers = c.entries.made;
+      reserved = c.entries.reserved;
       frame = c.frame;
       counts = c.counts;
     } };
@@ -66,6 +69,7 @@ impl<K: Copy + Eq + Hash, S: BuildHasher, A: Allocator + Copy> Model for Texture
       pages = c.rooms.pages;
       entries = entries_of c.entries.entries;
       numbers = c.entries.made;
+      reserved = c.entries.reserved;
       frame = c.frame;
       counts = c.counts;
     }) };
@@ -213,6 +217,7 @@ impl<K: Copy + Eq + Hash, S: BuildHasher, A: Allocator + Copy> TextureCache<K, S
     ///
     /// A new key with an empty size, of which a side is 0 or below, becomes a blank entry: `Placed` with a place that is
     /// empty. It takes no room, so that no page changes and nothing goes, and it never goes for another key's room.
+    /// While entries are in reserve, it is never refused with `Memory`.
     pub fn insert(
         &mut self,
         key: K,
@@ -235,6 +240,8 @@ impl<K: Copy + Eq + Hash, S: BuildHasher, A: Allocator + Copy> TextureCache<K, S
         ensures errors { entry_for K.eq key self.old.entries ≡ None
             → IfErr result (IsRefusedNew (length self.new.entries)) }
         ensures room { IsNoneInUse self.old → result ≢ Ok FrameFull }
+        ensures memory { (IsPositive (sides_of size) → ⊥) → 0 < self.old.reserved → result ≢ Err Memory }
+        ensures takes { self.old.reserved ≤ self.new.reserved + 1 }
         ensures stays { (self.new.options ≡ self.old.options) × (self.new.frame ≡ self.old.frame) }
     {
         self.entries.prove_kept();
@@ -273,7 +280,8 @@ impl<K: Copy + Eq + Hash, S: BuildHasher, A: Allocator + Copy> TextureCache<K, S
     fn add_blank(&mut self, key: K, size: Size) -> Result<Inserted, CacheError>
         requires absent { entry_for K.eq key self.old.entries ≡ None }
         requires empty { IsPositive (sides_of size) → ⊥ }
-        ensures { InsertsBlank key size result self.old self.new }
+        ensures inserts { InsertsBlank key size result self.old self.new }
+        ensures memory { 0 < self.old.reserved → result ≢ Err Memory }
     {
         let entry = join_blank(&mut self.entries, key, size, self.frame)?;
         Ok(Inserted::Placed(place_of(entry, &self.rooms.options())))
@@ -294,22 +302,36 @@ impl<K: Copy + Eq + Hash, S: BuildHasher, A: Allocator + Copy> TextureCache<K, S
         ensures errors { IfErr result (IsRefusedNew (length self.new.entries)) }
         ensures room { IsNoneInUse self.old → result ≢ Ok FrameFull }
     {
+        let mut from = 0;
+        let mut to = self.rooms.len() as usize;
         loop {
-            if let Some(place) = self.add(key, size, asked)? {
+            if let Some(place) = self.add(key, size, asked, from, to)? {
                 return Ok(Inserted::Placed(place));
             }
-            if !self.make_room(asked, changes)? {
+            let Some(page) = self.make_room(asked, changes)? else {
                 self.rooms.prove_kept();
                 return Ok(Inserted::FrameFull);
-            }
+            };
+            // The others have no room still.
+            from = page as usize;
+            to = from + 1;
         }
     }
 
-    // Adds a key on the first page that has room for it; None if none has.
-    fn add(&mut self, key: K, size: Size, asked: Size) -> Result<Option<Place>, CacheError>
+    // Adds a key on the first page that has room for it, which is one of these, if any has; None if none has.
+    fn add(
+        &mut self,
+        key: K,
+        size: Size,
+        asked: Size,
+        from: usize,
+        to: usize,
+    ) -> Result<Option<Place>, CacheError>
         requires absent { entry_for K.eq key self.old.entries ≡ None }
         requires stands { CanStand self.old.options size }
         requires asked { asked ≡ size_of (bordered self.old.options size) }
+        requires inside { to ≤ length self.old.pages }
+        requires others { HasRoomOnlyAmong asked self.old.pages from to }
         ensures adds { IfOk result (λ placed. IfSome placed (λ place.
             Adds asked key size place self.old self.new)) }
         ensures none { result ≡ Ok None → self.new ≡ self.old }
@@ -324,6 +346,8 @@ impl<K: Copy + Eq + Hash, S: BuildHasher, A: Allocator + Copy> TextureCache<K, S
             size,
             asked,
             self.frame,
+            from,
+            to,
         )?;
         let Some(entry) = granted else {
             return Ok(None);
@@ -331,49 +355,58 @@ impl<K: Copy + Eq + Hash, S: BuildHasher, A: Allocator + Copy> TextureCache<K, S
         Ok(Some(place_of(entry, &self.rooms.options())))
     }
 
-    // One change for a request that has room on no page; `false` if nothing can be done.
-    fn make_room(&mut self, asked: Size, changes: &mut Changes<K, A>) -> Result<bool, CacheError>
+    // One change for a request that has room on no page: the page that changed; None if nothing can be done.
+    fn make_room(
+        &mut self,
+        asked: Size,
+        changes: &mut Changes<K, A>,
+    ) -> Result<Option<u32>, CacheError>
         requires { HasNoPageFor asked self.old }
-        ensures does { IfOk result (λ more. IsTrue more
+        ensures does { IfOk result (λ changed. IsSome changed
             → DoesOne changes.old.items changes.new.items self.old self.new) }
-        ensures less { IfOk result (λ more. IsTrue more → steps_left self.new < steps_left self.old) }
-        ensures stops { result ≡ Ok false → IsExhausted asked self.old }
-        ensures stays { result ≡ Ok false → (self.new ≡ self.old) × (changes.new.items ≡ changes.old.items) }
+        ensures less { IfOk result (λ changed. IsSome changed → steps_left self.new < steps_left self.old) }
+        ensures there { IfOk result (λ changed. IfSome changed (λ page. page < length self.new.pages)) }
+        ensures others { IfOk result (λ changed. IfSome changed (λ page.
+            KeepsPages self.old.pages self.new.pages page)) }
+        ensures stops { result ≡ Ok None → IsExhausted asked self.old }
+        ensures stays { result ≡ Ok None → (self.new ≡ self.old) × (changes.new.items ≡ changes.old.items) }
         ensures refused { OnErr result ((self.new ≡ self.old) × (changes.new.items ≡ changes.old.items)) }
         ensures errors { IfErr result IsRefusal }
     {
         changes.reserve(1)?;
         if let Some((page, size)) = self.rooms.grow_page()? {
             changes.push_reserved(CacheChange::PageGrown { page, size });
-            return Ok(true);
+            return Ok(Some(page));
         }
         if let Some((page, size)) = self.rooms.add_page()? {
             changes.push_reserved(CacheChange::PageAdded { page, size });
-            return Ok(true);
+            return Ok(Some(page));
         }
         Ok(self.evict(changes))
     }
 
-    // Of the entries that lie on a page the least recently used one goes, if this frame didn't use it; whether it did.
-    fn evict(&mut self, changes: &mut Changes<K, A>) -> bool
+    // Of the entries that lie on a page the least recently used one goes, if this frame didn't use it: its page.
+    fn evict(&mut self, changes: &mut Changes<K, A>) -> Option<u32>
         requires full { IsFull self.old }
         requires room { vec_len changes.old < vec_capacity changes.old }
-        ensures does { IsTrue result → DoesOne changes.old.items changes.new.items self.old self.new }
-        ensures less { IsTrue result → steps_left self.new < steps_left self.old }
-        ensures stops { result ≡ false → AreAllInUse self.old }
-        ensures stays { result ≡ false → (self.new ≡ self.old) × (changes.new.items ≡ changes.old.items) }
+        ensures does { IsSome result → DoesOne changes.old.items changes.new.items self.old self.new }
+        ensures less { IsSome result → steps_left self.new < steps_left self.old }
+        ensures there { IfSome result (λ page. page < length self.new.pages) }
+        ensures others { IfSome result (λ page. KeepsPages self.old.pages self.new.pages page) }
+        ensures stops { result ≡ None → AreAllInUse self.old }
+        ensures stays { result ≡ None → (self.new ≡ self.old) × (changes.new.items ≡ changes.old.items) }
     {
         let Some((number, entry)) = oldest_lying(&self.entries) else {
-            return false;
+            return None;
         };
         if entry.frame == self.frame {
-            return false;
+            return None;
         }
         take_out(&mut self.rooms, &mut self.entries, number, entry);
         self.counts.evictions = count(self.counts.evictions);
         let place = place_of(entry, &self.rooms.options());
         let key = entry.key;
         changes.push_reserved(CacheChange::Evicted { key, place });
-        true
+        Some(entry.page)
     }
 }

@@ -1,13 +1,14 @@
 //! Entries under their keys, in the order of their use: each call takes a few steps and at most one look-up by a hash,
 //! however many entries there are.
-ghost use Rattle.std.specs.Prelude.{◌≡◌, ◌≢◌, ◌↔◌, ◌+◌, ◌<◌, ◌≤◌, max, None, Some, [], ◌∷◌, ◌++◌, ℕ, List, length};
-ghost use Rattle.std.specs.Prelude.{IfErr, IfOk, IfSome, IsNone, IsOkUnless, IsTrue, OnErr, nat_eq, slice_get};
+ghost use Rattle.std.specs.Prelude.{◌≡◌, ◌≢◌, ◌↔◌, ◌+◌, ◌-◌, ◌<◌, ◌≤◌, max, None, Some, [], ◌∷◌, ◌++◌, ℕ, List, length};
+ghost use Rattle.std.specs.Prelude.{Err, IfErr, IfOk, IfSome, IsNone, IsOk, IsOkUnless, IsTrue, OnErr, OnOk, nat_eq, slice_get};
 ghost use Rattle.std.specs.Prelude.{vec_capacity, vec_len};
-ghost use Rattle.std.specs.HashMap.{Updates, spare};
+ghost use Rattle.std.specs.HashMap.{Updates, get, hash_map_len, spare};
 ghost use Rattle.std.specs.List.{AllByRecursion, IsDistinct};
 ghost use Rattle.atlas_cache.specs.Entries.{is_blank};
 ghost use Rattle.atlas_cache.specs.Orders.{newest_of, oldest_of};
 ghost use Rattle.atlas_cache.specs.Refusals.{IsWithoutNumber};
+ghost use Rattle.atlas_cache.specs.declared.error.CacheError.TheVariants.{Memory};
 
 use crate::error::CacheError;
 use crate::recency::Recency;
@@ -53,7 +54,7 @@ impl<K: Copy> Entry<K> {
 
 /// Entries under their keys, in the order of their use. Each has a number; those of entries which are gone are given to
 /// later ones before new numbers are. Contracts see a `Table`: the numbers with their entries, the most recently used
-/// first, and how many numbers were ever given out.
+/// first, how many numbers were ever given out, and for how many more entries there is memory in reserve.
 #[derive(Drop)]
 pub struct Entries<K: Copy + Eq + Hash, S: BuildHasher = DefaultHasher, A: Allocator = Global> {
     map: HashMap<K, u32, S, A>,
@@ -66,21 +67,46 @@ impl<K: Copy + Eq + Hash, S: BuildHasher, A: Allocator> Model for Entries<K, S, 
 
     ghost Value = { Table K };
 
-    ghost use Rattle.atlas_cache.specs.Tables.{AreKept, numbered};
+    ghost use Rattle.std.specs.Prelude.{vec_capacity};
+    ghost use Rattle.atlas_cache.specs.Tables.{AreKept, HasMemory, numbered};
 
-    ghost view = { λ s. record { entries = numbered s.items.items s.recency.entries; made = s.recency.made } };
+    ghost view = { λ s. record {
+      entries = numbered s.items.items s.recency.entries;
+      made = s.recency.made;
+      reserved = s.recency.reserved;
+    } };
 
-    ghost invariant = { λ s. AreKept K.eq s.map s.recency s.items.items };
+    ghost invariant = { λ s. AreKept K.eq s.map s.recency s.items.items
+        × HasMemory s.map s.recency (vec_capacity s.items) };
+}
+
+// Memory for one more behind all, if there are no more than so many.
+fn make_room<K: Copy, A: Allocator>(
+    items: &mut Vec<Entry<K>, A>,
+    count: usize,
+) -> Result<(), CacheError>
+    ensures items { items.new.items ≡ items.old.items }
+    ensures capacity { vec_capacity items.old ≤ vec_capacity items.new }
+    ensures room { OnOk result (length items.old.items ≤ count → vec_len items.new < vec_capacity items.new) }
+    ensures unless { IsOkUnless result CacheError.Memory }
+    ensures memory { count < vec_capacity items.old → IsOk result }
+{
+    if count < items.len() {
+        return Ok(());
+    }
+    items.reserve(1)?;
+    Ok(())
 }
 
 // Puts an entry at a number: in the place of what stood there, or behind all.
 fn store<K: Copy, A: Allocator>(items: &mut Vec<Entry<K>, A>, number: u32, entry: Entry<K>)
     requires next { number ≤ length items.old.items }
-    requires room { vec_len items.old < vec_capacity items.old }
+    requires room { number ≡ length items.old.items → vec_len items.old < vec_capacity items.old }
     ensures stored { slice_get items.new.items number ≡ Some entry }
     ensures others { (k : ℕ) → k ≢ number → k < length items.old.items
         → slice_get items.new.items k ≡ slice_get items.old.items k }
     ensures size { length items.new.items ≡ max (length items.old.items) (number + 1) }
+    ensures capacity { vec_capacity items.old ≤ vec_capacity items.new }
 {
     if (number as usize) < items.len() {
         items[number as usize] = entry;
@@ -96,7 +122,9 @@ fn bind<K: Copy + Eq + Hash, S: BuildHasher, A: Allocator + Copy>(
     number: u32,
 )
     requires { 0 < spare map.old }
-    ensures { Updates K.eq map.old map.new key (Some number) }
+    ensures updates { Updates K.eq map.old map.new key (Some number) }
+    ensures spare { spare map.old ≤ spare map.new + 1 }
+    ensures held { get K.eq map.old key ≡ None → hash_map_len map.new ≡ hash_map_len map.old + 1 }
 {
     let _inserted = map.insert(key, number);
 }
@@ -106,6 +134,7 @@ impl<K: Copy + Eq + Hash, A: Allocator + Copy> Entries<K, DefaultHasher, A> {
     pub fn new(alloc: A) -> Self
         ensures entries { result.entries ≡ [] }
         ensures made { result.made ≡ 0 }
+        ensures reserved { result.reserved ≡ 0 }
     {
         Entries::with_hasher(alloc, BuildHasherDefault::new())
     }
@@ -113,12 +142,13 @@ impl<K: Copy + Eq + Hash, A: Allocator + Copy> Entries<K, DefaultHasher, A> {
 
 impl<K: Copy + Eq + Hash, S: BuildHasher, A: Allocator + Copy> Entries<K, S, A> {
     ghost use Rattle.atlas_cache.specs.Entries.{AreNumbered, IsNextNumber, IsNumber, entry_at, keys, moved, number_of, numbers, touched};
-    ghost use Rattle.atlas_cache.specs.Entries.{without_number};
+    ghost use Rattle.atlas_cache.specs.Entries.{with_reserve, without_number};
 
     /// No entries, with a hasher for the keys. Takes no memory.
     pub fn with_hasher(alloc: A, hasher: S) -> Self
         ensures entries { result.entries ≡ [] }
         ensures made { result.made ≡ 0 }
+        ensures reserved { result.reserved ≡ 0 }
     {
         Entries {
             map: HashMap::with_hasher(alloc, hasher),
@@ -210,6 +240,7 @@ impl<K: Copy + Eq + Hash, S: BuildHasher, A: Allocator + Copy> Entries<K, S, A> 
         requires { IsNumber number self.old.entries }
         ensures entries { self.new.entries ≡ touched number frame self.old.entries }
         ensures made { self.new.made ≡ self.old.made }
+        ensures reserved { self.new.reserved ≡ self.old.reserved }
     {
         self.recency.touch(number);
         let entry = &mut self.items[number as usize];
@@ -218,18 +249,20 @@ impl<K: Copy + Eq + Hash, S: BuildHasher, A: Allocator + Copy> Entries<K, S, A> 
 
     /// An entry with a new key joins, the most recently used from now on, and gets a number, whatever it had: one that is
     /// none's, and the next one only if all that were given out are in use. `Numbers` only if all are, and `Memory` if
-    /// memory is refused; then nothing changes.
+    /// memory is refused, which is never asked for where entries are in reserve; then nothing changes.
     pub fn push(&mut self, entry: Entry<K>) -> Result<u32, CacheError>
         requires { IsNone (number_of K.eq entry.key self.old.entries) }
         ensures new { IfOk result (λ number. IsNextNumber number self.old) }
         ensures joined { IfOk result (λ number. self.new.entries
             ≡ (number, record entry { number = number }) ∷ self.old.entries) }
         ensures made { IfOk result (λ number. self.new.made ≡ max self.old.made (number + 1)) }
+        ensures reserved { OnOk result (self.new.reserved ≡ self.old.reserved - 1) }
         ensures refused { OnErr result (self.new ≡ self.old) }
         ensures errors { IfErr result (IsWithoutNumber (length self.old.entries)) }
+        ensures memory { 0 < self.old.reserved → result ≢ Err Memory }
     {
         self.map.reserve(1)?;
-        self.items.reserve(1)?;
+        make_room(&mut self.items, self.recency.len())?;
         let number = self.recency.push()?;
         let entry = Entry { number, ..entry };
         store(&mut self.items, number, entry);
@@ -242,6 +275,7 @@ impl<K: Copy + Eq + Hash, S: BuildHasher, A: Allocator + Copy> Entries<K, S, A> 
         requires { IsNumber number self.old.entries }
         ensures entries { self.new.entries ≡ without_number number self.old.entries }
         ensures made { self.new.made ≡ self.old.made }
+        ensures reserved { self.new.reserved ≡ self.old.reserved }
     {
         let key = self.items[number as usize].key;
         self.recency.remove(number);
@@ -253,6 +287,7 @@ impl<K: Copy + Eq + Hash, S: BuildHasher, A: Allocator + Copy> Entries<K, S, A> 
         requires { IsNumber number self.old.entries }
         ensures entries { self.new.entries ≡ moved number id rectangle self.old.entries }
         ensures made { self.new.made ≡ self.old.made }
+        ensures reserved { self.new.reserved ≡ self.old.reserved }
     {
         let entry = &mut self.items[number as usize];
         entry.id = id;
@@ -266,9 +301,11 @@ impl<K: Copy + Eq + Hash, S: BuildHasher, A: Allocator + Copy> Entries<K, S, A> 
         self.recency.made()
     }
 
-    /// Asks for room for so many more entries. Nothing else changes. `Memory` if memory is refused.
+    /// At least so many entries are in reserve from now on: none of the next ones that come is refused for memory. Nothing
+    /// else changes, and nothing at all with `Memory`, if memory is refused.
     pub fn reserve(&mut self, additional: usize) -> Result<(), CacheError>
-        ensures same { self.new ≡ self.old }
+        ensures reserves { OnOk result (self.new ≡ with_reserve additional self.old) }
+        ensures refused { OnErr result (self.new ≡ self.old) }
         ensures unless { IsOkUnless result CacheError.Memory }
     {
         self.map.reserve(additional)?;
@@ -277,10 +314,11 @@ impl<K: Copy + Eq + Hash, S: BuildHasher, A: Allocator + Copy> Entries<K, S, A> 
         Ok(())
     }
 
-    /// All entries go. Keeps its memory, which is tested.
+    /// All entries go. Keeps its memory: what the entries had is in reserve.
     pub fn clear(&mut self)
         ensures entries { self.new.entries ≡ [] }
         ensures made { self.new.made ≡ 0 }
+        ensures reserved { self.new.reserved ≡ self.old.reserved + length self.old.entries }
     {
         self.map.clear();
         self.recency.clear();

@@ -1,9 +1,9 @@
 //! Entries in the order of their use, by links between them: each call takes a few steps, however many entries there
 //! are.
-ghost use Rattle.std.specs.Prelude.{◌≡◌, ◌⊎◌, ◌+◌, ◌<◌, ◌≤◌, max, ℕ, List, [], ◌∷◌, ◌++◌, length, IsTrue, ◌↔◌, IfErr};
-ghost use Rattle.std.specs.Prelude.{IfOk, IfSome, IsOkUnless, OnErr};
+ghost use Rattle.std.specs.Prelude.{◌≡◌, ◌≢◌, ◌⊎◌, ◌+◌, ◌<◌, ◌≤◌, max, ℕ, List, [], ◌∷◌, ◌++◌, length, IsTrue, ◌↔◌, IfErr};
+ghost use Rattle.std.specs.Prelude.{Err, IfOk, IfSome, IsOkUnless, OnErr, OnOk, vec_capacity};
 ghost use Rattle.atlas_cache.specs.Orders.{IsEntry, IsFreshNumber, newest_of, gone, with_newest, oldest_of, times_in};
-ghost use Rattle.atlas_cache.specs.Orders.{used, without_first};
+ghost use Rattle.atlas_cache.specs.Orders.{used, with_reserve, without_first};
 ghost use Rattle.atlas_cache.specs.Refusals.{IsWithoutNumber};
 ghost use Rattle.atlas_cache.specs.Rings.{HasSpare, IsInRing, IsRing, next_at, no_entry};
 ghost use Rattle.atlas_cache.specs.declared.error.CacheError.TheVariants.{Memory, Numbers};
@@ -16,25 +16,32 @@ use std::alloc::{Allocator, Global};
 use std::marker::Model;
 
 /// The numbers of entries in the order of their use. The number of an entry that is gone is given to a later one.
-/// Contracts see an `Order`: the numbers, the most recently used first, and how many were ever given out.
+/// Contracts see an `Order`: the numbers, the most recently used first, how many were ever given out, and for how many more
+/// entries there is memory in reserve.
 #[derive(Drop)]
 pub struct Recency<A: Allocator = Global> {
     links: Vec<Link, A>,
     ends: Link,
     unused: u32,
     count: usize,
+    reserved: usize,
 }
 
 impl<A: Allocator> Model for Recency<A> {
-    ghost use Rattle.std.specs.Prelude.{length};
+    ghost use Rattle.std.specs.Prelude.{◌+◌, ◌≤◌, length, vec_capacity};
     ghost use Rattle.atlas_cache.specs.Orders.{Order};
     ghost use Rattle.atlas_cache.specs.Rings.{IsRecency, run};
 
     ghost Value = { Order };
 
-    ghost view = { λ r. record { entries = run r.links.items r.ends r.count; made = length r.links.items } };
+    ghost view = { λ r. record {
+      entries = run r.links.items r.ends r.count;
+      made = length r.links.items;
+      reserved = r.reserved;
+    } };
 
-    ghost invariant = { λ r. IsRecency r.links.items r.ends r.unused r.count };
+    ghost invariant = { λ r. IsRecency r.links.items r.ends r.unused r.count
+        × (r.count + r.reserved ≤ vec_capacity r.links) };
 }
 
 // The ends of an order with no entry.
@@ -84,6 +91,9 @@ fn take_number<A: Allocator>(links: &mut Vec<Link, A>, unused: &mut u32) -> Resu
     ensures dense { IfOk result (λ n. n ≡ length links.old.items → unused.old ≡ no_entry) }
     ensures made { IfOk result (λ n. length links.new.items ≡ max (length links.old.items) (n + 1)) }
     ensures short { length links.new.items ≤ no_entry }
+    ensures capacity { vec_capacity links.old ≤ vec_capacity links.new }
+    ensures memory { result ≡ Err Memory
+        → (unused.old ≡ no_entry) × (vec_capacity links.old ≤ length links.old.items) }
     ensures refused { OnErr result ((links.new.items ≡ links.old.items) × (unused.new ≡ unused.old)) }
     ensures errors { IfErr result (λ e. (e ≡ Memory)
         ⊎ ((e ≡ Numbers) × (unused.old ≡ no_entry) × (length links.old.items ≡ no_entry))) }
@@ -106,12 +116,14 @@ impl<A: Allocator> Recency<A> {
     pub fn new(alloc: A) -> Self
         ensures entries { result.entries ≡ [] }
         ensures made { result.made ≡ 0 }
+        ensures reserved { result.reserved ≡ 0 }
     {
         Recency {
             links: Vec::new(alloc),
             ends: NO_ENDS,
             unused: NO_ENTRY,
             count: 0,
+            reserved: 0,
         }
     }
 
@@ -188,16 +200,20 @@ impl<A: Allocator> Recency<A> {
     }
 
     /// A new entry, the most recently used from now on: its number. That is one that was given out before and belongs to no
-    /// entry, or, if all of those are in use, the next one. `Numbers` only if all are in use, and `Memory` if memory is refused; then nothing changes.
+    /// entry, or, if all of those are in use, the next one. `Numbers` only if all are in use, and `Memory` if memory is
+    /// refused, which is never asked for where entries are in reserve; then nothing changes.
     pub fn push(&mut self) -> Result<u32, CacheError>
         ensures new { IfOk result (λ number. IsFreshNumber number self.old) }
         ensures joined { IfOk result (λ number. self.new ≡ with_newest number self.old) }
+        ensures few { IfOk result (λ _. length self.new.entries ≤ self.new.made) }
         ensures refused { OnErr result (self.new ≡ self.old) }
         ensures errors { IfErr result (IsWithoutNumber (length self.old.entries)) }
+        ensures memory { 0 < self.old.reserved → result ≢ Err Memory }
     {
         let number = take_number(&mut self.links, &mut self.unused)?;
         push_front(&mut self.links, &mut self.ends, number);
         self.count += 1;
+        self.reserved = self.reserved.saturating_sub(1);
         Ok(number)
     }
 
@@ -226,23 +242,28 @@ impl<A: Allocator> Recency<A> {
         self.links.len() as u32
     }
 
-    /// Asks for room for so many more entries. Nothing else changes. `Memory` if memory is refused.
+    /// At least so many entries are in reserve from now on: none of the next ones that come is refused for memory. Nothing
+    /// else changes, and nothing at all with `Memory`, if memory is refused.
     pub fn reserve(&mut self, additional: usize) -> Result<(), CacheError>
-        ensures same { self.new ≡ self.old }
+        ensures reserves { OnOk result (self.new ≡ with_reserve additional self.old) }
+        ensures refused { OnErr result (self.new ≡ self.old) }
         ensures unless { IsOkUnless result CacheError.Memory }
     {
         self.links.reserve(additional)?;
+        self.reserved = self.reserved.max(additional);
         Ok(())
     }
 
-    /// All entries go, and the numbers begin again at 0. Keeps its memory, which is tested.
+    /// All entries go, and the numbers begin again at 0. Keeps its memory: what the entries had is in reserve.
     pub fn clear(&mut self)
         ensures entries { self.new.entries ≡ [] }
         ensures made { self.new.made ≡ 0 }
+        ensures reserved { self.new.reserved ≡ self.old.reserved + length self.old.entries }
     {
         self.links.clear();
         self.ends = NO_ENDS;
         self.unused = NO_ENTRY;
+        self.reserved += self.count;
         self.count = 0;
     }
 }

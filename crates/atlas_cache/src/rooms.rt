@@ -5,7 +5,7 @@ ghost use Rattle.std.specs.Prelude.{None, Ok, OnErr, OnOk, Some};
 ghost use Rattle.guillotiere.specs.Boxes.{Fits, IsPositive};
 ghost use Rattle.guillotiere.specs.Callers.{IsShortage};
 ghost use Rattle.guillotiere.specs.Pages.{rectangle_on, AddsBoxOn, AllLieApartOn, AllLieWithinOn, HasRoomOn};
-ghost use Rattle.guillotiere.specs.Pages.{HasSameRectangles, LeavesNoBoxOn, NoneHasRoomBelow};
+ghost use Rattle.guillotiere.specs.Pages.{HasSameRectangles, KeepsPages, LeavesNoBoxOn, NoneHasRoomBelow};
 ghost use Rattle.guillotiere.specs.Pixels.{natural, sides_of, size_of};
 ghost use Rattle.guillotiere.specs.Stored.{AtlasValue, state_of};
 ghost use Rattle.atlas_cache.specs.declared.options.CacheOptions.{CacheOptions};
@@ -13,7 +13,7 @@ ghost use Rattle.atlas_cache.specs.Asking.{AreUsable};
 ghost use Rattle.atlas_cache.specs.Entries.{no_page};
 ghost use Rattle.atlas_cache.specs.Rooms.{grown_sides, growth_left, page_sizes, AreAllLargest, AreLargestBelow};
 ghost use Rattle.atlas_cache.specs.Rooms.{rooms_of, IsAtLeast, IsFirstToGrow, IsNothingLive, IsRefusal, KeepsRooms};
-ghost use Rattle.atlas_cache.specs.Rooms.{IsRounded, LargestHasRoom};
+ghost use Rattle.atlas_cache.specs.Rooms.{HasRoomOnlyAmong, IsRounded, LargestHasRoom};
 ghost use Rattle.atlas_cache.specs.Shrinking.{DropsIdle, IsLastInUse};
 
 mod repacking;
@@ -21,7 +21,7 @@ mod usable;
 
 use crate::error::CacheError;
 use crate::options::CacheOptions;
-use guillotiere::pages::{page_with_room, prove_page};
+use guillotiere::pages::prove_page;
 use guillotiere::{AllocId, Allocation, AtlasAllocator, AtlasError, Size};
 use std::alloc::{Allocator, Global};
 use std::marker::Model;
@@ -62,38 +62,43 @@ fn number(page: usize, most: u32) -> u32
     page as u32
 }
 
-// Grants a request on a page that has room for it.
+// Grants a request on a page; None if it has no room there.
 fn take<A: Allocator + Copy>(
     pages: &mut Vec<AtlasAllocator<A>, A>,
     page: usize,
     asked: Size,
-) -> Result<Allocation, CacheError>
+) -> Result<Option<Allocation>, CacheError>
     requires page { page < length pages.old.items }
-    requires room { HasRoomOn asked pages.old.items page }
-    ensures adds { IfOk result (λ a. AddsBoxOn pages.old.items pages.new.items page a.id a.rectangle) }
-    ensures large { IfOk result (λ a. IsAtLeast asked a.rectangle) }
+    ensures adds { IfOk result (λ granted. IfSome granted (λ a.
+        AddsBoxOn pages.old.items pages.new.items page a.id a.rectangle)) }
+    ensures large { IfOk result (λ granted. IfSome granted (λ a. IsAtLeast asked a.rectangle)) }
     ensures sides { (o : CacheOptions) → KeepsRooms (rooms_of o pages.old.items)
-        → IfOk result (λ a. IsRounded o asked a.rectangle) }
+        → IfOk result (λ granted. IfSome granted (λ a. IsRounded o asked a.rectangle)) }
     ensures sizes { page_sizes pages.new.items ≡ page_sizes pages.old.items }
     ensures kept { (o : CacheOptions) → KeepsRooms (rooms_of o pages.old.items)
         → KeepsRooms (rooms_of o pages.new.items) }
+    ensures full { result ≡ Ok None → HasRoomOn asked pages.old.items page → ⊥ }
+    ensures none { result ≡ Ok None → pages.new.items ≡ pages.old.items }
     ensures refused { OnErr result (pages.new.items ≡ pages.old.items) }
     ensures errors { IfErr result IsRefusal }
 {
     match pages[page].allocate(asked) {
-        Ok(Some(granted)) => Ok(granted),
-        Ok(None) => unreachable!(),
+        Ok(granted) => Ok(granted),
         Err(error) => Err(refusal(error)),
     }
 }
 
-// Grants a request on the first page that has room for it.
+// Grants a request on the first page that has room for it, which is one of these, if any has.
 fn place_first<A: Allocator + Copy>(
     pages: &mut Vec<AtlasAllocator<A>, A>,
     options: &CacheOptions,
+    from: usize,
+    to: usize,
     asked: Size,
 ) -> Result<Option<(u32, Allocation)>, CacheError>
-    requires { KeepsRooms (rooms_of options.now pages.old.items) }
+    requires kept { KeepsRooms (rooms_of options.now pages.old.items) }
+    requires inside { to ≤ length pages.old.items }
+    requires others { HasRoomOnlyAmong asked pages.old.items from to }
     ensures adds { IfOk result (λ placed. IfSome placed (λ place.
         AddsBoxOn pages.old.items pages.new.items place.0 place.1.id place.1.rectangle)) }
     ensures large { IfOk result (λ placed. IfSome placed (λ place. IsAtLeast asked place.1.rectangle)) }
@@ -110,11 +115,12 @@ fn place_first<A: Allocator + Copy>(
     ensures refused { OnErr result (pages.new.items ≡ pages.old.items) }
     ensures errors { IfErr result IsRefusal }
 {
-    let Some(page) = page_with_room(pages, asked) else {
-        return Ok(None);
-    };
-    let granted = take(pages, page, asked)?;
-    Ok(Some((number(page, options.pages), granted)))
+    for page in from..to {
+        if let Some(granted) = take(pages, page, asked)? {
+            return Ok(Some((number(page, options.pages), granted)));
+        }
+    }
+    Ok(None)
 }
 
 // Frees the rectangle of an id of a page, if it has one.
@@ -197,6 +203,7 @@ fn grow_to<A: Allocator + Copy>(
     requires larger { (s : AtlasValue) → slice_get pages.old.items page ≡ Some s
         → Fits (state_of s).size (sides_of size) }
     ensures same { HasSameRectangles pages.old.items pages.new.items }
+    ensures others { KeepsPages pages.old.items pages.new.items page }
     ensures sizes { OnOk result (page_sizes pages.new.items ≡ slice_set (page_sizes pages.old.items) page size) }
     ensures kept { (o : CacheOptions) → Fits (sides_of size) (sides_of o.largest_page)
         → KeepsRooms (rooms_of o pages.old.items) → KeepsRooms (rooms_of o pages.new.items) }
@@ -223,6 +230,8 @@ fn grow_first<A: Allocator + Copy>(
         growth_left options.now (page_sizes pages.new.items)
         < growth_left options.now (page_sizes pages.old.items))) }
     ensures same { HasSameRectangles pages.old.items pages.new.items }
+    ensures others { IfOk result (λ grown. IfSome grown (λ growth.
+        KeepsPages pages.old.items pages.new.items growth.0)) }
     ensures kept { KeepsRooms (rooms_of options.now pages.new.items) }
     ensures none { (result ≡ Ok None) ↔ AreAllLargest options.now (page_sizes pages.old.items) }
     ensures nothing { result ≡ Ok None → pages.new.items ≡ pages.old.items }
@@ -244,6 +253,7 @@ fn push_page<A: Allocator + Copy>(
 ) -> Result<(), CacheError>
     requires { AreUsable options.now }
     ensures same { HasSameRectangles pages.old.items pages.new.items }
+    ensures others { OnOk result (KeepsPages pages.old.items pages.new.items (length pages.old.items)) }
     ensures sizes { OnOk result
         (page_sizes pages.new.items ≡ page_sizes pages.old.items ++ options.now.page ∷ []) }
     ensures kept { OnOk result (length pages.old.items < options.now.pages
@@ -386,7 +396,36 @@ impl<A: Allocator + Copy> Rooms<A> {
         ensures refused { OnErr result (self.new ≡ self.old) }
         ensures errors { IfErr result IsRefusal }
     {
-        place_first(&mut self.pages, &self.options, asked)
+        let to = self.pages.len();
+        self.place_among(0, to, asked)
+    }
+
+    // The same, where none but the pages from `from` on and before `to` can have room: only these are looked at.
+    pub(crate) fn place_among(
+        &mut self,
+        from: usize,
+        to: usize,
+        asked: Size,
+    ) -> Result<Option<(u32, Allocation)>, CacheError>
+        requires inside { to ≤ length self.old.pages }
+        requires others { HasRoomOnlyAmong asked self.old.pages from to }
+        ensures adds { IfOk result (λ placed. IfSome placed (λ place.
+            AddsBoxOn self.old.pages self.new.pages place.0 place.1.id place.1.rectangle)) }
+        ensures large { IfOk result (λ placed. IfSome placed (λ place. IsAtLeast asked place.1.rectangle)) }
+        ensures sides { IfOk result (λ placed. IfSome placed (λ place.
+            IsRounded self.old.options asked place.1.rectangle)) }
+        ensures first { IfOk result (λ placed. IfSome placed (λ place.
+            NoneHasRoomBelow asked self.old.pages place.0)) }
+        ensures page { IfOk result (λ placed. IfSome placed (λ place. place.0 < length self.old.pages)) }
+        ensures numbered { IfOk result (λ placed. IfSome placed (λ place. place.0 < no_page)) }
+        ensures sizes { page_sizes self.new.pages ≡ page_sizes self.old.pages }
+        ensures options { self.new.options ≡ self.old.options }
+        ensures full { result ≡ Ok None → NoneHasRoomBelow asked self.old.pages (length self.old.pages) }
+        ensures none { result ≡ Ok None → self.new ≡ self.old }
+        ensures refused { OnErr result (self.new ≡ self.old) }
+        ensures errors { IfErr result IsRefusal }
+    {
+        place_first(&mut self.pages, &self.options, from, to, asked)
     }
 
     /// Frees the rectangle of an id of a page. Asks that the id is live there. No other rectangle moves. Takes no
@@ -413,6 +452,8 @@ impl<A: Allocator + Copy> Rooms<A> {
             growth_left self.new.options (page_sizes self.new.pages)
             < growth_left self.old.options (page_sizes self.old.pages))) }
         ensures same { HasSameRectangles self.old.pages self.new.pages }
+        ensures others { IfOk result (λ grown. IfSome grown (λ growth.
+            KeepsPages self.old.pages self.new.pages growth.0)) }
         ensures options { self.new.options ≡ self.old.options }
         ensures none { (result ≡ Ok None) ↔ AreAllLargest self.old.options (page_sizes self.old.pages) }
         ensures nothing { result ≡ Ok None → self.new ≡ self.old }
@@ -433,6 +474,8 @@ impl<A: Allocator + Copy> Rooms<A> {
             growth_left self.new.options (page_sizes self.new.pages)
             < growth_left self.old.options (page_sizes self.old.pages))) }
         ensures same { HasSameRectangles self.old.pages self.new.pages }
+        ensures others { IfOk result (λ added. IfSome added (λ page.
+            KeepsPages self.old.pages self.new.pages page.0)) }
         ensures options { self.new.options ≡ self.old.options }
         ensures none { (result ≡ Ok None) ↔ (length self.old.pages ≡ self.old.options.pages) }
         ensures nothing { result ≡ Ok None → self.new ≡ self.old }

@@ -1,5 +1,5 @@
 -- From the lines that are read to the text that is written.
-use Rattle.std.specs.Prelude.{◌≡◌, ℕ, ◌+◌, ◌⊎◌, ⊤, Bool, true, false, if◌then◌else◌, Option, Some, None, List, [], ◌∷◌}
+use Rattle.std.specs.Prelude.{◌≡◌, ℕ, ◌+◌, ◌<◌, ◌≤◌, ◌⊎◌, ⊤, Bool, true, false, if◌then◌else◌, Option, Some, None, List, [], ◌∷◌}
 use Rattle.std.specs.Prelude.{map, flat_map, length, take, All}
 use Rattle.std.specs.List.{zip}
 use Rattle.std.specs.Io.KnownBytes.{Appends}
@@ -9,6 +9,7 @@ use Rattle.atlas_sheet.specs.declared.allowed.Allowed.{Allowed}
 use Rattle.atlas_sheet.specs.declared.allowed.Allowed.TheVariants as allowed
 use Rattle.atlas_sheet.specs.declared.error.SheetError.TheVariants as sheet_error
 use Rattle.atlas_sheet.specs.declared.options.SheetOptions.{SheetOptions}
+use Rattle.atlas_sheet.specs.declared.paging.OnPage.{OnPage}
 use Rattle.atlas_sheet.specs.declared.placed.Placed.{Placed}
 use Rattle.atlas_sheet.specs.declared.ways.TheConstants.{WAYS}
 use Rattle.atlas_sheet.specs.Allowances.{IsAllowed, IsGreatest}
@@ -16,6 +17,7 @@ use Rattle.atlas_sheet.specs.Dense.{AreAllPlaced, ArePaddedApart, IsNoLargerThan
 use Rattle.atlas_sheet.specs.Fillings.{IsBestFound, IsNoBetter, ways_tried}
 use Rattle.atlas_sheet.specs.Lying.{IsShown, areas_of}
 use Rattle.atlas_sheet.specs.Packings.{IsFirstFound, IsNoLarger, NoneIsFound}
+use Rattle.atlas_sheet.specs.Paging.{ArePages, OneIsTooLarge}
 use Rattle.atlas_sheet.specs.Settings.{IsSheetFault, spacing_of}
 use Rattle.atlas_sheet.specs.Sheets.{used_area}
 use Rattle.atlas_sheet.specs.Turnings.{InEach, InOne}
@@ -23,12 +25,14 @@ use Rattle.atlas_words.specs.Devices.{HoldsBytes}
 use Rattle.pack_lines.specs.declared.error.PackError.{PackError}
 use Rattle.pack_lines.specs.declared.error.PackError.TheVariants as error
 use Rattle.pack_lines.specs.declared.frames.Frame.{Frame}
+use Rattle.pack_lines.specs.declared.pages.PageFrame.{PageFrame}
 use Rattle.pack_lines.specs.declared.settings.Settings.{Settings}
 use Rattle.pack_lines.specs.declared.settings.Sheets.{Sheets}
 use Rattle.pack_lines.specs.declared.settings.Sheets.TheVariants as sheets
 use Rattle.pack_lines.specs.declared.sprites.Sprite.{Sprite}
 use Rattle.pack_lines.specs.Jobs.{AsksFor, IsJobFault}
 use Rattle.pack_lines.specs.Json.{json_of}
+use Rattle.pack_lines.specs.Pages.{pages_text_of}
 use Rattle.pack_lines.specs.Texts.{text_of}
 
 abbrev pub allowed_of : Sheets → Allowed
@@ -115,35 +119,72 @@ abbrev pub Answers : (fill dense : Bool) → SheetOptions → List Size → (she
 Answers true dense options sizes sheet places = IsFilled options sizes sheet places
 Answers false dense options sizes sheet places = IsWhole dense options sizes sheet places
 
--- The lines that were read ask for a sheet, the library answered with one on which so many sprites have no place, and its text was
--- written.
+-- The library answered with a sheet on which so many sprites have no place, and this is its text.
+pub record IsOneSheet (settings : Settings) (sprites : List Sprite) (many : ℕ) (text : List ℕ) : Type 0 where
+  pub sheet : Size
+  pub places : List (Option Placed)
+  pub answered : Answers settings.fill settings.dense (sheet_options settings) (map (λ sprite. sprite.size) sprites) sheet places
+  pub left : many ≡ length (left_of sprites places)
+  pub told : text ≡ written settings.json sheet (frames_of sprites places) (left_of sprites places)
+
+-- A sprite in its place on one of several sheets.
+abbrev pub page_frame_of : Sprite × OnPage → PageFrame
+page_frame_of (sprite, place) = record { page = place.page; frame = frame_of sprite place.placed }
+
+-- The sprites in their places, in order.
+abbrev pub page_frames_of : List Sprite → List OnPage → List PageFrame
+page_frames_of sprites places = map page_frame_of (zip sprites places)
+
+-- The library answered with no more sheets than these, on which each sprite has a place, and this is their text.
+pub record AreSeveral (most : ℕ) (settings : Settings) (sprites : List Sprite) (many : ℕ) (text : List ℕ) : Type 0 where
+  pub sheets : List Size
+  pub places : List OnPage
+  pub answered : ArePages WAYS (sheet_options settings) (map (λ sprite. sprite.size) sprites) sheets (map Some places)
+  pub few : length sheets ≤ most
+  pub left : many ≡ 0
+  pub told : text ≡ pages_text_of sheets (page_frames_of sprites places)
+
+-- The library answered what the lines ask for, in one sheet or in several.
+abbrev pub IsAnswer : (pages : Option ℕ) → Settings → List Sprite → (many : ℕ) → (text : List ℕ) → Type 0
+IsAnswer None settings sprites many text = IsOneSheet settings sprites many text
+IsAnswer (Some most) settings sprites many text = AreSeveral most settings sprites many text
+
+-- The lines that were read ask for a sheet, on which so many sprites have no place, and its text was written.
 pub record Packs (many : ℕ) (in_old out_old out_new : Option (List ℕ)) : Type 0 where
   pub input : List ℕ
   pub before : ℕ
   pub settings : Settings
   pub sprites : List Sprite
-  pub sheet : Size
-  pub places : List (Option Placed)
+  pub text : List ℕ
   pub read : HoldsBytes in_old input
   pub asked : AsksFor input before settings sprites
-  pub answered : Answers settings.fill settings.dense (sheet_options settings) (map (λ sprite. sprite.size) sprites) sheet places
-  pub left : many ≡ length (left_of sprites places)
-  pub told : Appends out_old out_new
-      (written settings.json sheet (frames_of sprites places) (left_of sprites places))
+  pub answered : IsAnswer settings.pages settings sprites many text
+  pub told : Appends out_old out_new text
+
+-- No sheet that is allowed takes all sprites; of several, where not each sprite has room in the greatest.
+abbrev pub IsNoSheet : (fill : Bool) → (pages : Option ℕ) → SheetOptions → List Size → Type 0
+IsNoSheet fill None o sizes = (fill ≡ false) × InEach o sizes (λ lying. NoneIsFound WAYS o.allowed (spacing_of o) lying)
+IsNoSheet fill (Some most) o sizes = OneIsTooLarge o sizes
+
+-- The library answered with more sheets than these.
+abbrev pub AreMore : (pages : Option ℕ) → SheetOptions → List Size → Type 0
+AreMore None o sizes = ⊥
+AreMore (Some most) o sizes =
+    (sheets : List Size) × (places : List OnPage) × ArePages WAYS o sizes sheets (map Some places) × (most < length sheets)
 
 -- What an error says of what the library was asked. The sprites' lines stand after `before` others.
-abbrev pub IsPackFault : (fill : Bool) → (before : ℕ) → SheetOptions → List Size → PackError → Type 0
-IsPackFault fill before o sizes error.EmptySheet = IsSheetFault o sizes sheet_error.EmptySheet
-IsPackFault fill before o sizes error.EmptyRange = IsSheetFault o sizes sheet_error.EmptyRange
-IsPackFault fill before o sizes error.EmptyAlignment = IsSheetFault o sizes sheet_error.EmptyAlignment
-IsPackFault fill before o sizes (error.EmptySprite line) =
+abbrev pub IsPackFault : (fill : Bool) → (pages : Option ℕ) → (before : ℕ) → SheetOptions → List Size → PackError → Type 0
+IsPackFault fill pages before o sizes error.EmptySheet = IsSheetFault o sizes sheet_error.EmptySheet
+IsPackFault fill pages before o sizes error.EmptyRange = IsSheetFault o sizes sheet_error.EmptyRange
+IsPackFault fill pages before o sizes error.EmptyAlignment = IsSheetFault o sizes sheet_error.EmptyAlignment
+IsPackFault fill pages before o sizes (error.EmptySprite line) =
     (k : ℕ) × (line ≡ before + k + 1) × IsSheetFault o sizes (sheet_error.EmptySprite k)
-IsPackFault fill before o sizes (error.GreatSprite line) =
+IsPackFault fill pages before o sizes (error.GreatSprite line) =
     (k : ℕ) × (line ≡ before + k + 1) × IsSheetFault o sizes (sheet_error.GreatSprite k)
-IsPackFault fill before o sizes error.NoSheet =
-    (fill ≡ false) × InEach o sizes (λ lying. NoneIsFound WAYS o.allowed (spacing_of o) lying)
-IsPackFault fill before o sizes error.Memory = ⊤
-IsPackFault fill before o sizes e = ⊥
+IsPackFault fill pages before o sizes error.NoSheet = IsNoSheet fill pages o sizes
+IsPackFault fill pages before o sizes error.MorePages = AreMore pages o sizes
+IsPackFault fill pages before o sizes error.Memory = ⊤
+IsPackFault fill pages before o sizes e = ⊥
 
 -- The lines ask for a sheet, and the library has none.
 pub record HasPackFault (input : List ℕ) (e : PackError) : Type 0 where
@@ -151,7 +192,7 @@ pub record HasPackFault (input : List ℕ) (e : PackError) : Type 0 where
   pub settings : Settings
   pub sprites : List Sprite
   pub asked : AsksFor input before settings sprites
-  pub fault : IsPackFault settings.fill before (sheet_options settings) (map (λ sprite. sprite.size) sprites) e
+  pub fault : IsPackFault settings.fill settings.pages before (sheet_options settings) (map (λ sprite. sprite.size) sprites) e
 
 -- A device failed.
 abbrev pub IsDeviceFault : PackError → Type 0

@@ -21,7 +21,7 @@ fn main(rt: HostRuntime) -> ExitCode {
             let _ = eprintln!(rt; "{error}");
             match error {
                 PackError::Memory | PackError::Device(_) => ExitCode::FAILURE,
-                PackError::NoSheet => ExitCode::from(3),
+                PackError::NoSheet | PackError::MorePages => ExitCode::from(3),
                 _ => ExitCode::from(2),
             }
         }

@@ -1,13 +1,19 @@
 //! What the library is asked, and what it answers.
-ghost use Rattle.std.specs.Prelude.{◌≡◌, ◌≤◌, false, map, true, flat_map, Bool, IfErr, IfOk, Some};
+ghost use Rattle.std.specs.Prelude.{◌≡◌, ◌≤◌, ℕ, false, length, map, true, flat_map, Bool, IfErr, IfNone, IfOk, IfSome, None, Option, Some};
 ghost use Rattle.std.specs.List.{zip};
-ghost use Rattle.atlas_pack.specs.Runs.{IsFilled, IsFound, IsFoundDense, IsPackFault, IsWhole, allowed_of, frame_in};
-ghost use Rattle.atlas_pack.specs.Runs.{frame_of, left_in, sheet_options};
+ghost use Rattle.atlas_pack.specs.Runs.{IsFilled, IsPackFault, IsWhole, allowed_of, frame_in};
+ghost use Rattle.atlas_pack.specs.Runs.{frame_of, left_in, page_frame_of, sheet_options};
+ghost use Rattle.atlas_sheet.specs.declared.ways.TheConstants.{WAYS};
+ghost use Rattle.atlas_sheet.specs.Dense.{NoWayFinds};
+ghost use Rattle.atlas_sheet.specs.Paging.{ArePages};
 ghost use Rattle.atlas_sheet.specs.Settings.{IsSheetFault};
 
 use atlas_model::Size;
-use atlas_sheet::{Allowed, Placed, SheetError, SheetOptions, fill, pack_dense, pack_telling};
-use pack_lines::{Frame, PackError, Settings, Sheets, Sprite};
+use atlas_sheet::{
+    Allowed, OnPage, Pages, Placed, Sheet, SheetError, SheetOptions, fill, pack_dense, pack_pages,
+    pack_telling,
+};
+use pack_lines::{Frame, PackError, PageFrame, Settings, Sheets, Sprite};
 use std::alloc::{AllocError, Global};
 use std::io::Write;
 
@@ -38,8 +44,8 @@ pub fn sheet_options(settings: Settings) -> SheetOptions
 }
 
 // A sprite in its place.
-fn frame_of<'a>(sprite: Sprite<'a>, placed: Placed) -> Frame<'a>
-    ensures { result ≡ frame_of sprite.entry placed }
+fn frame_of(sprite: Sprite, placed: Placed) -> Frame
+    ensures { result ≡ frame_of sprite placed }
 {
     Frame {
         sprite,
@@ -49,41 +55,40 @@ fn frame_of<'a>(sprite: Sprite<'a>, placed: Placed) -> Frame<'a>
 }
 
 /// The sizes of the sprites, in order.
-pub fn sizes_of(alloc: Global, sprites: &[Sprite<'_>]) -> Result<Vec<Size>, AllocError>
+pub fn sizes_of(alloc: Global, sprites: &[Sprite]) -> Result<Vec<Size>, AllocError>
     ensures { IfOk result (λ sizes. sizes.items ≡ map (λ sprite. sprite.size) sprites.now) }
 {
     sprites.iter().map(|sprite| sprite.size).collect(alloc)
 }
 
 /// Each sprite beside its place or none, in order.
-pub fn beside<'a>(
+pub fn beside(
     alloc: Global,
-    sprites: &[Sprite<'a>],
+    sprites: Vec<Sprite>,
     places: &[Option<Placed>],
-) -> Result<Vec<(Sprite<'a>, Option<Placed>)>, AllocError>
-    ensures { IfOk result (λ pairs. pairs.items ≡ zip sprites.now places.now) }
+) -> Result<Vec<(Sprite, Option<Placed>)>, AllocError>
+    ensures { IfOk result (λ pairs. pairs.items ≡ zip sprites.items places.now) }
 {
     sprites
-        .iter()
-        .copied()
+        .into_iter()
         .zip(places.iter().copied())
         .collect(alloc)
 }
 
 /// The sprites that have places, in them, and those that have none, each in order.
-pub fn parted<'a>(
+pub fn parted(
     alloc: Global,
-    pairs: &[(Sprite<'a>, Option<Placed>)],
-) -> Result<(Vec<Frame<'a>>, Vec<Sprite<'a>>), AllocError>
-    ensures { IfOk result (λ both. (both.0.items ≡ flat_map frame_in pairs.now)
-        × (both.1.items ≡ flat_map left_in pairs.now)) }
+    pairs: Vec<(Sprite, Option<Placed>)>,
+) -> Result<(Vec<Frame>, Vec<Sprite>), AllocError>
+    ensures { IfOk result (λ both. (both.0.items ≡ flat_map frame_in pairs.items)
+        × (both.1.items ≡ flat_map left_in pairs.items)) }
 {
     let mut frames = Vec::new(alloc);
     let mut left = Vec::new(alloc);
-    for pair in pairs {
-        match pair.1 {
-            Some(placed) => frames.push(frame_of(pair.0, placed))?,
-            None => left.push(pair.0)?,
+    for (sprite, place) in pairs {
+        match place {
+            Some(placed) => frames.push(frame_of(sprite, placed))?,
+            None => left.push(sprite)?,
         }
     }
     Ok((frames, left))
@@ -100,7 +105,7 @@ fn all_of(alloc: Global, places: &[Placed]) -> Result<Vec<Option<Placed>>, Alloc
 fn fault_of(error: SheetError, sizes: &[Size], options: &SheetOptions, before: usize) -> PackError
     requires few { before ≤ 1 }
     requires fault { IsSheetFault options.now sizes.now error }
-    ensures { (fill : Bool) → IsPackFault fill before options.now sizes.now result }
+    ensures { (fill : Bool) (pages : Option ℕ) → IsPackFault fill pages before options.now sizes.now result }
 {
     match error {
         SheetError::Memory => PackError::Memory,
@@ -117,54 +122,30 @@ fn tell<P: Write>(progress: &mut P, size: Size) {
     let _ = writeln!(progress, "sheet {} {}", size.width, size.height);
 }
 
-// A sheet that takes all sprites, and their places. `NoSheet` where none is found. Where changes of the order are tried,
-// `progress` has a line for each sheet as soon as it is found.
-fn pack_all<P: Write>(
+// The sheet that the library packs all sprites into: with `dense` one with no whole cuts, where that is smaller. None
+// where none is found. Without `dense`, where changes of the order are tried, `progress` has a line for each sheet as
+// soon as it is found.
+fn packed<P: Write>(
     alloc: Global,
     sizes: &[Size],
     options: &SheetOptions,
-    before: usize,
+    dense: bool,
     progress: &mut P,
-) -> Result<(Size, Vec<Option<Placed>>), PackError>
-    requires { before ≤ 1 }
-    ensures found { IfOk result (λ found. IsFound options.now sizes.now found.0 found.1.items) }
-    ensures fault { IfErr result (λ e. IsPackFault false before options.now sizes.now e) }
+) -> Result<Option<Sheet>, SheetError>
+    ensures whole { IfOk result (λ found. IfSome found (λ sheet.
+        IsWhole dense options.now sizes.now sheet.size (map Some sheet.places.items))) }
+    ensures none { IfOk result (λ found. IfNone found (NoWayFinds options.now sizes.now)) }
+    ensures fault { IfErr result (λ e. IsSheetFault options.now sizes.now e) }
 {
+    if dense {
+        return pack_dense(alloc, sizes, options);
+    }
     let telling = options.effort > 0;
-    let packed = pack_telling(alloc, sizes, options, |size| {
+    pack_telling(alloc, sizes, options, |size| {
         if telling {
             tell(progress, size);
         }
-    });
-    match packed {
-        Ok(Some(sheet)) => {
-            let places = all_of(alloc, &sheet.places)?;
-            Ok((sheet.size, places))
-        }
-        Ok(None) => Err(PackError::NoSheet),
-        Err(error) => Err(fault_of(error, sizes, options, before)),
-    }
-}
-
-// The same, or a smaller sheet with no whole cuts.
-fn pack_all_dense(
-    alloc: Global,
-    sizes: &[Size],
-    options: &SheetOptions,
-    before: usize,
-) -> Result<(Size, Vec<Option<Placed>>), PackError>
-    requires { before ≤ 1 }
-    ensures found { IfOk result (λ found. IsFoundDense options.now sizes.now found.0 found.1.items) }
-    ensures fault { IfErr result (λ e. IsPackFault false before options.now sizes.now e) }
-{
-    match pack_dense(alloc, sizes, options) {
-        Ok(Some(sheet)) => {
-            let places = all_of(alloc, &sheet.places)?;
-            Ok((sheet.size, places))
-        }
-        Ok(None) => Err(PackError::NoSheet),
-        Err(error) => Err(fault_of(error, sizes, options, before)),
-    }
+    })
 }
 
 /// A sheet that takes all sprites, and their places: with `dense` one with no whole cuts, where that is smaller. `NoSheet`
@@ -180,12 +161,79 @@ pub fn pack_whole<P: Write>(
 ) -> Result<(Size, Vec<Option<Placed>>), PackError>
     requires { before ≤ 1 }
     ensures found { IfOk result (λ found. IsWhole dense options.now sizes.now found.0 found.1.items) }
-    ensures fault { IfErr result (λ e. IsPackFault false before options.now sizes.now e) }
+    ensures fault { IfErr result (λ e. IsPackFault false None before options.now sizes.now e) }
 {
-    if dense {
-        return pack_all_dense(alloc, sizes, options, before);
+    match packed(alloc, sizes, options, dense, progress) {
+        Ok(Some(sheet)) => {
+            let places = all_of(alloc, &sheet.places)?;
+            Ok((sheet.size, places))
+        }
+        Ok(None) => Err(PackError::NoSheet),
+        Err(error) => Err(fault_of(error, sizes, options, before)),
     }
-    pack_all(alloc, sizes, options, before, progress)
+}
+
+// A sprite in its place on one of several sheets.
+fn page_frame_of(sprite: Sprite, place: OnPage) -> PageFrame
+    ensures { result ≡ page_frame_of (sprite, place) }
+{
+    PageFrame {
+        page: place.page,
+        frame: frame_of(sprite, place.placed),
+    }
+}
+
+/// Each sprite beside its place on one of several sheets, in order.
+pub fn beside_pages(
+    alloc: Global,
+    sprites: Vec<Sprite>,
+    places: &[OnPage],
+) -> Result<Vec<(Sprite, OnPage)>, AllocError>
+    ensures { IfOk result (λ pairs. pairs.items ≡ zip sprites.items places.now) }
+{
+    let places = places.iter().copied();
+    sprites.into_iter().zip(places).collect(alloc)
+}
+
+/// Each sprite in its place on one of several sheets, in order.
+pub fn page_frames(
+    alloc: Global,
+    pairs: Vec<(Sprite, OnPage)>,
+) -> Result<Vec<PageFrame>, AllocError>
+    ensures { IfOk result (λ frames. frames.items ≡ map page_frame_of pairs.items) }
+{
+    let mut frames = Vec::new(alloc);
+    for (sprite, place) in pairs {
+        frames.push(page_frame_of(sprite, place))?;
+    }
+    Ok(frames)
+}
+
+/// Up to `most` sheets that take all sprites, and their places. `NoSheet` where a sprite fits no empty sheet, and
+/// `MorePages` where more sheets are needed.
+pub fn pack_several(
+    alloc: Global,
+    sizes: &[Size],
+    options: &SheetOptions,
+    most: u32,
+    before: usize,
+) -> Result<Pages, PackError>
+    requires { before ≤ 1 }
+    ensures pages { IfOk result (λ p. ArePages WAYS options.now sizes.now p.sizes.items (map Some p.places.items)) }
+    ensures few { IfOk result (λ p. length p.sizes.items ≤ most) }
+    ensures fault { (fill : Bool) → IfErr result (λ e.
+        IsPackFault fill (Some most) before options.now sizes.now e) }
+{
+    match pack_pages(alloc, sizes, options) {
+        Ok(Some(pages)) => {
+            if pages.sizes.len() > most as usize {
+                return Err(PackError::MorePages);
+            }
+            Ok(pages)
+        }
+        Ok(None) => Err(PackError::NoSheet),
+        Err(error) => Err(fault_of(error, sizes, options, before)),
+    }
 }
 
 /// The greatest sheet that is allowed, and a place or none for each sprite.
@@ -197,7 +245,7 @@ pub fn fill_one(
 ) -> Result<(Size, Vec<Option<Placed>>), PackError>
     requires { before ≤ 1 }
     ensures filled { IfOk result (λ found. IsFilled options.now sizes.now found.0 found.1.items) }
-    ensures fault { IfErr result (λ e. IsPackFault true before options.now sizes.now e) }
+    ensures fault { IfErr result (λ e. IsPackFault true None before options.now sizes.now e) }
 {
     match fill(alloc, sizes, options) {
         Ok(filled) => Ok((filled.size, filled.places)),

@@ -8,6 +8,10 @@ pub mod Flipping
 pub mod LaidWays
 pub mod Laying
 pub mod Gridding
+pub mod GroupFinds
+pub mod GroupMore
+pub mod GroupRows
+pub mod GroupSteps
 pub mod Maybes
 pub mod Numbering
 pub mod Ordering

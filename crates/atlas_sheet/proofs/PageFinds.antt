@@ -17,7 +17,7 @@ use Rattle.atlas_sheet.specs.Allowances.{IsAllowed, IsGreatest}
 use Rattle.atlas_sheet.specs.Fillings.{IsNoBetter, ways_tried}
 use Rattle.atlas_sheet.specs.Lying.{IsPlacedFor, IsShown, MayLie, areas_of}
 use Rattle.atlas_sheet.specs.Packings.{IsNoLarger}
-use Rattle.atlas_sheet.specs.Paging.{ArePages, IsFull, IsPage, OneIsTooLarge, TakesAll, holes, put_on, sprites_left}
+use Rattle.atlas_sheet.specs.Paging.{ArePagesBy, IsFull, IsPage, OneIsTooLarge, TakesAll, holes, put_on, sprites_left}
 use Rattle.atlas_sheet.specs.Settings.{spacing_of}
 use Rattle.atlas_sheet.specs.Sheets.{IsPackable, used_area}
 use Rattle.atlas_sheet.specs.Turnings.{InEach, has_room, laid}
@@ -64,12 +64,12 @@ bare_sheet ways o left sheet ways_some greatest none packs some room =
     let few : used_area by.1.1 ≤ 0 = by.1.3 in
     absurd (omega (arith, used, few))
 
-not_both : (placed : List (Option Placed)) → 0 < length placed → All IsSome placed → All IsNone placed → ⊥
+pub not_both : (placed : List (Option Placed)) → 0 < length placed → All IsSome placed → All IsNone placed → ⊥
 not_both [] some all none = absurd (omega (arith, some))
 not_both (None ∷ placed) some all none = absurd (false≢true (All-head IsSome None placed all))
 not_both (Some p ∷ placed) some all none = absurd (false≢true (sym (All-head IsNone (Some p) placed none)))
 
-areas_whole : (placed : List (Option Placed)) → All IsSome placed → All IsSome (areas_of placed)
+pub areas_whole : (placed : List (Option Placed)) → All IsSome placed → All IsSome (areas_of placed)
 areas_whole [] all = All-nil IsSome
 areas_whole (None ∷ placed) all = absurd (false≢true (All-head IsSome None placed all))
 areas_whole (Some p ∷ placed) all =
@@ -127,9 +127,9 @@ module _ (ways : List Way) (o : SheetOptions) (left : List Size) (sheet : Sides)
 
 -- Before the first sheet.
 module _ (sprites left : List Size) (places : List (Option OnPage)) (bare : places ≡ replicate (length sprites) None) where
-  pub begun_with : (ways : List Way) (o : SheetOptions) (sizes : List Size) → sizes ≡ [] → ArePages ways o sprites sizes places
-  begun_with ways o sizes none =
-      subst (λ zs. ArePages ways o sprites zs places) (sym none) (subst (ArePages ways o sprites []) (sym bare) (begun ways o sprites))
+  pub begun_with : (rule : List Size → Sides → List (Option Placed) → Type 0) (sizes : List Size) → sizes ≡ [] → ArePagesBy rule sprites sizes places
+  begun_with rule sizes none =
+      subst (λ zs. ArePagesBy rule sprites zs places) (sym none) (subst (ArePagesBy rule sprites []) (sym bare) (begun rule sprites))
 
   pub left_with : left ≡ sprites → left ≡ sprites_left sprites places
   left_with all = all ∙ sym (left_first sprites) ∙ ap (sprites_left sprites) (sym bare)
@@ -158,14 +158,14 @@ module _ (sprites left : List Size) (places : List (Option OnPage)) (long : leng
         let before : length left ≡ holes places = left_holes in
         omega (arith, less, now, before)
 
-    pub more_pages : (ways : List Way) (o : SheetOptions) (sizes more : List Size) (size : Size) → n ≡ length sizes → more ≡ sizes ++ size ∷ []
-        → ArePages ways o sprites sizes places → IsPage ways o left (sides_of size) found → ArePages ways o sprites more put
-    more_pages ways o sizes more size n_is more_is are page =
-        let next : IsPage ways o (sprites_left sprites places) (sides_of size) found =
-        subst (λ xs. IsPage ways o xs (sides_of size) found) is page in
-        let all = one_page_more ways o sprites sizes places are size found (count ∙ left_holes) next in
-        subst (λ zs. ArePages ways o sprites zs put) (sym more_is)
-        (subst (ArePages ways o sprites (sizes ++ size ∷ [])) (sym (put_is ∙ ap (λ m. put_on m places found) n_is)) all)
+    pub more_pages : (rule : List Size → Sides → List (Option Placed) → Type 0) (sizes more : List Size) (size : Size) → n ≡ length sizes → more ≡ sizes ++ size ∷ []
+        → ArePagesBy rule sprites sizes places → rule left (sides_of size) found → ArePagesBy rule sprites more put
+    more_pages rule sizes more size n_is more_is are page =
+        let next : rule (sprites_left sprites places) (sides_of size) found =
+        subst (λ xs. rule xs (sides_of size) found) is page in
+        let all = one_page_more rule sprites sizes places are size found (count ∙ left_holes) next in
+        subst (λ zs. ArePagesBy rule sprites zs put) (sym more_is)
+        (subst (ArePagesBy rule sprites (sizes ++ size ∷ [])) (sym (put_is ∙ ap (λ m. put_on m places found) n_is)) all)
 
 -- Whether a list is empty, by its length.
 pub some_left : (n : ℕ) (left : List Size) (b : Bool) → n ≡ length left → b ≡ (n == 0) → b ≡ false → 0 < length left

@@ -6,12 +6,11 @@ use Rattle.std.proofs.Math.Seq.{drop-cons}
 use Rattle.std.proofs.lemmas.List.{append_assoc, get_or_append_left, get_or_push, length-append, length-replicate}
 use Rattle.std.proofs.lemmas.List.Elements.{All-nil, All-cons, All-head, All-tail, All-weaker}
 use Rattle.guillotiere.specs.declared.Size.{Size}
+use Rattle.guillotiere.specs.Boxes.{Sides}
 use Rattle.guillotiere.specs.Pixels.{sides_of}
-use Rattle.atlas_sheet.specs.declared.options.SheetOptions.{SheetOptions}
 use Rattle.atlas_sheet.specs.declared.paging.OnPage.{OnPage}
 use Rattle.atlas_sheet.specs.declared.placed.Placed.{Placed}
-use Rattle.atlas_sheet.specs.declared.ways.Way.{Way}
-use Rattle.atlas_sheet.specs.Paging.{ArePages, IsPage, found_on, holes, page_sides, place_on, places_on, put_on, sprites_from, sprites_left}
+use Rattle.atlas_sheet.specs.Paging.{ArePagesBy, found_on, holes, page_sides, place_on, places_on, put_on, sprites_from, sprites_left}
 
 -- A place on a sheet before this one.
 abbrev pub IsBefore : (page : ℕ) → Option OnPage → Type 0
@@ -136,38 +135,38 @@ all_left P (s ∷ sprites) (None ∷ places) each =
     All-cons P s (sprites_left sprites places) (All-head P s sprites each) (all_left P sprites places (All-tail P s sprites each))
 all_left P (s ∷ sprites) (Some p ∷ places) each = all_left P sprites places (All-tail P s sprites each)
 
-module _ (ways : List Way) (o : SheetOptions) (sprites sizes : List Size) (places : List (Option OnPage)) (are : ArePages ways o sprites sizes places)
+module _ (rule : List Size → Sides → List (Option Placed) → Type 0) (sprites sizes : List Size) (places : List (Option OnPage)) (are : ArePagesBy rule sprites sizes places)
     (size : Size) (found : List (Option Placed)) (long : length found ≡ holes places)
-    (next : IsPage ways o (sprites_left sprites places) (sides_of size) found) where
+    (next : rule (sprites_left sprites places) (sides_of size) found) where
   abbrev n : ℕ
   n = length sizes
 
   more : length (sizes ++ size ∷ []) ≡ n + 1
   more = length-append sizes (size ∷ [])
 
-  old_page : (page : ℕ) → page < n → IsPage ways o (sprites_from page sprites (put_on n places found)) (page_sides (sizes ++ size ∷ []) page)
+  old_page : (page : ℕ) → page < n → rule (sprites_from page sprites (put_on n places found)) (page_sides (sizes ++ size ∷ []) page)
       (places_on page (put_on n places found))
   old_page page less =
       let a = same_from page n (omega (arith, less)) sprites places found in
       let b = same_on page n less places found in
       let c : page_sides (sizes ++ size ∷ []) page ≡ page_sides sizes page = ap sides_of (get_or_append_left sizes (size ∷ []) _ page less) in
-      subst (λ xs. IsPage ways o xs (page_sides (sizes ++ size ∷ []) page) (places_on page (put_on n places found))) (sym a)
-      (subst (λ ps. IsPage ways o (sprites_from page sprites places) (page_sides (sizes ++ size ∷ []) page) ps) (sym b)
-      (subst (λ z. IsPage ways o (sprites_from page sprites places) z (places_on page places)) (sym c) (are.pages page less)))
+      subst (λ xs. rule xs (page_sides (sizes ++ size ∷ []) page) (places_on page (put_on n places found))) (sym a)
+      (subst (λ ps. rule (sprites_from page sprites places) (page_sides (sizes ++ size ∷ []) page) ps) (sym b)
+      (subst (λ z. rule (sprites_from page sprites places) z (places_on page places)) (sym c) (are.pages page less)))
 
-  new_page : (page : ℕ) → page ≡ n → IsPage ways o (sprites_from page sprites (put_on n places found)) (page_sides (sizes ++ size ∷ []) page)
+  new_page : (page : ℕ) → page ≡ n → rule (sprites_from page sprites (put_on n places found)) (page_sides (sizes ++ size ∷ []) page)
       (places_on page (put_on n places found))
   new_page page is =
       let a : sprites_from n sprites (put_on n places found) ≡ sprites_left sprites places = same_from n n (omega arith) sprites places found ∙ left_from n sprites places are.below in
       let b = found_there n places found are.below long in
       let c : page_sides (sizes ++ size ∷ []) n ≡ sides_of size = ap sides_of (get_or_push sizes size _ n refl) in
-      subst (λ m. IsPage ways o (sprites_from m sprites (put_on n places found)) (page_sides (sizes ++ size ∷ []) m) (places_on m (put_on n places found))) (sym is)
-      (subst (λ xs. IsPage ways o xs (page_sides (sizes ++ size ∷ []) n) (places_on n (put_on n places found))) (sym a)
-      (subst (λ ps. IsPage ways o (sprites_left sprites places) (page_sides (sizes ++ size ∷ []) n) ps) (sym b)
-      (subst (λ z. IsPage ways o (sprites_left sprites places) z found) (sym c) next)))
+      subst (λ m. rule (sprites_from m sprites (put_on n places found)) (page_sides (sizes ++ size ∷ []) m) (places_on m (put_on n places found))) (sym is)
+      (subst (λ xs. rule xs (page_sides (sizes ++ size ∷ []) n) (places_on n (put_on n places found))) (sym a)
+      (subst (λ ps. rule (sprites_left sprites places) (page_sides (sizes ++ size ∷ []) n) ps) (sym b)
+      (subst (λ z. rule (sprites_left sprites places) z found) (sym c) next)))
 
   -- One sheet more.
-  pub one_page_more : ArePages ways o sprites (sizes ++ size ∷ []) (put_on n places found)
+  pub one_page_more : ArePagesBy rule sprites (sizes ++ size ∷ []) (put_on n places found)
   one_page_more = record {
     long = put_long n places found ∙ are.long;
     below = subst (λ m. All (IsBefore m) (put_on n places found)) (sym more) (put_before n places found are.below);
@@ -175,13 +174,13 @@ module _ (ways : List Way) (o : SheetOptions) (sprites sizes : List Size) (place
   }
     where
       by_last : (page : ℕ) → page < length (sizes ++ size ∷ []) → (page < n) ⊎ (n ≤ page)
-          → IsPage ways o (sprites_from page sprites (put_on n places found)) (page_sides (sizes ++ size ∷ []) page) (places_on page (put_on n places found))
+          → rule (sprites_from page sprites (put_on n places found)) (page_sides (sizes ++ size ∷ []) page) (places_on page (put_on n places found))
       by_last page less (inl old) = old_page page old
       by_last page less (inr new) = new_page page (omega (arith, less, new, more))
 
 -- At first no sprite has a place.
-pub begun : (ways : List Way) (o : SheetOptions) (sprites : List Size) → ArePages ways o sprites [] (replicate (length sprites) None)
-begun ways o sprites = record {
+pub begun : (rule : List Size → Sides → List (Option Placed) → Type 0) (sprites : List Size) → ArePagesBy rule sprites [] (replicate (length sprites) None)
+begun rule sprites = record {
   long = length-replicate (length sprites) None;
   below = none_yet (length sprites);
   pages = λ page less. absurd (omega (arith, less));

@@ -5,7 +5,7 @@ use Rattle.std.proofs.lemmas.Bool.{eq-eqb, eqb-true, false≢true, le-leb, leb-t
 use Rattle.std.proofs.lemmas.List.{length-map}
 use Rattle.std.proofs.lemmas.List.Elements.{All-nil, All-cons, All-head, All-tail}
 use Rattle.guillotiere.specs.declared.Size.{Size}
-use Rattle.guillotiere.specs.Boxes.{Box, covers}
+use Rattle.guillotiere.specs.Boxes.{Box, Sides, covers}
 use Rattle.guillotiere.specs.Pixels.{box_of}
 use Rattle.guillotiere.proofs.TreeLemmas.TreeBasics.{one_if}
 use Rattle.guillotiere.proofs.ListLemmas.Counting.{count_by-cons}
@@ -15,8 +15,9 @@ use Rattle.atlas_sheet.specs.declared.paging.OnPage.{OnPage}
 use Rattle.atlas_sheet.specs.declared.placed.Placed.{Placed}
 use Rattle.atlas_sheet.specs.declared.ways.Way.{Way}
 use Rattle.atlas_sheet.specs.Allowances.{IsGreatest}
+use Rattle.atlas_sheet.specs.Dense.{AreAllPlaced, ArePaddedApart}
 use Rattle.atlas_sheet.specs.Lying.{IsPlacedFor, areas_of}
-use Rattle.atlas_sheet.specs.Paging.{AreApart, AreGreatest, ArePages, AreUsed, IsFull, IsOnPage, TakesAll, boxes_on, page_sides, place_on, places_on, sprites_from}
+use Rattle.atlas_sheet.specs.Paging.{AreApart, AreGreatest, ArePages, ArePagesBy, AreUsed, IsFull, IsOnPage, IsPage, TakesAll, boxes_on, page_sides, place_on, places_on, sprites_from}
 use Rattle.atlas_sheet.specs.Settings.{spacing_of}
 use Rattle.atlas_sheet.specs.Sheets.{covers_place, padded}
 use Rattle.atlas_sheet.proofs.Asking.{covers_inside}
@@ -116,25 +117,47 @@ whole_last k (p ∷ places) all =
     (le-leb k p.page (omega (arith, past)), ne_eqb p.page k (λ f. let same : p.page ≡ k = f in absurd (omega (arith, past)))))
     p.placed (places_on k (map Some places)) (places_on (k + 1) (map Some places)) (whole_last k places) all
 
-module _ (ways : List Way) (o : SheetOptions) (sprites sizes : List Size) (places : List OnPage)
-    (are : ArePages ways o sprites sizes (map Some places)) where
+-- What is so of a sheet and of what the sprites have there.
+pub record IsGood (o : SheetOptions) (sprites : List Size) (sheet : Sides) (placed : List (Option Placed)) : Type 0 where
+  pub each : AreAllPlaced o sheet sprites placed
+  pub apart : ArePaddedApart (spacing_of o) placed
+  pub used : All IsNone placed → ⊥
+
+pub page_good : (ways : List Way) (o : SheetOptions) (sprites : List Size) (sheet : Sides) (placed : List (Option Placed))
+    → IsPage ways o sprites sheet placed → IsGood o sprites sheet placed
+page_good ways o sprites sheet placed page = record {
+  each = page.shown.each;
+  apart = page.shown.arranged.good.apart;
+  used = page.used;
+}
+
+module _ (o : SheetOptions) (rule : List Size → Sides → List (Option Placed) → Type 0)
+    (good : (sprites : List Size) (sheet : Sides) (placed : List (Option Placed)) → rule sprites sheet placed → IsGood o sprites sheet placed)
+    (sprites sizes : List Size) (places : List OnPage) (are : ArePagesBy rule sprites sizes (map Some places)) where
+  good_at : (page : ℕ) → page < length sizes
+      → IsGood o (sprites_from page sprites (map Some places)) (page_sides sizes page) (places_on page (map Some places))
+  good_at page less =
+      good (sprites_from page sprites (map Some places)) (page_sides sizes page) (places_on page (map Some places)) (are.pages page less)
+
   pub pages_count : length places ≡ length sprites
   pages_count = sym (length-map places Some) ∙ are.long
 
   pub pages_each : AllZip (IsOnPage o sizes) sprites places
   pages_each =
       each_on (length sizes) (λ k s p. IfSome p (IsPlacedFor (page_sides sizes k) (spacing_of o) o.turn s)) (IsOnPage o sizes)
-      (λ s p known placed. (known, placed)) sprites places are.long are.below (λ k less. (are.pages k less).shown.each)
+      (λ s p known placed. (known, placed)) sprites places are.long are.below (λ k less. (good_at k less).each)
 
   pub pages_apart : AreApart sizes places
   pages_apart k less x y =
       let few : count_by (covers_place (spacing_of o) x y) (areas_of (places_on k (map Some places))) ≤ 1 =
-      (are.pages k less).shown.arranged.good.apart x y in
+      (good_at k less).apart x y in
       omega (arith, few, counts_on (spacing_of o) x y k places)
 
   pub pages_used : AreUsed sizes places
-  pages_used k less other = (are.pages k less).used (none_on k places other)
+  pages_used k less other = (good_at k less).used (none_on k places other)
 
+module _ (ways : List Way) (o : SheetOptions) (sprites sizes : List Size) (places : List OnPage)
+    (are : ArePages ways o sprites sizes (map Some places)) where
   pub pages_greatest : AreGreatest o sizes
   pages_greatest k less = by_kind (are.pages k (omega (arith, less))).kind
     where

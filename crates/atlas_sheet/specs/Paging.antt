@@ -74,13 +74,17 @@ pub record IsPage (ways : List Way) (o : SheetOptions) (sprites : List Size) (sh
   pub used : All IsNone placed → ⊥
   pub kind : TakesAll ways o sprites sheet placed ⊎ IsFull ways o sprites sheet placed
 
--- One sheet after another, each for the sprites that lie on no earlier one.
-pub record ArePages (ways : List Way) (o : SheetOptions) (sprites sizes : List Size)
+-- One sheet after another, each of which keeps to a rule with the sprites that lie on no earlier one.
+pub record ArePagesBy (rule : List Size → Sides → List (Option Placed) → Type 0) (sprites sizes : List Size)
     (places : List (Option OnPage)) : Type 0 where
   pub long : length places ≡ length sprites
   pub below : All (λ p. IfSome p (λ q. q.page < length sizes)) places
   pub pages : (page : ℕ) → page < length sizes
-      → IsPage ways o (sprites_from page sprites places) (page_sides sizes page) (places_on page places)
+      → rule (sprites_from page sprites places) (page_sides sizes page) (places_on page places)
+
+-- One sheet after another, each for the sprites that lie on no earlier one.
+abbrev pub ArePages : List Way → SheetOptions → (sprites sizes : List Size) → List (Option OnPage) → Type 0
+ArePages ways o = ArePagesBy (IsPage ways o)
 
 -- A place for a sprite on one of the sheets.
 abbrev pub IsOnPage : SheetOptions → (sizes : List Size) → Size → OnPage → Type 0

@@ -58,15 +58,15 @@ fn areas<A: Allocator + Copy>(
     Ok(areas)
 }
 
-// How many pixels a sheet has.
-fn pixels_of(size: Size) -> u64
+/// How many pixels a sheet has.
+pub fn pixels_of(size: Size) -> u64
     ensures { result ≡ pixels (sides_of size) }
 {
     size.width.max(0) as u64 * size.height.max(0) as u64
 }
 
-// How many pixels the sprites have together, or the greatest number.
-fn sprite_pixels(sprites: &[Size]) -> u64 {
+/// How many pixels the sprites have together, or the greatest number.
+pub fn sprite_pixels(sprites: &[Size]) -> u64 {
     let mut area: u64 = 0;
     for sprite in sprites {
         area = area.saturating_add(pixels_of(*sprite));

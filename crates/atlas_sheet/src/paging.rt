@@ -44,15 +44,15 @@ pub struct Pages<A: Allocator = Global> {
     pub places: Vec<OnPage, A>,
 }
 
-// Whether no sprite has a place.
-fn is_bare(places: &[Option<Placed>]) -> bool
+/// Whether no sprite has a place.
+pub fn is_bare(places: &[Option<Placed>]) -> bool
     ensures { IsTrue result ↔ All IsNone places.now }
 {
     places.iter().all(|place| place.is_none())
 }
 
-// Where the sprites without a place lie next: in the smallest sheet that takes them all, or in a full one.
-fn next_page<A: Allocator + Copy>(
+/// Where the sprites without a place lie next: in the smallest sheet that takes them all, or in a full one.
+pub fn next_page<A: Allocator + Copy>(
     alloc: A,
     left: &[Size],
     options: &SheetOptions,
@@ -84,8 +84,8 @@ fn next_page<A: Allocator + Copy>(
     }
 }
 
-// The sprites that have no place.
-fn sprites_left<A: Allocator>(
+/// The sprites that have no place.
+pub fn sprites_left<A: Allocator>(
     alloc: A,
     sprites: &[Size],
     places: &[Option<OnPage>],
@@ -113,8 +113,8 @@ fn found_on(page: usize, place: Option<Placed>) -> Option<OnPage>
     Some(OnPage { page, placed })
 }
 
-// The places with those that the sprites without one found on a sheet, in their order.
-fn put_on<A: Allocator>(
+/// The places with those that the sprites without one found on a sheet, in their order.
+pub fn put_on<A: Allocator>(
     alloc: A,
     page: usize,
     places: &[Option<OnPage>],
@@ -138,8 +138,11 @@ fn put_on<A: Allocator>(
     Ok(all)
 }
 
-// The places, where each sprite has one.
-fn all_on<A: Allocator>(alloc: A, places: &[Option<OnPage>]) -> Result<Vec<OnPage, A>, SheetError>
+/// The places, where each sprite has one.
+pub fn all_on<A: Allocator>(
+    alloc: A,
+    places: &[Option<OnPage>],
+) -> Result<Vec<OnPage, A>, SheetError>
     requires { All IsSome places.now }
     ensures all { IfOk result (λ all. map Some all.items ≡ places.now) }
     ensures unless { IsOkUnless result Memory }

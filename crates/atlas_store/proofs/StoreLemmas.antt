@@ -7,6 +7,8 @@ pub mod Starting
 pub mod StoreSteps
 pub mod StoreTakes
 pub mod UnusedCounts
+pub mod Choosing
+pub mod SlotLists
 pub mod Sizes
 pub mod ExtendedTrees
 pub mod ExtendingSteps

@@ -1,4 +1,5 @@
 -- Lemmas of walks through slots, of ids and of areas.
+pub mod AlongLists
 pub mod AreaSums
 pub mod FreedAtlas
 pub mod Hiding

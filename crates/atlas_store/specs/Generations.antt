@@ -1,6 +1,7 @@
 -- Generations: how often a slot was taken anew since the last start.
 use Rattle.std.specs.Prelude.{◌≡◌, All}
-use Rattle.atlas_store.specs.Slots.{nodes, no_slot}
+use Rattle.atlas_store.specs.Slots.{nodes}
+use Rattle.atlas_search.specs.Numbers.{no_slot}
 use Rattle.atlas_store.specs.Stored.{AtlasValue}
 
 -- Each slot is in its first generation, and none is unused.

@@ -1,5 +1,3 @@
-pub mod Rectangles
-pub mod Search
 pub mod Slots
 pub mod Store
 pub mod Stored

@@ -10,19 +10,17 @@ pub mod Areas
 pub mod Growing
 pub mod SlotCalls
 pub mod Placing
+pub mod Picks
 use Rattle.std.specs.Prelude.{ℕ, ◌≡◌, List, map, pos, slice_index_or}
 use Rattle.atlas_store.specs.declared.slots.Slot.{Slot}
-use Rattle.atlas_store.specs.declared.slots.Link.{Link}
+use Rattle.atlas_search.specs.declared.link.Link.{Link}
 use Rattle.atlas_store.specs.declared.slots.Node.{Node}
 use Rattle.atlas_store.specs.declared.slots.Ring.{Ring}
 use Rattle.atlas_store.specs.declared.slots.NodeKind.{NodeKind}
 use Rattle.atlas_store.specs.declared.slots.NodeKind.TheVariants as kind
-use Rattle.atlas_store.specs.declared.cut.Orientation.TheVariants as orientation
-pub use Rattle.atlas_store.specs.Rectangles.{axis_of}
-
--- The number of no slot.
-abbrev pub no_slot : ℕ
-no_slot = 4294967295
+use Rattle.atlas_search.specs.declared.cut.Orientation.TheVariants as orientation
+use Rattle.atlas_search.specs.Numbers.{no_slot}
+pub use Rattle.atlas_search.specs.Rectangles.{axis_of}
 
 -- The tree's part of each slot.
 abbrev pub nodes : List Slot → List Node

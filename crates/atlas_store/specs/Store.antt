@@ -2,5 +2,6 @@
 pub mod Holdings
 pub mod Starts
 pub mod Freeing
+pub mod Choosing
 pub mod StoreCalls
 pub mod TopCalls

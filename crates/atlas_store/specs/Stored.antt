@@ -1,8 +1,8 @@
 -- What an atlas stores, and that it stands for a state. Public clauses cite `AtlasValue` and `state_of` alone.
 use Rattle.std.specs.Prelude.{ℕ, ◌≡◌, ◌+◌, ◌<◌, ◌≤◌, ◌^◌, Bool, false, List, [], length}
 use Rattle.atlas_store.specs.declared.slots.Slot.{Slot}
-use Rattle.atlas_store.specs.declared.slots.Link.{Link}
-use Rattle.atlas_store.specs.declared.search.table.ListHead.{ListHead}
+use Rattle.atlas_search.specs.declared.link.Link.{Link}
+use Rattle.atlas_search.specs.declared.table.ListHead.{ListHead}
 use Rattle.atlas_model.specs.declared.geometry.Size.{Size}
 use Rattle.atlas_model.specs.declared.options.AllocatorOptions.{AllocatorOptions}
 use Rattle.atlas_model.specs.Boxes.{other, side}
@@ -10,10 +10,11 @@ use Rattle.atlas_model.specs.Pixels.{sides_of, size_of, options_of}
 use Rattle.atlas_model.specs.Choice.{AreValid}
 use Rattle.atlas_model.specs.Trees.{IsCut, total, most_slots}
 use Rattle.atlas_model.specs.States.{State, IsSound}
-use Rattle.atlas_store.specs.Slots.{nodes, rings, no_slot}
+use Rattle.atlas_store.specs.Slots.{nodes, rings}
+use Rattle.atlas_search.specs.Numbers.{no_slot, occurs}
 use Rattle.atlas_store.specs.Slots.Numbered.{Numbered, erase, first_slot, numbers}
 use Rattle.atlas_store.specs.Slots.Standing.{Sequence, Stands}
-use Rattle.atlas_store.specs.Slots.Lists.{AreFiled, Places, occurs}
+use Rattle.atlas_store.specs.Slots.Lists.{AreFiled, Places}
 use Rattle.atlas_store.specs.Slots.Reading.{tree_of}
 
 -- The slots with their lists.

@@ -6,14 +6,15 @@ ghost use Rattle.atlas_store.specs.Slots.Standing.{IsTree, IsWhole, IsSlot, with
 ghost use Rattle.atlas_store.specs.declared.slots.NodeKind.TheVariants.{Alloc};
 
 pub mod batch;
+pub mod entry;
 pub mod extending;
 pub mod lists;
-pub mod pick;
 pub mod placing;
 pub mod walks;
 
-use crate::cut::Orientation;
 use atlas_model::Rectangle;
+use atlas_search::cut::Orientation;
+use atlas_search::link::{Link, NO_SLOT};
 
 /// What a slot of an atlas is used for.
 #[derive(Clone, Copy, Debug, PartialEq, Eq, Hash)]
@@ -27,20 +28,6 @@ pub enum NodeKind {
     /// Nothing: the slot may be taken.
     Unused,
 }
-
-/// The number of a slot, or `NO_SLOT` for none.
-#[derive(Clone, Copy, Debug, PartialEq, Eq)]
-pub struct Link {
-    pub number: u32,
-}
-
-impl Link {
-    /// The link to no slot.
-    pub const NONE: Link = Link { number: NO_SLOT };
-}
-
-/// The number that means no slot.
-pub const NO_SLOT: u32 = 4294967295;
 
 /// The tree's part of a slot: its place among its siblings, what it is, and its rectangle.
 #[derive(Clone, Copy, Debug, PartialEq, Eq)]

@@ -2,36 +2,40 @@
 ghost use Rattle.std.specs.Prelude.{◌≡◌, ◌≢◌, ◌<◌, ◌≤◌, ◌↔◌, ℕ, true, false, IsTrue, IfOk, length};
 ghost use Rattle.atlas_store.specs.declared.slots.NodeKind.TheVariants.{Alloc, Free};
 ghost use Rattle.atlas_model.specs.Trees.{most_slots};
-ghost use Rattle.atlas_store.specs.Slots.{no_slot};
+ghost use Rattle.atlas_search.specs.Numbers.{no_slot};
 ghost use Rattle.atlas_store.specs.Slots.Standing.{IsSlot};
 ghost use Rattle.atlas_store.specs.Stored.{Holding, Holds, HoldsWith};
 
+pub mod choosing;
 pub mod extend;
 pub mod start;
 pub mod turns;
+pub mod views;
 
-use crate::search::bands::Scale;
-use crate::search::table::Table;
 use crate::slots::lists::{enlist, give_back, take_slot, unlist};
 use crate::slots::placing::{Parts, Plan, place_leaf};
-use crate::slots::{Link, NO_SLOT, Node, NodeKind, Slot, join_next, lift, mark_free, read_node};
+use crate::slots::{Node, NodeKind, Slot, join_next, lift, mark_free, read_node};
 use crate::store::turns::Turns;
+use atlas_search::bands::Scale;
+use atlas_search::link::{Link, NO_SLOT};
+use atlas_search::table::Table;
 use std::alloc::{AllocError, Allocator};
 
 /// The slots, the lists that run through them, and the options by which free slots are listed. `turns` counts the
 /// markings, joins and lifts, and is nothing at run time.
 #[derive(Drop)]
 pub struct Store<A: Allocator> {
-    pub slots: Vec<Slot, A>,
-    pub lists: Table<A>,
-    pub unused: Link,
-    pub options: Scale,
-    pub turns: Turns,
+    slots: Vec<Slot, A>,
+    lists: Table<A>,
+    unused: Link,
+    options: Scale,
+    turns: Turns,
 }
 
 impl<A: Allocator> Store<A> {
     ghost use Rattle.atlas_store.specs.Slots.Placing.{slots_of, taken_by};
-    ghost use Rattle.atlas_store.specs.Store.Holdings.{shelf_of, node_in, HasSlotsFor, IsDetachedLeaf, IsHeld};
+    ghost use Rattle.atlas_store.specs.Store.Holdings.{shelf_of, node_in, turns_in, HasSlotsFor, IsDetachedLeaf};
+    ghost use Rattle.atlas_store.specs.Store.Holdings.{IsHeld};
     ghost use Rattle.atlas_store.specs.Store.StoreCalls.{AreSlotsTaken, IsDetached, IsJoined, IsLeafPlaced, IsLifted};
     ghost use Rattle.atlas_store.specs.Store.StoreCalls.{IsMarkedFree, IsPlaceable, IsSharpened, IsSlotTaken};
     ghost use Rattle.atlas_store.specs.Store.StoreCalls.{ListsLeaf, UnlistsLeaf};
@@ -41,7 +45,7 @@ impl<A: Allocator> Store<A> {
     where
         A: Copy,
         ensures same { IfOk result (λ it. shelf_of it ≡ shelf_of self.now) }
-        ensures turns { IfOk result (λ it. it.turns.count ≡ 0) }
+        ensures turns { IfOk result (λ it. (turns_in it).count ≡ 0) }
     {
         let slots = Vec::from_slice(*self.slots.allocator(), &self.slots)?;
         let lists = self.lists.copy()?;
@@ -56,7 +60,7 @@ impl<A: Allocator> Store<A> {
 
     /// The tree's part of a slot.
     pub fn node(&self, at: Link) -> Node
-        requires { at.number < length self.now.slots.items }
+        requires { at.number < length (shelf_of self.now).slots }
         ensures { result ≡ node_in (shelf_of self.now) at.number }
     {
         read_node(&self.slots, at)
@@ -64,8 +68,8 @@ impl<A: Allocator> Store<A> {
 
     /// Whether this is a slot of a free leaf.
     pub fn is_free(&self, at: Link) -> bool
-        requires slot { IsSlot (length self.now.slots.items) at.number }
-        requires short { length self.now.slots.items ≤ most_slots }
+        requires slot { IsSlot (length (shelf_of self.now).slots) at.number }
+        requires short { length (shelf_of self.now).slots ≤ most_slots }
         ensures { IsTrue result ↔ ((node_in (shelf_of self.now) at.number).kind ≡ Free) }
     {
         at.number != NO_SLOT && read_node(&self.slots, at).kind == NodeKind::Free

@@ -2,7 +2,7 @@
 ghost use Rattle.std.specs.Prelude.{◌≡◌, ◌+◌, ◌<◌, ℕ, false, IsTrue, IfSome, None};
 ghost use Rattle.atlas_model.specs.Trees.{most_slots};
 ghost use Rattle.atlas_store.specs.Stored.{Holding};
-ghost use Rattle.atlas_store.specs.Store.Holdings.{shelf_of, KeepsRoom};
+ghost use Rattle.atlas_store.specs.Store.Holdings.{shelf_of, turns_in, KeepsRoom};
 ghost use Rattle.atlas_store.specs.Store.Freeing.{
   IsSettlingAt,
   IsTurnTo,
@@ -13,7 +13,7 @@ ghost use Rattle.atlas_store.specs.Store.Freeing.{
   IsFreed,
 };
 
-use atlas_store::slots::{Link, NO_SLOT};
+use atlas_search::link::{Link, NO_SLOT};
 use atlas_store::store::Store;
 use std::alloc::Allocator;
 
@@ -98,7 +98,7 @@ pub fn free_leaf<A: Allocator>(store: &mut Store<A>, slot: Link) -> u32
     requires { (h : Holding) × IsFreeable (shelf_of store.old) slot.number h }
     ensures freed { (h : Holding) → IsFreeable (shelf_of store.old) slot.number h
         → (h' : Holding) × IsFreed (shelf_of store.old) (shelf_of store.new) slot.number result h h' }
-    ensures turns { store.new.turns.count ≡ store.old.turns.count + 1 + result }
+    ensures turns { (turns_in store.new).count ≡ (turns_in store.old).count + 1 + result }
     ensures room { KeepsRoom store.old store.new }
 {
     store.mark(slot);

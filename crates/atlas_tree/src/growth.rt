@@ -13,8 +13,8 @@ ghost use Rattle.atlas_tree.specs.Plans.Growths.{IsOneBox, IsBoxGrown, IsTreeGro
 ghost use Rattle.atlas_tree.specs.Plans.Growths.{middle_of};
 
 use atlas_model::{Size, size2};
-use atlas_store::cut::Orientation;
-use atlas_store::slots::{Link, NO_SLOT};
+use atlas_search::cut::Orientation;
+use atlas_search::link::{Link, NO_SLOT};
 use atlas_store::store::Store;
 use std::alloc::Allocator;
 

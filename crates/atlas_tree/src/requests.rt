@@ -1,94 +1,34 @@
-//! Granting a request: the free slot that it takes, how its leaf gives way (a plan), the slots that this needs, and the
-//! placing itself, by the calls of `store`.
-ghost use Rattle.std.specs.Prelude.{◌≡◌, ◌+◌, ◌<◌, ◌≤◌, ◌⊎◌, List, None, IfSome, OnOk, OnErr, IfErr, Err, vec_capacity};
-ghost use Rattle.std.specs.Prelude.{length};
-ghost use Rattle.atlas_model.specs.Boxes.{Box, IsPositive, Fits, Sides, box_sides, side, other};
-ghost use Rattle.atlas_model.specs.Choice.{IsFitting};
+//! Granting a request: how the leaf of the free slot that it takes gives way (a plan), the slots that this needs, and
+//! the placing itself, by the calls of `store`.
+ghost use Rattle.std.specs.Prelude.{◌≡◌, ◌<◌};
+ghost use Rattle.atlas_model.specs.Boxes.{IsPositive, Fits, Sides, box_sides, side, other};
 ghost use Rattle.atlas_model.specs.Pixels.{sides_of, box_of, rectangle_of};
-ghost use Rattle.atlas_store.specs.Slots.{nodes, axis_of};
-ghost use Rattle.atlas_model.specs.Trees.{most_slots};
-ghost use Rattle.atlas_store.specs.Search.Picks.{AreFreeBoxes};
-ghost use Rattle.atlas_store.specs.Stored.{Holding};
+ghost use Rattle.atlas_store.specs.Slots.{axis_of};
 ghost use Rattle.atlas_store.specs.Slots.Placing.{across_of, slots_of, IsFeasible};
-ghost use Rattle.atlas_store.specs.Store.Holdings.{shelf_of};
-ghost use Rattle.atlas_tree.specs.Plans.Chosen.{CanGrant, IsAtRest, IsChosen, IsRequestGranted, IsShortOf, KeepsShelf};
+ghost use Rattle.atlas_tree.specs.Plans.Chosen.{CanGrant, IsRequestGranted};
 ghost use Rattle.atlas_store.specs.declared.slots.Node.{Node};
 ghost use Rattle.atlas_model.specs.Cuts.{cut};
 ghost use Rattle.atlas_model.specs.Cuts.Cut.{Whole, Strip, Corner};
 ghost use Rattle.atlas_store.specs.Slots.Reading.{extent_of};
 ghost use Rattle.atlas_tree.specs.Plans.Planning.{IsPlanFor, IsPlanReady, IsPlanDone};
 
-use atlas_model::{Allocation, AtlasError, Size};
-use atlas_store::cut::{Orientation, orientation_of};
-use atlas_store::slots::lists::exact_size;
-use atlas_store::slots::pick::pick;
+use atlas_model::{Allocation, Size};
+use atlas_search::best::Found;
+use atlas_search::cut::{Orientation, exact_size, orientation_of};
+use atlas_search::link::Link;
+use atlas_store::slots::Node;
 use atlas_store::slots::placing::Plan;
 use atlas_store::slots::walks::slot_id;
-use atlas_store::slots::{Link, Node};
 use atlas_store::store::Store;
 use std::alloc::Allocator;
 
-/// The free slot that a request takes, the number of its list, and at most the `min.y` of each other slot of that
-/// list.
-#[derive(Clone, Copy)]
-pub struct Chosen {
-    pub at: Link,
-    pub list: u32,
-    pub low: u32,
-}
-
-/// The free slot that a request of this rounded size takes; None if it fits none.
-pub fn choose<A: Allocator>(store: &Store<A>, size: Size) -> Option<Chosen>
-    requires positive { IsPositive (sides_of size) }
-    requires rest { (h : Holding) × IsAtRest (shelf_of store.now) h }
-    ensures none { result ≡ None → (free : List Box) → AreFreeBoxes (nodes store.now.slots.items) free
-        → (b : Box) → IsFitting free (sides_of size) b → ⊥ }
-    ensures some { IfSome result (IsChosen (shelf_of store.now) (sides_of size)) }
-{
-    let found = pick(&store.slots, &store.lists, &store.options, size)?;
-    Some(Chosen {
-        at: found.at,
-        list: found.list as u32,
-        low: found.low,
-    })
-}
-
-/// Makes room for slots in addition to those in use. `Slots` if there would be more than the limit; `Memory`, if they
-/// are more than were ever used and more than there is room for, and memory for them is refused. The slots and their
-/// lists stay as they are.
-pub fn make_room<A: Allocator>(
-    store: &mut Store<A>,
-    used: u32,
-    limit: u32,
-    needed: u32,
-) -> Result<(), AtlasError>
-    requires used { used ≤ limit }
-    requires short { (limit ≤ most_slots) × (length store.old.slots.items ≤ most_slots) }
-    ensures ok { OnOk result ((used + needed ≤ limit)
-        × ((used + needed ≤ length store.new.slots.items) ⊎ (used + needed ≤ vec_capacity store.new.slots))) }
-    ensures refused { IfErr result (IsShortOf used limit needed (length store.old.slots.items)) }
-    ensures ready { OnOk result (used + needed ≤ vec_capacity store.new.slots) }
-    ensures full { result ≡ Err AtlasError.Memory → vec_capacity store.old.slots < used + needed }
-    ensures err { OnErr result (vec_capacity store.new.slots ≡ vec_capacity store.old.slots) }
-    ensures same { KeepsShelf store.old store.new }
-{
-    if needed > limit - used {
-        return Err(AtlasError::Slots);
-    }
-    let all = (used + needed) as usize;
-    if all > store.slots.capacity() {
-        store.slots.reserve(all - store.slots.len())?;
-    }
-    Ok(())
-}
-
 /// Places a request in the slot that it takes, which gives way by this plan. The answer is its id and its rectangle.
-pub fn grant<A: Allocator>(store: &mut Store<A>, chosen: Chosen, plan: Plan) -> Allocation
+pub fn grant<A: Allocator>(store: &mut Store<A>, chosen: Found, plan: Plan) -> Allocation
     requires { CanGrant store.old chosen plan }
     ensures { IsRequestGranted store.old store.new chosen plan result }
 {
     store.unlist(chosen.at);
-    store.sharpen(chosen.list as usize, chosen.low);
+    store.sharpen(chosen.list, chosen.low);
     let slot = place(store, chosen.at, plan);
     let node = store.node(slot);
     Allocation {

@@ -1,27 +1,13 @@
-//! Tests of the cache's parts. Expected values are worked by hand, or come from a plain list that the test keeps.
+//! Tests of the cache that lines can't say: random calls beside a plain model, and memory that is refused.
 #![tactic(auto)]
 
 #[cfg(test)]
 mod asking;
 #[cfg(test)]
-mod blank;
+mod frames;
 #[cfg(test)]
-mod cache;
-#[cfg(test)]
-mod calls;
-#[cfg(test)]
-mod entries;
-#[cfg(test)]
-mod options;
+mod memory;
 #[cfg(test)]
 mod plain;
-#[cfg(test)]
-mod recency;
-#[cfg(test)]
-mod repacking;
-#[cfg(test)]
-mod reserving;
-#[cfg(test)]
-mod rooms;
 #[cfg(test)]
 mod traces;

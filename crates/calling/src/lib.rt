@@ -20,5 +20,6 @@ mod reserved;
 mod sheet;
 mod shown;
 mod textures;
+mod themes;
 mod tiled;
 mod total;

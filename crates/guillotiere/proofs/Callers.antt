@@ -44,13 +44,15 @@ module _ (pages : List AtlasValue) (page : ℕ) (d b : AtlasValue) (within : pag
   is t has = let here = has_b in cc
 
   -- What other ids of this page have is what they had: so it is with each id but one of the list.
-  others_same : (id : ℕ) → ((k : ℕ) → k ≢ id → rectangle_in (state_of b) k ≡ rectangle_in (state_of a) k) → OthersHaveSame pages now page id
+  others_same : (id : ℕ) → ((k : ℕ) → k ≢ id → rectangle_in (state_of b) k ≡ rectangle_in (state_of a) k)
+      → OthersHaveSame pages now page id
   others_same id keeps k i differ = elim (eqb_tells k page) [
     | inl eq ↦ rw (eq.1, has_b, has_a) (keeps i (differ eq.1))
     | inr ne ↦ ap (λ o. on o i) (slice_get-set_other pages page k b ne.1)
   ]
 
-  pub page_adds : (id : ℕ) (r : Rectangle) → IsExact r → AddsBox (state_of a) (state_of b) id (box_of r) → AddsBoxOn pages now page id r
+  pub page_adds : (id : ℕ) (r : Rectangle) → IsExact r → AddsBox (state_of a) (state_of b) id (box_of r)
+      → AddsBoxOn pages now page id r
   page_adds id r exact adds = record {
     adds = λ s t h k.
         subst₂ (λ (s t : AtlasValue). AddsBox (state_of s) (state_of t) id (box_of r)) (was s h) (is t k) adds;
@@ -94,7 +96,8 @@ module _ (pages : List AtlasValue) (page : ℕ) (d b : AtlasValue) (within : pag
   pub page_lives : (id : ℕ) → IsLive (state_of a) id ↔ IsSome (rectangle_on pages page id)
   page_lives id = rw has_a (by_box (live_box (state_of a) id) (live_have_boxes (state_of a) id))
     where
-      by_box : (o : Option Box) → (IsLive (state_of a) id ↔ IsSome o) → IsLive (state_of a) id ↔ IsSome (option_map rectangle_of o)
+      by_box : (o : Option Box) → (IsLive (state_of a) id ↔ IsSome o)
+          → IsLive (state_of a) id ↔ IsSome (option_map rectangle_of o)
       by_box None both = both
       by_box (Some x) both = both
 
@@ -117,7 +120,8 @@ one_more request pages n d within none before k s below has room = elim (eqb_tel
 ]
 
 -- A page in which nothing is live comes last.
-pub page_added : (pages : List AtlasValue) (a : AtlasValue) → live_in (state_of a) ≡ [] → HasSameRectangles pages (pages ++ a ∷ [])
+pub page_added : (pages : List AtlasValue) (a : AtlasValue) → live_in (state_of a) ≡ []
+    → HasSameRectangles pages (pages ++ a ∷ [])
 page_added [] a idle zero i = rw idle refl
 page_added [] a idle (suc k) i = refl
 page_added (p ∷ pages) a idle zero i = refl

@@ -61,7 +61,8 @@ pub drop-more : {X : Type 0} (n : ℕ) (xs ys : List X) (x : X) → ys ≡ xs ++
     → drop n ys ≡ drop n xs ++ x ∷ []
 drop-more n xs ys x is most = ap (drop n) is ∙ drop-append-le n xs (x ∷ []) most
 
-pub take-longer : {X : Type 0} (n : ℕ) (xs ys : List X) (x : X) → ys ≡ xs ++ x ∷ [] → n ≤ length xs → take n ys ≡ take n xs
+pub take-longer : {X : Type 0} (n : ℕ) (xs ys : List X) (x : X) → ys ≡ xs ++ x ∷ [] → n ≤ length xs
+    → take n ys ≡ take n xs
 take-longer n xs ys x is most = ap (take n) is ∙ take-append-le n xs (x ∷ []) most
 
 -- Calls made in turn so far, and their replies.
@@ -102,8 +103,10 @@ plain_mapped : (calls : List Call) → All (λ c. is_plain (call_of c) ≡ true)
     → All (λ c. is_plain c ≡ true) (calls_of calls)
 plain_mapped calls plain = All-map (λ c. is_plain c ≡ true) call_of calls plain
 
-pub session_played : {A : Type 0} (old new : AtlasValue) (calls : List Call) (replies : List (Reply A)) → IsSound (state_of old)
-    → AreAnswered old calls replies new → IsPlayed old (calls_of calls) (replies_of replies) new → IsSession old calls replies new
+pub session_played : {A : Type 0} (old new : AtlasValue) (calls : List Call) (replies : List (Reply A))
+    → IsSound (state_of old)
+    → AreAnswered old calls replies new → IsPlayed old (calls_of calls) (replies_of replies) new
+    → IsSession old calls replies new
 session_played old new calls replies sound chain h =
     let order = runs_keep_order (state_of old) (state_of new) (calls_of calls) (replies_of replies) sound h.run in
     let some : 1 ≤ used_in (state_of new) =

@@ -4,7 +4,7 @@ pub mod SimpleStored
 pub mod FreeBoxes
 pub mod Pages
 pub use Rattle.atlas_store.specs.Stored
-pub use Rattle.atlas_store.specs.Rectangles
+pub use Rattle.atlas_search.specs.Rectangles
 pub use Rattle.atlas_store.specs.Visits
 pub use Rattle.atlas_store.specs.Walks
 pub use Rattle.atlas_store.specs.Batches

@@ -7,7 +7,7 @@ ghost use Rattle.guillotiere.specs.FreeBoxes.BoxCalls.{AreFiledBoxes, HasEntries
 ghost use Rattle.guillotiere.specs.FreeBoxes.BoxShelves.{AddsWhatIsUsed, AreKept, box_shelf, free_item_boxes};
 ghost use Rattle.guillotiere.specs.FreeBoxes.FreeLists.{kept_of, state_of_items};
 ghost use Rattle.atlas_model.specs.Pixels.{allocator_options_of, box_of, options_of, rectangle_of, sides_of, size_of};
-ghost use Rattle.atlas_store.specs.Rectangles.{IsUnsigned};
+ghost use Rattle.atlas_search.specs.Rectangles.{IsUnsigned};
 ghost use Rattle.atlas_model.specs.Simple.{IsGuarded, IsSimple, SimpleStep, is_kept, kept_rest, simple_answer};
 ghost use Rattle.atlas_model.specs.Simple.{simple_start};
 ghost use Rattle.atlas_model.specs.Simple.SimpleAtlasCall.{Allocate};
@@ -18,12 +18,12 @@ mod changes;
 
 use crate::simple::boxes::{FreeBox, FreeBoxes};
 use atlas_model::{AllocatorOptions, AtlasError, DEFAULT_OPTIONS, Rectangle, Size, SlotCount};
-use atlas_store::choice::rounded;
-use atlas_store::cut::{Rest, granted, guillotine};
-use atlas_store::search::bands::Scale;
-use atlas_store::search::best::Found;
-use atlas_store::search::pick;
-use atlas_store::slots::NO_SLOT;
+use atlas_search::bands::Scale;
+use atlas_search::best::Found;
+use atlas_search::choice::rounded;
+use atlas_search::cut::{Rest, granted, guillotine};
+use atlas_search::link::NO_SLOT;
+use atlas_search::search::pick;
 use std::alloc::{Allocator, Global};
 use std::marker::Model;
 

@@ -8,6 +8,7 @@ use Rattle.atlas_sheet.specs.declared.paging.OnPage.{OnPage}
 use Rattle.atlas_sheet.specs.declared.placed.Placed.{Placed}
 use Rattle.atlas_sheet.specs.declared.ways.TheConstants.{WAYS}
 use Rattle.atlas_sheet.specs.Allowances.{IsAllowed, IsGreatest}
+use Rattle.atlas_sheet.specs.Dense.{AreAllPlaced, ArePaddedApart, IsNoLargerThanWays}
 use Rattle.atlas_sheet.specs.Fillings.{IsBestFound, IsNoBetter, ways_tried}
 use Rattle.atlas_sheet.specs.Lying.{IsShown, areas_of}
 use Rattle.atlas_sheet.specs.Packings.{IsFirstFound, IsNoLarger}
@@ -15,6 +16,7 @@ use Rattle.atlas_sheet.specs.Paging.{AreApart, AreGreatest, ArePages, AreUsed, I
 use Rattle.atlas_sheet.specs.Settings.{spacing_of}
 use Rattle.atlas_sheet.specs.Sheets.{used_area}
 use Rattle.atlas_sheet.specs.Turnings.{InEach, InOne}
+use Rattle.guillotiere_c.specs.DensePacking.{IsDenseSheet}
 use Rattle.guillotiere_c.specs.Filling.{IsFilledSheet}
 use Rattle.guillotiere_c.specs.Packing.{IsPackedSheet}
 use Rattle.guillotiere_c.specs.SheetPages.{ArePackedPages}
@@ -34,6 +36,20 @@ packed o asked sprites size order placed None same allowed shown first larger = 
 packed o asked sprites size order placed (Some s) same allowed shown first larger =
     let P : List Size → Type 0 = λ l. IsPackedSheet o l (size s) (placed s) in
     subst P same (record { order = order s; allowed = allowed; shown = shown; first = first; larger = larger })
+
+-- The facts of a sheet with no whole cuts that was found, if one was.
+pub packed_densely :
+    {S : Type 0} (o : SheetOptions) (asked sprites : List Size) (size : S → Size) (placed : S → List Placed) (found : Option S)
+    → asked ≡ sprites
+    → IfSome found (λ s. IsAllowed o.allowed (sides_of (size s)))
+    → IfSome found (λ s. AreAllPlaced o (sides_of (size s)) asked (map Some (placed s)))
+    → IfSome found (λ s. ArePaddedApart (spacing_of o) (map Some (placed s)))
+    → IfSome found (λ s. IsNoLargerThanWays o asked (sides_of (size s)))
+    → IfSome found (λ s. IsDenseSheet o sprites (size s) (placed s))
+packed_densely o asked sprites size placed None same allowed each padded larger = allowed
+packed_densely o asked sprites size placed (Some s) same allowed each padded larger =
+    let P : List Size → Type 0 = λ l. IsDenseSheet o l (size s) (placed s) in
+    subst P same (record { allowed = allowed; each = each; padded = padded; larger = larger })
 
 -- The facts of several sheets that were found, if they were.
 pub packed_pages :

@@ -1,6 +1,7 @@
 pub mod CacheCalls
 pub mod CacheNumbers
 pub mod Calls
+pub mod DensePacking
 pub mod Filling
 pub mod Following
 pub mod Keeping

@@ -1,9 +1,10 @@
 //! The exports that walk along the keys of a cache in the order of their use, and the one that takes memory for more.
 ghost use Rattle.std.specs.Prelude.{◌≡◌, ◌≢◌, IsNone, IsSome, IsSomeAnd, Some, option_map};
+ghost use Rattle.atlas_cache.specs.Caches.{with_reserve};
 ghost use Rattle.atlas_cache.specs.Walking.{first_entry, keyed, last_entry};
 ghost use Rattle.guillotiere_c.specs.CacheCalls.{IsOlder};
 ghost use Rattle.guillotiere_c.specs.CacheNumbers.{keyed_answer};
-ghost use Rattle.guillotiere_c.specs.Following.{HoldsCache};
+ghost use Rattle.guillotiere_c.specs.Following.{GoesOver, HoldsCache};
 
 use crate::cache_handle::CacheHandle;
 use crate::plain::{DONE, EMPTY, MEMORY, NOT_HELD};
@@ -99,14 +100,16 @@ pub extern "C" fn guillotiere_cache_older(
     write_keyed(found, older, place)
 }
 
-/// Takes memory for so many more keys; nothing else changes. `DONE`; `MEMORY`.
+/// Takes memory for so many more keys; nothing else changes, and nothing at all with `MEMORY`. `DONE`; `MEMORY`.
 #[unsafe(no_mangle)]
 pub extern "C" fn guillotiere_cache_reserve(
     alloc: Global,
     cache: &mut CacheHandle,
     additional: usize,
 ) -> u32
-    ensures kept { cache.new.kept ≡ cache.old.kept }
+    ensures reserves { result ≡ DONE → GoesOver cache.old.kept cache.new.kept (λ f g.
+        g ≡ record f { cache = with_reserve additional f.cache }) }
+    ensures refused { result ≢ DONE → cache.new.kept ≡ cache.old.kept }
     ensures unless { IsSome cache.old.kept → result ≢ DONE → result ≡ MEMORY }
     ensures empty { IsNone cache.old.kept → result ≡ EMPTY }
 {

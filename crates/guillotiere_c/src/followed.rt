@@ -3,7 +3,7 @@ ghost use Rattle.std.specs.Prelude.{◌≡◌, ◌↔◌, ◌≤◌, ◌∷◌, 
 ghost use Rattle.std.specs.Prelude.{Ok, OnOk, false, length, nat_eq, option_map, slice_get, true, vec_len};
 ghost use Rattle.atlas_cache.specs.declared.error.CacheError.TheVariants.{Memory};
 ghost use Rattle.atlas_cache.specs.Asking.{AreUsable, IsFaultIn};
-ghost use Rattle.atlas_cache.specs.Caches.{place_for};
+ghost use Rattle.atlas_cache.specs.Caches.{place_for, with_reserve};
 ghost use Rattle.atlas_cache.specs.Clearing.{Clears};
 ghost use Rattle.atlas_cache.specs.Counting.{one_more};
 ghost use Rattle.atlas_cache.specs.Repacking.{free_by_page, live_by_page};
@@ -258,7 +258,9 @@ impl FollowedCache {
 
     /// As `TextureCache::reserve`.
     pub fn reserve(&mut self, additional: usize) -> Result<(), CacheError>
-        ensures same { self.new ≡ self.old }
+        ensures reserves { OnOk result
+            (self.new ≡ record self.old { cache = with_reserve additional self.old.cache }) }
+        ensures refused { OnErr result (self.new ≡ self.old) }
         ensures unless { IsOkUnless result Memory }
     {
         self.cache.reserve(additional)

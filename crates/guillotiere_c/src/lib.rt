@@ -13,6 +13,7 @@ mod cache;
 mod cache_figures;
 mod cache_handle;
 mod cache_order;
+mod dense;
 mod filled;
 mod followed;
 mod held;

@@ -1,6 +1,8 @@
 pub mod Choosing
 pub mod Faults
+pub mod Joining
 pub mod NameSets
-pub mod Printing
+pub mod Quoting
 pub mod SettingLines
+pub mod Spelled
 pub mod SpriteLines

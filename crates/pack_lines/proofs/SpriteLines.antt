@@ -1,12 +1,12 @@
 -- Lines that name sprites, one after another.
-use Rattle.std.proofs.Common.{◌≡◌, ℕ, List, [], ◌∷◌, ◌++◌, refl, sym, subst}
+use Rattle.std.proofs.Common.{◌≡◌, ℕ, List, [], ◌∷◌, ◌++◌, string_bytes, refl, sym, subst}
 use Rattle.atlas_words.specs.Lines.{BeginsWithLine}
 use Rattle.pack_lines.specs.declared.sprites.Sprite.{Sprite}
 use Rattle.pack_lines.specs.Sprites.{BeginsWithSprites, SpellsSprite}
 
 -- One more line names a sprite.
 pub one_more : (sprites : List Sprite) (text rest line after : List ℕ) (sprite : Sprite) → BeginsWithSprites sprites text rest
-    → BeginsWithLine rest line after → SpellsSprite sprite.name.now sprite.size line → BeginsWithSprites (sprites ++ sprite ∷ []) text after
+    → BeginsWithLine rest line after → SpellsSprite (string_bytes sprite.name) sprite.size line → BeginsWithSprites (sprites ++ sprite ∷ []) text after
 one_more [] text rest line after sprite e begins spells =
     (line, after, subst (λ (t : List ℕ). BeginsWithLine t line after) (sym e) begins, spells, refl)
 one_more (first ∷ others) text rest line after sprite h begins spells =
@@ -14,7 +14,7 @@ one_more (first ∷ others) text rest line after sprite h begins spells =
 
 -- The same, where what was read is known by equations.
 pub one_more_of : (sprites more : List Sprite) (text rest line after : List ℕ) (sprite : Sprite) → more ≡ sprites ++ sprite ∷ []
-    → BeginsWithSprites sprites text rest → BeginsWithLine rest line after → SpellsSprite sprite.name.now sprite.size line
+    → BeginsWithSprites sprites text rest → BeginsWithLine rest line after → SpellsSprite (string_bytes sprite.name) sprite.size line
     → BeginsWithSprites more text after
 one_more_of sprites more text rest line after sprite e h begins spells =
     subst (λ (all : List Sprite). BeginsWithSprites all text after) (sym e) (one_more sprites text rest line after sprite h begins spells)

@@ -1,5 +1,5 @@
 -- What the lines of a text ask for.
-use Rattle.std.specs.Prelude.{◌≡◌, ◌≢◌, ℕ, ◌⊎◌, ⊤, List, codes}
+use Rattle.std.specs.Prelude.{◌≡◌, ◌≢◌, ℕ, ◌⊎◌, ⊤, List, codes, true, false}
 use Rattle.atlas_words.specs.Lines.{BeginsWithLine}
 use Rattle.atlas_words.specs.Words.{BeginsWithWord}
 use Rattle.pack_lines.specs.declared.error.PackError.{PackError}
@@ -9,7 +9,7 @@ use Rattle.pack_lines.specs.declared.settings.Settings.{Settings}
 use Rattle.pack_lines.specs.declared.settings.TheConstants.{DEFAULT_SETTINGS}
 use Rattle.pack_lines.specs.declared.sprites.Sprite.{Sprite}
 use Rattle.pack_lines.specs.Names.{AreDistinct, IsNameFault}
-use Rattle.pack_lines.specs.Settings.{SpellsSettings, changed_by}
+use Rattle.pack_lines.specs.Settings.{SpellsSettings, changed_by, goes_together}
 use Rattle.pack_lines.specs.Sprites.{AreNamed, IsReadingFault}
 
 -- The first word of the first line, what follows that word, and the lines after it.
@@ -37,6 +37,7 @@ pub record SetsAll (text : List ℕ) (before : ℕ) (settings : Settings) (rest 
   pub spelled : SpellsSettings all words
   pub one : before ≡ 1
   pub set : settings ≡ changed_by DEFAULT_SETTINGS all
+  pub together : goes_together settings ≡ true
 
 -- What a text sets, how many lines do, and the lines of the sprites.
 abbrev pub Sets : (text : List ℕ) → (before : ℕ) → Settings → (rest : List ℕ) → Type 0
@@ -55,6 +56,17 @@ pub record SetsBadly (text : List ℕ) : Type 0 where
   pub rest : List ℕ
   pub first : BeginsWithWords text (codes "sheet") words rest
   pub bad : (all : List Setting) → SpellsSettings all words → ⊥
+
+-- The first line sets what doesn't go together.
+pub record SetsTooMuch (text : List ℕ) : Type 0 where
+  pub words : List ℕ
+  pub rest : List ℕ
+  pub all : List Setting
+  pub settings : Settings
+  pub first : BeginsWithWords text (codes "sheet") words rest
+  pub spelled : SpellsSettings all words
+  pub set : settings ≡ changed_by DEFAULT_SETTINGS all
+  pub apart : goes_together settings ≡ false
 
 -- A line of a sprite is bad.
 pub record HasReadingFault (text : List ℕ) (e : PackError) : Type 0 where
@@ -77,6 +89,7 @@ pub record HasNameFault (text : List ℕ) (e : PackError) : Type 0 where
 -- What an error says of a text.
 abbrev pub IsJobFault : (text : List ℕ) → PackError → Type 0
 IsJobFault text error.BadSettings = SetsBadly text
+IsJobFault text error.NotTogether = SetsTooMuch text
 IsJobFault text (error.BadLine number) = HasReadingFault text (error.BadLine number)
 IsJobFault text (error.Twice number) = HasNameFault text (error.Twice number)
 IsJobFault text error.Memory = ⊤
@@ -85,4 +98,5 @@ IsJobFault text e = ⊥
 -- What an error says of the first line.
 abbrev pub IsSetFault : (text : List ℕ) → PackError → Type 0
 IsSetFault text error.BadSettings = SetsBadly text
+IsSetFault text error.NotTogether = SetsTooMuch text
 IsSetFault text e = ⊥

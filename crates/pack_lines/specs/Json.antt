@@ -1,5 +1,5 @@
 -- A sheet as JSON, in the form that sprite engines read.
-use Rattle.std.specs.Prelude.{ℕ, Bool, ◌==◌, ◌||◌, if◌then◌else◌, List, [], ◌∷◌, ◌++◌, codes, flat_map}
+use Rattle.std.specs.Prelude.{ℕ, Bool, ◌==◌, ◌||◌, if◌then◌else◌, List, [], ◌∷◌, ◌++◌, codes, flat_map, string_bytes}
 use Rattle.std.specs.Fmt.{signed_decimal}
 use Rattle.atlas_model.specs.declared.geometry.Point.{Point}
 use Rattle.atlas_model.specs.declared.geometry.Size.{Size}
@@ -30,7 +30,7 @@ sides_text size turned =
 
 -- A sprite: its name and its frame.
 abbrev pub member_text : Frame → List ℕ
-member_text p = quoted p.sprite.name.now ++ (corner_text p.corner ++ sides_text p.sprite.size p.turned)
+member_text p = quoted (string_bytes p.sprite.name) ++ (corner_text p.corner ++ sides_text p.sprite.size p.turned)
 
 -- A frame after another.
 abbrev pub next_member_text : Frame → List ℕ

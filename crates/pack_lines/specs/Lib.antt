@@ -2,6 +2,8 @@ pub mod Frames
 pub mod Jobs
 pub mod Json
 pub mod Names
+pub mod Pages
+pub mod Quoted
 pub mod Settings
 pub mod Sprites
 pub mod Texts

@@ -1,5 +1,5 @@
 -- Names that stand once.
-use Rattle.std.specs.Prelude.{◌≡◌, ◌≢◌, ℕ, ◌+◌, ◌<◌, ⊤, List, length, slice_index_or}
+use Rattle.std.specs.Prelude.{◌≡◌, ◌≢◌, ℕ, ◌+◌, ◌<◌, ⊤, List, length, slice_index_or, string_bytes}
 use Rattle.pack_lines.specs.declared.error.PackError.{PackError}
 use Rattle.pack_lines.specs.declared.error.PackError.TheVariants as error
 use Rattle.pack_lines.specs.declared.sprites.Sprite.{Sprite}
@@ -8,13 +8,13 @@ use Rattle.pack_lines.specs.declared.sprites.Sprite.{Sprite}
 abbrev pub AreDistinct : List Sprite → Type 0
 AreDistinct sprites =
     (j k : ℕ) (d : Sprite) → j < k → k < length sprites
-    → (slice_index_or sprites j d).name.now ≢ (slice_index_or sprites k d).name.now
+    → string_bytes (slice_index_or sprites j d).name ≢ string_bytes (slice_index_or sprites k d).name
 
 -- The sprite with this number has the name of an earlier one.
 abbrev pub IsNamedAgain : List Sprite → ℕ → Type 0
 IsNamedAgain sprites k =
     (k < length sprites) × ((d : Sprite) → (j : ℕ) × (j < k)
-    × ((slice_index_or sprites j d).name.now ≡ (slice_index_or sprites k d).name.now))
+    × (string_bytes (slice_index_or sprites j d).name ≡ string_bytes (slice_index_or sprites k d).name))
 
 -- What an error says of the names of sprites, before whose lines others stand.
 abbrev pub IsNameFault : (before : ℕ) → List Sprite → PackError → Type 0

@@ -1,6 +1,6 @@
 -- The first line may set what a sheet keeps to.
 use Rattle.std.specs.Prelude.{◌≡◌, ℕ, ◌<◌, nat_lt, ⊤, option_map, ℤ, pos, negsuc, true, if◌then◌else◌, List, [], ◌∷◌}
-use Rattle.std.specs.Prelude.{◌++◌, codes, Option, Some, None}
+use Rattle.std.specs.Prelude.{◌++◌, codes, Option, Some, None, Bool, is_none, not, ◌||◌, ◌&&◌}
 use Rattle.std.specs.Str.{bytes_eq}
 use Rattle.atlas_words.specs.Words.{BeginsWithNumber, IsEmptyOrSpaced}
 use Rattle.pack_lines.specs.declared.settings.Setting.{Setting}
@@ -22,6 +22,7 @@ setting_name (setting.Seed start) = codes "seed"
 setting_name setting.Fill = codes "fill"
 setting_name setting.Dense = codes "dense"
 setting_name setting.Json = codes "json"
+setting_name (setting.Pages most) = codes "pages"
 
 -- The numbers after that word.
 abbrev pub arguments : Setting → List ℤ
@@ -37,6 +38,7 @@ arguments (setting.Seed start) = pos start ∷ []
 arguments setting.Fill = []
 arguments setting.Dense = []
 arguments setting.Json = []
+arguments (setting.Pages most) = pos most ∷ []
 
 -- Numbers, each after one space, and what follows them.
 abbrev pub BeginsWithNumbers : List ℤ → (text rest : List ℕ) → Type 0
@@ -72,6 +74,7 @@ changed old (setting.Seed start) = record old { seed = start }
 changed old setting.Fill = record old { fill = true }
 changed old setting.Dense = record old { dense = true }
 changed old setting.Json = record old { json = true }
+changed old (setting.Pages most) = record old { pages = Some most }
 
 -- Settings with several changed, one after another.
 abbrev pub changed_by : Settings → List Setting → Settings
@@ -99,7 +102,8 @@ setting_with_number word z =
     if bytes_eq word (codes "powers") then Some (setting.Allowed (sheets.Powers z))
     else (if bytes_eq word (codes "padding") then padding_of (from_zero z)
     else (if bytes_eq word (codes "effort") then option_map setting.Effort (from_zero z)
-    else (if bytes_eq word (codes "seed") then option_map setting.Seed (from_zero z) else None)))
+    else (if bytes_eq word (codes "seed") then option_map setting.Seed (from_zero z)
+    else (if bytes_eq word (codes "pages") then option_map setting.Pages (from_zero z) else None))))
 
 abbrev pub setting_with_numbers : (word : List ℕ) → (first second : ℤ) → Option Setting
 setting_with_numbers word first second =
@@ -108,3 +112,7 @@ setting_with_numbers word first second =
     else (if bytes_eq word (codes "width") then Some (setting.Allowed (sheets.Heights first second))
     else (if bytes_eq word (codes "align") then Some (setting.Align
     (record { width = first; height = second })) else None)))
+
+-- Whether `pages` stands with neither `fill` nor `dense` nor `json`.
+abbrev pub goes_together : Settings → Bool
+goes_together settings = is_none settings.pages || (not settings.fill && (not settings.dense && not settings.json))

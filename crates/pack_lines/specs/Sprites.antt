@@ -1,30 +1,55 @@
 -- The lines that name sprites.
-use Rattle.std.specs.Prelude.{◌≡◌, ◌≢◌, ℕ, ◌+◌, ◌<◌, ⊤, List, [], ◌∷◌, ◌++◌, length}
-use Rattle.std.specs.List.{AllByRecursion}
+use Rattle.std.specs.Prelude.{◌≡◌, ◌≢◌, ℕ, ◌+◌, ◌⊎◌, ⊤, List, [], ◌∷◌, ◌++◌, length, string_bytes, false}
+use Rattle.std.specs.Char.{is_control}
+use Rattle.std.specs.List.{list_any}
+use Rattle.std.specs.Str.{IsUtf8, chars}
 use Rattle.atlas_model.specs.declared.geometry.Size.{Size}
 use Rattle.atlas_words.specs.Grammar.{SpellsSize}
 use Rattle.atlas_words.specs.Lines.{BeginsWithLine}
+use Rattle.atlas_words.specs.Words.{BeginsWithWord, IsEmptyOrSpaced}
 use Rattle.pack_lines.specs.declared.error.PackError.{PackError}
 use Rattle.pack_lines.specs.declared.error.PackError.TheVariants as error
 use Rattle.pack_lines.specs.declared.sprites.Sprite.{Sprite}
+use Rattle.pack_lines.specs.Quoted.{EndsQuoted}
 
--- A printable character of ASCII, and no space.
-abbrev pub IsPrintable : ℕ → Type 0
-IsPrintable byte = (32 < byte) × (byte < 127)
+-- One or more characters in UTF-8, none of them a control character.
+pub record IsName (name : List ℕ) : Type 0 where
+  pub some : name ≢ []
+  pub text : IsUtf8 name
+  pub plain : list_any is_control (chars name) ≡ false
 
--- One or more of them.
-abbrev pub IsName : List ℕ → Type 0
-IsName name = (name ≢ []) × AllByRecursion IsPrintable name
+-- A name as it is, up to a space. It doesn't begin with a quotation mark.
+pub record BeginsWithPlain (name text rest : List ℕ) : Type 0 where
+  pub word : BeginsWithWord text name rest
+  pub bare : (after : List ℕ) → text ≢ 34 ∷ after
+
+-- A name in quotation marks.
+pub record BeginsWithQuoted (name text rest : List ℕ) : Type 0 where
+  pub after : List ℕ
+  pub whole : text ≡ 34 ∷ after
+  pub ends : EndsQuoted name after rest
+
+-- What the front of a line spells, in either way.
+abbrev pub BeginsWithSpelling : (name text rest : List ℕ) → Type 0
+BeginsWithSpelling name text rest = BeginsWithPlain name text rest ⊎ BeginsWithQuoted name text rest
+
+-- What spells a name, if it is one, also where a space follows or the line ends.
+abbrev pub IsReadAgain : (name text : List ℕ) → Type 0
+IsReadAgain name text =
+    (rest : List ℕ) → IsName name → IsEmptyOrSpaced rest → BeginsWithSpelling name (text ++ rest) rest
 
 -- A name, and the width and the height, each after one space.
-abbrev pub SpellsSprite : (name : List ℕ) → Size → (line : List ℕ) → Type 0
-SpellsSprite name size line = (numbers : List ℕ) × (line ≡ name ++ numbers) × IsName name × SpellsSize size numbers
+pub record SpellsSprite (name : List ℕ) (size : Size) (line : List ℕ) : Type 0 where
+  pub is : IsName name
+  pub numbers : List ℕ
+  pub begins : BeginsWithSpelling name line numbers
+  pub sides : SpellsSize size numbers
 
 -- A text begins with lines that name these sprites, in order, and goes on.
 abbrev pub BeginsWithSprites : List Sprite → (text rest : List ℕ) → Type 0
 BeginsWithSprites [] text rest = text ≡ rest
 BeginsWithSprites (sprite ∷ sprites) text rest =
-    (line : List ℕ) × (after : List ℕ) × BeginsWithLine text line after × SpellsSprite sprite.name.now sprite.size line
+    (line : List ℕ) × (after : List ℕ) × BeginsWithLine text line after × SpellsSprite (string_bytes sprite.name) sprite.size line
     × BeginsWithSprites sprites after rest
 
 -- The lines of a text name these sprites, in order.

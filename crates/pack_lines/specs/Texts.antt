@@ -1,10 +1,12 @@
 -- A sheet as lines.
-use Rattle.std.specs.Prelude.{List, ℕ, Bool, [], if◌then◌else◌, ◌++◌, codes, decimal, flat_map}
+use Rattle.std.specs.Prelude.{List, ℕ, Bool, false, [], ◌∷◌, if◌then◌else◌, ◌++◌, ◌==◌, ◌||◌, codes, decimal, flat_map, string_bytes}
+use Rattle.std.specs.List.{list_any}
 use Rattle.std.specs.Fmt.{signed_decimal}
 use Rattle.atlas_model.specs.declared.geometry.Size.{Size}
 use Rattle.pack_lines.specs.declared.frames.Frame.{Frame}
 use Rattle.pack_lines.specs.declared.sprites.Sprite.{Sprite}
 use Rattle.pack_lines.specs.Frames.{fullness}
+use Rattle.pack_lines.specs.Json.{quoted}
 
 -- The size of the sheet.
 abbrev pub sheet_line : Size → List ℕ
@@ -14,17 +16,29 @@ sheet_line sheet =
 abbrev pub turned_text : Bool → List ℕ
 turned_text turned = if turned then codes " turned" else []
 
--- A sprite: its name, where its upper left corner lies, its size, and whether it is turned.
-abbrev pub place_line : Frame → List ℕ
-place_line p =
-    p.sprite.name.now
-    ++ (codes " "
+-- Whether a name has to stand in quotation marks: it has a space, or begins with a quotation mark.
+abbrev pub needs_quotes : List ℕ → Bool
+needs_quotes [] = false
+needs_quotes (byte ∷ bytes) = (byte == 34) || list_any (λ b. b == 32) (byte ∷ bytes)
+
+-- A name in a line.
+abbrev pub spelled : List ℕ → List ℕ
+spelled name = if needs_quotes name then quoted name else name
+
+-- Where a sprite's upper left corner lies, its size, and whether it is turned.
+abbrev pub place_text : Frame → List ℕ
+place_text p =
+    codes " "
     ++ (signed_decimal p.corner.x
     ++ (codes " "
     ++ (signed_decimal p.corner.y
     ++ (codes " "
     ++ (signed_decimal p.sprite.size.width ++ (codes " " ++ (signed_decimal p.sprite.size.height
-    ++ (turned_text p.turned ++ codes "\n")))))))))
+    ++ (turned_text p.turned ++ codes "\n"))))))))
+
+-- A sprite: its name and its place.
+abbrev pub place_line : Frame → List ℕ
+place_line p = spelled (string_bytes p.sprite.name) ++ place_text p
 
 -- How full the sheet is.
 abbrev pub full_text : ℕ → List ℕ
@@ -32,7 +46,7 @@ full_text fullness = codes "full " ++ (decimal fullness ++ codes "\n")
 
 -- A sprite that found no place.
 abbrev pub left_text : Sprite → List ℕ
-left_text sprite = sprite.name.now ++ codes " none\n"
+left_text sprite = spelled (string_bytes sprite.name) ++ codes " none\n"
 
 -- The sheet, a line for each sprite with a place and then for each without, in order, and how full the sheet is.
 abbrev pub text_of : Size → List Frame → (left : List Sprite) → List ℕ

@@ -12,6 +12,9 @@ pub enum PackError {
     /// The words after `sheet` on the first line are no settings.
     #[error("line 1: not a setting, or not its numbers")]
     BadSettings,
+    /// `pages` stands with `fill`, `dense` or `json`.
+    #[error("line 1: pages goes with neither fill nor dense nor json")]
+    NotTogether,
     /// This line is no sprite.
     #[error("line {0}: not a sprite, which is NAME WIDTH HEIGHT")]
     BadLine(usize),
@@ -36,6 +39,9 @@ pub enum PackError {
     /// No sheet that is allowed takes all sprites.
     #[error("no sheet that is allowed takes all sprites")]
     NoSheet,
+    /// More sheets would be needed than `pages` allows.
+    #[error("more sheets are needed than pages allows")]
+    MorePages,
     /// A request for memory was refused.
     #[error("no memory")]
     Memory,

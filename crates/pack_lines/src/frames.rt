@@ -6,10 +6,10 @@ use crate::sprites::Sprite;
 use atlas_model::{Point, Size};
 
 /// A sprite in its place.
-#[derive(Clone, Copy, Debug)]
-pub struct Frame<'a> {
+#[derive(Debug, Drop)]
+pub struct Frame {
     /// The sprite.
-    pub sprite: Sprite<'a>,
+    pub sprite: Sprite,
     /// The upper left corner of its place, in pixels.
     pub corner: Point,
     /// Whether it is turned by 90 degrees: the place is as wide as the sprite is high.
@@ -17,7 +17,7 @@ pub struct Frame<'a> {
 }
 
 // How many pixels a size has.
-fn pixel_count(size: Size) -> u64
+pub fn pixel_count(size: Size) -> u64
     ensures value { result ≡ pixel_count size }
     ensures bound { result ≤ 2147483647 * 2147483647 }
 {
@@ -27,7 +27,7 @@ fn pixel_count(size: Size) -> u64
 }
 
 // How many pixels the sprites have together.
-fn used_pixels(frames: &[Frame<'_>]) -> u128
+fn used_pixels(frames: &[Frame]) -> u128
     ensures { result ≡ used_pixels frames.now }
 {
     let mut used = 0;
@@ -38,7 +38,7 @@ fn used_pixels(frames: &[Frame<'_>]) -> u128
 }
 
 /// How many thousandths of the sheet's pixels the sprites have, rounded down; 0 for an empty sheet.
-pub fn fullness(sheet: Size, frames: &[Frame<'_>]) -> u128
+pub fn fullness(sheet: Size, frames: &[Frame]) -> u128
     ensures { result ≡ fullness sheet frames.now }
 {
     let all = u128::from(pixel_count(sheet));

@@ -1,5 +1,6 @@
 //! What the lines of a text ask for.
-ghost use Rattle.std.specs.Prelude.{IfErr, IfOk};
+ghost use Rattle.std.specs.Prelude.{◌≡◌, IfErr, IfOk};
+ghost use Rattle.pack_lines.specs.Settings.{goes_together};
 ghost use Rattle.pack_lines.specs.Jobs.{AsksFor, IsJobFault, Sets, IsSetFault};
 ghost use Rattle.std.specs.Prelude.{◌≤◌};
 
@@ -13,13 +14,20 @@ use std::alloc::Global;
 
 /// What the lines of a text ask for.
 #[derive(Drop)]
-pub struct Job<'a> {
+pub struct Job {
     /// What the sheet keeps to, and how it is written.
     pub settings: Settings,
     /// The sprites, in the order of their lines.
-    pub sprites: Vec<Sprite<'a>>,
+    pub sprites: Vec<Sprite>,
     /// How many lines stand before those of the sprites: 1 where the first line sets something, else 0.
     pub before: usize,
+}
+
+// Whether `pages` stands with neither `fill` nor `dense` nor `json`.
+fn goes_together(settings: Settings) -> bool
+    ensures { result ≡ goes_together settings }
+{
+    settings.pages.is_none() || (!settings.fill && (!settings.dense && !settings.json))
 }
 
 // What the first line sets, how many lines do, and the lines after it.
@@ -33,17 +41,21 @@ fn read_first(text: &[u8]) -> Result<(Settings, usize, &[u8]), PackError>
     if word != b"sheet".as_slice() {
         return Ok((DEFAULT_SETTINGS, 0, text));
     }
-    match read_settings(words) {
-        Some(settings) => Ok((settings, 1, rest)),
-        None => Err(PackError::BadSettings),
+    let Some(settings) = read_settings(words) else {
+        return Err(PackError::BadSettings);
+    };
+    if !goes_together(settings) {
+        return Err(PackError::NotTogether);
     }
+    Ok((settings, 1, rest))
 }
 
 /// What the lines of a text ask for: settings, if the first line begins with the word `sheet`, and then a sprite each.
 ///
-/// `BadSettings` if the words after `sheet` are none; `BadLine` names the first line that is no sprite; `Twice` names
-/// the first line whose name stands on an earlier one; `Memory` if memory is refused.
-pub fn read_job(alloc: Global, text: &[u8]) -> Result<Job<'_>, PackError>
+/// `BadSettings` if the words after `sheet` are none; `NotTogether` if `pages` stands with `fill`, `dense` or `json`;
+/// `BadLine` names the first line that is no sprite; `Twice` names the first line whose name stands on an earlier one;
+/// `Memory` if memory is refused.
+pub fn read_job(alloc: Global, text: &[u8]) -> Result<Job, PackError>
     ensures asks { IfOk result (λ job. AsksFor text.now job.before job.settings job.sprites.items) }
     ensures few { IfOk result (λ job. job.before ≤ 1) }
     ensures fault { IfErr result (λ e. IsJobFault text.now e) }

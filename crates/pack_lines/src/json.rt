@@ -1,6 +1,6 @@
 //! A sheet as JSON.
 ghost use Rattle.std.specs.Prelude.{◌≡◌, ◌++◌, IfOk, codes, flat_map, string_bytes};
-ghost use Rattle.pack_lines.specs.Json.{corner_text, member_text, members_text, json_of, meta_text, quoted};
+ghost use Rattle.pack_lines.specs.Json.{corner_text, member_text, members_text, next_member_text, json_of, meta_text, quoted};
 ghost use Rattle.pack_lines.specs.Json.{rotated_text, sides_text};
 
 use crate::frames::Frame;
@@ -8,7 +8,7 @@ use atlas_model::{Point, Size};
 use std::alloc::{AllocError, Global};
 
 // A name as a JSON string.
-fn quote(alloc: Global, name: &str) -> Result<Vec<u8>, AllocError>
+pub fn quote(alloc: Global, name: &str) -> Result<Vec<u8>, AllocError>
     ensures { IfOk result (λ text. text.items ≡ quoted name.now) }
 {
     let mut text = Vec::from_slice(alloc, b"\"")?;
@@ -47,10 +47,10 @@ fn sides(alloc: Global, size: Size, turned: bool) -> Result<String, AllocError>
 }
 
 // A sprite: its name and its frame.
-fn frame_json(alloc: Global, frame: Frame<'_>) -> Result<Vec<u8>, AllocError>
-    ensures { IfOk result (λ text. text.items ≡ member_text frame.entry) }
+fn frame_json(alloc: Global, frame: &Frame) -> Result<Vec<u8>, AllocError>
+    ensures { IfOk result (λ text. text.items ≡ member_text frame.now) }
 {
-    let mut text = quote(alloc, frame.sprite.name)?;
+    let mut text = quote(alloc, frame.sprite.name.as_str())?;
     let corner = corner(alloc, frame.corner)?;
     text.extend_from_slice(corner.as_bytes())?;
     let sides = sides(alloc, frame.sprite.size, frame.turned)?;
@@ -58,19 +58,38 @@ fn frame_json(alloc: Global, frame: Frame<'_>) -> Result<Vec<u8>, AllocError>
     Ok(text)
 }
 
+// A frame after another.
+fn next_json(alloc: Global, frame: &Frame) -> Result<Vec<u8>, AllocError>
+    ensures { IfOk result (λ text. text.items ≡ next_member_text frame.now) }
+{
+    let mut text = Vec::from_slice(alloc, b",\n")?;
+    let frame = frame_json(alloc, frame)?;
+    text.extend_from_slice(&frame)?;
+    Ok(text)
+}
+
+// Frames after another, in order.
+fn others_json(alloc: Global, others: &[Frame]) -> Result<Vec<u8>, AllocError>
+    ensures { IfOk result (λ text. text.items ≡ flat_map next_member_text others.now) }
+{
+    let mut text = Vec::new(alloc);
+    for next in others {
+        let line = next_json(alloc, next)?;
+        text.extend_from_slice(&line)?;
+    }
+    Ok(text)
+}
+
 // The frames in order, with a comma between two.
-fn frames_json(alloc: Global, frames: &[Frame<'_>]) -> Result<Vec<u8>, AllocError>
+fn frames_json(alloc: Global, frames: &[Frame]) -> Result<Vec<u8>, AllocError>
     ensures { IfOk result (λ text. text.items ≡ members_text frames.now) }
 {
     let Some((first, others)) = frames.split_first() else {
         return Ok(Vec::new(alloc));
     };
-    let mut text = frame_json(alloc, *first)?;
-    for next in others {
-        text.extend_from_slice(b",\n")?;
-        let next = frame_json(alloc, *next)?;
-        text.extend_from_slice(&next)?;
-    }
+    let mut text = frame_json(alloc, first)?;
+    let others = others_json(alloc, others)?;
+    text.extend_from_slice(&others)?;
     Ok(text)
 }
 
@@ -84,7 +103,7 @@ fn meta(alloc: Global, sheet: Size) -> Result<String, AllocError>
 
 /// A sheet as a JSON object: `frames` by the names of the sprites, in order, each with its `frame` (`x`, `y`, `w`, `h`)
 /// and `rotated`; and `meta` with the `size` of the sheet (`w`, `h`). It takes memory for the text.
-pub fn sheet_json(alloc: Global, sheet: Size, frames: &[Frame<'_>]) -> Result<Vec<u8>, AllocError>
+pub fn sheet_json(alloc: Global, sheet: Size, frames: &[Frame]) -> Result<Vec<u8>, AllocError>
     ensures { IfOk result (λ text. text.items ≡ json_of sheet frames.now) }
 {
     let mut text = Vec::from_slice(alloc, b"{\"frames\":{\n")?;

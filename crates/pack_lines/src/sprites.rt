@@ -1,49 +1,82 @@
 //! Sprites, and the lines that name them.
-ghost use Rattle.std.specs.Prelude.{◌≡◌, ℕ, List, IfSome, IsSomeAnd, IsTrue, ◌↔◌};
+ghost use Rattle.std.specs.Prelude.{◌≡◌, ℕ, List, IfOk, IfSome, IsSomeAnd, string_bytes};
+ghost use Rattle.std.specs.Char.{is_control};
+ghost use Rattle.std.specs.List.{list_any};
+ghost use Rattle.std.specs.Str.{chars};
 ghost use Rattle.atlas_model.specs.declared.geometry.Size.{Size};
-ghost use Rattle.pack_lines.specs.Sprites.{IsName, IsPrintable, SpellsSprite};
-ghost use Rattle.std.specs.List.{AllByRecursion};
+ghost use Rattle.pack_lines.specs.Sprites.{BeginsWithSpelling, IsName, SpellsSprite};
 
+use crate::quoted::{after, read_quoted};
 use atlas_model::Size;
 use atlas_words::words::{first_word, size_arguments};
+use std::alloc::{AllocError, Global};
 use std::str;
 
 /// A sprite that a line names.
-#[derive(Clone, Copy, Debug)]
-pub struct Sprite<'a> {
-    /// Its name: one or more printable ASCII characters, none of them a space.
-    pub name: &'a str,
+#[derive(Debug, Drop)]
+pub struct Sprite {
+    /// Its name: one or more characters, none of them a control character.
+    pub name: String,
     /// Its size, in pixels.
     pub size: Size,
 }
 
-// Whether all bytes are printable, and none a space.
-fn are_printable(word: &[u8]) -> bool
-    ensures { IsTrue result ↔ AllByRecursion IsPrintable word.now }
+// What the front of a line spells, in quotation marks or as it is up to a space, and what follows that.
+fn read_spelled(alloc: Global, line: &[u8]) -> Result<Option<(Vec<u8>, &[u8])>, AllocError>
+    ensures found { IfOk result (λ found. IfSome found (λ f. BeginsWithSpelling f.0.items line.now f.1.now)) }
+    ensures only { (name rest : List ℕ) → BeginsWithSpelling name line.now rest → IfOk result (λ found.
+        IsSomeAnd found (λ f. (f.0.items ≡ name) × (f.1.now ≡ rest))) }
 {
-    word.iter().all(|byte| byte.is_ascii_graphic())
+    if let Some(text) = after(b'"', line) {
+        return read_quoted(alloc, text);
+    }
+    let (word, rest) = first_word(line);
+    Ok(Some((Vec::from_slice(alloc, word)?, rest)))
 }
 
-// The name that a word is.
-fn read_name(word: &[u8]) -> Option<&str>
-    ensures found { IfSome result (λ name. (name.now ≡ word.now) × IsName word.now) }
-    ensures all { IsName word.now → IsSomeAnd result (λ name. name.now ≡ word.now) }
+// Whether a character of a text is a control character.
+fn has_control(text: &str) -> bool
+    ensures { result ≡ list_any is_control (chars text.now) }
 {
-    if word.is_empty() || !are_printable(word) {
-        return None;
+    text.chars().any(|c| c.is_control())
+}
+
+// The name that these bytes are.
+fn name_of(alloc: Global, bytes: &[u8]) -> Result<Option<String>, AllocError>
+    ensures found { IfOk result (λ found. IfSome found (λ name.
+        (string_bytes name ≡ bytes.now) × IsName bytes.now)) }
+    ensures all { IsName bytes.now → IfOk result (λ found. IsSomeAnd found (λ name. string_bytes name ≡ bytes.now)) }
+{
+    if bytes.is_empty() {
+        return Ok(None);
     }
-    str::from_utf8(word).ok()
+    let Ok(name) = str::from_utf8(bytes) else {
+        return Ok(None);
+    };
+    if has_control(name) {
+        return Ok(None);
+    }
+    Ok(Some(String::from_str(alloc, name)?))
 }
 
 /// The sprite that the bytes of a line, without its LF, name: NAME WIDTH HEIGHT, parted by single spaces. None for
-/// every other line.
-pub fn read_sprite(line: &[u8]) -> Option<Sprite<'_>>
-    ensures found { IfSome result (λ sprite. SpellsSprite sprite.name.now sprite.size line.now) }
-    ensures all { (name : List ℕ) (size : Size) → SpellsSprite name size line.now
-        → IsSomeAnd result (λ sprite. (sprite.name.now ≡ name) × (sprite.size ≡ size)) }
+/// every other line. A name is one or more characters in UTF-8, none of them a control character. It stands as it is
+/// where it has no space and doesn't begin with a quotation mark; each name may stand in quotation marks, as a string
+/// of JSON. It takes memory for the name.
+pub fn read_sprite(alloc: Global, line: &[u8]) -> Result<Option<Sprite>, AllocError>
+    ensures found { IfOk result (λ found.
+        IfSome found (λ sprite. SpellsSprite (string_bytes sprite.name) sprite.size line.now)) }
+    ensures all { (name : List ℕ) (size : Size) → SpellsSprite name size line.now → IfOk result (λ found.
+        IsSomeAnd found (λ sprite. (string_bytes sprite.name ≡ name) × (sprite.size ≡ size))) }
 {
-    let (word, rest) = first_word(line);
-    let name = read_name(word)?;
-    let size = size_arguments(rest)?;
-    Some(Sprite { name, size })
+    let Some((bytes, rest)) = read_spelled(alloc, line)? else {
+        return Ok(None);
+    };
+    let Some(size) = size_arguments(rest) else {
+        return Ok(None);
+    };
+    let Some(name) = name_of(alloc, &bytes)? else {
+        return Ok(None);
+    };
+    Ok(Some(Sprite { name, size }))
 }

@@ -1,92 +1,123 @@
 //! A sheet as lines.
 ghost use Rattle.std.specs.Prelude.{◌≡◌, IfOk, flat_map, string_bytes};
-ghost use Rattle.pack_lines.specs.Texts.{full_text, left_text, place_line, sheet_line, text_of};
+ghost use Rattle.pack_lines.specs.Sprites.{IsReadAgain};
+ghost use Rattle.pack_lines.specs.Texts.{full_text, left_text, needs_quotes, place_line, place_text, sheet_line, spelled};
+ghost use Rattle.pack_lines.specs.Texts.{text_of};
 
 use crate::frames::{Frame, fullness};
+use crate::json::quote;
 use crate::sprites::Sprite;
 use atlas_model::Size;
 use std::alloc::{AllocError, Global};
 
 // The line of the sheet.
-fn sheet_line(alloc: Global, sheet: Size) -> Result<String, AllocError>
+pub fn sheet_line(alloc: Global, sheet: Size) -> Result<String, AllocError>
     ensures { IfOk result (λ text. string_bytes text ≡ sheet_line sheet) }
 {
     let Size { width, height } = sheet;
     format!(in alloc; "sheet {width} {height}\n")
 }
 
-// The line of a sprite.
-fn sprite_line(alloc: Global, frame: Frame<'_>) -> Result<String, AllocError>
-    ensures { IfOk result (λ text. string_bytes text ≡ place_line frame.entry) }
+// Whether a name has to stand in quotation marks.
+fn needs_quotes(name: &[u8]) -> bool
+    ensures { result ≡ needs_quotes name.now }
 {
-    let name = frame.sprite.name;
+    match name.first() {
+        Some(first) => *first == b'"' || name.contains(&b' '),
+        None => false,
+    }
+}
+
+// A name in a line. It is read as this name.
+pub fn spelled(alloc: Global, name: &str) -> Result<Vec<u8>, AllocError>
+    ensures value { IfOk result (λ text. text.items ≡ spelled name.now) }
+    ensures again { IfOk result (λ text. IsReadAgain name.now text.items) }
+{
+    if needs_quotes(name.as_bytes()) {
+        return quote(alloc, name);
+    }
+    Vec::from_slice(alloc, name.as_bytes())
+}
+
+// What stands after the name in the line of a sprite.
+pub fn place(alloc: Global, frame: &Frame) -> Result<String, AllocError>
+    ensures { IfOk result (λ text. string_bytes text ≡ place_text frame.now) }
+{
     let at = frame.corner;
     let size = frame.sprite.size;
     let turned = if frame.turned { " turned" } else { "" };
     format!(in alloc;
-        "{name} {} {} {} {}{turned}\n",
+        " {} {} {} {}{turned}\n",
         at.x, at.y, size.width, size.height
     )
 }
 
-// The lines of the sprites.
-fn sprite_lines(alloc: Global, frames: &[Frame<'_>]) -> Result<String, AllocError>
-    ensures { IfOk result (λ text. string_bytes text ≡ flat_map place_line frames.now) }
+// The line of a sprite.
+fn sprite_line(alloc: Global, frame: &Frame) -> Result<Vec<u8>, AllocError>
+    ensures { IfOk result (λ text. text.items ≡ place_line frame.now) }
 {
-    let mut text = String::new(alloc);
+    let mut text = spelled(alloc, frame.sprite.name.as_str())?;
+    let place = place(alloc, frame)?;
+    text.extend_from_slice(place.as_bytes())?;
+    Ok(text)
+}
+
+// The lines of the sprites.
+fn sprite_lines(alloc: Global, frames: &[Frame]) -> Result<Vec<u8>, AllocError>
+    ensures { IfOk result (λ text. text.items ≡ flat_map place_line frames.now) }
+{
+    let mut text = Vec::new(alloc);
     for frame in frames {
-        let line = sprite_line(alloc, *frame)?;
-        text.push_str(line.as_str())?;
+        let line = sprite_line(alloc, frame)?;
+        text.extend_from_slice(&line)?;
     }
     Ok(text)
 }
 
 // The line of a sprite without a place.
-fn left_line(alloc: Global, sprite: Sprite<'_>) -> Result<String, AllocError>
-    ensures { IfOk result (λ text. string_bytes text ≡ left_text sprite.entry) }
+fn left_line(alloc: Global, sprite: &Sprite) -> Result<Vec<u8>, AllocError>
+    ensures { IfOk result (λ text. text.items ≡ left_text sprite.now) }
 {
-    let name = sprite.name;
-    format!(in alloc; "{name} none\n")
+    let mut text = spelled(alloc, sprite.name.as_str())?;
+    text.extend_from_slice(b" none\n")?;
+    Ok(text)
 }
 
 // The lines of the sprites without a place.
-fn left_lines(alloc: Global, left: &[Sprite<'_>]) -> Result<String, AllocError>
-    ensures { IfOk result (λ text. string_bytes text ≡ flat_map left_text left.now) }
+fn left_lines(alloc: Global, left: &[Sprite]) -> Result<Vec<u8>, AllocError>
+    ensures { IfOk result (λ text. text.items ≡ flat_map left_text left.now) }
 {
-    let mut text = String::new(alloc);
+    let mut text = Vec::new(alloc);
     for sprite in left {
-        let line = left_line(alloc, *sprite)?;
-        text.push_str(line.as_str())?;
+        let line = left_line(alloc, sprite)?;
+        text.extend_from_slice(&line)?;
     }
     Ok(text)
 }
 
 // The line that says how full the sheet is.
-fn full_line(alloc: Global, fullness: u128) -> Result<String, AllocError>
+pub fn full_line(alloc: Global, fullness: u128) -> Result<String, AllocError>
     ensures { IfOk result (λ text. string_bytes text ≡ full_text fullness) }
 {
     format!(in alloc; "full {fullness}\n")
 }
 
 /// A sheet as lines: its size, each sprite with its place, those without one, each in order, and how full it is, in
-/// thousandths. It takes memory for the text.
+/// thousandths. A name that has a space or begins with a quotation mark stands in quotation marks, as a string of JSON.
+/// It takes memory for the text.
 pub fn sheet_lines(
     alloc: Global,
     sheet: Size,
-    frames: &[Frame<'_>],
-    left: &[Sprite<'_>],
-) -> Result<String, AllocError>
-    ensures { IfOk result (λ text. string_bytes text ≡ text_of sheet frames.now left.now) }
+    frames: &[Frame],
+    left: &[Sprite],
+) -> Result<Vec<u8>, AllocError>
+    ensures { IfOk result (λ text. text.items ≡ text_of sheet frames.now left.now) }
 {
     let first = sheet_line(alloc, sheet)?;
-    let placed = sprite_lines(alloc, frames)?;
-    let rest = left_lines(alloc, left)?;
+    let mut text = Vec::from_slice(alloc, first.as_bytes())?;
+    text.extend_from_slice(&sprite_lines(alloc, frames)?)?;
+    text.extend_from_slice(&left_lines(alloc, left)?)?;
     let last = full_line(alloc, fullness(sheet, frames))?;
-    let (first, placed, rest, last) = (
-        first.as_str(),
-        placed.as_str(),
-        rest.as_str(),
-        last.as_str(),
-    );
-    format!(in alloc; "{first}{placed}{rest}{last}")
+    text.extend_from_slice(last.as_bytes())?;
+    Ok(text)
 }

@@ -1,40 +1,43 @@
 //! Sheets that are written.
 use atlas_model::{Point, Size, size2};
-use pack_lines::{Frame, Sprite, fullness, sheet_json, sheet_lines};
+use pack_lines::{
+    Frame, PageFrame, Sprite, fullness, pages_fullness, pages_lines, read_sprite, sheet_json,
+    sheet_lines,
+};
+use std::alloc::Global;
+use std::process::Abort;
+
+fn sprite(alloc: Global, name: &str, width: i32, height: i32, rt: &impl Abort) -> Sprite {
+    Sprite {
+        name: String::from_str(alloc, name).expect(rt, "memory"),
+        size: size2(width, height),
+    }
+}
 
 // Two sprites on a sheet of 10 x 10: 30 and 21 pixels of 100. The second lies turned, and its name is to be escaped.
-const FRAMES: [Frame<'static>; 2] = [
-    Frame {
-        sprite: Sprite {
-            name: "a.png",
-            size: Size {
-                width: 5,
-                height: 6,
-            },
-        },
+fn frames(alloc: Global, rt: &impl Abort) -> Vec<Frame> {
+    let mut frames = Vec::new(alloc);
+    let upright = Frame {
+        sprite: sprite(alloc, "a.png", 5, 6, rt),
         corner: Point { x: 1, y: 0 },
         turned: false,
-    },
-    Frame {
-        sprite: Sprite {
-            name: "b\"\\",
-            size: Size {
-                width: 7,
-                height: 3,
-            },
-        },
+    };
+    let turned = Frame {
+        sprite: sprite(alloc, "b\"\\", 7, 3, rt),
         corner: Point { x: 6, y: 2 },
         turned: true,
-    },
-];
+    };
+    frames.push(upright).expect(rt, "memory");
+    frames.push(turned).expect(rt, "memory");
+    frames
+}
 
-const LEFT: [Sprite<'static>; 1] = [Sprite {
-    name: "c",
-    size: Size {
-        width: 9,
-        height: 9,
-    },
-}];
+// One that found no place.
+fn left(alloc: Global, rt: &impl Abort) -> Vec<Sprite> {
+    let mut left = Vec::new(alloc);
+    left.push(sprite(alloc, "c", 9, 9, rt)).expect(rt, "memory");
+    left
+}
 
 const LINES: &str = "sheet 10 10\na.png 1 0 5 6\nb\"\\ 6 2 7 3 turned\nc none\nfull 510\n";
 
@@ -51,15 +54,17 @@ const NO_JSON: &str = "{\"frames\":{
 
 #[test]
 fn lines(rt: HostRuntime) {
-    let text = sheet_lines(rt.alloc(), size2(10, 10), &FRAMES, &LEFT).expect(&rt, "memory");
-    assert_eq!(&rt; text.as_str(), LINES);
+    let (frames, left) = (frames(rt.alloc(), &rt), left(rt.alloc(), &rt));
+    let text = sheet_lines(rt.alloc(), size2(10, 10), &frames, &left).expect(&rt, "memory");
+    assert!(&rt; text.as_slice() == LINES.as_bytes());
     let none = sheet_lines(rt.alloc(), size2(1, 1), &[], &[]).expect(&rt, "memory");
-    assert_eq!(&rt; none.as_str(), "sheet 1 1\nfull 0\n");
+    assert!(&rt; none.as_slice() == b"sheet 1 1\nfull 0\n".as_slice());
 }
 
 #[test]
 fn json(rt: HostRuntime) {
-    let text = sheet_json(rt.alloc(), size2(10, 10), &FRAMES).expect(&rt, "memory");
+    let frames = frames(rt.alloc(), &rt);
+    let text = sheet_json(rt.alloc(), size2(10, 10), &frames).expect(&rt, "memory");
     assert!(&rt; text.as_slice() == JSON.as_bytes());
     let none = sheet_json(rt.alloc(), size2(1, 1), &[]).expect(&rt, "memory");
     assert!(&rt; none.as_slice() == NO_JSON.as_bytes());
@@ -67,7 +72,74 @@ fn json(rt: HostRuntime) {
 
 #[test]
 fn how_full(rt: HostRuntime) {
+    let frames = frames(rt.alloc(), &rt);
     for (width, height, full) in [(10, 10, 510), (17, 3, 1000), (1000, 1000, 0), (0, 5, 0)] {
-        assert_eq!(&rt; fullness(size2(width, height), &FRAMES), full);
+        assert_eq!(&rt; fullness(size2(width, height), &frames), full);
+    }
+}
+
+// The same two on two sheets, the first on the second: of their 200 pixels 51 are used, and the sheets are told first.
+fn paged(alloc: Global, rt: &impl Abort) -> Vec<PageFrame> {
+    let mut paged = Vec::new(alloc);
+    for (page, frame) in [1, 0].into_iter().zip(frames(alloc, rt)) {
+        paged.push(PageFrame { page, frame }).expect(rt, "memory");
+    }
+    paged
+}
+
+const SHEETS: [Size; 2] = [
+    Size {
+        width: 10,
+        height: 12,
+    },
+    Size {
+        width: 8,
+        height: 10,
+    },
+];
+
+const PAGES: &str = "sheet 10 12\nsheet 8 10\na.png 1 1 0 5 6\nb\"\\ 0 6 2 7 3 turned\nfull 255\n";
+
+#[test]
+fn pages(rt: HostRuntime) {
+    let paged = paged(rt.alloc(), &rt);
+    let text = pages_lines(rt.alloc(), &SHEETS, &paged).expect(&rt, "memory");
+    assert!(&rt; text.as_slice() == PAGES.as_bytes());
+    let none = pages_lines(rt.alloc(), &[], &[]).expect(&rt, "memory");
+    assert!(&rt; none.as_slice() == b"full 0\n".as_slice());
+}
+
+#[test]
+fn how_full_together(rt: HostRuntime) {
+    let paged = paged(rt.alloc(), &rt);
+    assert_eq!(&rt; pages_fullness(&SHEETS, &paged), 255);
+    assert_eq!(&rt; pages_fullness(&[size2(17, 3)], &paged), 1000);
+    assert_eq!(&rt; pages_fullness(&[], &paged), 0);
+}
+
+// Each row: a name, and how it stands in a line.
+const NAMES: [(&str, &str); 6] = [
+    ("a.png", "a.png"),
+    ("a b.png", "\"a b.png\""),
+    ("\"", "\"\\\"\""),
+    ("\\ \"", "\"\\\\ \\\"\""),
+    ("q\"\\", "q\"\\"),
+    ("b\u{e4}r/\u{1f600}", "b\u{e4}r/\u{1f600}"),
+];
+
+// The line of a sprite without a place has its name, and is read as that name.
+#[test]
+fn names(rt: HostRuntime) {
+    let alloc = rt.alloc();
+    for (name, spelled) in NAMES {
+        let mut left = Vec::new(alloc);
+        left.push(sprite(alloc, name, 1, 2, &rt))
+            .expect(&rt, "memory");
+        let text = sheet_lines(alloc, size2(1, 1), &[], &left).expect(&rt, "memory");
+        let wanted = format!(in alloc; "sheet 1 1\n{spelled} none\nfull 0\n").expect(&rt, "memory");
+        assert!(&rt; text.as_slice() == wanted.as_bytes());
+        let line = format!(in alloc; "{spelled} 1 2").expect(&rt, "memory");
+        let again = read_sprite(alloc, line.as_bytes()).expect(&rt, "memory");
+        assert_eq!(&rt; again.expect(&rt, "a sprite").name.as_str(), name);
     }
 }

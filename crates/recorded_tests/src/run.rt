@@ -21,9 +21,10 @@ impl<'a> Player<'a> {
     // Ends a session before the line with this number, where one has begun.
     fn end_session(&mut self, alloc: Global, number: u64) -> Result<(), PlayError> {
         if self.session.has_lines() {
-            if !self.session.play(alloc) {
+            if !self.session.play(alloc, self.kind.starts_with("worked")) {
                 return Err(PlayError::Otherwise(number));
             }
+            self.session.clear();
             self.played = self.played.saturating_add(1);
         } else if self.has_pair {
             self.has_pair = false;
@@ -32,13 +33,19 @@ impl<'a> Player<'a> {
         Ok(())
     }
 
-    // Reads a line of a session: a takeover's is answered at once, another's when the session ends.
+    // Reads a line of a session, or a remark: a takeover's line is answered at once, another's when the session ends.
     fn read(&mut self, alloc: Global, recorded: &str, number: u64) -> Result<(), PlayError> {
+        if recorded.starts_with("## ") {
+            return Ok(());
+        }
+        if recorded.starts_with("memory ") {
+            return Ok(self.session.add_note(alloc, recorded)?);
+        }
         let Some((line, want)) = recorded.split_once(": ") else {
             return Err(PlayError::BadLine(number));
         };
         if !self.kind.starts_with("takeover") {
-            return Ok(self.session.add(line, want)?);
+            return Ok(self.session.add(alloc, line, want)?);
         }
         self.has_pair = true;
         let Some(got) = self.pair.answer(alloc, line)? else {
@@ -62,28 +69,44 @@ fn tell<W: Write>(alloc: Global, player: &Player, output: &mut W) -> Result<(), 
     Ok(())
 }
 
-// Plays the sessions of a text.
-fn play_all<W: Write>(alloc: Global, text: &str, output: &mut W) -> Result<(), PlayError> {
-    let mut player = Player {
+// Takes the line with this number.
+fn take<'a, W: Write>(
+    alloc: Global,
+    player: &mut Player<'a>,
+    line: &'a str,
+    number: u64,
+    output: &mut W,
+) -> Result<(), PlayError> {
+    if line.is_empty() {
+        return player.end_session(alloc, number);
+    }
+    let Some(kind) = line.strip_prefix("# ") else {
+        return player.read(alloc, line, number);
+    };
+    player.end_session(alloc, number)?;
+    tell(alloc, player, output)?;
+    player.kind = kind;
+    player.played = 0;
+    Ok(())
+}
+
+fn begun<'a>(alloc: Global) -> Result<Player<'a>, PlayError> {
+    Ok(Player {
         kind: "",
         played: 0,
         session: Session::new(alloc),
         pair: Pair::new(alloc)?,
         has_pair: false,
-    };
+    })
+}
+
+// Plays the sessions of a text.
+fn play_all<W: Write>(alloc: Global, text: &str, output: &mut W) -> Result<(), PlayError> {
+    let mut player = begun(alloc)?;
     let mut number = 0u64;
     for line in text.lines() {
         number = number.saturating_add(1);
-        if let Some(kind) = line.strip_prefix("# ") {
-            player.end_session(alloc, number)?;
-            tell(alloc, &player, output)?;
-            player.kind = kind;
-            player.played = 0;
-        } else if line.is_empty() {
-            player.end_session(alloc, number)?;
-        } else {
-            player.read(alloc, line, number)?;
-        }
+        take(alloc, &mut player, line, number, output)?;
     }
     player.end_session(alloc, number)?;
     tell(alloc, &player, output)

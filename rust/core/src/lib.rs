@@ -9,6 +9,7 @@ pub mod atlas_allocator;
 pub mod atlas_cache;
 pub mod atlas_maxrects;
 pub mod atlas_model;
+pub mod atlas_search;
 pub mod atlas_sheet;
 pub mod atlas_store;
 pub mod atlas_tree;

@@ -125,6 +125,23 @@ def extruded(folder, room):
                 assert sheet.getpixel((x + column, y + row)) == sheet.getpixel(inside)
 
 
+def sizes_told(done):
+    """The sides of the sheets, as the program tells them."""
+    return [tuple(map(int, re.search(r': (\d+)x(\d+), \d+ sprites$', line).groups())) for line in done.stdout.splitlines()]
+
+
+def dense(folder, originals, room):
+    """A smaller sheet than without it; of several sheets all but the last are as large as allowed, and there are no more of them."""
+    out = os.path.join(room, 'dense')
+    for more in ([], ['--effort', '50'], ['--greatest', '200', '--pages', '99'], ['--greatest', '160', '--pages', '99', '--turn']):
+        (*_, plain), (*full, last) = both = [sizes_told(run(folder, out, '--trim', *more, *words)) for words in ([], ['--dense'])]
+        compare(readers.read('json-hash', out), originals, True)
+        greatest = int(more[1]) if '--greatest' in more else 4096
+        assert full == [(greatest, greatest)] * len(full), full
+        assert len(both[1]) < len(both[0]) or len(both[1]) == len(both[0]) and last[0] <= plain[0], both
+        assert more or last[0] < plain[0], both
+
+
 def premultiplied(folder, originals, room):
     out = os.path.join(room, 'premultiplied')
     run(folder, out, '--premultiply', '--form', 'libgdx')
@@ -304,6 +321,7 @@ def all_tests(room):
             test('%s, %s' % (name, way), form, name, way, folder, originals, room)
     test('equal pictures', equal_once, folder, room)
     test('extruded', extruded, folder, room)
+    test('dense', dense, folder, originals, room)
     test('premultiplied', premultiplied, folder, originals, room)
     test('scaled', scaled, folder, originals, room)
     test('other kinds', others, room)

@@ -1,6 +1,8 @@
 //! Sprites in as few sheets as are found.
 pub use guillotiere::sheet::OnPage as Place;
-use guillotiere::sheet::{pack_pages, pack_telling, Allowed, Sheet, SheetError, SheetOptions};
+use guillotiere::sheet::{
+    self, pack_dense, pack_pages, pack_telling, Allowed, Sheet, SheetError, SheetOptions,
+};
 use guillotiere::Size;
 
 /// The sizes of the sheets, and a place or none for each sprite, in the order of the sprites.
@@ -8,6 +10,16 @@ use guillotiere::Size;
 pub struct Pages {
     pub sizes: Vec<Size>,
     pub places: Vec<Option<Place>>,
+}
+
+/// How sprites are packed.
+#[derive(Copy, Clone, Debug, PartialEq)]
+pub struct Ways {
+    pub options: SheetOptions,
+    /// Smaller sheets with no whole cuts are tried too, for the last sheet.
+    pub is_dense: bool,
+    /// At most so many sheets.
+    pub limit: usize,
 }
 
 /// The greatest sheet that is allowed.
@@ -36,63 +48,160 @@ pub fn fits(sprite: Size, options: &SheetOptions) -> bool {
 /// All sprites in the smallest sheet that takes them, or one sheet of the greatest size after the other, the last as small as is
 /// found, and of these the first `limit`. A sprite that fits no empty sheet, or lies on a later one, has no place. `told` is
 /// called with the size of each sheet that takes all sprites, as soon as it is found.
-pub fn pages(
-    sprites: &[Size],
-    options: &SheetOptions,
-    limit: usize,
-    told: impl FnMut(Size),
-) -> Result<Pages, SheetError> {
+pub fn pages(sprites: &[Size], ways: &Ways, told: impl FnMut(Size)) -> Result<Pages, SheetError> {
     let mut found = Pages {
         sizes: Vec::new(),
         places: vec![None; sprites.len()],
     };
-    if sprites.is_empty() || limit == 0 {
+    if sprites.is_empty() || ways.limit == 0 {
         return Ok(found);
     }
-    if let Some(sheet) = one_sheet(sprites, options, told)? {
+    if let Some(sheet) = one_sheet(sprites, ways, told)? {
         found.sizes.push(sheet.size);
         let place = |placed| Some(Place { page: 0, placed });
         found.places = sheet.places.into_iter().map(place).collect();
         return Ok(found);
     }
     let numbers: Vec<usize> = (0..sprites.len())
-        .filter(|number| fits(sprites[*number], options))
+        .filter(|number| fits(sprites[*number], &ways.options))
         .collect();
     let fitting: Vec<Size> = numbers.iter().map(|number| sprites[*number]).collect();
-    if let Some(packed) = pack_pages(&fitting, options)? {
+    if let Some(mut packed) = pack_pages(&fitting, &ways.options)? {
+        if ways.is_dense {
+            end_densely(&fitting, &ways.options, &mut packed)?;
+        }
         found.sizes = packed.sizes;
-        found.sizes.truncate(limit);
+        found.sizes.truncate(ways.limit);
         for (number, place) in numbers.iter().zip(packed.places) {
-            found.places[*number] = Some(place).filter(|place| place.page < limit);
+            found.places[*number] = Some(place).filter(|place| place.page < ways.limit);
         }
     }
     Ok(found)
 }
 
+fn area(size: &Size) -> i64 {
+    i64::from(size.width) * i64::from(size.height)
+}
+
+// Whether the greatest sheet has as many pixels as these sprites.
+fn may_fit(sprites: &[Size], options: &SheetOptions) -> bool {
+    sprites.iter().map(area).sum::<i64>() <= area(&greatest(options.allowed))
+}
+
 // `pack_pages` finds one sheet too, and tells nothing of it on the way.
 fn one_sheet(
     sprites: &[Size],
-    options: &SheetOptions,
-    told: impl FnMut(Size),
+    ways: &Ways,
+    mut told: impl FnMut(Size),
 ) -> Result<Option<Sheet>, SheetError> {
-    let area = |size: &Size| i64::from(size.width) * i64::from(size.height);
-    if sprites.iter().map(area).sum::<i64>() > area(&greatest(options.allowed)) {
+    if !may_fit(sprites, &ways.options) {
         return Ok(None);
     }
-    pack_telling(sprites, options, told)
+    let found = pack_telling(sprites, &ways.options, &mut told)?;
+    if !ways.is_dense {
+        return Ok(found);
+    }
+    let dense = dense_sheet(sprites, &ways.options)?;
+    let most = found.as_ref().map_or(i64::MAX, |sheet| area(&sheet.size));
+    match dense.filter(|sheet| area(&sheet.size) < most) {
+        Some(sheet) => {
+            told(sheet.size);
+            Ok(Some(sheet))
+        }
+        None => Ok(found),
+    }
+}
+
+// `pack_dense` begins with the sheet of `pack`, for which all changes of the order were tried before.
+fn dense_sheet(sprites: &[Size], options: &SheetOptions) -> Result<Option<Sheet>, SheetError> {
+    if !may_fit(sprites, options) {
+        return Ok(None);
+    }
+    let plain = SheetOptions {
+        effort: 0,
+        ..*options
+    };
+    pack_dense(sprites, &plain)
+}
+
+// The last sheets as one dense sheet, as long as one takes them; else a smaller last sheet, if one is found.
+fn end_densely(
+    sprites: &[Size],
+    options: &SheetOptions,
+    packed: &mut sheet::Pages,
+) -> Result<(), SheetError> {
+    while packed.sizes.len() > 1 {
+        let last_two = packed.sizes.len() - 2;
+        if !put_densely(sprites, options, packed, last_two)? {
+            break;
+        }
+    }
+    let last = packed.sizes.len() - 1;
+    put_densely(sprites, options, packed, last)?;
+    Ok(())
+}
+
+// Puts all sprites of the sheets from `first` on into one dense sheet, if one with fewer pixels takes them.
+fn put_densely(
+    sprites: &[Size],
+    options: &SheetOptions,
+    packed: &mut sheet::Pages,
+    first: usize,
+) -> Result<bool, SheetError> {
+    let numbers: Vec<usize> = (0..sprites.len())
+        .filter(|number| packed.places[*number].page >= first)
+        .collect();
+    let rest: Vec<Size> = numbers.iter().map(|number| sprites[*number]).collect();
+    let most: i64 = packed.sizes[first..].iter().map(area).sum();
+    let sheet = match dense_sheet(&rest, options)? {
+        Some(sheet) if area(&sheet.size) < most => sheet,
+        _ => return Ok(false),
+    };
+    packed.sizes.truncate(first);
+    packed.sizes.push(sheet.size);
+    for (number, placed) in numbers.iter().zip(sheet.places) {
+        packed.places[*number] = Place {
+            page: first,
+            placed,
+        };
+    }
+    Ok(true)
 }
 
 #[cfg(test)]
 mod tests {
-    use super::{fits, greatest, pages};
+    use super::{fits, greatest, pages, Pages, Ways};
     use guillotiere::sheet::{Allowed, SheetOptions};
-    use guillotiere::size2;
+    use guillotiere::{size2, Size};
 
     fn options() -> SheetOptions {
         SheetOptions {
             padding: 1,
             ..SheetOptions::new(Allowed::Powers { greatest: 100 })
         }
+    }
+
+    fn packed(sprites: &[Size], limit: usize) -> Pages {
+        let ways = Ways {
+            options: options(),
+            is_dense: false,
+            limit,
+        };
+        pages(sprites, &ways, |_| {}).unwrap()
+    }
+
+    fn dense(sprites: &[Size], greatest: i32, limit: usize) -> Pages {
+        let ways = Ways {
+            options: SheetOptions::new(Allowed::Squares { least: 1, greatest }),
+            is_dense: true,
+            limit,
+        };
+        let mut sizes = Vec::new();
+        let found = pages(sprites, &ways, |size| sizes.push(size)).unwrap();
+        if found.sizes.len() == 1 && found.places.iter().all(Option::is_some) {
+            assert!(sizes.is_empty() || sizes.last() == found.sizes.first());
+        }
+        found
     }
 
     #[test]
@@ -114,20 +223,36 @@ mod tests {
     fn goes_on_to_other_pages() {
         // Two sprites of 40 by 40 don't fit 64 by 64; the last sheet is as small as its sprite allows.
         let sprites = [size2(40, 40), size2(5, 5), size2(62, 62), size2(14, 14)];
-        let found = pages(&sprites, &options(), 9, |_| {}).unwrap();
+        let found = packed(&sprites, 9);
         assert_eq!(found.sizes.len(), 2);
         assert_eq!(found.places.iter().flatten().count(), 4);
         assert_eq!(found.places[2].map(|place| place.page), Some(0));
         assert_eq!(found.sizes[1], size2(64, 64));
-        let one = pages(&sprites, &options(), 1, |_| {}).unwrap();
-        assert_eq!(one.places.iter().flatten().count(), 1);
+        assert_eq!(packed(&sprites, 1).places.iter().flatten().count(), 1);
+        assert_eq!(packed(&[size2(70, 2)], 3).sizes, []);
+    }
+
+    #[test]
+    fn tells_each_smaller_sheet() {
+        let ways = Ways {
+            options: options(),
+            is_dense: false,
+            limit: 3,
+        };
         let mut sizes = Vec::new();
-        let alone = pages(&sprites[3..], &options(), 3, |size| sizes.push(size)).unwrap();
+        let alone = pages(&[size2(14, 14)], &ways, |size| sizes.push(size)).unwrap();
         assert_eq!(alone.sizes, [size2(16, 16)]);
         assert_eq!(sizes.last(), Some(&size2(16, 16)));
-        assert_eq!(
-            pages(&[size2(70, 2)], &options(), 3, |_| {}).unwrap().sizes,
-            []
-        );
+    }
+
+    #[test]
+    fn packs_densely_into_one() {
+        let fill = [size2(4, 2), size2(10, 6), size2(4, 2), size2(6, 4)];
+        assert_eq!(dense(&fill, 64, 1).sizes, [size2(10, 10)]);
+        // The second doesn't fit; the others are 8 wide or 8 high, however they lie.
+        let found = dense(&fill, 9, 9);
+        assert_eq!(found.sizes, [size2(8, 8)]);
+        assert!(found.places[1].is_none());
+        assert_eq!(found.places.iter().flatten().count(), 3);
     }
 }

@@ -1,7 +1,7 @@
 //! From pictures to sheets.
 use crate::fault::{Fault, ROOM};
 use crate::forms;
-use crate::packing::{fits, greatest, pages, Pages, Place};
+use crate::packing::{fits, greatest, pages, Pages, Place, Ways};
 use crate::picture::{Lie, Part, Picture};
 use crate::scale::Scale;
 use crate::words::Words;
@@ -171,7 +171,12 @@ fn packed(
             eprintln!("guillotiere-sheet: so far {}x{}", size.width, size.height);
         }
     };
-    let pages = pages(&sizes, &options, words.pages as usize, progress).map_err(refused)?;
+    let ways = Ways {
+        options,
+        is_dense: words.dense,
+        limit: words.pages as usize,
+    };
+    let pages = pages(&sizes, &ways, progress).map_err(refused)?;
     let is_homeless = |one: &Known| pages.places[one.stored].is_none();
     let homeless = names.iter().zip(known).filter(|(_, one)| is_homeless(one));
     let homeless: Vec<&str> = homeless.map(|(name, _)| *name).collect();

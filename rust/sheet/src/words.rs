@@ -42,6 +42,9 @@ pub struct Words {
     /// At most so many sheets
     #[arg(long, value_name = "N", default_value_t = 1, value_parser = clap::value_parser!(u32).range(1..))]
     pub pages: u32,
+    /// Tries smaller sheets too, in which no whole cuts part the sprites and none is turned; of several sheets for the last
+    #[arg(long)]
+    pub dense: bool,
     /// Sprites may lie turned by 90 degrees
     #[arg(long)]
     pub turn: bool,
@@ -69,7 +72,7 @@ pub struct Words {
     /// Each place, with the padding to its left and above it, begins at multiples of W and H
     #[arg(long, num_args = 2, value_names = ["W", "H"])]
     pub align: Option<Vec<i32>>,
-    /// So many changes of the order are tried for a smaller sheet
+    /// So many changes of the order are tried for a smaller sheet; where one sheet takes all, each smaller one is told
     #[arg(long, value_name = "N", default_value_t = 0)]
     pub effort: u32,
     /// Where the random changes begin

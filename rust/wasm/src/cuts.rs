@@ -3,7 +3,7 @@
 use crate::atlas_handle::AtlasHandle;
 use crate::plain::{DONE, EMPTY};
 use wollemigo_core::atlas_allocator::store_of;
-use wollemigo_core::atlas_store::cut::Orientation;
+use wollemigo_core::atlas_search::cut::Orientation;
 use wollemigo_core::atlas_store::slots::walks::slot_id;
 use wollemigo_core::atlas_store::slots::{Node, NodeKind};
 use wollemigo_support::alloc::Global;
@@ -70,7 +70,7 @@ pub extern "C" fn guillotiere_atlas_members(
     let found = unsafe { slice_mut(found, found_len) };
     let held = atlas.take(Global);
     let mut many = 0;
-    for (number, slot) in store_of(&held).slots.iter().enumerate() {
+    for (number, slot) in store_of(&held).slots().iter().enumerate() {
         if let Some(member) = plain_member(number, &slot.node) {
             if let Some(place) = found.get_mut(many) {
                 *place = member;

@@ -38,8 +38,8 @@ function addPlaced(sum, place) {
   sum.add(place === null ? 7 : place.turned);
 }
 
-function pack(api, draw, sum) {
-  const { value, status, sprite } = asked(drawn(draw), 256, api.pack);
+function pack(call, draw, sum) {
+  const { value, status, sprite } = asked(drawn(draw), 256, call);
   sum.add(status === 0 && value === null ? numberOf('NO_ROOM') : status);
   sum.size(value ?? SEVENS.size);
   sum.wide(sprite ?? 7);
@@ -87,8 +87,9 @@ function kinds(api, draw, sum, hasNames) {
     [40, () => atlases.make()], [10, () => atlases.copy()], [4, () => atlases.free()], [800, () => simple.take()],
     [10, () => simple.make()], [20, () => simple.startAgain()], [40, () => simple.grow()], [100, () => simple.describe()],
     [900, () => cache.insert()], [700, () => cache.ask()], [80, () => cache.letGo()], [100, () => cache.nextFrame()],
-    [80, () => cache.describe()], [6, () => cache.make()], [8, () => pack(api, draw, sum)],
+    [80, () => cache.describe()], [6, () => cache.make()], [8, () => pack(api.pack, draw, sum)],
     [30, () => cache.know()], [4, () => packPages(api, draw, sum)], [4, () => fill(api, draw, sum)],
+    [4, () => pack(api.packDense, draw, sum)],
   ];
 }
 

@@ -25,7 +25,8 @@ abbrev pub after_each : State → List ℕ → State
 after_each s [] = s
 after_each s (id ∷ rest) = after_each (after_freeing s (only id)) rest
 
-freeing_twice : (s : State) (id : ℕ) (rest : List ℕ) → IsSound s → after_freeing (after_freeing s (only id)) (is_among rest) ≡ after_freeing s (is_among (id ∷ rest))
+freeing_twice : (s : State) (id : ℕ) (rest : List ℕ) → IsSound s
+    → after_freeing (after_freeing s (only id)) (is_among rest) ≡ after_freeing s (is_among (id ∷ rest))
 freeing_twice s id rest sound = grind (arith, release_nodes, state-freed, release-release)
 
 -- Ids freed one after another are their set freed at once.
@@ -59,17 +60,20 @@ live-after : (s : State) (id k : ℕ) → IsLive s k → (k ≡ id → ⊥) → 
 live-after s id k live ne =
     subst (λ v. Contains v k) (sym (ids-nf (mark (only id) s.tree.members))) (mark-live (only id) s.tree.members k (ne_eqb k id ne) live)
 
-pub once-after : (s : State) (id : ℕ) (rest : List ℕ) → AreLiveOnce s rest → is_among rest id ≡ false → AreLiveOnce (after_freeing s (only id)) rest
+pub once-after : (s : State) (id : ℕ) (rest : List ℕ) → AreLiveOnce s rest → is_among rest id ≡ false
+    → AreLiveOnce (after_freeing s (only id)) rest
 once-after s id [] h out = tt
 once-after s id (x ∷ rest) h out =
     let parts = or-parts (only x id) (is_among rest id) out in
     (live-after s id x h.0 (λ e. eqb-false id x parts.0 (sym e)), h.1, once-after s id rest h.2 parts.1)
 
 -- A step of the loop over the list.
-pub head-live : (s : State) (ids : List ℕ) (k id : ℕ) → k < length ids → id ≡ get_or ids k id → AreLiveOnce s (drop k ids) → AreLiveOnce s (id ∷ drop (k + 1) ids)
+pub head-live : (s : State) (ids : List ℕ) (k id : ℕ) → k < length ids → id ≡ get_or ids k id
+    → AreLiveOnce s (drop k ids) → AreLiveOnce s (id ∷ drop (k + 1) ids)
 head-live s ids k id l is h = grind (arith, drop_more)
 
-pub each-next : (s : State) (ids : List ℕ) (k id : ℕ) → k < length ids → id ≡ get_or ids k id → after_each s (drop k ids) ≡ after_each (after_freeing s (only id)) (drop (k + 1) ids)
+pub each-next : (s : State) (ids : List ℕ) (k id : ℕ) → k < length ids → id ≡ get_or ids k id
+    → after_each s (drop k ids) ≡ after_each (after_freeing s (only id)) (drop (k + 1) ids)
 each-next s ids k id l is = ap (after_each s) (drop_more ids k id l ∙ ap (λ v. v ∷ drop (k + 1) ids) (sym is))
 
 pub each-none : (s : State) (ids : List ℕ) (k : ℕ) → length ids ≤ k → after_each s (drop k ids) ≡ s
@@ -77,10 +81,13 @@ each-none s ids k l = ap (after_each s) (drop_all k ids l)
 
 -- Ids that name slots are live.
 
-pub named-live_once : (v : Stored) (a : IsAtlas v) (turns : ℕ) (ids : List ℕ) → AreNamedOnce (nodes v.shelf.slots) ids → AreLiveOnce (state_of (record { stored = v; turns = turns; capacity = 0 })) ids
+pub named-live_once : (v : Stored) (a : IsAtlas v) (turns : ℕ) (ids : List ℕ) → AreNamedOnce (nodes v.shelf.slots) ids
+    → AreLiveOnce (state_of (record { stored = v; turns = turns; capacity = 0 })) ids
 named-live_once v a turns [] h = tt
 named-live_once v a turns (id ∷ rest) h = (named-live v a id h.0, h.1, named-live_once v a turns rest h.2)
 
-pub live-named_once : (v : Stored) (a : IsAtlas v) (turns : ℕ) (ids : List ℕ) → AreLiveOnce (state_of (record { stored = v; turns = turns; capacity = 0 })) ids → AreNamedOnce (nodes v.shelf.slots) ids
+pub live-named_once : (v : Stored) (a : IsAtlas v) (turns : ℕ) (ids : List ℕ)
+    → AreLiveOnce (state_of (record { stored = v; turns = turns; capacity = 0 })) ids
+    → AreNamedOnce (nodes v.shelf.slots) ids
 live-named_once v a turns [] h = tt
 live-named_once v a turns (id ∷ rest) h = (live-named v a id h.0, h.1, live-named_once v a turns rest h.2)

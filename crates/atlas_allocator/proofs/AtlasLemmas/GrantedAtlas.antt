@@ -7,10 +7,10 @@ use Rattle.atlas_model.specs.Boxes.{Sides, Box, box_at, box_sides, Fits, IsPosit
 use Rattle.atlas_model.specs.Changes.{place}
 use Rattle.atlas_model.specs.Choice.{rounded, IsFitting, HasRoom, HasNoRoom}
 use Rattle.atlas_model.specs.Pixels.{box_of, rectangle_of, sides_of, size_of, options_of}
-use Rattle.atlas_store.specs.Rectangles.{IsUnsigned}
+use Rattle.atlas_search.specs.Rectangles.{IsUnsigned}
 use Rattle.atlas_model.specs.Replies.{allocate_reply, grant_of, live_box}
-use Rattle.atlas_store.specs.Search.Picks.{AreFreeBoxes}
-use Rattle.atlas_store.specs.Search.Requests.{CanBeRounded}
+use Rattle.atlas_store.specs.Slots.Picks.{AreFreeBoxes}
+use Rattle.atlas_search.specs.Requests.{CanBeRounded}
 use Rattle.atlas_store.specs.Slots.{nodes, node_at}
 use Rattle.atlas_store.specs.Visits.{is_alloc, named_area}
 use Rattle.atlas_store.specs.Slots.Numbered.{numbers}
@@ -19,8 +19,8 @@ use Rattle.atlas_model.specs.States.{State, free_in, after_placing}
 use Rattle.atlas_model.specs.Steps.{Step, Takes, Grants, nodes_with}
 use Rattle.atlas_model.specs.Steps.AtlasCall.{Allocate}
 use Rattle.atlas_model.specs.Steps.AtlasReply.{Refused}
-use Rattle.atlas_tree.specs.Plans.Chosen.{CanGrant, IsAtRest, IsChosen, IsGrantable, IsGrantMade, IsRequestGranted}
-use Rattle.atlas_tree.specs.Plans.Chosen.{IsShortOf}
+use Rattle.atlas_tree.specs.Plans.Chosen.{CanGrant, IsGrantable, IsGrantMade, IsRequestGranted}
+use Rattle.atlas_store.specs.Store.Choosing.{IsAtRest, IsChosen, IsShortOf}
 use Rattle.atlas_store.specs.Slots.Placing.{across_of, slots_of, IsFeasible}
 use Rattle.atlas_store.specs.Store.Holdings.{shelf_of, node_in, HasSlotsFor}
 use Rattle.atlas_tree.specs.Plans.Planning.{IsPlanFor}
@@ -34,32 +34,35 @@ use Rattle.atlas_model.specs.declared.error.AtlasError.{AtlasError}
 use Rattle.atlas_model.specs.declared.error.AtlasError.TheVariants.{Memory, Slots, NotLive}
 use Rattle.atlas_model.specs.declared.geometry.Size.{Size}
 use Rattle.atlas_store.specs.declared.store.Store.{Store}
-use Rattle.atlas_tree.specs.declared.requests.Chosen.{Chosen}
+use Rattle.atlas_search.specs.declared.best.Found.{Found}
 use Rattle.std.specs.Prelude.{Option, Result}
 use Rattle.atlas_model.specs.Trees as tree
-use Rattle.atlas_store.proofs.SearchLemmas.Picking.{no_room_unrounded}
+use Rattle.atlas_search.proofs.SearchLemmas.Picking.{no_room_unrounded}
 use Rattle.atlas_model.proofs.ChoiceLemmas.Rounding.{rounded_positive}
 use Rattle.atlas_model.proofs.TreeLemmas.BoxLists.{free_in_place}
 use Rattle.atlas_store.proofs.SlotLemmas.JoiningWrites.{used-inside}
 use Rattle.atlas_store.proofs.SlotLemmas.SlotIds.{slot_count-none, id_of-slot}
 use Rattle.atlas_model.proofs.TreeLemmas.TreeCounts.{place_nodes}
 use Rattle.atlas_model.proofs.StepLemmas.StepKeeping.{placing_sound}
+use Rattle.atlas_store.proofs.StoreLemmas.Choosing.{rest-free}
 use Rattle.atlas_store.proofs.StoreLemmas.UnusedCounts.{unused_list-count}
 use Rattle.atlas_tree.proofs.PlanLemmas.PlannedTrees.{IsPlacing, planned-tree, planned-used, need-read}
 use Rattle.atlas_tree.proofs.PlanLemmas.PlannedSlots.{planned-first, planned-unused}
 use Rattle.atlas_allocator.proofs.AtlasLemmas.CuttingFromLists.{sides_of-size, unsigned_of}
-use Rattle.atlas_tree.proofs.PlanLemmas.ChosenSlots.{rest-free, chosen-inside, chosen-exact, chosen-fits}
+use Rattle.atlas_tree.proofs.PlanLemmas.ChosenSlots.{chosen-inside, chosen-exact, chosen-fits}
 use Rattle.atlas_model.proofs.StepLemmas.CallerSteps.{grant_adds}
 use Rattle.atlas_store.proofs.WalkLemmas.NamedSlots.{named-true, named-IsAtlas}
 use Rattle.atlas_store.proofs.WalkLemmas.Observing.{nodes-short, members-IsAtlas, tree_of-IsAtlas, used-IsAtlas}
 
 -- The state after a placing, of its parts.
-state-placed : (new old : State) (f : Box) (r : Sides) (id : ℕ) → new.tree ≡ place old.size f r id old.tree → new.size ≡ old.size → new.options ≡ old.options → new.limit ≡ old.limit
-    → new.kept ≡ max old.kept (tree.node_count (place old.size f r id old.tree).members) → new ≡ after_placing old f r id
+state-placed : (new old : State) (f : Box) (r : Sides) (id : ℕ) → new.tree ≡ place old.size f r id old.tree
+    → new.size ≡ old.size → new.options ≡ old.options → new.limit ≡ old.limit
+    → new.kept ≡ max old.kept (tree.node_count (place old.size f r id old.tree).members)
+    → new ≡ after_placing old f r id
 state-placed new old f r id et es eo el ek = rw (← ek, ← et, ← es, ← eo, ← el) refl
 
 -- The box of the slot that a request takes.
-abbrev pub chosen_box : Stored → Chosen → Box
+abbrev pub chosen_box : Stored → Found → Box
 chosen_box v p = box_of (node_in v.shelf p.at.number).area
 
 module _ (v : Stored) (a : IsAtlas v) (request : Sides) where
@@ -77,15 +80,18 @@ module _ (v : Stored) (a : IsAtlas v) (request : Sides) where
 
   -- Nothing is granted.
 
-  pub no_room-unrounded : (CanBeRounded (options_of v.shelf.options) request → ⊥) → (sides_of v.size).width ≤ 2147483647 → (sides_of v.size).height ≤ 2147483647 → HasNoRoom (free_in now) (options_of v.shelf.options) request
+  pub no_room-unrounded : (CanBeRounded (options_of v.shelf.options) request → ⊥) → (sides_of v.size).width ≤ 2147483647
+      → (sides_of v.size).height ≤ 2147483647 → HasNoRoom (free_in now) (options_of v.shelf.options) request
   no_room-unrounded misfit wide high =
       no_room_unrounded (free_in now) (options_of v.shelf.options) request (sides_of v.size) misfit (free_in_place (sides_of v.size) (tree_of (nodes v.shelf.slots)) a.sound.well_formed) wide high
 
-  pub no_room-none : (size : Sides) → size ≡ wanted → ((free : List Box) → AreFreeBoxes (nodes v.shelf.slots) free → (b : Box) → IsFitting free size b → ⊥) → HasNoRoom (free_in now) (options_of v.shelf.options) request
+  pub no_room-none : (size : Sides) → size ≡ wanted
+      → ((free : List Box) → AreFreeBoxes (nodes v.shelf.slots) free → (b : Box) → IsFitting free size b → ⊥)
+      → HasNoRoom (free_in now) (options_of v.shelf.options) request
   no_room-none size e none room = none (free_in now) free_here room.box (subst (λ r. IsFitting (free_in now) r room.box) (sym e) room.fitting)
 
   -- The slot that is taken.
-  module _ (p : Chosen) (chosen : IsChosen v.shelf (rounded (options_of v.shelf.options) request) p) (positive : IsPositive request) (plan : Plan)
+  module _ (p : Found) (chosen : IsChosen v.shelf (rounded (options_of v.shelf.options) request) p) (positive : IsPositive request) (plan : Plan)
       (line : IsPlanFor (node_in v.shelf p.at.number) (rounded (options_of v.shelf.options) request) plan) where
     pub takes : Takes now request (chosen_box v p)
     takes = record { positive = positive; pick = chosen.pick (free_in now) free_here }
@@ -97,7 +103,8 @@ module _ (v : Stored) (a : IsAtlas v) (request : Sides) where
     need = grind (arith, need-read, placing, used-IsAtlas)
 
     -- Slots were refused.
-    pub step-refused : (error : AtlasError) → IsShortOf v.used v.limit (slots_of plan) (length v.shelf.slots) error → Step now (Allocate request) (Refused error) now
+    pub step-refused : (error : AtlasError) → IsShortOf v.used v.limit (slots_of plan) (length v.shelf.slots) error
+        → Step now (Allocate request) (Refused error) now
     step-refused Slots short = (chosen_box v p, takes, omega (arith, need), refl)
     step-refused Memory short = (chosen_box v p, takes, omega (arith, need, short.0), omega (arith, need, short.1), refl)
     step-refused NotLive short = absurd short
@@ -108,7 +115,8 @@ module _ (v : Stored) (a : IsAtlas v) (request : Sides) where
         → HasSlotsFor (slots_of plan) made a.holding
     slots-made made same few room = grind (arith, unused_list-count, at-rest)
 
-    pub grantable : {A : Type 0} (made : Store A) → IsFeasible plan (extent_of (node_in v.shelf p.at.number)) (across_of (node_in v.shelf p.at.number))
+    pub grantable : {A : Type 0} (made : Store A)
+        → IsFeasible plan (extent_of (node_in v.shelf p.at.number)) (across_of (node_in v.shelf p.at.number))
         → shelf_of made ≡ v.shelf → v.used + slots_of plan ≤ v.limit
         → (v.used + slots_of plan ≤ length v.shelf.slots) ⊎ (v.used + slots_of plan ≤ vec_capacity made.slots)
         → IsGrantable made wanted p plan a.holding
@@ -155,7 +163,8 @@ module _ (v : Stored) (a : IsAtlas v) (request : Sides) where
           ∙ slot_count-none (nodes v.shelf.slots) a.holding.sequence a.holding.tree made.id a.holds.stands (nodes-short v.shelf.slots a.holds.short)
           (λ q. planned-unused v.shelf u p.at.number to plan a.holding h a.holds chosen.free w.planned (ap (λ k. (node_in v.shelf k).kind) (sym is) ∙ q))
 
-      pub grants : (used turns : ℕ) → Grants now request (chosen_box v p) (record { id = made.id; box = box }) (after used turns)
+      pub grants : (used turns : ℕ)
+          → Grants now request (chosen_box v p) (record { id = made.id; box = box }) (after used turns)
       grants used turns = record {
         takes = takes;
         room = omega (arith, need, few);
@@ -196,13 +205,14 @@ module _ (v : Stored) (a : IsAtlas v) (request : Sides) where
 -- What a grant leaves: the request is granted under this id and in this rectangle.
 pub record IsDone (v : Stored) (request : Sides) (u : Shelf) (needed : ℕ) (made : Allocation) : Type 0 where
   pub atlas : IsAtlas (record { shelf = u; first = v.first; used = v.used + needed; size = v.size; limit = v.limit })
-  pub granted : (turns before : ℕ) → (f : Box) × Grants (state_of (record { stored = v; turns = before; capacity = 0 })) request f (grant_of made)
+  pub granted : (turns before : ℕ)
+      → (f : Box) × Grants (state_of (record { stored = v; turns = before; capacity = 0 })) request f (grant_of made)
       (state_of (record { stored = record { shelf = u; first = v.first; used = v.used + needed; size = v.size; limit = v.limit }; turns = turns; capacity = 0 }))
   pub exact : IsUnsigned made.rectangle
 
 -- A request that was rounded, and the slot that it takes.
 module _ (v : Stored) (a : IsAtlas v) (request : Sides) (size : Size) (sized : CanBeRounded (options_of v.shelf.options) request × (size ≡ size_of (rounded (options_of v.shelf.options) request)))
-    (p : Chosen) (chosen : IsChosen v.shelf (sides_of size) p) where
+    (p : Found) (chosen : IsChosen v.shelf (sides_of size) p) where
   same_sides : sides_of size ≡ rounded (options_of v.shelf.options) request
   same_sides = sides_of-size size (rounded (options_of v.shelf.options) request) sized.1
 
@@ -228,7 +238,8 @@ module _ (v : Stored) (a : IsAtlas v) (request : Sides) (size : Size) (sized : C
     feasible_here : IsFeasible plan (extent_of (node_in v.shelf p.at.number)) (across_of (node_in v.shelf p.at.number))
     feasible_here = subst (λ n. IsFeasible plan (extent_of n) (across_of n)) read feasible
 
-    pub refused-step : (result : Result (Option Allocation) AtlasError) (error : AtlasError) → result ≡ Err error → IsShortOf v.used v.limit needed (length v.shelf.slots) error → (turns before : ℕ)
+    pub refused-step : (result : Result (Option Allocation) AtlasError) (error : AtlasError) → result ≡ Err error
+        → IsShortOf v.used v.limit needed (length v.shelf.slots) error → (turns before : ℕ)
         → Step (state_of (record { stored = v; turns = before; capacity = 0 })) (Allocate request) (allocate_reply result)
         (state_of (record { stored = record { shelf = shelf_of made; first = v.first; used = v.used; size = v.size; limit = v.limit }; turns = turns; capacity = 0 }))
     refused-step result error is short turns before = grind (arith, step-refused, chosen_here, line_here)
@@ -245,7 +256,8 @@ module _ (v : Stored) (a : IsAtlas v) (request : Sides) (size : Size) (sized : C
       pub some-grantable : CanGrant made p plan
       some-grantable = (rounded (options_of v.shelf.options) request, a.holding, grantable_here)
 
-      pub grant-done : (new : Store A) (allocation : Allocation) → IsRequestGranted made new p plan allocation → IsDone v request (shelf_of new) needed allocation
+      pub grant-done : (new : Store A) (allocation : Allocation) → IsRequestGranted made new p plan allocation
+          → IsDone v request (shelf_of new) needed allocation
       grant-done new allocation told =
           let u : Shelf = shelf_of new in
           let got = told.granted (rounded (options_of v.shelf.options) request) a.holding grantable_here in
@@ -269,7 +281,7 @@ module _ (v : Stored) (a : IsAtlas v) (request : Sides) (size : Size) (sized : C
 -- A request has room if a slot was found for it.
 pub found-room : (v : Stored) (a : IsAtlas v) (request : Sides) (size : Size)
     → CanBeRounded (options_of v.shelf.options) request × (size ≡ size_of (rounded (options_of v.shelf.options) request))
-    → (found : Option Chosen)
+    → (found : Option Found)
     → (found ≡ None → (free : List Box) → AreFreeBoxes (nodes v.shelf.slots) free → (b : Box) → IsFitting free (sides_of size) b → ⊥)
     → IfSome found (IsChosen v.shelf (sides_of size))
     → IsTrue (is_some found) ↔ HasRoom (free_in (now v a request)) (options_of v.shelf.options) request

@@ -14,7 +14,7 @@ use Rattle.atlas_model.specs.States.{State, IsSound, after_growth, live_in}
 use Rattle.atlas_model.specs.Steps.{Step, nodes_grown}
 use Rattle.atlas_model.specs.Steps.AtlasCall.{Grow}
 use Rattle.atlas_model.specs.Steps.AtlasReply.{Done, Refused}
-use Rattle.atlas_tree.specs.Plans.Chosen.{IsShortOf}
+use Rattle.atlas_store.specs.Store.Choosing.{IsShortOf}
 use Rattle.atlas_tree.specs.Plans.Growths.{CanGrow, IsTreeOf, IsGrowthOf, IsGrowable, IsGrownHolding, IsNeedOf}
 use Rattle.atlas_tree.specs.Plans.Growths.{IsTreeGrown}
 use Rattle.atlas_store.specs.Store.Holdings.{shelf_of}
@@ -23,7 +23,7 @@ use Rattle.atlas_model.specs.Trees.{Tree, IsOneFree, is_one_free, live}
 use Rattle.atlas_model.specs.declared.error.AtlasError.{AtlasError}
 use Rattle.atlas_model.specs.declared.error.AtlasError.TheVariants.{Memory, Slots, NotLive}
 use Rattle.atlas_model.specs.declared.geometry.Size.{Size}
-use Rattle.atlas_store.specs.declared.slots.Link.{Link}
+use Rattle.atlas_search.specs.declared.link.Link.{Link}
 use Rattle.atlas_store.specs.declared.store.Store.{Store}
 use Rattle.atlas_tree.specs.declared.growth.Growth.{Growth}
 use Rattle.std.specs.Prelude.{Result}
@@ -45,14 +45,16 @@ one_free-idle : (size : Sides) (t : Tree) → is_one_free t.members ≡ true →
 one_free-idle size t h = grind arith
 
 -- The state after a growth, of its parts.
-state-grown : (new old : State) (n : Sides) → new.tree ≡ grown old.size n old.tree → new.size ≡ n → new.options ≡ old.options → new.limit ≡ old.limit
+state-grown : (new old : State) (n : Sides) → new.tree ≡ grown old.size n old.tree → new.size ≡ n
+    → new.options ≡ old.options → new.limit ≡ old.limit
     → new.kept ≡ max old.kept (tree.node_count (grown old.size n old.tree).members) → new ≡ after_growth old n
 state-grown new old n et es eo el ek = rw (← ek, ← et, ← es, ← eo, ← el) refl
 
 -- What a growth leaves: so many slots are used, and the tree begins at this slot.
 pub record HasGrown (v : Stored) (size : Size) (u : Shelf) (link : Link) (used : ℕ) : Type 0 where
   pub atlas : IsAtlas (record { shelf = u; first = link; used = used; size = size; limit = v.limit })
-  pub step : (turns before : ℕ) → Step (state_of (record { stored = v; turns = before; capacity = 0 })) (Grow (sides_of size)) Done
+  pub step : (turns before : ℕ)
+      → Step (state_of (record { stored = v; turns = before; capacity = 0 })) (Grow (sides_of size)) Done
       (state_of (record { stored = record { shelf = u; first = link; used = used; size = size; limit = v.limit }; turns = turns; capacity = 0 }))
 
 module _ (v : Stored) (a : IsAtlas v) where
@@ -162,14 +164,16 @@ module _ (v : Stored) (a : IsAtlas v) where
               omega (arith, grow_nodes (sides_of v.size) (sides_of size) (tree_of (nodes v.shelf.slots)), all, need-here, a.used)
 
           -- Slots were refused.
-          step-refused : (error : AtlasError) → IsShortOf v.used v.limit n (length v.shelf.slots) error → Step now (Grow (sides_of size)) (Refused error) now
+          step-refused : (error : AtlasError) → IsShortOf v.used v.limit n (length v.shelf.slots) error
+              → Step now (Grow (sides_of size)) (Refused error) now
           step-refused Slots short = (larger, omega (arith, grown-nodes), refl)
           step-refused Memory short = (larger, omega (arith, grown-nodes, short.0), omega (arith, grown-nodes, short.1), refl)
           step-refused NotLive short = absurd short
 
           -- In the words of the calls: `made` are the slots once there is room.
           module _ {A : Type 0} (made : Store A) (same : shelf_of made ≡ v.shelf) where
-            pub refused-step : (result : Result (Unit {0}) AtlasError) (error : AtlasError) → result ≡ Err error → IsShortOf v.used v.limit n (length v.shelf.slots) error → (turns before : ℕ)
+            pub refused-step : (result : Result (Unit {0}) AtlasError) (error : AtlasError) → result ≡ Err error
+                → IsShortOf v.used v.limit n (length v.shelf.slots) error → (turns before : ℕ)
                 → Step (state_of (record { stored = v; turns = before; capacity = 0 })) (Grow (sides_of size)) (done_reply result)
                 (state_of (record { stored = record { shelf = shelf_of made; first = v.first; used = v.used; size = v.size; limit = v.limit }; turns = turns; capacity = 0 }))
             refused-step result error is short turns before = grind (arith, step-refused)

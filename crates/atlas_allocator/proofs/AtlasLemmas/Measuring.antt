@@ -23,7 +23,8 @@ use Rattle.atlas_model.proofs.ListLemmas.CallerLemmas.{find-counted}
 
 -- What holds of a list holds of one with the same counts.
 module _ {X : Type 0} (same : X → X → Bool) (itself : (x : X) → same x x ≡ true) (told : (x y : X) → same x y ≡ true → x ≡ y) where
-  pub All-same_counts : (P : X → Type 0) (xs ys : List X) → ((p : X → Bool) → count_by p xs ≡ count_by p ys) → All P ys → All P xs
+  pub All-same_counts : (P : X → Type 0) (xs ys : List X) → ((p : X → Bool) → count_by p xs ≡ count_by p ys) → All P ys
+      → All P xs
   All-same_counts P xs ys counts all = All-weaker (Contains xs) P one xs (All-contains_itself xs)
     where
       one : (x : X) → Contains xs x → P x
@@ -48,14 +49,16 @@ module _ (v : Stored) (a : IsAtlas v) where
   sides_fit = by_axis a.holding.sequence.axis along_fits across_fits
 
 -- An exact rectangle within sides that an `i32` holds can be measured.
-exact-measurable : (s : Sides) (r : Rectangle) → s.width ≤ 2147483647 → s.height ≤ 2147483647 → IsExact r → IsNonempty (box_of r) → IsWithin s (box_of r) → IsMeasurable r
+exact-measurable : (s : Sides) (r : Rectangle) → s.width ≤ 2147483647 → s.height ≤ 2147483647 → IsExact r
+    → IsNonempty (box_of r) → IsWithin s (box_of r) → IsMeasurable r
 exact-measurable s r wide high exact some within = grind arith
 
 module _ (s : State) (sound : IsSound s) (wide : s.size.width ≤ 2147483647) (high : s.size.height ≤ 2147483647) where
   abbrev InPlace : Box → Type 0
   InPlace b = IsNonempty b × IsWithin s.size b
 
-  grants_measured : (grants : List Allocation) → All (λ (g : Grant). InPlace g.box) (map grant_of grants) → All (λ (a : Allocation). IsExact a.rectangle) grants
+  grants_measured : (grants : List Allocation) → All (λ (g : Grant). InPlace g.box) (map grant_of grants)
+      → All (λ (a : Allocation). IsExact a.rectangle) grants
       → All (λ (a : Allocation). IsMeasurable a.rectangle) grants
   grants_measured [] places exact = All-nil (λ (a : Allocation). IsMeasurable a.rectangle)
   grants_measured (a ∷ grants) places exact =
@@ -65,14 +68,16 @@ module _ (s : State) (sound : IsSound s) (wide : s.size.width ≤ 2147483647) (h
       (grants_measured grants (All-tail (λ (g : Grant). InPlace g.box) (grant_of a) (map grant_of grants) places)
       (All-tail (λ (k : Allocation). IsExact k.rectangle) a grants exact))
 
-  areas_measured : (areas : List Rectangle) → All InPlace (map box_of areas) → All IsExact areas → All IsMeasurable areas
+  areas_measured : (areas : List Rectangle) → All InPlace (map box_of areas) → All IsExact areas
+      → All IsMeasurable areas
   areas_measured [] places exact = All-nil IsMeasurable
   areas_measured (r ∷ areas) places exact =
       let place : InPlace (box_of r) = All-head InPlace (box_of r) (map box_of areas) places in
       All-cons IsMeasurable r areas (exact-measurable s.size r wide high (All-head IsExact r areas exact) place.0 place.1)
       (areas_measured areas (All-tail InPlace (box_of r) (map box_of areas) places) (All-tail IsExact r areas exact))
 
-  pub measurable_grants : {Z E : Type 0} (items : Z → List Allocation) (r : Result Z E) → IfOk r (λ found. AreGrants s (items found))
+  pub measurable_grants : {Z E : Type 0} (items : Z → List Allocation) (r : Result Z E)
+      → IfOk r (λ found. AreGrants s (items found))
       → IfOk r (λ found. All (λ (a : Allocation). IsMeasurable a.rectangle) (items found))
   measurable_grants items (Ok found) are =
       grants_measured (items found)
@@ -80,7 +85,8 @@ module _ (s : State) (sound : IsSound s) (wide : s.size.width ≤ 2147483647) (h
       (live_in_place s.size s.tree sound.well_formed)) are.exact
   measurable_grants items (Err error) are = tt
 
-  pub measurable_areas : {Z E : Type 0} (items : Z → List Rectangle) (r : Result Z E) → IfOk r (λ found. AreFreeAreas s (items found))
+  pub measurable_areas : {Z E : Type 0} (items : Z → List Rectangle) (r : Result Z E)
+      → IfOk r (λ found. AreFreeAreas s (items found))
       → IfOk r (λ found. All IsMeasurable (items found))
   measurable_areas items (Ok found) are =
       areas_measured (items found)

@@ -26,18 +26,22 @@ order-sorted s found sorted grants moved ranked = grind (arith, refit_order_of, 
 
 module _ (old : State) (n : Sides) (start : State) (order : List Grant) (positive : IsPositive n)
     (is_start : start ≡ started n old.options old.limit) (ordered : IsRefitOrder (live_in old) order) where
-  rearranged : (list : Rearrangement) (new : State) → IsRefitOf start order list new → Rearranges old n (Changed list) new
+  rearranged : (list : Rearrangement) (new : State) → IsRefitOf start order list new
+      → Rearranges old n (Changed list) new
   rearranged list new made = search rules
 
-  rearranged-step : (list : Rearrangement) (new : State) → IsSound old → IsRefitOf start order list new → IsRearrangingStep old list new
+  rearranged-step : (list : Rearrangement) (new : State) → IsSound old → IsRefitOf start order list new
+      → IsRearrangingStep old list new
   rearranged-step list new sound made = rearranging_step old new n list sound (rearranged list new made)
 
 -- Each rectangle stays exact in another order.
-pub exact-sorted : (s : State) (found sorted : List Allocation) → AreGrants s found → IsPermutation found sorted → All HasExactRectangle sorted
+pub exact-sorted : (s : State) (found sorted : List Allocation) → AreGrants s found → IsPermutation found sorted
+    → All HasExactRectangle sorted
 exact-sorted s found sorted grants moved = All-permutation HasExactRectangle found sorted moved grants.exact
 
 -- What holds of each transfer of a list, of each of its changes.
-changes_of : (P : Transfer → Type 0) (changes : List Change) → All P (map transfer_of changes) → All (λ c. P (transfer_of c)) changes
+changes_of : (P : Transfer → Type 0) (changes : List Change) → All P (map transfer_of changes)
+    → All (λ c. P (transfer_of c)) changes
 changes_of P [] all = All-nil (λ c. P (transfer_of c))
 changes_of P (c ∷ rest) all =
     All-cons (λ k. P (transfer_of k)) c rest (All-head P (transfer_of c) (map transfer_of rest) all)
@@ -61,7 +65,8 @@ module _ (old start placed new : AtlasValue) (n : Sides) (positive : IsPositive 
       (rearranged-step (state_of old) n (state_of start) order positive is_start ordered list (state_of placed) sound made)
 
   -- Boxes keep their sides.
-  pub atlas-sides : IsSound (state_of old) → (changes : List Change) → list.changes ≡ map transfer_of changes → All KeepsSides changes
+  pub atlas-sides : IsSound (state_of old) → (changes : List Change) → list.changes ≡ map transfer_of changes
+      → All KeepsSides changes
   atlas-sides sound changes is =
       let P : Transfer → Type 0 = λ t. box_sides t.new.box ≡ box_sides t.old.box in
       changes_of P changes (subst (All P) is (atlas-moved sound).sides)

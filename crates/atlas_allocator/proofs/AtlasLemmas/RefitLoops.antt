@@ -97,7 +97,8 @@ module _ (old : State) (order : List Allocation) (now : State) (at failed : ℕ)
           }
 
       -- The next one has no room.
-      pub refitting-failure : (reply : Option Allocation) → reply ≡ None → Step now (Allocate sides) (allocate_reply (Ok reply)) new
+      pub refitting-failure : (reply : Option Allocation) → reply ≡ None
+          → Step now (Allocate sides) (allocate_reply (Ok reply)) new
           → IsExact x.rectangle → IsRefitting old order new (at + 1) (failed + 1) changes (set boxes failed x)
       refitting-failure reply is step exact_x =
           let s = subst (λ r. Step now (Allocate sides) (allocate_reply (Ok r)) new) is step in
@@ -119,6 +120,7 @@ module _ (old : State) (order : List Allocation) (now : State) (at failed : ℕ)
           }
 
       -- The next one is refused.
-      pub refitting-refusal : {T : Type 0} (error : AtlasError) → Step now (Allocate sides) (allocate_reply (Err error)) new
+      pub refitting-refusal : {T : Type 0} (error : AtlasError)
+          → Step now (Allocate sides) (allocate_reply (Err error)) new
           → (result : Result T AtlasError) → result ≡ Err error → IfErr result (IsRefitRefusal old (map grant_of order))
       refitting-refusal error step result is = grind (arith, part-refusal, part_here)

@@ -94,7 +94,8 @@ module _ (old now new : State) (order : List Grant) (done : Rearrangement) (g : 
         kept = part.kept;
       })
 
-  pub part-refusal : (error : AtlasError) → Step now (Allocate (box_sides g.box)) (Refused error) new → IsRefitRefusal old order error
+  pub part-refusal : (error : AtlasError) → Step now (Allocate (box_sides g.box)) (Refused error) new
+      → IsRefitRefusal old order error
   part-refusal Slots step = part.passes (inl (step.0, step.1.pick, step.2))
   part-refusal Memory step = tt
   part-refusal NotLive step = step

@@ -128,7 +128,8 @@ ranked_from_sort xs ys moved sorted rising =
     (permuted_apart (map grant_of xs) (map grant_of ys) (IsPermutation-map grant_of xs ys moved) (rising_apart (map grant_of xs) rising))
 
 -- What a list of live grants becomes that is put into this order.
-pub refit_order_of : (s : State) (gs hs : List Grant) → IsLiveList s gs → IsPermutation gs hs → IsRanked hs → IsRefitOrder (live_in s) hs
+pub refit_order_of : (s : State) (gs hs : List Grant) → IsLiveList s gs → IsPermutation gs hs → IsRanked hs
+    → IsRefitOrder (live_in s) hs
 refit_order_of s gs hs listed moved order = record {
   permuted = IsPermutation-trans (live_in s) gs hs
       (IsPermutation-sym gs (live_in s) (permuted_from_counts same_grant same_grant-itself same_grant-true gs (live_in s) listed.live)) moved;

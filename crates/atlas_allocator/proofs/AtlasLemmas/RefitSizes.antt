@@ -2,7 +2,7 @@
 use Rattle.std.proofs.Common.{◌≡◌, arith}
 use Rattle.atlas_model.specs.Boxes.{box_sides}
 use Rattle.atlas_model.specs.Pixels.{box_of, sides_of}
-use Rattle.atlas_store.specs.Rectangles.{measured}
+use Rattle.atlas_search.specs.Rectangles.{measured}
 use Rattle.atlas_model.specs.Replies.{IsExact}
 use Rattle.atlas_model.specs.declared.geometry.Rectangle.{Rectangle}
 use Rattle.atlas_model.specs.declared.geometry.Size.{Size}

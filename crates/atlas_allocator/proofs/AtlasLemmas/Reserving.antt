@@ -20,7 +20,7 @@ use Rattle.atlas_model.proofs.ChoiceLemmas.Rounding.{rounded_positive}
 use Rattle.atlas_model.proofs.StepLemmas.StepKeeping.{nodes_positive}
 use Rattle.atlas_model.proofs.TreeLemmas.TreeCounts.{place_nodes, place_most, grow_nodes, grow_most, release_nodes}
 use Rattle.atlas_store.proofs.WalkLemmas.Observing.{used-IsAtlas}
-use Rattle.atlas_tree.specs.Plans.Chosen.{IsShortOf}
+use Rattle.atlas_store.specs.Store.Choosing.{IsShortOf}
 use Rattle.atlas_store.specs.Slots.Placing.{slots_of}
 use Rattle.atlas_store.specs.declared.slots.placing.Plan.{Plan}
 use Rattle.atlas_store.specs.declared.slots.placing.Plan.TheVariants as plan

@@ -18,7 +18,8 @@ use Rattle.atlas_store.proofs.SlotLemmas.SlotAreas.{Stands-exact}
 use Rattle.atlas_store.proofs.WalkLemmas.Observing.{live-IsAtlas, free-IsAtlas, nodes-short}
 
 -- What is equal to what a list shows shows it too.
-pub listed : {X E L : Type 0} (items : X → L) (P : L → Type 0) (l : L) (r : Result X E) → IfOk r (λ x. items x ≡ l) → P l → IfOk r (λ x. P (items x))
+pub listed : {X E L : Type 0} (items : X → L) (P : L → Type 0) (l : L) (r : Result X E) → IfOk r (λ x. items x ≡ l)
+    → P l → IfOk r (λ x. P (items x))
 listed items P l (Ok x) e h = subst P (sym e) h
 listed items P l (Err x) e h = tt
 
@@ -45,7 +46,8 @@ exact-free : (ns : List Node) → AreExact ns → All IsExact (free_areas ns)
 exact-free [] exact = All-nil IsExact
 exact-free (n ∷ ns) exact = by_kind n.kind refl (exact-free ns (λ i used. exact (suc i) used))
   where
-    by_kind : (d : NodeKind) → n.kind ≡ d → All IsExact (free_areas ns) → All IsExact (cond (is_free d) (n.area ∷ free_areas ns) (free_areas ns))
+    by_kind : (d : NodeKind) → n.kind ≡ d → All IsExact (free_areas ns)
+        → All IsExact (cond (is_free d) (n.area ∷ free_areas ns) (free_areas ns))
     by_kind kind.Free e rest = All-cons IsExact n.area (free_areas ns) (exact 0 (subst (λ d. 0 < use_count d) (sym e) (omega arith))) rest
     by_kind kind.Container e rest = rest
     by_kind kind.Alloc e rest = rest
@@ -55,7 +57,8 @@ abbrev IsAbove : ℕ → Grant → Type 0
 IsAbove b g = b < g.id % 2 ^ 24
 
 -- Slots from k on are above those before.
-above-allocated : (b k : ℕ) (ns : List Node) → b < k → k + length ns ≤ 2 ^ 24 → All (IsAbove b) (map grant_of (allocated_from k ns))
+above-allocated : (b k : ℕ) (ns : List Node) → b < k → k + length ns ≤ 2 ^ 24
+    → All (IsAbove b) (map grant_of (allocated_from k ns))
 above-allocated b k [] l short = All-nil (IsAbove b)
 above-allocated b k (n ∷ ns) l short = grind (arith, above-allocated b (k + 1) ns (omega arith) (omega arith))
 
@@ -64,7 +67,8 @@ rising-allocated k [] short = tt
 rising-allocated k (n ∷ ns) short =
     by_test (is_alloc n.kind) (rising-allocated (k + 1) ns (omega arith)) (above-allocated k (k + 1) ns (omega arith) (omega arith))
   where
-    by_test : (t : Bool) → AreRising (map grant_of (allocated_from (k + 1) ns)) → All (IsAbove k) (map grant_of (allocated_from (k + 1) ns))
+    by_test : (t : Bool) → AreRising (map grant_of (allocated_from (k + 1) ns))
+        → All (IsAbove k) (map grant_of (allocated_from (k + 1) ns))
         → AreRising (map grant_of (cond t (allocation_at k n ∷ allocated_from (k + 1) ns) (allocated_from (k + 1) ns)))
     by_test true rest above = grind arith
     by_test false rest above = rest

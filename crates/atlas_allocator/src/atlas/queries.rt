@@ -8,8 +8,6 @@ ghost use Rattle.atlas_store.specs.Stored.{state_of};
 
 use crate::atlas::AtlasAllocator;
 use atlas_model::{AllocatorOptions, Size};
-use atlas_store::choice::rounded;
-use atlas_tree::requests::choose;
 use std::alloc::Allocator;
 
 impl<A: Allocator + Copy> AtlasAllocator<A> {
@@ -18,7 +16,7 @@ impl<A: Allocator + Copy> AtlasAllocator<A> {
         ensures options { result ≡ allocator_options_of (state_of self.now).options }
         ensures valid { AreValid (options_of result) }
     {
-        self.store.options.plain()
+        self.store.options()
     }
 
     /// Whether `grow` may be called with this size: neither side is less than the atlas's.
@@ -34,8 +32,8 @@ impl<A: Allocator + Copy> AtlasAllocator<A> {
         ensures { IsTrue result ↔ HasRoom (free_in (state_of self.now)) (state_of self.now).options
             (sides_of requested_size) }
     {
-        match rounded(requested_size, &self.store.options) {
-            Some(size) => choose(&self.store, size).is_some(),
+        match self.store.rounded(requested_size) {
+            Some(size) => self.store.choose(size).is_some(),
             None => false,
         }
     }

@@ -12,8 +12,7 @@ ghost use Rattle.atlas_store.specs.Stored.{state_of};
 
 use crate::atlas::AtlasAllocator;
 use atlas_model::{Allocation, AtlasError, Size};
-use atlas_store::choice::rounded;
-use atlas_tree::requests::{choose, grant, make_room, plan_for, slots_needed};
+use atlas_tree::requests::{grant, plan_for, slots_needed};
 use std::alloc::Allocator;
 
 impl<A: Allocator + Copy> AtlasAllocator<A> {
@@ -31,15 +30,15 @@ impl<A: Allocator + Copy> AtlasAllocator<A> {
         ensures sound { IsSound (state_of self.old) }
         ensures first { AreFirstGenerations self.old → AreFirstGenerations self.new }
     {
-        let Some(size) = rounded(requested_size, &self.store.options) else {
+        let Some(size) = self.store.rounded(requested_size) else {
             return Ok(None);
         };
-        let Some(chosen) = choose(&self.store, size) else {
+        let Some(chosen) = self.store.choose(size) else {
             return Ok(None);
         };
         let plan = plan_for(&self.store.node(chosen.at), size);
         let needed = slots_needed(plan);
-        make_room(&mut self.store, self.used, self.limit, needed)?;
+        self.store.make_room(self.used, self.limit, needed)?;
         self.used += needed;
         Ok(Some(grant(&mut self.store, chosen, plan)))
     }

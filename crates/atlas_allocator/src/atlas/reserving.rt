@@ -6,7 +6,6 @@ ghost use Rattle.atlas_store.specs.Stored.{state_of};
 
 use crate::atlas::AtlasAllocator;
 use atlas_model::AtlasError;
-use atlas_tree::requests::make_room;
 use std::alloc::Allocator;
 
 impl<A: Allocator + Copy> AtlasAllocator<A> {
@@ -27,6 +26,6 @@ impl<A: Allocator + Copy> AtlasAllocator<A> {
         ensures live { result ≢ Err AtlasError.NotLive }
         ensures refused { OnErr result (self.new ≡ self.old) }
     {
-        make_room(&mut self.store, self.used, self.limit, additional)
+        self.store.make_room(self.used, self.limit, additional)
     }
 }

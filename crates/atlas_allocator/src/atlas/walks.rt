@@ -26,7 +26,7 @@ impl<A: Allocator + Copy> AtlasAllocator<A> {
         ensures whole { result + sum_by area (free_in (state_of self.now))
             ≡ (state_of self.now).size.width * (state_of self.now).size.height }
     {
-        live_sum(&self.store.slots)
+        live_sum(self.store.slots())
     }
 
     /// The area of all free rectangles together, in unit squares. One pass over the slots, and no memory.
@@ -35,7 +35,7 @@ impl<A: Allocator + Copy> AtlasAllocator<A> {
         ensures whole { sum_by (λ g. area g.box) (live_in (state_of self.now)) + result
             ≡ (state_of self.now).size.width * (state_of self.now).size.height }
     {
-        free_sum(&self.store.slots)
+        free_sum(self.store.slots())
     }
 
     /// Calls `visit` on each free rectangle once, in an order that is left open. Requires that `visit` may be called along
@@ -46,7 +46,7 @@ impl<A: Allocator + Copy> AtlasAllocator<A> {
         ensures { (areas : List Area) × AreFreeAreas (state_of self.now) areas
             × ((last : F) × FoldsTo (λ p x q. CalledAt F.FnMut p x tt q) visit areas last) }
     {
-        visit_free(&self.store.slots, visit);
+        visit_free(self.store.slots(), visit);
     }
 
     /// Calls `visit` on each live id and its rectangle once, by rising number of the slot, which is the low 24 bits of
@@ -57,7 +57,7 @@ impl<A: Allocator + Copy> AtlasAllocator<A> {
         ensures { (grants : List Grant) × AreGrants (state_of self.now) grants
             × ((last : F) × FoldsTo (CalledAtGrant F.FnMut) visit grants last) }
     {
-        visit_allocated(&self.store.slots, visit);
+        visit_allocated(self.store.slots(), visit);
     }
 
     /// The live ids with their rectangles, by rising number of the slot. `Memory` is the only error.
@@ -66,7 +66,7 @@ impl<A: Allocator + Copy> AtlasAllocator<A> {
         ensures list { IfOk result (λ found. AreGrants (state_of self.now) found.items) }
         ensures measurable { IfOk result (λ found. All (λ a. IsMeasurable a.rectangle) found.items) }
     {
-        gather_allocated(*self.store.slots.allocator(), &self.store.slots)
+        gather_allocated(self.store.allocator(), self.store.slots())
     }
 
     /// The free rectangles, in an order that is left open. `Memory` is the only error.
@@ -75,6 +75,6 @@ impl<A: Allocator + Copy> AtlasAllocator<A> {
         ensures list { IfOk result (λ found. AreFreeAreas (state_of self.now) found.items) }
         ensures measurable { IfOk result (λ found. All IsMeasurable found.items) }
     {
-        gather_free(*self.store.slots.allocator(), &self.store.slots)
+        gather_free(self.store.allocator(), self.store.slots())
     }
 }

@@ -1,16 +1,18 @@
 -- One page of a list becomes another, or one comes last: what that makes of the sizes, and of what each page keeps.
-use Rattle.std.proofs.Common.{◌≡◌, ◌<◌, ◌++◌, ◌∷◌, [], ℕ, zero, suc, List, Some, length, get_or}
+use Rattle.std.proofs.Common.{◌≡◌, ◌+◌, ◌<◌, ◌++◌, ◌∷◌, [], ℕ, zero, suc, List, Option, None, Some, Ok, IfSome, length, get_or}
 use Rattle.std.specs.Prelude.{find}
 use Rattle.std.proofs.Common.{◌==◌, option_map, slice_get, slice_set, refl, sym, ap, ◌∙◌, subst, inl, inr, arith, length-append, IsSome}
 use Rattle.std.proofs.lemmas.Bool.Decides.{eqb_tells}
-use Rattle.std.proofs.lemmas.List.{length-set, map-set}
-use Rattle.std.proofs.lemmas.Option.{slice_get-get_or, slice_get-map, slice_get_cases}
+use Rattle.std.proofs.lemmas.List.{length-map, length-set, map-set}
+use Rattle.std.proofs.lemmas.Option.{slice_get-get_or, slice_get-map, slice_get_cases, slice_get_within}
 use Rattle.std.proofs.Math.Seq.{map-set_same}
+use Rattle.guillotiere.specs.declared.Allocation.{Allocation}
 use Rattle.guillotiere.specs.declared.Rectangle.{Rectangle}
 use Rattle.guillotiere.specs.declared.Size.{Size}
 use Rattle.guillotiere.specs.Boxes.{Fits, Sides}
-use Rattle.guillotiere.specs.Callers.{AddsBox, HasFrame, HasSameBoxes, KeepsFrame, LeavesNoBox}
-use Rattle.guillotiere.specs.Pages.{rectangle_on, AddsBoxOn, HasSameRectangles, LeavesNoBoxOn}
+use Rattle.guillotiere.specs.Callers.{AddsBox, HasFrame, HasSameBoxes, IsAnswer, KeepsFrame, LeavesNoBox}
+use Rattle.guillotiere.specs.Choice.{rounded, Options}
+use Rattle.guillotiere.specs.Pages.{rectangle_on, AddsBoxOn, HasRoomFor, HasRoomOn, HasSameRectangles, KeepsPages, LeavesNoBoxOn, NoneHasRoomBelow}
 use Rattle.guillotiere.specs.Pixels.{box_of, options_of, sides_of, size_of}
 use Rattle.guillotiere.specs.Replies.{IsExact}
 use Rattle.guillotiere.specs.States.{IsSound, live_in, started, State}
@@ -19,7 +21,7 @@ use Rattle.guillotiere.proofs.Callers.{page_adds, page_keeps, page_leaves, page_
 use Rattle.guillotiere.proofs.ListLemmas.CallerLemmas.{slice_get-set_here, slice_get-set_other}
 use Rattle.atlas_cache.specs.declared.options.CacheOptions.{CacheOptions}
 use Rattle.atlas_cache.specs.Asking.{AreUsable}
-use Rattle.atlas_cache.specs.Rooms.{ArePagesOf, IsPageOf, KeepsRooms, page_sizes, rooms_of, size_of_page}
+use Rattle.atlas_cache.specs.Rooms.{ArePagesOf, HasRoomOnlyAmong, IsPageOf, IsRounded, KeepsRooms, page_sizes, rooms_of, size_of_page}
 
 -- A page of a cache that stays sound, keeps its options and grows no further than it may is one still.
 pub page_grows : (o : CacheOptions) (a b : AtlasValue) (n : Sides) → IsSound (state_of b)
@@ -81,11 +83,16 @@ module _ (pages : List AtlasValue) (page : ℕ) (a b : AtlasValue) (is : a ≡ g
   has_a : slice_get pages page ≡ Some a
   has_a = slice_get-get_or pages page a within ∙ ap Some (sym is)
 
-  pub takes : (id : ℕ) (r : Rectangle) → IsExact r → AddsBox (state_of a) (state_of b) id (box_of r)
-      → AddsBoxOn pages (slice_set pages page b) page id r
-  takes id r exact adds =
-      page_adds pages page a b within id r exact
-      (subst (λ s. AddsBox (state_of s) (state_of b) id (box_of r)) is adds)
+  pub takes : (granted : Option Allocation) → IfSome granted (λ g. IsExact g.rectangle)
+      → IfSome granted (λ g. AddsBox (state_of a) (state_of b) g.id (box_of g.rectangle))
+      → IfSome granted (λ g. AddsBoxOn pages (slice_set pages page b) page g.id g.rectangle)
+  takes None exact adds = tt
+  takes (Some g) exact adds =
+      page_adds pages page a b within g.id g.rectangle exact
+      (subst (λ s. AddsBox (state_of s) (state_of b) g.id (box_of g.rectangle)) is adds)
+
+  pub others_kept : KeepsPages pages (slice_set pages page b) page
+  others_kept k other = slice_get-set_other pages page k b other
 
   pub gives_back : (id : ℕ) → LeavesNoBox (state_of a) (state_of b) id → LeavesNoBoxOn pages (slice_set pages page b) page id
   gives_back id leaves =
@@ -124,8 +131,19 @@ module _ (pages : List AtlasValue) (page : ℕ) (a b : AtlasValue) (is : a ≡ g
     each = pages_keep o keeps was.each;
   }
 
-  pub options_there : (o : CacheOptions) → KeepsRooms (rooms_of o pages) → (state_of a).options ≡ options_of o.atlas
-  options_there o kept = (kept.each page a has_a).options
+  -- What is granted on the page has the sides that were asked for, rounded as the cache's options say.
+  pub rounded_as : (o : CacheOptions) → KeepsRooms (rooms_of o pages) → (asked : Size) (granted : Option Allocation)
+      → IsAnswer (state_of a) asked (Ok granted) → IfSome granted (λ g. IsRounded o asked g.rectangle)
+  rounded_as o kept asked None answer = tt
+  rounded_as o kept asked (Some g) answer =
+      answer.sides ∙ ap (λ (k : Options). rounded k (sides_of asked)) (kept.each page a has_a).options
+
+  -- Where nothing is granted, the request has no room on the page.
+  pub no_room : (asked : Size) (granted : Option Allocation) → granted ≡ None
+      → IsAnswer (state_of a) asked (Ok granted) → HasRoomOn asked pages page → ⊥
+  no_room asked granted none answer room =
+      let no : HasRoomFor asked a → ⊥ = subst (λ (o : Option Allocation). IsAnswer (state_of a) asked (Ok o)) none answer in
+      no (room a has_a)
 
   pub rooms_stay : (o : CacheOptions) → IsSound (state_of b) → KeepsFrame (state_of a) (state_of b)
       → KeepsRooms (rooms_of o pages) → KeepsRooms (rooms_of o (slice_set pages page b))
@@ -160,4 +178,36 @@ pub on_page : (pages : List AtlasValue) (page id : ℕ) (r : Rectangle) → rect
 on_page pages page id r is_r = elim (slice_get_cases pages page).1 [
   | inl one ↦ (one.0, one.2, one.1)
   | inr past ↦ let none = rw past.1 at is_r in cc
+]
+
+-- A page comes last: the others stay.
+pub others_stay : (pages : List AtlasValue) (b : AtlasValue) → KeepsPages pages (pages ++ b ∷ []) (length pages)
+others_stay [] b zero other = absurd (other refl)
+others_stay [] b (suc k) other = refl
+others_stay (p ∷ pages) b zero other = refl
+others_stay (p ∷ pages) b (suc k) other = others_stay pages b k (λ same. other (omega (arith, same)))
+
+-- There are as many pages as sizes.
+pub as_many : (old new : List AtlasValue) → page_sizes new ≡ page_sizes old → length new ≡ length old
+as_many old new same =
+    sym (length-map new size_of_page) ∙ ap length same ∙ length-map old size_of_page
+
+-- Where a request had room on no page, and one page alone has changed since, no other has room.
+pub only_changed : (request : Size) (old new : List AtlasValue) (page : ℕ) → NoneHasRoomBelow request old (length old)
+    → KeepsPages old new page → HasRoomOnlyAmong request new page (page + 1)
+only_changed request old new page none stay k s is room = elim (eqb_tells k page) [
+  | inl here ↦ (omega (arith, here.1), omega (arith, here.1))
+  | inr other ↦
+      let was = sym (stay k other.1) ∙ is in
+      absurd (none k s (slice_get_within old k s was) was room)
+]
+
+-- Going through pages: where one has no room, none up to it has.
+pub none_yet : (request : Size) (pages : List AtlasValue) (n : ℕ) → (HasRoomOn request pages n → ⊥)
+    → NoneHasRoomBelow request pages n → NoneHasRoomBelow request pages (n + 1)
+none_yet request pages n full before k s below is room = elim (eqb_tells k n) [
+  | inl eq ↦
+      let here = rw eq.1 at is in
+      full (λ t there. let same : s ≡ t = cc in subst (HasRoomFor request) same room)
+  | inr ne ↦ before k s (omega (arith, below, ne.1)) is room
 ]

@@ -1,12 +1,13 @@
 //! Steps over the pages and the entries of a cache: what is live on the pages stays what the entries hold, each once.
-ghost use Rattle.std.specs.Prelude.{◌≡◌, ◌+◌, max, [], ◌∷◌, ◌++◌, length, false, true, IfErr, IfNone, IfOk, IfSome, IsNone, None, Ok};
-ghost use Rattle.std.specs.Prelude.{OnErr, Some};
+ghost use Rattle.std.specs.Prelude.{◌≡◌, ◌≢◌, ◌+◌, ◌-◌, ◌<◌, ◌≤◌, max, [], ◌∷◌, ◌++◌, length, false, true, IfErr, IfNone, IfOk, IfSome, IsNone, None, Ok};
+ghost use Rattle.std.specs.Prelude.{Err, OnErr, Some};
 ghost use Rattle.guillotiere.specs.Pages.{HasSameRectangles, LeavesNoBoxOn, NoneHasRoomBelow};
 ghost use Rattle.atlas_cache.specs.Caches.{entries_of, entry_for, shown, HoldsEntries, IsBordered, IsFound, IsOldestLying};
 ghost use Rattle.atlas_cache.specs.Changes.{GetsPlace};
 ghost use Rattle.atlas_cache.specs.Entries.{entry_at, is_blank, lying, number_of, without_number, IsNextNumber};
 ghost use Rattle.atlas_cache.specs.Refusals.{IsRefusedNew, IsWithoutNumber};
-ghost use Rattle.atlas_cache.specs.Rooms.{page_sizes, IsRounded};
+ghost use Rattle.atlas_cache.specs.Rooms.{page_sizes, HasRoomOnlyAmong, IsRounded};
+ghost use Rattle.atlas_cache.specs.declared.error.CacheError.TheVariants.{Memory};
 
 use crate::entries::{Entries, Entry, NO_PAGE};
 use crate::error::CacheError;
@@ -85,7 +86,8 @@ pub fn place_of<K: Copy>(entry: Entry<K>, options: &CacheOptions) -> Place
     )
 }
 
-/// A new entry on the first page that has room for it; None if none has. After an error no rectangle has moved.
+/// A new entry on the first page that has room for it, which is one of these, if any has; None if none has. After an error
+/// no rectangle has moved.
 pub fn grant<K: Copy + Eq + Hash, S: BuildHasher, A: Allocator + Copy>(
     rooms: &mut Rooms<A>,
     entries: &mut Entries<K, S, A>,
@@ -93,9 +95,13 @@ pub fn grant<K: Copy + Eq + Hash, S: BuildHasher, A: Allocator + Copy>(
     size: Size,
     asked: Size,
     frame: u64,
+    from: usize,
+    to: usize,
 ) -> Result<Option<Entry<K>>, CacheError>
     requires held { HoldsEntries rooms.old.pages (lying (entries_of entries.old.entries)) }
     requires absent { IsNone (number_of K.eq key entries.old.entries) }
+    requires inside { to ≤ length rooms.old.pages }
+    requires others { HasRoomOnlyAmong asked rooms.old.pages from to }
     ensures held { HoldsEntries rooms.new.pages (lying (entries_of entries.new.entries)) }
     ensures placed { IfOk result (λ granted. IfSome granted (λ e.
         GetsPlace asked key size frame rooms.old.pages rooms.new.pages e)) }
@@ -107,6 +113,8 @@ pub fn grant<K: Copy + Eq + Hash, S: BuildHasher, A: Allocator + Copy>(
     ensures next { IfOk result (λ granted. IfSome granted (λ e. IsNextNumber e.number entries.old)) }
     ensures made { IfOk result (λ granted. IfSome granted (λ e.
         entries.new.made ≡ max entries.old.made (e.number + 1))) }
+    ensures reserved { IfOk result (λ granted. IfSome granted (λ _.
+        entries.new.reserved ≡ entries.old.reserved - 1)) }
     ensures sizes { page_sizes rooms.new.pages ≡ page_sizes rooms.old.pages }
     ensures options { rooms.new.options ≡ rooms.old.options }
     ensures none { result ≡ Ok None → (rooms.new ≡ rooms.old) × (entries.new ≡ entries.old) }
@@ -115,7 +123,7 @@ pub fn grant<K: Copy + Eq + Hash, S: BuildHasher, A: Allocator + Copy>(
         × (entries.new ≡ entries.old)) }
     ensures errors { IfErr result (IsRefusedNew (length entries.old.entries)) }
 {
-    let Some((page, granted)) = rooms.place(asked)? else {
+    let Some((page, granted)) = rooms.place_among(from, to, asked)? else {
         return Ok(None);
     };
     let entry = Entry {
@@ -151,8 +159,10 @@ pub fn join_blank<K: Copy + Eq + Hash, S: BuildHasher, A: Allocator + Copy>(
     ensures first { IfOk result (λ e. entries_of entries.new.entries ≡ e ∷ entries_of entries.old.entries) }
     ensures next { IfOk result (λ e. IsNextNumber e.number entries.old) }
     ensures made { IfOk result (λ e. entries.new.made ≡ max entries.old.made (e.number + 1)) }
+    ensures reserved { IfOk result (λ _. entries.new.reserved ≡ entries.old.reserved - 1) }
     ensures refused { OnErr result (entries.new ≡ entries.old) }
     ensures errors { IfErr result (IsWithoutNumber (length entries.old.entries)) }
+    ensures memory { 0 < entries.old.reserved → result ≢ Err Memory }
 {
     let entry = Entry {
         key,
@@ -179,6 +189,7 @@ pub fn take_out<K: Copy + Eq + Hash, S: BuildHasher, A: Allocator + Copy>(
     ensures held { HoldsEntries rooms.new.pages (lying (entries_of entries.new.entries)) }
     ensures without { entries.new.entries ≡ without_number number entries.old.entries }
     ensures made { entries.new.made ≡ entries.old.made }
+    ensures reserved { entries.new.reserved ≡ entries.old.reserved }
     ensures leaves { LeavesNoBoxOn rooms.old.pages rooms.new.pages entry.page entry.id }
     ensures sizes { page_sizes rooms.new.pages ≡ page_sizes rooms.old.pages }
     ensures options { rooms.new.options ≡ rooms.old.options }

@@ -71,6 +71,7 @@ fn settle<K: Copy + Eq + Hash, S: BuildHasher, A: Allocator + Copy>(
     ensures settled { (newer older : List (ℕ × Entry K)) → entries.old.entries ≡ newer ++ (number, entry) ∷ older
         → entries.new.entries ≡ newer ++ cons_option (numbered_as number (renewed_by moves.now entry)) older }
     ensures made { entries.new.made ≡ entries.old.made }
+    ensures reserved { entries.new.reserved ≡ entries.old.reserved }
     ensures told { changes.new.items
         ≡ changes.old.items ++ told_as options.now.padding entry (renewed_by moves.now entry) ∷ [] }
     ensures longer { vec_len changes.new ≡ vec_len changes.old + 1 }
@@ -112,6 +113,7 @@ fn settle_all<K: Copy + Eq + Hash, S: BuildHasher, A: Allocator + Copy>(
     ensures entries { entries_of entries.new.entries
         ≡ filter_map (become page (renewed_by moves.now)) (entries_of entries.old.entries) }
     ensures made { entries.new.made ≡ entries.old.made }
+    ensures reserved { entries.new.reserved ≡ entries.old.reserved }
     ensures told { changes.new.items ≡ changes.old.items
         ++ filter_map (told_of options.now.padding page (renewed_by moves.now)) (entries_of entries.old.entries) }
 {

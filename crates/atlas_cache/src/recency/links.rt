@@ -26,6 +26,29 @@ pub fn read_link(links: &[Link], ends: Link, at: u32) -> Link
     }
 }
 
+// The link of an entry.
+fn own_link(links: &[Link], at: u32) -> Link
+    requires inside { at < length links.now }
+    requires short { length links.now ≤ no_entry }
+    ensures next { (ends : Link) → result.next ≡ next_at links.now ends at }
+    ensures previous { (ends : Link) → result.previous ≡ previous_at links.now ends at }
+{
+    links[at as usize]
+}
+
+// An entry has this link.
+fn set_link(links: &mut [Link], at: u32, link: Link)
+    requires inside { at < length links.old }
+    requires short { length links.old ≤ no_entry }
+    ensures next { (ends : Link) (k : ℕ)
+        → next_at links.new ends k ≡ at_once at link.next (next_at links.old ends) k }
+    ensures previous { (ends : Link) (k : ℕ)
+        → previous_at links.new ends k ≡ at_once at link.previous (previous_at links.old ends) k }
+    ensures size { length links.new ≡ length links.old }
+{
+    links[at as usize] = link;
+}
+
 /// `next` comes after `at`.
 pub fn set_next(links: &mut [Link], ends: &mut Link, at: u32, next: u32)
     requires { (at ≡ no_entry) ⊎ (at < length links.old) }
@@ -67,7 +90,7 @@ pub fn unlink(links: &mut [Link], ends: &mut Link, at: u32)
         → times_in k xs ≡ 0 → next_at links.new ends.new k ≡ next_at links.old ends.old k }
     ensures size { length links.new ≡ length links.old }
 {
-    let own = read_link(links, *ends, at);
+    let own = own_link(links, at);
     set_next(links, ends, own.previous, own.next);
     set_previous(links, ends, own.next, own.previous);
 }
@@ -84,8 +107,11 @@ pub fn push_front(links: &mut [Link], ends: &mut Link, at: u32)
     ensures size { length links.new ≡ length links.old }
 {
     let first = ends.next;
-    set_next(links, ends, at, first);
-    set_previous(links, ends, at, NO_ENTRY);
+    let own = Link {
+        previous: NO_ENTRY,
+        next: first,
+    };
+    set_link(links, at, own);
     set_next(links, ends, NO_ENTRY, at);
     set_previous(links, ends, first, at);
 }

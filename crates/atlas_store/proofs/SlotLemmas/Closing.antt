@@ -1,7 +1,8 @@
 -- The links of a member lead to members.
 use Rattle.std.proofs.Common.{ℕ, ◌<◌, ◌≤◌, ◌≡◌, List, refl, ◌⊎◌, inl, inr, arith}
 use Rattle.atlas_store.specs.declared.slots.Node.{Node}
-use Rattle.atlas_store.specs.Slots.{no_slot, node_at}
+use Rattle.atlas_store.specs.Slots.{node_at}
+use Rattle.atlas_search.specs.Numbers.{no_slot}
 use Rattle.atlas_store.specs.Slots.Numbered.{Numbered, tally, first_slot, End}
 use Rattle.atlas_store.specs.Slots.Standing.{Sequence, Standing}
 use Rattle.atlas_store.proofs.SlotLemmas.Frames.{same-self, ne-from_same}
@@ -23,11 +24,13 @@ in-wider i m n l (inl e) = inl e
 in-wider i m n l (inr h) = inr (omega arith)
 
 -- What follows the first member is in the rest.
-next-head : (ns : List Node) (i : ℕ) (s : Sequence) (b p : ℕ) (m : Numbered) → first_slot m ≡ i → 0 < tally i m → Standing ns s b p m → IsIn (node_at ns i).next.number m
+next-head : (ns : List Node) (i : ℕ) (s : Sequence) (b p : ℕ) (m : Numbered) → first_slot m ≡ i → 0 < tally i m
+    → Standing ns s b p m → IsIn (node_at ns i).next.number m
 next-head ns i s b p End e l h = absurd (omega arith)
 next-head ns i s b p m e l h = grind (arith, in-wider, first-in)
 
-pub next-in : (ns : List Node) (i : ℕ) (s : Sequence) (before p : ℕ) (n : Numbered) → Standing ns s before p n → 0 < tally i n → IsIn (node_at ns i).next.number n
+pub next-in : (ns : List Node) (i : ℕ) (s : Sequence) (before p : ℕ) (n : Numbered) → Standing ns s before p n
+    → 0 < tally i n → IsIn (node_at ns i).next.number n
 next-in ns i s before p n h l = grind (arith, suffix-at ns i s before p n h l, in-wider, next-head ns i)
 
 -- What begins at no slot is empty.

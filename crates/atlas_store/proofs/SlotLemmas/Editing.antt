@@ -2,8 +2,9 @@
 use Rattle.std.proofs.Common.{ℕ, ◌+◌, ◌<◌, ◌≤◌, ◌≡◌, Bool, true, false, cond, List, refl, sym, ap, ap₂, subst, inl, inr, arith}
 use Rattle.std.proofs.lemmas.Bool.{cond_both, eqb-true, true≢false}
 use Rattle.atlas_store.specs.declared.slots.Node.{Node}
-use Rattle.atlas_store.specs.Slots.{node_at, no_slot}
-use Rattle.atlas_store.specs.Slots.Numbered.{Numbered, weigh, tally, same, first_slot, edited_in, on_free, on_alloc, on_seq, grown_by, lifted_to, is_free_at, is_alloc_at, is_seq_at, End, Free, Alloc, Seq}
+use Rattle.atlas_store.specs.Slots.{node_at}
+use Rattle.atlas_search.specs.Numbers.{no_slot, same}
+use Rattle.atlas_store.specs.Slots.Numbered.{Numbered, weigh, tally, first_slot, edited_in, on_free, on_alloc, on_seq, grown_by, lifted_to, is_free_at, is_alloc_at, is_seq_at, End, Free, Alloc, Seq}
 use Rattle.atlas_store.specs.Slots.Standing.{Sequence, Standing, inside}
 use Rattle.atlas_store.proofs.SlotLemmas.Frames.{same-self, one_of, ne-from_count, Standing-same}
 use Rattle.atlas_store.proofs.SlotLemmas.Suffixes.{Suffix, suffix-at, suffix-wider}
@@ -22,28 +23,33 @@ lifting across = on_seq lifted_to
 
 -- What holds of each member that is looked for.
 
-pub free_here : (i : ℕ) (P : Numbered → Type 0) → ((e : ℕ) (rest : Numbered) → P (Free i e rest)) → (m : Numbered) → is_free_at i m ≡ true → P m
+pub free_here : (i : ℕ) (P : Numbered → Type 0) → ((e : ℕ) (rest : Numbered) → P (Free i e rest)) → (m : Numbered)
+    → is_free_at i m ≡ true → P m
 free_here i P p (Free j e rest) t = subst (λ k. P (Free k e rest)) (eqb-true i j t) (p e rest)
 free_here i P p m t = absurd (true≢false (sym t))
 
-pub alloc_here : (i : ℕ) (P : Numbered → Type 0) → ((g e : ℕ) (rest : Numbered) → P (Alloc i g e rest)) → (m : Numbered) → is_alloc_at i m ≡ true → P m
+pub alloc_here : (i : ℕ) (P : Numbered → Type 0) → ((g e : ℕ) (rest : Numbered) → P (Alloc i g e rest)) → (m : Numbered)
+    → is_alloc_at i m ≡ true → P m
 alloc_here i P p (Alloc j g e rest) t = subst (λ k. P (Alloc k g e rest)) (eqb-true i j t) (p g e rest)
 alloc_here i P p m t = absurd (true≢false (sym t))
 
-pub seq_here : (i : ℕ) (P : Numbered → Type 0) → ((e : ℕ) (inner rest : Numbered) → P (Seq i e inner rest)) → (m : Numbered) → is_seq_at i m ≡ true → P m
+pub seq_here : (i : ℕ) (P : Numbered → Type 0) → ((e : ℕ) (inner rest : Numbered) → P (Seq i e inner rest))
+    → (m : Numbered) → is_seq_at i m ≡ true → P m
 seq_here i P p (Seq j e inner rest) t = subst (λ k. P (Seq k e inner rest)) (eqb-true i j t) (p e inner rest)
 seq_here i P p m t = absurd (true≢false (sym t))
 
 -- A relation between a tree and the edited one, in a sequence that spans `across`, which holds further where it holds
 -- after a member that isn't looked for.
-pub record IsKept (is : Numbered → Bool) (R : (across : ℕ) → (old new : Numbered) → Type 0) : Type 0 where
+pub record IsCarried (is : Numbered → Bool) (R : (across : ℕ) → (old new : Numbered) → Type 0) : Type 0 where
   pub ends : (a : ℕ) → R a End End
   pub free : (a i e : ℕ) (m n : Numbered) → is (Free i e m) ≡ false → R a m n → R a (Free i e m) (Free i e n)
-  pub alloc : (a i g e : ℕ) (m n : Numbered) → is (Alloc i g e m) ≡ false → R a m n → R a (Alloc i g e m) (Alloc i g e n)
-  pub seq : (a i e : ℕ) (k l m n : Numbered) → is (Seq i e k m) ≡ false → R e k l → R a m n → R a (Seq i e k m) (Seq i e l n)
+  pub alloc : (a i g e : ℕ) (m n : Numbered) → is (Alloc i g e m) ≡ false → R a m n
+      → R a (Alloc i g e m) (Alloc i g e n)
+  pub seq : (a i e : ℕ) (k l m n : Numbered) → is (Seq i e k m) ≡ false → R e k l → R a m n
+      → R a (Seq i e k m) (Seq i e l n)
 
 module _ (is : Numbered → Bool) (change : ℕ → Numbered → Numbered) where
-  module _ (R : (across : ℕ) → (old new : Numbered) → Type 0) (kept : IsKept is R) (here : (a : ℕ) (m : Numbered) → is m ≡ true → R a m (change a m)) where
+  module _ (R : (across : ℕ) → (old new : Numbered) → Type 0) (kept : IsCarried is R) (here : (a : ℕ) (m : Numbered) → is m ≡ true → R a m (change a m)) where
     choice : (a : ℕ) (m v : Numbered) → (is m ≡ false → R a m v) → R a m (cond (is m) (change a m) v)
     choice a m v other = cond_both (is m) (change a m) v (λ x. R a m x) (here a m) other
 
@@ -55,7 +61,8 @@ module _ (is : Numbered → Bool) (change : ℕ → Numbered → Numbered) where
     edited-keeps a (Seq i e inner rest) = grind (arith, choice, edited-keeps e inner, edited-keeps a rest)
 
   -- The first member keeps its slot.
-  pub first-edited : ((a : ℕ) (m : Numbered) → is m ≡ true → first_slot (change a m) ≡ first_slot m) → (a : ℕ) (n : Numbered) → first_slot (edited_in is change (change a) n) ≡ first_slot n
+  pub first-edited : ((a : ℕ) (m : Numbered) → is m ≡ true → first_slot (change a m) ≡ first_slot m)
+      → (a : ℕ) (n : Numbered) → first_slot (edited_in is change (change a) n) ≡ first_slot n
   first-edited here = grind (arith, edited-keeps)
 
   -- Nothing happens where no member is looked for.
@@ -69,7 +76,8 @@ module _ (is : Numbered → Bool) (change : ℕ → Numbered → Numbered) where
       }) (λ a m t z. absurd (omega (arith, places-some is never m t)))
 
   -- A change that keeps what the slots weigh.
-  pub weigh-same : (w : ℕ → ℕ) → ((a : ℕ) (m : Numbered) → is m ≡ true → weigh w (change a m) ≡ weigh w m) → (a : ℕ) (n : Numbered) → weigh w (edited_in is change (change a) n) ≡ weigh w n
+  pub weigh-same : (w : ℕ → ℕ) → ((a : ℕ) (m : Numbered) → is m ≡ true → weigh w (change a m) ≡ weigh w m)
+      → (a : ℕ) (n : Numbered) → weigh w (edited_in is change (change a) n) ≡ weigh w n
   weigh-same w here =
       edited-keeps (λ a m n. weigh w n ≡ weigh w m) (record {
         ends = λ a. refl;
@@ -80,7 +88,8 @@ module _ (is : Numbered → Bool) (change : ℕ → Numbered → Numbered) where
 
   -- A change at the only place adds y to what the slots weigh, and takes x away.
   module _ (ns : List Node) (w : ℕ → ℕ) (x y : ℕ) (never : is End ≡ false) (here : (s : Sequence) (b p : ℕ) (m : Numbered) → is m ≡ true → Standing ns s b p m → weigh w (change s.width m) + x ≡ weigh w m + y) where
-    pub weigh-edited : (s : Sequence) (b p : ℕ) (n : Numbered) → Standing ns s b p n → places is n ≡ 1 → weigh w (edited_in is change (change s.width) n) + x ≡ weigh w n + y
+    pub weigh-edited : (s : Sequence) (b p : ℕ) (n : Numbered) → Standing ns s b p n → places is n ≡ 1
+        → weigh w (edited_in is change (change s.width) n) + x ≡ weigh w n + y
     weigh-edited s b p End h one = absurd (omega arith)
     weigh-edited s b p (Free j e rest) h one =
         cond_both (is (Free j e rest)) (change s.width (Free j e rest)) (Free j e (edited_in is change (change s.width) rest)) (λ v. weigh w v + x ≡ w j + weigh w rest + y) (λ t. here s b p (Free j e rest) t h) (λ no.
@@ -102,26 +111,32 @@ pub record IsEdit (ns ms : List Node) (is : Numbered → Bool) (change : ℕ →
   pub begins : (m : Numbered) → is m ≡ true → first_slot m ≡ i
   pub once : (x : ℕ) → tally x n ≤ 1
   pub first : (a : ℕ) (m : Numbered) → is m ≡ true → first_slot (change a m) ≡ first_slot m
-  pub here : (s : Sequence) (b p : ℕ) (m : Numbered) → is m ≡ true → Standing ns s b p m → ((x : ℕ) → tally x m ≤ tally x n) → Standing ms s b p (change s.width m)
+  pub here : (s : Sequence) (b p : ℕ) (m : Numbered) → is m ≡ true → Standing ns s b p m
+      → ((x : ℕ) → tally x m ≤ tally x n) → Standing ms s b p (change s.width m)
   pub beside : (f : Suffix ns i n) (x : ℕ) → tally x f.members ≡ 0 → 0 < tally x n → node_at ms x ≡ node_at ns x
 
 module _ (ns ms : List Node) (is : Numbered → Bool) (change : ℕ → Numbered → Numbered) (i : ℕ) (n : Numbered) (w : IsEdit ns ms is change i n) where
   -- A slot outside of a part with the place stays.
-  apart : (s : Sequence) (b p : ℕ) (v : Numbered) → Standing ns s b p v → places is v ≡ 1 → ((x : ℕ) → tally x v ≤ tally x n) → (x : ℕ) → 0 < tally x n → tally x v ≡ 0 → node_at ms x ≡ node_at ns x
+  apart : (s : Sequence) (b p : ℕ) (v : Numbered) → Standing ns s b p v → places is v ≡ 1
+      → ((x : ℕ) → tally x v ≤ tally x n) → (x : ℕ) → 0 < tally x n → tally x v ≡ 0 → node_at ms x ≡ node_at ns x
   apart s b p v h one less x some z =
       let f = suffix-at ns i s b p v h (omega (arith, places-le is i w.begins v)) in
       let none : tally x f.members ≡ 0 = omega (arith, f.within x) in
       w.beside (suffix-wider ns i v n less f) x none some
 
   -- And so does the slot j of a member beside it.
-  head_stays : (s : Sequence) (b p j : ℕ) (v : Numbered) → Standing ns s b p v → places is v ≡ 1 → ((x : ℕ) → same x j + tally x v ≤ tally x n) → node_at ms j ≡ node_at ns j
+  head_stays : (s : Sequence) (b p j : ℕ) (v : Numbered) → Standing ns s b p v → places is v ≡ 1
+      → ((x : ℕ) → same x j + tally x v ≤ tally x n) → node_at ms j ≡ node_at ns j
   head_stays s b p j v h one less = grind (arith, apart, same-self)
 
   -- A part beside it stands.
-  part_stays : (s : Sequence) (b p : ℕ) (v : Numbered) (t : Sequence) (c q : ℕ) (u : Numbered) → Standing ns s b p v → places is v ≡ 1 → ((x : ℕ) → tally x v + tally x u ≤ tally x n) → Standing ns t c q u → places is u ≡ 0 → Standing ms t c q (edited_in is change (change t.width) u)
+  part_stays : (s : Sequence) (b p : ℕ) (v : Numbered) (t : Sequence) (c q : ℕ) (u : Numbered) → Standing ns s b p v
+      → places is v ≡ 1 → ((x : ℕ) → tally x v + tally x u ≤ tally x n) → Standing ns t c q u → places is u ≡ 0
+      → Standing ms t c q (edited_in is change (change t.width) u)
   part_stays s b p v t c q u h one less k z = grind (arith, edited-absent, Standing-same, apart)
 
-  pub Standing-edited : (s : Sequence) (b p : ℕ) (v : Numbered) → ((x : ℕ) → tally x v ≤ tally x n) → places is v ≡ 1 → Standing ns s b p v → Standing ms s b p (edited_in is change (change s.width) v)
+  pub Standing-edited : (s : Sequence) (b p : ℕ) (v : Numbered) → ((x : ℕ) → tally x v ≤ tally x n) → places is v ≡ 1
+      → Standing ns s b p v → Standing ms s b p (edited_in is change (change s.width) v)
   Standing-edited s b p End less one h = absurd (omega arith)
   Standing-edited s b p (Free j e rest) less one h =
       grind (arith, places, not_here, head_stays, first-edited, Standing-edited s j (p + e) rest)

@@ -2,7 +2,8 @@
 use Rattle.std.proofs.Common.{ℕ, ◌+◌, ◌<◌, ◌≤◌, ◌≡◌, ◌==◌, List, refl, if◌then◌else◌, arith, zero, suc, length}
 use Rattle.std.proofs.lemmas.Bool.{ne_eqb}
 use Rattle.atlas_store.specs.declared.slots.Node.{Node}
-use Rattle.atlas_store.specs.Slots.{node_at, no_slot}
+use Rattle.atlas_store.specs.Slots.{node_at}
+use Rattle.atlas_search.specs.Numbers.{no_slot}
 use Rattle.atlas_store.specs.Slots.Numbered.{Numbered, tally, first_slot, numbers, End, Free, Alloc, Seq}
 use Rattle.atlas_store.specs.Slots.Standing.{Sequence, Standing, Stands}
 use Rattle.atlas_store.proofs.SlotLemmas.JoiningWrites.{used-inside}
@@ -21,7 +22,8 @@ abbrev pub followers : (bound : ℕ) → List Node → (i : ℕ) → ℕ
 followers zero ns i = 0
 followers (suc bound) ns i = if i == no_slot then 0 else 1 + followers bound ns (node_at ns i).next.number
 
-pub followers-outermost : (bound : ℕ) (ns : List Node) (s : Sequence) (b q : ℕ) (n : Numbered) → Standing ns s b q n → tally no_slot n ≡ 0 → outermost n ≤ bound → followers bound ns (first_slot n) ≡ outermost n
+pub followers-outermost : (bound : ℕ) (ns : List Node) (s : Sequence) (b q : ℕ) (n : Numbered) → Standing ns s b q n
+    → tally no_slot n ≡ 0 → outermost n ≤ bound → followers bound ns (first_slot n) ≡ outermost n
 followers-outermost zero ns s b q End h none l = refl
 followers-outermost zero ns s b q n h none l = absurd (omega arith)
 followers-outermost (suc bound) ns s b q End h none l = refl
@@ -43,6 +45,7 @@ pub outermost-few : (ns : List Node) (s : Sequence) (n : Numbered) → Stands ns
 outermost-few ns s n h = omega (arith, outermost-numbers n, numbers-few ns s n h)
 
 -- Where there is a member, a slot begins it.
-pub begins-inside : (ns : List Node) (s : Sequence) (b q : ℕ) (n : Numbered) → Standing ns s b q n → (first_slot n ≡ no_slot → ⊥) → first_slot n < length ns
+pub begins-inside : (ns : List Node) (s : Sequence) (b q : ℕ) (n : Numbered) → Standing ns s b q n
+    → (first_slot n ≡ no_slot → ⊥) → first_slot n < length ns
 begins-inside ns s b q End h ne = absurd (ne refl)
 begins-inside ns s b q n h ne = used-inside ns _ (rw h.0.kind (omega arith))

@@ -4,21 +4,14 @@ use Rattle.std.proofs.lemmas.Bool.{eq-eqb, ne_eqb, cases_lt, cases_eq}
 use Rattle.std.proofs.lemmas.List.{get_or_past}
 use Rattle.atlas_store.specs.declared.slots.Node.{Node}
 use Rattle.atlas_store.specs.declared.slots.NodeKind.{NodeKind}
-use Rattle.atlas_store.specs.Slots.{no_slot, node_at, blank_node, use_count, KeepsUse}
-use Rattle.atlas_store.specs.Slots.Numbered.{Numbered, tally, same, End, Free, Alloc, Seq}
+use Rattle.atlas_store.specs.Slots.{node_at, blank_node, use_count, KeepsUse}
+use Rattle.atlas_search.specs.Numbers.{no_slot, same}
+use Rattle.atlas_store.specs.Slots.Numbered.{Numbered, tally, End, Free, Alloc, Seq}
 use Rattle.atlas_store.specs.Slots.Standing.{Sequence, Standing, inside}
-
-pub same-self : (i : ℕ) → same i i ≡ 1
-same-self i = rw (eq-eqb i i refl)
-
-pub same-ne : (i j : ℕ) → (i ≡ j → ⊥) → same i j ≡ 0
-same-ne i j h = rw (ne_eqb i j h)
+pub use Rattle.atlas_search.proofs.Occurrences.{same-self, same-ne, ne-from_same}
 
 pub split_pos : (a b : ℕ) → 0 < a + b → (0 < a) ⊎ (0 < b)
 split_pos a b l = grind arith
-
-pub ne-from_same : (i j : ℕ) → same i j ≡ 0 → j ≡ i → ⊥
-ne-from_same i j z e = absurd (omega (arith, same-self i, ap (same i) e))
 
 pub ne-from_count : (i j : ℕ) (n : Numbered) → tally i n ≡ 0 → 0 < tally j n → j ≡ i → ⊥
 ne-from_count i j n z l e = absurd (omega (arith, ap (λ x. tally x n) e))
@@ -46,7 +39,8 @@ pub IsWritten-set : (ns : List Node) (i : ℕ) (n : Node) → i < length ns → 
 IsWritten-set ns i n h = grind (arith, get_or-set_same, get_or-set_other)
 
 -- A tree stands where the nodes of its slots are the same.
-pub Standing-same : (ns ms : List Node) (s : Sequence) (before p : ℕ) (n : Numbered) → ((j : ℕ) → 0 < tally j n → node_at ms j ≡ node_at ns j) → Standing ns s before p n → Standing ms s before p n
+pub Standing-same : (ns ms : List Node) (s : Sequence) (before p : ℕ) (n : Numbered)
+    → ((j : ℕ) → 0 < tally j n → node_at ms j ≡ node_at ns j) → Standing ns s before p n → Standing ms s before p n
 Standing-same ns ms s before p End same_at h = tt
 Standing-same ns ms s before p (Free i e rest) same_at h =
     grind (arith, same-self, Standing-same ns ms s i (p + e) rest (λ j l. same_at j (omega arith)) h.2)
@@ -55,7 +49,8 @@ Standing-same ns ms s before p (Alloc i g e rest) same_at h =
 Standing-same ns ms s before p (Seq i e inner rest) same_at h =
     grind (arith, same-self, Standing-same ns ms (inside s i p e) no_slot s.start inner, Standing-same ns ms s i (p + e) rest)
 
-pub IsWritten-by : (ns ms : List Node) (i : ℕ) (m n : Node) → ms ≡ set ns i m → m ≡ n → i < length ns → IsWritten ns ms i n
+pub IsWritten-by : (ns ms : List Node) (i : ℕ) (m n : Node) → ms ≡ set ns i m → m ≡ n → i < length ns
+    → IsWritten ns ms i n
 IsWritten-by ns ms i m n e q h = rw (e, q) (IsWritten-set ns i n h)
 
 -- An equal node has the same use.

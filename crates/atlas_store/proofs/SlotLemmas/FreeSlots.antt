@@ -4,22 +4,23 @@ use Rattle.std.specs.Prelude.{Contains, slice_index_or}
 use Rattle.std.proofs.lemmas.Bool.{cases_lt}
 use Rattle.std.proofs.lemmas.List.Elements.{filter_map-append, Contains-append_left, Contains-append_right, Contains-append_cases}
 use Rattle.atlas_store.specs.declared.slots.Slot.{Slot}
-use Rattle.atlas_store.specs.declared.slots.Link.{Link}
+use Rattle.atlas_search.specs.declared.link.Link.{Link}
 use Rattle.atlas_store.specs.declared.slots.Node.{Node}
-use Rattle.atlas_store.specs.declared.search.table.ListHead.{ListHead}
+use Rattle.atlas_search.specs.declared.table.ListHead.{ListHead}
 use Rattle.atlas_store.specs.declared.slots.NodeKind.{NodeKind}
 use Rattle.atlas_store.specs.declared.slots.NodeKind.TheVariants as kind
 use Rattle.atlas_model.specs.Boxes.{Box, moved, origin}
 use Rattle.atlas_model.specs.Pixels.{box_of, rectangle_of}
 use Rattle.atlas_model.specs.Trees.{leaves, ungranted, IsCut}
-use Rattle.atlas_store.specs.Slots.{nodes, rings, node_at, use_count, no_slot}
+use Rattle.atlas_store.specs.Slots.{nodes, rings, node_at, use_count}
+use Rattle.atlas_search.specs.Numbers.{no_slot}
 use Rattle.atlas_store.specs.Slots.Numbered.{Numbered, tally, erase, End, Free, Alloc, Seq}
 use Rattle.atlas_store.specs.Slots.Standing.{Sequence, Standing, Stands, spot, member_box, inside}
 use Rattle.atlas_model.specs.Choice.{Options, AreValid}
 use Rattle.atlas_store.specs.Slots.Lists.{AreFiled, Places}
-use Rattle.atlas_store.specs.Slots.Links.{IsSolid}
-use Rattle.atlas_store.specs.Search.Picks.{node_box, IsFreeSlot, AreFreeBoxes, IsSearchable}
-use Rattle.atlas_store.proofs.ListLemmas.Occurrences.{same-ne}
+use Rattle.atlas_search.specs.Rectangles.{IsSolid}
+use Rattle.atlas_store.specs.Slots.Picks.{node_box, IsFreeSlot, AreFreeBoxes, IsSearchable}
+use Rattle.atlas_search.proofs.Occurrences.{same-ne}
 use Rattle.atlas_store.proofs.SlotLemmas.SlotBoxes.{slot-exact}
 use Rattle.atlas_store.proofs.SlotLemmas.Spots.{moved-spot, spot-other, spot-origin}
 
@@ -27,13 +28,16 @@ use Rattle.atlas_store.proofs.SlotLemmas.Spots.{moved-spot, spot-other, spot-ori
 abbrev free_from : Sequence → ℕ → Numbered → List Box
 free_from s p n = ungranted (leaves s.axis (spot s.axis p s.start) s.width (erase n))
 
-free_from-rest : (s : Sequence) (p e : ℕ) (rest : Numbered) → ungranted (leaves s.axis (moved s.axis (spot s.axis p s.start) e) s.width (erase rest)) ≡ free_from s (p + e) rest
+free_from-rest : (s : Sequence) (p e : ℕ) (rest : Numbered)
+    → ungranted (leaves s.axis (moved s.axis (spot s.axis p s.start) e) s.width (erase rest)) ≡ free_from s (p + e) rest
 free_from-rest s p e rest = ap (λ o. ungranted (leaves s.axis o s.width (erase rest))) (moved-spot s.axis p s.start e)
 
-free_from-free : (s : Sequence) (p i e : ℕ) (rest : Numbered) → free_from s p (Free i e rest) ≡ member_box s p e ∷ free_from s (p + e) rest
+free_from-free : (s : Sequence) (p i e : ℕ) (rest : Numbered)
+    → free_from s p (Free i e rest) ≡ member_box s p e ∷ free_from s (p + e) rest
 free_from-free s p i e rest = ap (λ bs. member_box s p e ∷ bs) (free_from-rest s p e rest)
 
-free_from-seq : (s : Sequence) (p i e : ℕ) (inner rest : Numbered) → free_from s p (Seq i e inner rest) ≡ free_from (inside s i p e) s.start inner ++ free_from s (p + e) rest
+free_from-seq : (s : Sequence) (p i e : ℕ) (inner rest : Numbered)
+    → free_from s p (Seq i e inner rest) ≡ free_from (inside s i p e) s.start inner ++ free_from s (p + e) rest
 free_from-seq s p i e inner rest = grind (arith, filter_map-append, free_from-rest, spot-other)
 
 box-exact : (n : Node) (b : Box) → n.area ≡ rectangle_of b → node_box n ≡ b
@@ -45,12 +49,14 @@ at_head b bs = (0, omega arith, refl)
 in_rest : (b c : Box) (bs : List Box) → Contains bs c → Contains (b ∷ bs) c
 in_rest b c bs h = (suc h.0, omega (arith, h.1), h.2)
 
-in_cases : (b c : Box) (bs : List Box) (k : ℕ) → k < length (b ∷ bs) → slice_index_or (b ∷ bs) k c ≡ c → (b ≡ c) ⊎ Contains bs c
+in_cases : (b c : Box) (bs : List Box) (k : ℕ) → k < length (b ∷ bs) → slice_index_or (b ∷ bs) k c ≡ c
+    → (b ≡ c) ⊎ Contains bs c
 in_cases b c bs zero l e = inl e
 in_cases b c bs (suc k) l e = inr (k, omega arith, e)
 
 -- Each free box is that of a free slot.
-slot-of_box : (ns : List Node) (s : Sequence) (before p : ℕ) (n : Numbered) → Standing ns s before p n → (b : Box) → Contains (free_from s p n) b → (i : ℕ) × IsFreeSlot ns i × (node_box (node_at ns i) ≡ b)
+slot-of_box : (ns : List Node) (s : Sequence) (before p : ℕ) (n : Numbered) → Standing ns s before p n → (b : Box)
+    → Contains (free_from s p n) b → (i : ℕ) × IsFreeSlot ns i × (node_box (node_at ns i) ≡ b)
 slot-of_box ns s before p End h b c = absurd (omega (arith, c.1))
 slot-of_box ns s before p (Free i e rest) h b c =
     grind (
@@ -76,7 +82,8 @@ sequence≢ : (k : NodeKind) → k ≡ kind.Container → k ≡ kind.Free → �
 sequence≢ k a f = cc
 
 -- The box of each free slot is a free box.
-box-of_slot : (ns : List Node) (s : Sequence) (before p : ℕ) (n : Numbered) → Standing ns s before p n → (i : ℕ) → IsFreeSlot ns i → 0 < tally i n → Contains (free_from s p n) (node_box (node_at ns i))
+box-of_slot : (ns : List Node) (s : Sequence) (before p : ℕ) (n : Numbered) → Standing ns s before p n → (i : ℕ)
+    → IsFreeSlot ns i → 0 < tally i n → Contains (free_from s p n) (node_box (node_at ns i))
 box-of_slot ns s before p End h i free l = absurd (omega arith)
 box-of_slot ns s before p (Free j e rest) h i free l =
     search (rules, free_from-free, box-exact, at_head, in_rest, box-of_slot ns s j (p + e) rest h.2 i free, same-ne)
@@ -91,7 +98,8 @@ box-of_slot ns s before p (Seq j e inner rest) h i free l =
     ])
 
 -- The free slots have the free boxes of the tree.
-pub AreFreeBoxes-stands : (ns : List Node) (s : Sequence) (n : Numbered) → Stands ns s n → s.start ≡ 0 → AreFreeBoxes ns (ungranted (leaves s.axis origin s.width (erase n)))
+pub AreFreeBoxes-stands : (ns : List Node) (s : Sequence) (n : Numbered) → Stands ns s n → s.start ≡ 0
+    → AreFreeBoxes ns (ungranted (leaves s.axis origin s.width (erase n)))
 AreFreeBoxes-stands ns s n h zero_start =
     grind (
       arith,
@@ -100,9 +108,13 @@ AreFreeBoxes-stands ns s n h zero_start =
       box-of_slot ns s no_slot 0 n h.standing,
     )
 
-pub exact-free : (ns : List Node) (s : Sequence) (n : Numbered) → Stands ns s n → 0 < s.width → IsCut s.width (erase n) → (i : ℕ) → IsFreeSlot ns i → IsSolid (node_at ns i).area
+pub exact-free : (ns : List Node) (s : Sequence) (n : Numbered) → Stands ns s n → 0 < s.width → IsCut s.width (erase n)
+    → (i : ℕ) → IsFreeSlot ns i → IsSolid (node_at ns i).area
 exact-free ns s n h w cut i free = slot-exact ns i s n h cut w (omega (arith, ap use_count free))
 
 -- Slots that stand for a tree of cuts, and whose free ones are all listed, can be searched.
-pub searchable : (o : Options) (slots : List Slot) (heads : List ListHead) (unused : Link) (p : Places) (s : Sequence) (n : Numbered) → AreFiled o (nodes slots) (rings slots) heads unused p → ((i : ℕ) → p.detached i ≡ false) → Stands (nodes slots) s n → 0 < s.width → IsCut s.width (erase n) → length slots ≤ 16777216 → AreValid o → IsSearchable o slots heads
+pub searchable : (o : Options) (slots : List Slot) (heads : List ListHead) (unused : Link) (p : Places) (s : Sequence) (n : Numbered)
+    → AreFiled o (nodes slots) (rings slots) heads unused p → ((i : ℕ) → p.detached i ≡ false)
+    → Stands (nodes slots) s n → 0 < s.width → IsCut s.width (erase n) → length slots ≤ 16777216 → AreValid o
+    → IsSearchable o slots heads
 searchable o slots heads unused p s n f listed h w cut short valid = grind (arith, exact-free)

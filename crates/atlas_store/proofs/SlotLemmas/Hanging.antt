@@ -1,20 +1,21 @@
 -- The members of the top sequence get another holder, one after the other.
 use Rattle.std.proofs.Common.{ℕ, ◌+◌, ◌<◌, ◌≤◌, ◌≡◌, ◌≢◌, List, refl, ap, ◌∙◌, arith, length, set, length-set, pos}
 use Rattle.std.proofs.lemmas.List.{length-map}
-use Rattle.atlas_store.specs.declared.slots.Link.{Link}
+use Rattle.atlas_search.specs.declared.link.Link.{Link}
 use Rattle.atlas_store.specs.declared.slots.Node.{Node}
 use Rattle.atlas_store.specs.declared.slots.NodeKind.{NodeKind}
 use Rattle.atlas_store.specs.declared.slots.NodeKind.TheVariants as kind
 use Rattle.atlas_store.specs.declared.slots.Slot.{Slot}
-use Rattle.atlas_store.specs.declared.cut.Orientation.{Orientation}
+use Rattle.atlas_search.specs.declared.cut.Orientation.{Orientation}
 use Rattle.atlas_model.specs.declared.geometry.Rectangle.{Rectangle}
 use Rattle.atlas_model.specs.declared.geometry.Size.{Size}
 use Rattle.atlas_model.specs.Boxes.{other}
 use Rattle.atlas_model.specs.Pixels.{rectangle_of, sides_of, size_of}
-use Rattle.atlas_store.specs.Slots.Parts.{flipped}
+use Rattle.atlas_search.specs.Rectangles.{flipped}
 use Rattle.atlas_model.specs.Trees.{total}
-use Rattle.atlas_store.specs.Slots.{nodes, node_at, use_count, no_slot, axis_of, KeepsUse}
-use Rattle.atlas_store.specs.Slots.Numbered.{Numbered, erase, tally, first_slot, same, End, Free, Alloc, Seq}
+use Rattle.atlas_store.specs.Slots.{nodes, node_at, use_count, axis_of, KeepsUse}
+use Rattle.atlas_search.specs.Numbers.{no_slot, same}
+use Rattle.atlas_store.specs.Slots.Numbered.{Numbered, erase, tally, first_slot, End, Free, Alloc, Seq}
 use Rattle.atlas_store.specs.Slots.Standing.{Sequence, Standing, Stands, IsLinkedIn, inside, member_box}
 use Rattle.atlas_store.specs.Slots.Growing.{Reaches, held_by, top_along}
 use Rattle.atlas_store.specs.Slots.SlotCalls.{BeginsAt}
@@ -37,25 +38,31 @@ pub record IsHanging (ns : List Node) (c at : ℕ) (s : Sequence) (n : Numbered)
   pub once : (k : ℕ) → tally k rest ≤ 1
   pub none : tally no_slot rest ≡ 0
   pub few : outermost rest ≤ length ns
-  pub ends : (ms : List Node) → ((k : ℕ) → tally k rest ≡ 0 → node_at ms k ≡ node_at ns k) → Standing ms (held_by c s) before start rest → Standing ms (held_by c s) no_slot 0 n
+  pub ends : (ms : List Node) → ((k : ℕ) → tally k rest ≡ 0 → node_at ms k ≡ node_at ns k)
+      → Standing ms (held_by c s) before start rest → Standing ms (held_by c s) no_slot 0 n
 
 -- At first nothing is hung.
-pub hanging-begins : (ns : List Node) (c at : ℕ) (s : Sequence) (n : Numbered) → length ns < no_slot → BeginsAt ns at s n → IsHanging ns c at s n
+pub hanging-begins : (ns : List Node) (c at : ℕ) (s : Sequence) (n : Numbered) → length ns < no_slot
+    → BeginsAt ns at s n → IsHanging ns c at s n
 hanging-begins ns c at s n short h = grind (arith, used-le, none-unused, outermost-few)
 
 -- Past the last member all hang.
-pub hanging-ends : (ns : List Node) (c at : ℕ) (s : Sequence) (n : Numbered) → at ≡ no_slot → IsHanging ns c at s n → Standing ns (held_by c s) no_slot 0 n
+pub hanging-ends : (ns : List Node) (c at : ℕ) (s : Sequence) (n : Numbered) → at ≡ no_slot → IsHanging ns c at s n
+    → Standing ns (held_by c s) no_slot 0 n
 hanging-ends ns c at s n e g = grind (arith, begins-none)
 
-hanging-inside : (ns : List Node) (c at : ℕ) (s : Sequence) (n : Numbered) → (at ≡ no_slot → ⊥) → IsHanging ns c at s n → at < length ns
+hanging-inside : (ns : List Node) (c at : ℕ) (s : Sequence) (n : Numbered) → (at ≡ no_slot → ⊥) → IsHanging ns c at s n
+    → at < length ns
 hanging-inside ns c at s n ne g = grind (arith, begins-inside)
 
-pub hanging-slot : (slots : List Slot) (c at : ℕ) (s : Sequence) (n : Numbered) → (at ≡ no_slot → ⊥) → IsHanging (nodes slots) c at s n → at < length slots
+pub hanging-slot : (slots : List Slot) (c at : ℕ) (s : Sequence) (n : Numbered) → (at ≡ no_slot → ⊥)
+    → IsHanging (nodes slots) c at s n → at < length slots
 hanging-slot slots c at s n ne g =
     let inside = hanging-inside (nodes slots) c at s n ne g in
     omega (arith, length-map slots (λ (s : Slot). s.node))
 
-hanging-followers : (ns : List Node) (c at : ℕ) (s : Sequence) (n : Numbered) → (g : IsHanging ns c at s n) → followers (length ns) ns at ≡ outermost g.rest
+hanging-followers : (ns : List Node) (c at : ℕ) (s : Sequence) (n : Numbered) → (g : IsHanging ns c at s n)
+    → followers (length ns) ns at ≡ outermost g.rest
 hanging-followers ns c at s n g = grind (arith, followers-outermost)
 
 -- The node at slot `at` is hung.
@@ -63,7 +70,9 @@ pub record IsHung (ns ms : List Node) (at : ℕ) (c : Link) : Type 0 where
   pub written : IsWritten ns ms at (record (node_at ns at) { parent = c })
   pub long : length ms ≡ length ns
 
-pub hung-by : (ns ms : List Node) (at : ℕ) (c : Link) (node : Node) (s : Sequence) (n : Numbered) → (at ≡ no_slot → ⊥) → IsHanging ns c.number at s n → node ≡ node_at ns at → ms ≡ set ns at (record node { parent = c }) → IsHung ns ms at c
+pub hung-by : (ns ms : List Node) (at : ℕ) (c : Link) (node : Node) (s : Sequence) (n : Numbered) → (at ≡ no_slot → ⊥)
+    → IsHanging ns c.number at s n → node ≡ node_at ns at → ms ≡ set ns at (record node { parent = c })
+    → IsHung ns ms at c
 hung-by ns ms at c node s n ne g e w =
     grind (arith, IsWritten-by ns ms at, hanging-inside ns c.number at s n ne g, length-set ns at)
 
@@ -73,20 +82,29 @@ module _ (ns ms : List Node) (at : ℕ) (c : Link) (w : IsHung ns ms at c) where
   stays i n e z k l = w.written.others k (λ x. ne-from_count i k n z l (x ∙ e))
 
   -- And so does all that came before.
-  before_stays : (xs : List Node) (i : ℕ) (m rest : Numbered) → at ≡ i → ((k : ℕ) → same k i + tally k rest ≤ tally k m) → ((k : ℕ) → tally k rest ≡ 0 → node_at xs k ≡ node_at ms k) → (k : ℕ) → tally k m ≡ 0 → node_at xs k ≡ node_at ns k
+  before_stays : (xs : List Node) (i : ℕ) (m rest : Numbered) → at ≡ i → ((k : ℕ) → same k i + tally k rest ≤ tally k m)
+      → ((k : ℕ) → tally k rest ≡ 0 → node_at xs k ≡ node_at ms k) → (k : ℕ) → tally k m ≡ 0
+      → node_at xs k ≡ node_at ns k
   before_stays xs i m rest e le keeps k z = grind (arith, ne-from_same)
 
-  hung_at : (xs : List Node) (i : ℕ) → at ≡ i → node_at xs i ≡ node_at ms i → node_at xs i ≡ record (node_at ns i) { parent = c }
+  hung_at : (xs : List Node) (i : ℕ) → at ≡ i → node_at xs i ≡ node_at ms i
+      → node_at xs i ≡ record (node_at ns i) { parent = c }
   hung_at xs i e x = x ∙ (rw (← e) w.written.there)
 
-  placed_hung : (xs : List Node) (s : Sequence) (b a i : ℕ) (k : NodeKind) → node_at xs i ≡ record (node_at ns i) { parent = c } → IsLinkedIn (node_at ns i) s b a k → IsLinkedIn (node_at xs i) (held_by c.number s) b a k
+  placed_hung : (xs : List Node) (s : Sequence) (b a i : ℕ) (k : NodeKind)
+      → node_at xs i ≡ record (node_at ns i) { parent = c } → IsLinkedIn (node_at ns i) s b a k
+      → IsLinkedIn (node_at xs i) (held_by c.number s) b a k
   placed_hung xs s b a i k x h = grind arith
 
   -- One member further, of so many that were left.
   abbrev IsShorter : (s : Sequence) (n : Numbered) (count : ℕ) → Type 0
   IsShorter s n count = (g : IsHanging ms c.number (node_at ns at).next.number s n) × (outermost g.rest + 1 ≡ count)
 
-  goes_on : (s : Sequence) (i p : ℕ) (m rest n : Numbered) → at ≡ i → ((k : ℕ) → same k i + tally k rest ≤ tally k m) → ((k : ℕ) → tally k m ≤ 1) → tally no_slot m ≡ 0 → outermost m ≤ length ns → outermost rest + 1 ≡ outermost m → (node_at ns i).next.number ≡ first_slot rest → Standing ns s i p rest → ((xs : List Node) → ((k : ℕ) → tally k rest ≡ 0 → node_at xs k ≡ node_at ms k) → Standing xs (held_by c.number s) i p rest → Standing xs (held_by c.number s) no_slot 0 n) → IsShorter s n (outermost m)
+  goes_on : (s : Sequence) (i p : ℕ) (m rest n : Numbered) → at ≡ i → ((k : ℕ) → same k i + tally k rest ≤ tally k m)
+      → ((k : ℕ) → tally k m ≤ 1) → tally no_slot m ≡ 0 → outermost m ≤ length ns → outermost rest + 1 ≡ outermost m
+      → (node_at ns i).next.number ≡ first_slot rest → Standing ns s i p rest
+      → ((xs : List Node) → ((k : ℕ) → tally k rest ≡ 0 → node_at xs k ≡ node_at ms k) → Standing xs (held_by c.number s) i p rest → Standing xs (held_by c.number s) no_slot 0 n)
+      → IsShorter s n (outermost m)
   goes_on s i p m rest n e le once none few one next h f =
       let z : tally i rest ≡ 0 = omega (arith, le i, once i, same-self i) in (
         record {
@@ -103,10 +121,14 @@ module _ (ns ms : List Node) (at : ℕ) (c : Link) (w : IsHung ns ms at c) where
         one,
       )
 
-  pub hanging-goes_on : (s : Sequence) (n : Numbered) → (at ≡ no_slot → ⊥) → (g : IsHanging ns c.number at s n) → IsShorter s n (outermost g.rest)
+  pub hanging-goes_on : (s : Sequence) (n : Numbered) → (at ≡ no_slot → ⊥) → (g : IsHanging ns c.number at s n)
+      → IsShorter s n (outermost g.rest)
   hanging-goes_on s n ne g = from g.before g.start g.rest g.standing g.begins g.once g.none g.few g.ends
     where
-      from : (b p : ℕ) (m : Numbered) → Standing ns s b p m → at ≡ first_slot m → ((k : ℕ) → tally k m ≤ 1) → tally no_slot m ≡ 0 → outermost m ≤ length ns → ((xs : List Node) → ((k : ℕ) → tally k m ≡ 0 → node_at xs k ≡ node_at ns k) → Standing xs (held_by c.number s) b p m → Standing xs (held_by c.number s) no_slot 0 n) → IsShorter s n (outermost m)
+      from : (b p : ℕ) (m : Numbered) → Standing ns s b p m → at ≡ first_slot m → ((k : ℕ) → tally k m ≤ 1)
+          → tally no_slot m ≡ 0 → outermost m ≤ length ns
+          → ((xs : List Node) → ((k : ℕ) → tally k m ≡ 0 → node_at xs k ≡ node_at ns k) → Standing xs (held_by c.number s) b p m → Standing xs (held_by c.number s) no_slot 0 n)
+          → IsShorter s n (outermost m)
       from b p End h e once none few f = absurd (ne e)
       from b p (Free i d rest) h e once none few f =
           goes_on s i (p + d) (Free i d rest) rest n e (λ k. omega arith) once none few (omega arith) h.0.next h.2 (λ xs keeps t.
@@ -124,7 +146,8 @@ module _ (ns ms : List Node) (at : ℕ) (c : Link) (w : IsHung ns ms at c) where
           f xs (before_stays xs i (Seq i d inner rest) rest e (λ k. omega arith) keeps) (placed_hung xs s b _ i _ x h.0, rw x h.1, Standing-same ns xs (inside s i p d) no_slot s.start inner within h.2, t))
 
   -- Fewer members follow.
-  pub hanging-falls : (s : Sequence) (n : Numbered) → (at ≡ no_slot → ⊥) → IsHanging ns c.number at s n → followers (length ms) ms (node_at ns at).next.number < followers (length ns) ns at
+  pub hanging-falls : (s : Sequence) (n : Numbered) → (at ≡ no_slot → ⊥) → IsHanging ns c.number at s n
+      → followers (length ms) ms (node_at ns at).next.number < followers (length ns) ns at
   hanging-falls s n ne g =
       let less = hanging-goes_on s n ne g in
       omega (arith, less.1, hanging-followers ns c.number at s n g, hanging-followers ms c.number (node_at ns at).next.number s n less.0)
@@ -140,11 +163,14 @@ abbrev pub from_origin : Size → Rectangle
 from_origin size = record { min = record { x = pos 0; y = pos 0 }; max = record { x = size.width; y = size.height } }
 
 -- Inside the slot that holds it, the sequence is what it was.
-inside-held : (s : Sequence) (c length : ℕ) → s.start ≡ 0 → inside (top_along (other s.axis) length) c 0 s.width ≡ held_by c s
+inside-held : (s : Sequence) (c length : ℕ) → s.start ≡ 0
+    → inside (top_along (other s.axis) length) c 0 s.width ≡ held_by c s
 inside-held s c length e = grind (arith, other_twice)
 
 -- That slot fills the size that the sequence spans.
-rectangle-spanned : (s : Sequence) (size : Size) (length : ℕ) → size ≡ size_of (sides_of size) → s.start ≡ 0 → Reaches (sides_of size) s length → rectangle_of (member_box (top_along (other s.axis) length) 0 s.width) ≡ from_origin size
+rectangle-spanned : (s : Sequence) (size : Size) (length : ℕ) → size ≡ size_of (sides_of size) → s.start ≡ 0
+    → Reaches (sides_of size) s length
+    → rectangle_of (member_box (top_along (other s.axis) length) 0 s.width) ≡ from_origin size
 rectangle-spanned s size length exact e r = grind arith
 
 -- The node of a slot that holds a whole sequence of this size.
@@ -161,10 +187,12 @@ top_node axis size g =
     }
 
 -- The top sequence hangs in slot c, which is written after that.
-pub Stands-topped : (ns ms ks : List Node) (i c g : ℕ) (size : Size) (s : Sequence) (n : Numbered) → (node_at ns c).kind ≡ kind.Unused
+pub Stands-topped : (ns ms ks : List Node) (i c g : ℕ) (size : Size) (s : Sequence) (n : Numbered)
+    → (node_at ns c).kind ≡ kind.Unused
     → size ≡ size_of (sides_of size) → ((k : ℕ) → KeepsUse (node_at ns k) (node_at ms k))
     → IsWritten ms ks c (top_node (flipped (node_at ns i).axis) size g)
-    → BeginsAt ns i s n → s.start ≡ 0 → Reaches (sides_of size) s (total (erase n)) → Standing ms (held_by c s) no_slot 0 n
+    → BeginsAt ns i s n → s.start ≡ 0 → Reaches (sides_of size) s (total (erase n))
+    → Standing ms (held_by c s) no_slot 0 n
     → Stands ks (top_along (other s.axis) (total (erase n))) (Seq c s.width n End)
 Stands-topped ns ms ks i c g size s n unused exact uses w h start reach hung =
     let length = total (erase n) in
@@ -177,9 +205,12 @@ Stands-topped ns ms ks i c g size s n unused exact uses w h start reach hung =
       numbered = grind (arith, same-self, same-ne);
     }
 
-pub topped-by : (ms ks : List Node) (c g : ℕ) (size : Size) (a b : Orientation) (area : Rectangle) → a ≡ b → area ≡ from_origin size → ks ≡ set ms c (record (top_node a size g) { area = area }) → c < length ms → IsWritten ms ks c (top_node b size g)
+pub topped-by : (ms ks : List Node) (c g : ℕ) (size : Size) (a b : Orientation) (area : Rectangle) → a ≡ b
+    → area ≡ from_origin size → ks ≡ set ms c (record (top_node a size g) { area = area }) → c < length ms
+    → IsWritten ms ks c (top_node b size g)
 topped-by ms ks c g size a b area e r w l = IsWritten-by ms ks c (record (top_node a size g) { area = area }) (top_node b size g) w (rw (e, r) refl) l
 
-pub uses-written : (ns ms ks : List Node) (c : ℕ) (m : Node) → ((k : ℕ) → KeepsUse (node_at ns k) (node_at ms k)) → IsWritten ms ks c m
+pub uses-written : (ns ms ks : List Node) (c : ℕ) (m : Node) → ((k : ℕ) → KeepsUse (node_at ns k) (node_at ms k))
+    → IsWritten ms ks c m
     → (k : ℕ) → k ≢ c → KeepsUse (node_at ns k) (node_at ks k)
 uses-written ns ms ks c m uses w k ne = rw (w.others k ne) (uses k)

@@ -3,8 +3,9 @@ use Rattle.std.proofs.Common.{ℕ, ◌+◌, ◌<◌, ◌≤◌, ◌≡◌, List,
 use Rattle.atlas_store.specs.declared.slots.Node.{Node}
 use Rattle.atlas_model.specs.Pixels.{rectangle_of}
 use Rattle.atlas_store.specs.declared.slots.NodeKind.TheVariants as kind
-use Rattle.atlas_store.specs.Slots.{node_at, use_count, no_slot, KeepsUse}
-use Rattle.atlas_store.specs.Slots.Numbered.{Numbered, tally, first_slot, same, joined, grown_by, is_free_at, End, Free, Alloc, Seq}
+use Rattle.atlas_store.specs.Slots.{node_at, use_count, KeepsUse}
+use Rattle.atlas_search.specs.Numbers.{no_slot, same}
+use Rattle.atlas_store.specs.Slots.Numbered.{Numbered, tally, first_slot, joined, grown_by, is_free_at, End, Free, Alloc, Seq}
 use Rattle.atlas_store.specs.Slots.Standing.{Sequence, Standing, Stands, member_box}
 use Rattle.atlas_store.proofs.SlotLemmas.Frames.{same-self, same-ne, Standing-same, used-le, ne-from_count}
 use Rattle.atlas_store.proofs.SlotLemmas.Closing.{IsNone, IsIn, next-in}
@@ -12,7 +13,10 @@ use Rattle.atlas_store.proofs.SlotLemmas.Weights.{free_place}
 use Rattle.atlas_store.proofs.SlotLemmas.Editing.{IsEdit, Standing-edited, joining, free_here, first-edited, weigh-edited, other-slot}
 
 -- The first_slot of m follows another slot now, and the rest of m is the same.
-pub Standing-before : (ns ms : List Node) (i : ℕ) (s : Sequence) (before p : ℕ) (m : Numbered) → (0 < tally (first_slot m) m → node_at ms (first_slot m) ≡ record (node_at ns (first_slot m)) { previous = record { number = i } }) → ((k : ℕ) → (k ≡ first_slot m → ⊥) → 0 < tally k m → node_at ms k ≡ node_at ns k) → tally (first_slot m) m ≤ 1 → Standing ns s before p m → Standing ms s i p m
+pub Standing-before : (ns ms : List Node) (i : ℕ) (s : Sequence) (before p : ℕ) (m : Numbered)
+    → (0 < tally (first_slot m) m → node_at ms (first_slot m) ≡ record (node_at ns (first_slot m)) { previous = record { number = i } })
+    → ((k : ℕ) → (k ≡ first_slot m → ⊥) → 0 < tally k m → node_at ms k ≡ node_at ns k) → tally (first_slot m) m ≤ 1
+    → Standing ns s before p m → Standing ms s i p m
 Standing-before ns ms i s before p End moved others one h = tt
 Standing-before ns ms i s before p (Free k e rest) moved others one h =
     grind (arith, same-self, Standing-same, ne-from_count)
@@ -22,7 +26,8 @@ Standing-before ns ms i s before p (Seq k e inner rest) moved others one h =
     grind (arith, same-self, Standing-same, ne-from_count)
 
 -- The box of two neighbours.
-box-joined : (s : Sequence) (p e d : ℕ) → record (rectangle_of (member_box s p e)) { max = (rectangle_of (member_box s (p + e) d)).max } ≡ rectangle_of (member_box s p (e + d))
+box-joined : (s : Sequence) (p e d : ℕ)
+    → record (rectangle_of (member_box s p e)) { max = (rectangle_of (member_box s (p + e) d)).max } ≡ rectangle_of (member_box s p (e + d))
 box-joined s p e d = grind arith
 
 pub first-grown : (j e : ℕ) (n : Numbered) → first_slot (grown_by j e n) ≡ j
@@ -33,7 +38,7 @@ pub first-joined : (i : ℕ) (n : Numbered) → first_slot (joined i n) ≡ firs
 first-joined i = first-edited (is_free_at i) joining (λ a. free_here i (λ m. first_slot (joining a m) ≡ first_slot m) (first-grown i)) 0
 
 -- The nodes ms are ns after the free leaf i took in the free leaf j, which a follows.
-pub record IsJoined (ns ms : List Node) (i j a : ℕ) : Type 0 where
+pub record IsJoinOf (ns ms : List Node) (i j a : ℕ) : Type 0 where
   pub ends : (node_at ns no_slot).kind ≡ kind.Unused
   pub free : (node_at ns i).kind ≡ kind.Free
   pub next : (node_at ns i).next.number ≡ j
@@ -47,7 +52,7 @@ pub record IsJoined (ns ms : List Node) (i j a : ℕ) : Type 0 where
   pub stays : a ≡ no_slot → node_at ms a ≡ node_at ns a
   pub others : (k : ℕ) → (k ≡ i → ⊥) → (k ≡ j → ⊥) → (k ≡ a → ⊥) → node_at ms k ≡ node_at ns k
 
-module _ (ns ms : List Node) (i j a : ℕ) (w : IsJoined ns ms i j a) where
+module _ (ns ms : List Node) (i j a : ℕ) (w : IsJoinOf ns ms i j a) where
   not_none : IsNone j → ⊥
   not_none e = let k = w.next_free in let l : (node_at ns j).kind ≡ kind.Unused = rw (e, w.ends) refl in cc
 
@@ -68,7 +73,9 @@ module _ (ns ms : List Node) (i j a : ℕ) (w : IsJoined ns ms i j a) where
   after_in s b q n h l = rw w.after at (next-in ns j s b q n h (next_in s b q n h l))
 
   -- At i itself.
-  at_head : (s : Sequence) (b p e : ℕ) (rest : Numbered) → IsNextFree rest → ((k : ℕ) → same k i + tally k rest ≤ 1) → same no_slot i + tally no_slot rest ≡ 0 → Standing ns s b p (Free i e rest) → Standing ms s b p (grown_by i e rest)
+  at_head : (s : Sequence) (b p e : ℕ) (rest : Numbered) → IsNextFree rest → ((k : ℕ) → same k i + tally k rest ≤ 1)
+      → same no_slot i + tally no_slot rest ≡ 0 → Standing ns s b p (Free i e rest)
+      → Standing ms s b p (grown_by i e rest)
   at_head s b p e rest f once none h =
       let d = f.0 in
       let tail = f.1 in
@@ -108,7 +115,8 @@ module _ (ns ms : List Node) (i j a : ℕ) (w : IsJoined ns ms i j a) where
       }
 
   -- The slot j alone leaves the tree.
-  pub tallies-joined : (s : Sequence) (n : Numbered) → Stands ns s n → (x : ℕ) → tally x (joined i n) + same x j ≡ tally x n
+  pub tallies-joined : (s : Sequence) (n : Numbered) → Stands ns s n → (x : ℕ)
+      → tally x (joined i n) + same x j ≡ tally x n
   tallies-joined s n h x = omega (arith, all)
     where
       all : tally x (joined i n) + same x j ≡ tally x n + 0

@@ -6,7 +6,8 @@ use Rattle.atlas_store.specs.declared.slots.NodeKind.{NodeKind}
 use Rattle.atlas_model.specs.Boxes.{Box}
 use Rattle.atlas_model.specs.Pixels.{box_of}
 use Rattle.atlas_model.specs.Trees.{Grant, grant}
-use Rattle.atlas_store.specs.Slots.{node_at, use_count, no_slot}
+use Rattle.atlas_store.specs.Slots.{node_at, use_count}
+use Rattle.atlas_search.specs.Numbers.{no_slot}
 use Rattle.atlas_store.specs.Slots.Lists.{is_free}
 use Rattle.atlas_store.specs.Slots.Numbered.{Numbered, weigh, id_of, erase, End, Free, Alloc, Seq}
 use Rattle.atlas_store.specs.Slots.Standing.{Sequence, Standing, Stands, inside, spot}
@@ -32,12 +33,14 @@ free-light : (k : NodeKind) (v : ℕ) → use_count k * cond (is_free k) v 0 ≡
 free-light k v = grind arith
 
 -- The list of the allocated slots counts them.
-pub count-allocated : (p : Grant → Bool) (i : ℕ) (ns : List Node) → count_by p (map grant_of (allocated_from i ns)) ≡ slot_sum (alloc_weight p) i ns
+pub count-allocated : (p : Grant → Bool) (i : ℕ) (ns : List Node)
+    → count_by p (map grant_of (allocated_from i ns)) ≡ slot_sum (alloc_weight p) i ns
 count-allocated p i [] = refl
 count-allocated p i (n ∷ ns) = grind (arith, count-allocated p (i + 1) ns, slot_sum, one_if, count_by-cons)
 
 -- The list of the free slots counts them.
-pub count-free_areas : (p : Box → Bool) (i : ℕ) (ns : List Node) → count_by p (map box_of (free_areas ns)) ≡ slot_sum (free_weight p) i ns
+pub count-free_areas : (p : Box → Bool) (i : ℕ) (ns : List Node)
+    → count_by p (map box_of (free_areas ns)) ≡ slot_sum (free_weight p) i ns
 count-free_areas p i [] = refl
 count-free_areas p i (n ∷ ns) = grind (arith, count-free_areas p (i + 1) ns, slot_sum, one_if, count_by-cons)
 

@@ -3,8 +3,9 @@ use Rattle.std.proofs.Common.{ℕ, ◌+◌, ◌<◌, ◌≤◌, ◌≡◌, List,
 use Rattle.std.proofs.lemmas.Bool.{cond_both, eqb-true, eqb-false, ne_eqb, cond-false}
 use Rattle.atlas_store.specs.declared.slots.Node.{Node}
 use Rattle.atlas_store.specs.declared.slots.NodeKind.TheVariants as kind
-use Rattle.atlas_store.specs.Slots.{node_at, no_slot}
-use Rattle.atlas_store.specs.Slots.Numbered.{Numbered, tally, first_slot, same, lifted, lifted_to, is_seq_at, End, Free, Alloc, Seq}
+use Rattle.atlas_store.specs.Slots.{node_at}
+use Rattle.atlas_search.specs.Numbers.{no_slot, same}
+use Rattle.atlas_store.specs.Slots.Numbered.{Numbered, tally, first_slot, lifted, lifted_to, is_seq_at, End, Free, Alloc, Seq}
 use Rattle.atlas_store.specs.Slots.Standing.{Sequence, Standing, Stands, IsLinkedIn, inside}
 use Rattle.atlas_store.proofs.SlotLemmas.Frames.{same-self, same-ne, Standing-same, used-le, split_pos, ne-from_same, ne-from_count}
 use Rattle.atlas_store.proofs.SlotLemmas.Closing.{begins-none}
@@ -12,7 +13,8 @@ use Rattle.atlas_store.proofs.SlotLemmas.Weights.{places-le}
 use Rattle.atlas_store.proofs.SlotLemmas.Editing.{lifting, seq_here, first-edited, edited-absent}
 
 -- A member's parent holds the sequence, or is a member itself.
-pub parent-in : (ns : List Node) (k : ℕ) (s : Sequence) (b p : ℕ) (n : Numbered) → Standing ns s b p n → 0 < tally k n → ((node_at ns k).parent.number ≡ s.parent) ⊎ (0 < tally (node_at ns k).parent.number n)
+pub parent-in : (ns : List Node) (k : ℕ) (s : Sequence) (b p : ℕ) (n : Numbered) → Standing ns s b p n → 0 < tally k n
+    → ((node_at ns k).parent.number ≡ s.parent) ⊎ (0 < tally (node_at ns k).parent.number n)
 parent-in ns k s b p End h l = absurd (omega arith)
 parent-in ns k s b p (Free j e rest) h l = grind (arith, parent-in ns k s j (p + e) rest h.2, same-ne)
 parent-in ns k s b p (Alloc j g e rest) h l = grind (arith, parent-in ns k s j (p + e) rest h.3, same-ne)
@@ -30,7 +32,7 @@ pub lifted-absent : (i : ℕ) (n : Numbered) → tally i n ≡ 0 → lifted i n 
 lifted-absent i n z = edited-absent (is_seq_at i) lifting refl 0 n (omega (arith, places-le (is_seq_at i) i (seq_here i (λ m. first_slot m ≡ i) (λ e inner rest. refl)) n))
 
 -- The nodes ms are ns after the lone free child k gave its place to c.
-pub record IsLifted (ns ms : List Node) (c k : ℕ) : Type 0 where
+pub record IsLiftOf (ns ms : List Node) (c k : ℕ) : Type 0 where
   pub ends : (node_at ns no_slot).kind ≡ kind.Unused
   pub free : (node_at ns k).kind ≡ kind.Free
   pub parent : (node_at ns k).parent.number ≡ c
@@ -44,17 +46,20 @@ pub record IsLifted (ns ms : List Node) (c k : ℕ) : Type 0 where
   pub given : node_at ms k ≡ record (node_at ns k) { kind = kind.Unused }
   pub others : (x : ℕ) → (x ≡ c → ⊥) → (x ≡ k → ⊥) → node_at ms x ≡ node_at ns x
 
-module _ (ns ms : List Node) (c k : ℕ) (w : IsLifted ns ms c k) where
-  away : (s : Sequence) (b q : ℕ) (n : Numbered) → tally c n ≡ 0 → tally k n ≡ 0 → Standing ns s b q n → Standing ms s b q n
+module _ (ns ms : List Node) (c k : ℕ) (w : IsLiftOf ns ms c k) where
+  away : (s : Sequence) (b q : ℕ) (n : Numbered) → tally c n ≡ 0 → tally k n ≡ 0 → Standing ns s b q n
+      → Standing ms s b q n
   away s b q n zc zk h = Standing-same ns ms s b q n (λ x l. w.others x (ne-from_count c x n zc l) (ne-from_count k x n zk l)) h
 
   -- The child follows no slot.
-  not_after : (s : Sequence) (b q : ℕ) (n : Numbered) → (b ≡ no_slot → ⊥) → k ≡ first_slot n → 0 < tally k n → Standing ns s b q n → ⊥
+  not_after : (s : Sequence) (b q : ℕ) (n : Numbered) → (b ≡ no_slot → ⊥) → k ≡ first_slot n → 0 < tally k n
+      → Standing ns s b q n → ⊥
   not_after s b q End nb x l h = absurd (omega arith)
   not_after s b q n nb x l h = nb (sym h.0.previous ∙ (rw (← x) w.alone_before))
 
   -- So no later member is the child.
-  not_later : (s : Sequence) (b q : ℕ) (n : Numbered) → tally no_slot n ≡ 0 → tally c n ≡ 0 → (k ≡ first_slot n → ⊥) → 0 < tally k n → Standing ns s b q n → ⊥
+  not_later : (s : Sequence) (b q : ℕ) (n : Numbered) → tally no_slot n ≡ 0 → tally c n ≡ 0 → (k ≡ first_slot n → ⊥)
+      → 0 < tally k n → Standing ns s b q n → ⊥
   not_later s b q End none zc ne l h = absurd (omega arith)
   not_later s b q (Free j e rest) none zc ne l h =
       grind (arith, same-ne, not_after, ne-from_same, not_later s j (q + e) rest (omega arith) (omega arith))
@@ -63,14 +68,16 @@ module _ (ns ms : List Node) (c k : ℕ) (w : IsLifted ns ms c k) where
   not_later s b q (Seq j e inner rest) none zc ne l h =
       grind (arith, split_pos, same-ne, parent-in, ne-from_same, not_after, not_later s j (q + e) rest (omega arith) (omega arith))
 
-  first_alone : (s : Sequence) (b q : ℕ) (n : Numbered) → tally no_slot n ≡ 0 → 0 < tally k n → k ≡ first_slot n → Standing ns s b q n → (d : ℕ) × (n ≡ Free k d End)
+  first_alone : (s : Sequence) (b q : ℕ) (n : Numbered) → tally no_slot n ≡ 0 → 0 < tally k n → k ≡ first_slot n
+      → Standing ns s b q n → (d : ℕ) × (n ≡ Free k d End)
   first_alone s b q End none l x h = absurd (omega arith)
   first_alone s b q (Free j d rest) none l x h =
       (d, (let t = begins-none rest (sym h.0.next ∙ (rw (← x) w.alone_after)) (omega arith) in let y = sym x in cc))
   first_alone s b q n none l x h = let f = h.0.kind in let y : (node_at ns (first_slot n)).kind ≡ kind.Free = rw (← x, w.free) refl in cc
 
   -- In c there is the child alone.
-  lone : (s : Sequence) (b q : ℕ) (n : Numbered) → tally no_slot n ≡ 0 → tally c n ≡ 0 → 0 < tally k n → Standing ns s b q n → (d : ℕ) × (n ≡ Free k d End)
+  lone : (s : Sequence) (b q : ℕ) (n : Numbered) → tally no_slot n ≡ 0 → tally c n ≡ 0 → 0 < tally k n
+      → Standing ns s b q n → (d : ℕ) × (n ≡ Free k d End)
   lone s b q n none zc l h = grind (arith, first_alone, not_later)
 
   not_free : (s : Sequence) (b a j : ℕ) → IsLinkedIn (node_at ns j) s b a kind.Container → k ≡ j → ⊥
@@ -80,17 +87,20 @@ module _ (ns ms : List Node) (c k : ℕ) (w : IsLifted ns ms c k) where
   not_free_alloc s b a j h x = let f = h.kind in let y : (node_at ns j).kind ≡ kind.Free = rw (← x, w.free) refl in cc
 
   -- Where k is, c is, but for the sequence of c itself.
-  container_in : (s : Sequence) (b q : ℕ) (n : Numbered) → (s.parent ≡ c → ⊥) → Standing ns s b q n → 0 < tally k n → 0 < tally c n
+  container_in : (s : Sequence) (b q : ℕ) (n : Numbered) → (s.parent ≡ c → ⊥) → Standing ns s b q n → 0 < tally k n
+      → 0 < tally c n
   container_in s b q n np h l = elim (parent-in ns k s b q n h l) [ inl x ↦ absurd (np (sym x ∙ w.parent)) | inr y ↦ (rw w.parent at y) ]
 
-  beside : (j : ℕ) (m : Numbered) → ((x : ℕ) → same x j + tally x m ≤ 1) → 0 < tally c m → 0 < tally k m → node_at ms j ≡ node_at ns j
+  beside : (j : ℕ) (m : Numbered) → ((x : ℕ) → same x j + tally x m ≤ 1) → 0 < tally c m → 0 < tally k m
+      → node_at ms j ≡ node_at ns j
   beside j m once lc lk = w.others j (ne-from_same c j (omega (arith, once c))) (ne-from_same k j (omega (arith, once k)))
 
   -- The tree stands, and the slot k alone leaves it.
   abbrev IsLift : Sequence → (b p : ℕ) → (old new : Numbered) → Type 0
   IsLift s b p n m = Standing ms s b p m × ((x : ℕ) → tally x m + same x k ≡ tally x n)
 
-  lifts : (s : Sequence) (b p : ℕ) (n : Numbered) → ((x : ℕ) → tally x n ≤ 1) → tally no_slot n ≡ 0 → (s.parent ≡ c → ⊥) → 0 < tally k n → Standing ns s b p n → IsLift s b p n (lifted c n)
+  lifts : (s : Sequence) (b p : ℕ) (n : Numbered) → ((x : ℕ) → tally x n ≤ 1) → tally no_slot n ≡ 0 → (s.parent ≡ c → ⊥)
+      → 0 < tally k n → Standing ns s b p n → IsLift s b p n (lifted c n)
   lifts s b p End once none np l h = absurd (omega arith)
   lifts s b p (Free j e rest) once none np l h =
       grind (
@@ -152,5 +162,6 @@ module _ (ns ms : List Node) (c k : ℕ) (w : IsLifted ns ms c k) where
   all_lifts : (s : Sequence) (n : Numbered) → s.parent ≡ no_slot → Stands ns s n → IsLift s no_slot 0 n (lifted c n)
   all_lifts s n top h = grind (arith, used-le, lifts)
 
-  pub Stands-lifted : (s : Sequence) (n : Numbered) → s.parent ≡ no_slot → Stands ns s n → (node_at ns c).kind ≡ kind.Container → Stands ms s (lifted c n)
+  pub Stands-lifted : (s : Sequence) (n : Numbered) → s.parent ≡ no_slot → Stands ns s n
+      → (node_at ns c).kind ≡ kind.Container → Stands ms s (lifted c n)
   Stands-lifted s n top h box = grind (arith, all_lifts s n top h, same-self k, same-ne)

@@ -3,8 +3,9 @@ use Rattle.std.proofs.Common.{ℕ, ◌≤◌, ◌≡◌, List, refl, ◌∙◌, 
 use Rattle.std.proofs.lemmas.Bool.{cases_eq}
 use Rattle.atlas_store.specs.declared.slots.Node.{Node}
 use Rattle.atlas_store.specs.declared.slots.NodeKind.TheVariants as kind
-use Rattle.atlas_store.specs.Slots.{no_slot, node_at, use_count}
-use Rattle.atlas_store.specs.Slots.Numbered.{Numbered, weigh, tally, numbers, first_slot, same, marked, is_alloc_at}
+use Rattle.atlas_store.specs.Slots.{node_at, use_count}
+use Rattle.atlas_search.specs.Numbers.{no_slot, same}
+use Rattle.atlas_store.specs.Slots.Numbered.{Numbered, weigh, tally, numbers, first_slot, marked, is_alloc_at}
 use Rattle.atlas_store.specs.Slots.Standing.{Sequence, Stands}
 use Rattle.atlas_store.proofs.SlotLemmas.Frames.{IsWritten, Standing-same, same-self, used-le, ne-from_count}
 use Rattle.atlas_store.proofs.SlotLemmas.Weights.{places-le, alloc_place}

@@ -2,18 +2,19 @@
 use Rattle.std.proofs.Common.{ℕ, ◌+◌, ◌<◌, ◌≡◌, List, refl, sym, ap, ◌∙◌, ◌≤◌, Bool, inl, inr, arith, eqb}
 use Rattle.std.proofs.lemmas.Bool.{cases_eq, eq-eqb, ne_eqb, cond-true, cond-false}
 use Rattle.atlas_store.specs.declared.slots.Node.{Node}
-use Rattle.atlas_store.specs.Slots.{node_at, no_slot}
+use Rattle.atlas_store.specs.Slots.{node_at}
+use Rattle.atlas_search.specs.Numbers.{no_slot, same}
 use Rattle.atlas_model.specs.Trees as tree
 use Rattle.atlas_model.specs.Changes.{free_before, seq_before, nf, mark, only}
-use Rattle.atlas_store.specs.Slots.Numbered.{Numbered, tally, same, is_free_at, is_seq_at, marked, joined, grown_by, lifted, lifted_to, erase, id_of, numbers, End, Free, Alloc, Seq}
+use Rattle.atlas_store.specs.Slots.Numbered.{Numbered, tally, is_free_at, is_seq_at, marked, joined, grown_by, lifted, lifted_to, erase, id_of, numbers, End, Free, Alloc, Seq}
 use Rattle.atlas_store.specs.Slots.Standing.{Sequence, Standing, inside}
 use Rattle.atlas_store.proofs.SlotLemmas.Frames.{same-self}
 use Rattle.atlas_store.proofs.SlotLemmas.Marking.{marked-absent}
-use Rattle.atlas_store.proofs.SlotLemmas.Editing.{IsKept, edited-keeps, joining, lifting, free_here, seq_here}
+use Rattle.atlas_store.proofs.SlotLemmas.Editing.{IsCarried, edited-keeps, joining, lifting, free_here, seq_here}
 use Rattle.atlas_model.proofs.TreeLemmas.TreeNormal.{free_before-twice}
 
 -- A member that keeps its normal form keeps that of the whole.
-nf-kept : (is : Numbered → Bool) → IsKept is (λ a m n. nf (erase n) ≡ nf (erase m))
+nf-kept : (is : Numbered → Bool) → IsCarried is (λ a m n. nf (erase n) ≡ nf (erase m))
 nf-kept is = grind arith
 
 nf-grown : (i e : ℕ) (n : Numbered) → nf (erase (grown_by i e n)) ≡ free_before e (nf (erase n))
@@ -23,7 +24,8 @@ nf-grown i e n = refl
 pub nf-joined : (i : ℕ) (n : Numbered) → nf (erase (joined i n)) ≡ nf (erase n)
 nf-joined i = edited-keeps (is_free_at i) joining _ (nf-kept _) (λ a. free_here i (λ m. nf (erase (joining a m)) ≡ nf (erase m)) (nf-grown i)) 0
 
-nf-lifted_to : (j e : ℕ) (inner rest : Numbered) → nf (erase (lifted_to j e inner rest)) ≡ seq_before e (nf (erase inner)) (nf (erase rest))
+nf-lifted_to : (j e : ℕ) (inner rest : Numbered)
+    → nf (erase (lifted_to j e inner rest)) ≡ seq_before e (nf (erase inner)) (nf (erase rest))
 nf-lifted_to j e (Free k d End) rest = refl
 nf-lifted_to j e inner rest = refl
 
@@ -31,7 +33,9 @@ pub nf-lifted : (i : ℕ) (n : Numbered) → nf (erase (lifted i n)) ≡ nf (era
 nf-lifted i = edited-keeps (is_seq_at i) lifting _ (nf-kept _) (λ a. seq_here i (λ m. nf (erase (lifting a m)) ≡ nf (erase m)) (nf-lifted_to i)) 0
 
 -- To mark the leaf at slot i is to mark the leaf with its id.
-pub erase-marked : (ns : List Node) (i : ℕ) (s : Sequence) (b p : ℕ) (n : Numbered) → i < 16777216 → ((k : ℕ) → 0 < tally k n → k < 16777216) → ((k : ℕ) → tally k n ≤ 1) → Standing ns s b p n → erase (marked i n) ≡ mark (only (id_of i (node_at ns i).generation)) (erase n)
+pub erase-marked : (ns : List Node) (i : ℕ) (s : Sequence) (b p : ℕ) (n : Numbered) → i < 16777216
+    → ((k : ℕ) → 0 < tally k n → k < 16777216) → ((k : ℕ) → tally k n ≤ 1) → Standing ns s b p n
+    → erase (marked i n) ≡ mark (only (id_of i (node_at ns i).generation)) (erase n)
 erase-marked ns i s b p End li below once h = refl
 erase-marked ns i s b p (Free j e rest) li below once h = grind (arith, erase-marked ns i s j (p + e) rest li)
 erase-marked ns i s b p (Alloc j g e rest) li below once h =

@@ -5,7 +5,8 @@ use Rattle.atlas_store.specs.declared.slots.placing.Parts.{Parts}
 use Rattle.atlas_store.specs.declared.slots.placing.Plan.{Plan}
 use Rattle.atlas_store.specs.declared.slots.placing.Plan.TheVariants as plan
 use Rattle.atlas_model.specs.Trees.{IsCut, total}
-use Rattle.atlas_store.specs.Slots.{node_at, no_slot}
+use Rattle.atlas_store.specs.Slots.{node_at}
+use Rattle.atlas_search.specs.Numbers.{no_slot}
 use Rattle.atlas_store.specs.Slots.Numbered.{
   Numbered,
   erase,
@@ -27,7 +28,7 @@ use Rattle.atlas_store.specs.Slots.Standing.{Sequence, Standing, inside}
 use Rattle.atlas_store.specs.Slots.Reading.{extent_of}
 use Rattle.atlas_store.proofs.SlotLemmas.Placing.{IsLeafIn, extent-is, across-is}
 use Rattle.atlas_store.proofs.SlotLemmas.Editing.{
-  IsKept,
+  IsCarried,
   edited-keeps,
   joining,
   marking,
@@ -42,7 +43,7 @@ abbrev pub IsRecut : (across : ℕ) → (old new : Numbered) → Type 0
 IsRecut across old new =
     (total (erase new) ≡ total (erase old)) × (0 < across → IsCut across (erase old) → IsCut across (erase new))
 
-recut-kept : (is : Numbered → Bool) → IsKept is IsRecut
+recut-kept : (is : Numbered → Bool) → IsCarried is IsRecut
 recut-kept is = grind arith
 
 pub recut-marked : (i across : ℕ) (n : Numbered) → IsRecut across n (marked i n)

@@ -23,21 +23,23 @@ use Rattle.std.proofs.Common.{
   arith,
 }
 use Rattle.std.proofs.lemmas.Bool.{cases_eq, cases_lt}
-use Rattle.atlas_store.specs.declared.slots.Link.{Link}
+use Rattle.atlas_search.specs.declared.link.Link.{Link}
 use Rattle.atlas_store.specs.declared.slots.Node.{Node}
 use Rattle.atlas_store.specs.declared.slots.NodeKind.{NodeKind}
 use Rattle.atlas_store.specs.declared.slots.NodeKind.TheVariants as kind
 use Rattle.atlas_store.specs.declared.slots.placing.Parts.{Parts}
 use Rattle.atlas_store.specs.declared.slots.placing.Plan.{Plan}
 use Rattle.atlas_store.specs.declared.slots.placing.Plan.TheVariants as plan
-use Rattle.atlas_store.specs.declared.cut.Orientation.{Orientation}
+use Rattle.atlas_search.specs.declared.cut.Orientation.{Orientation}
 use Rattle.atlas_model.specs.Boxes.{other, side, box_sides}
 use Rattle.atlas_model.specs.Pixels.{rectangle_of}
-use Rattle.atlas_store.specs.Slots.{node_at, use_count, no_slot, axis_of, KeepsUse}
-use Rattle.atlas_store.specs.Slots.Lists.{occurs, is_free}
-use Rattle.atlas_store.specs.Slots.Numbered.{Numbered, tally, first_slot, same, is_free_at, End, Free, Alloc}
+use Rattle.atlas_store.specs.Slots.{node_at, use_count, axis_of, KeepsUse}
+use Rattle.atlas_search.specs.Numbers.{no_slot, occurs, same}
+use Rattle.atlas_store.specs.Slots.Lists.{is_free}
+use Rattle.atlas_store.specs.Slots.Numbered.{Numbered, tally, first_slot, is_free_at, End, Free, Alloc}
 use Rattle.atlas_store.specs.Slots.Standing.{Sequence, Standing, Stands, IsLinkedIn, inside, member_box}
-use Rattle.atlas_store.specs.Slots.Parts.{flipped, front_part, back_part, front_node, back_node, inner_node}
+use Rattle.atlas_store.specs.Slots.Parts.{front_part, back_part, front_node, back_node, inner_node}
+use Rattle.atlas_search.specs.Rectangles.{flipped}
 use Rattle.atlas_store.specs.Slots.Reading.{extent_of}
 use Rattle.atlas_store.specs.Slots.Placing.{
   across_of,
@@ -314,13 +316,13 @@ abbrev pub IsOutOf : List ℕ → Node → ℕ → Type 0
 IsOutOf ks n x = (marks_of ks x ≡ true) ⊎ (is_free n.kind ≡ false)
 
 module _ (ns ms : List Node) (at : Link) where
-  abbrev IsPart : List ℕ → ℕ → Type 0
-  IsPart ks x =
+  abbrev IsPartNode : List ℕ → ℕ → Type 0
+  IsPartNode ks x =
       (use_count (node_at ms x).kind ≡ 1) × IsOutOf ks (node_at ms x) x
       × ((node_at ms x).generation ≡ (node_at ns x).generation)
 
   leaf_part : (ks : List ℕ) (x : ℕ) (n : Node) → node_at ms x ≡ n → n.kind ≡ kind.Free
-      → n.generation ≡ (node_at ns x).generation → marks_of ks x ≡ true → IsPart ks x
+      → n.generation ≡ (node_at ns x).generation → marks_of ks x ≡ true → IsPartNode ks x
   leaf_part ks x n e k g m = (
     ap (λ (n : Node). use_count n.kind) e
         ∙ ap use_count k,
@@ -329,7 +331,7 @@ module _ (ns ms : List Node) (at : Link) where
   )
 
   used_part : (ks : List ℕ) (x : ℕ) (n : Node) → node_at ms x ≡ n → use_count n.kind ≡ 1
-      → n.generation ≡ (node_at ns x).generation → is_free n.kind ≡ false → IsPart ks x
+      → n.generation ≡ (node_at ns x).generation → is_free n.kind ≡ false → IsPartNode ks x
   used_part ks x n e k g m = (
     ap (λ (n : Node). use_count n.kind) e
         ∙ k,
@@ -344,35 +346,35 @@ module _ (ns ms : List Node) (at : Link) where
   marked_second x y = grind (arith, cases_eq y x, with_mark-same, with_mark-other)
 
   pub placed-part : (p : Plan) (t : Parts) → IsPlaced ns ms at p t → (x : ℕ) → 0 < occurs x (taken_by p t)
-      → IsPart (left_by p t) x
+      → IsPartNode (left_by p t) x
   placed-part plan.Whole t w x = λ l. absurd (omega (arith, l))
   placed-part (plan.StripAlong p) t w x =
       let ks = left_by (plan.StripAlong p) t in
-      in-list (IsPart ks) x t.split.number [] (leaf_part ks t.split.number _ w.written.1 refl refl
+      in-list (IsPartNode ks) x t.split.number [] (leaf_part ks t.split.number _ w.written.1 refl refl
       (marked_first t.split.number [])) (λ l. absurd (omega (arith, l)))
   placed-part (plan.CornerAlong p q) t w x =
       let ks = left_by (plan.CornerAlong p q) t in
-      in-list (IsPart ks) x t.leftover.number (t.granted.number ∷ t.split.number ∷ [])
+      in-list (IsPartNode ks) x t.leftover.number (t.granted.number ∷ t.split.number ∷ [])
       (leaf_part ks t.leftover.number _ w.written.1.1 refl refl (marked_second t.split.number t.leftover.number))
-      (in-list (IsPart ks) x t.granted.number (t.split.number ∷ [])
+      (in-list (IsPartNode ks) x t.granted.number (t.split.number ∷ [])
       (used_part ks t.granted.number _ w.written.1.0 refl refl refl)
-      (in-list (IsPart ks) x t.split.number [] (leaf_part ks t.split.number _ w.written.0.1 refl refl
+      (in-list (IsPartNode ks) x t.split.number [] (leaf_part ks t.split.number _ w.written.0.1 refl refl
       (marked_first t.split.number (t.leftover.number ∷ []))) (λ l. absurd (omega (arith, l)))))
   placed-part (plan.StripAcross q) t w x =
       let ks = left_by (plan.StripAcross q) t in
-      in-list (IsPart ks) x t.granted.number (t.split.number ∷ [])
+      in-list (IsPartNode ks) x t.granted.number (t.split.number ∷ [])
       (used_part ks t.granted.number _ w.written.1.0 refl refl refl)
-      (in-list (IsPart ks) x t.split.number [] (leaf_part ks t.split.number _ w.written.1.1 refl refl
+      (in-list (IsPartNode ks) x t.split.number [] (leaf_part ks t.split.number _ w.written.1.1 refl refl
       (marked_first t.split.number [])) (λ l. absurd (omega (arith, l))))
   placed-part (plan.CornerAcross p q) t w x =
       let ks = left_by (plan.CornerAcross p q) t in
-      in-list (IsPart ks) x t.leftover.number (t.granted.number ∷ t.container.number ∷ t.split.number ∷ [])
+      in-list (IsPartNode ks) x t.leftover.number (t.granted.number ∷ t.container.number ∷ t.split.number ∷ [])
       (leaf_part ks t.leftover.number _ w.written.2.1 refl refl (marked_second t.split.number t.leftover.number))
-      (in-list (IsPart ks) x t.granted.number (t.container.number ∷ t.split.number ∷ [])
+      (in-list (IsPartNode ks) x t.granted.number (t.container.number ∷ t.split.number ∷ [])
       (used_part ks t.granted.number _ w.written.2.0 refl refl refl)
-      (in-list (IsPart ks) x t.container.number (t.split.number ∷ [])
+      (in-list (IsPartNode ks) x t.container.number (t.split.number ∷ [])
       (used_part ks t.container.number _ w.written.1.0 refl refl refl)
-      (in-list (IsPart ks) x t.split.number [] (leaf_part ks t.split.number _ w.written.1.1 refl refl
+      (in-list (IsPartNode ks) x t.split.number [] (leaf_part ks t.split.number _ w.written.1.1 refl refl
       (marked_first t.split.number (t.leftover.number ∷ []))) (λ l. absurd (omega (arith, l))))))
 
   abbrev IsUsedAs : Node → Type 0

@@ -25,16 +25,16 @@ use Rattle.std.proofs.Common.{
 }
 use Rattle.std.proofs.lemmas.List.{get_or_past, length-map}
 use Rattle.atlas_store.specs.declared.slots.Node.{Node}
-use Rattle.atlas_store.specs.declared.slots.Link.{Link}
+use Rattle.atlas_search.specs.declared.link.Link.{Link}
 use Rattle.atlas_store.specs.declared.slots.Slot.{Slot}
 use Rattle.atlas_store.specs.declared.slots.NodeKind.{NodeKind}
 use Rattle.atlas_store.specs.declared.slots.NodeKind.TheVariants as kind
 use Rattle.atlas_store.specs.declared.slots.placing.Parts.{Parts}
 use Rattle.atlas_store.specs.declared.slots.placing.Plan.{Plan}
 use Rattle.atlas_store.specs.declared.slots.placing.Plan.TheVariants as plan
-use Rattle.atlas_store.specs.Slots.{nodes, node_at, blank_node, use_count, no_slot}
-use Rattle.atlas_store.specs.Slots.Lists.{occurs}
-use Rattle.atlas_store.specs.Slots.Numbered.{Numbered, tally, first_slot, same, End, Seq}
+use Rattle.atlas_store.specs.Slots.{nodes, node_at, blank_node, use_count}
+use Rattle.atlas_search.specs.Numbers.{no_slot, occurs, same}
+use Rattle.atlas_store.specs.Slots.Numbered.{Numbered, tally, first_slot, End, Seq}
 use Rattle.atlas_store.specs.Slots.Standing.{Sequence, Standing, IsTree, IsSlot, with_kind, with_previous}
 use Rattle.atlas_store.specs.Slots.Parts.{front_node, back_node, inner_node}
 use Rattle.atlas_store.specs.Slots.Placing.{CanPlace, IsCutInto, IsPlaced, taken_by}

@@ -7,9 +7,10 @@ use Rattle.atlas_store.specs.declared.slots.Node.{Node}
 use Rattle.atlas_model.specs.Boxes.{Axis, side, box_sides}
 use Rattle.atlas_model.specs.Pixels.{box_of, rectangle_of}
 use Rattle.atlas_store.specs.declared.slots.NodeKind.TheVariants as kind
-use Rattle.atlas_store.specs.Slots.{axis_of, node_at, blank_node, use_count, no_slot}
+use Rattle.atlas_store.specs.Slots.{axis_of, node_at, blank_node, use_count}
+use Rattle.atlas_search.specs.Numbers.{no_slot, same}
 use Rattle.atlas_model.specs.Trees.{Members, Tree}
-use Rattle.atlas_store.specs.Slots.Numbered.{Numbered, tally, first_slot, same, erase, numbers, End, Free, Alloc, Seq}
+use Rattle.atlas_store.specs.Slots.Numbered.{Numbered, tally, first_slot, erase, numbers, End, Free, Alloc, Seq}
 use Rattle.atlas_store.specs.Slots.Standing.{Sequence, Standing, Stands, inside, member_box}
 use Rattle.atlas_store.specs.Slots.Reading.{extent_of, begins_in, first_member_of, read, numbered_of, tree_of}
 use Rattle.atlas_store.proofs.SlotLemmas.Frames.{same-self, same-ne, used-le, split_pos, ne-from_same}
@@ -20,7 +21,8 @@ pub side-box : (s : Sequence) (p e : ℕ) → side s.axis (box_sides (box_of (re
 side-box s p e = grind arith
 
 -- The extent read from a member's rectangle is the member's.
-pub extent-of_placed : (ns : List Node) (j : ℕ) (s : Sequence) (p e : ℕ) → axis_of (node_at ns j).axis ≡ s.axis → (node_at ns j).area ≡ rectangle_of (member_box s p e) → extent_of (node_at ns j) ≡ e
+pub extent-of_placed : (ns : List Node) (j : ℕ) (s : Sequence) (p e : ℕ) → axis_of (node_at ns j).axis ≡ s.axis
+    → (node_at ns j).area ≡ rectangle_of (member_box s p e) → extent_of (node_at ns j) ≡ e
 extent-of_placed ns j s p e a b = rw (a, b) (side-box s p e)
 
 -- A head, of its parts.
@@ -36,7 +38,8 @@ true-IsHead : (c : ℕ) (n : Node) → IsHead c n → begins_in c n ≡ true
 true-IsHead c n h = grind (arith, and_from, lt-ltb, eq-eqb)
 
 -- In a sequence held by c, which is not in it, a later member of c has something before it.
-not_first : (ns : List Node) (c k : ℕ) (s : Sequence) (b q : ℕ) (n : Numbered) → IsHead c (node_at ns k) → (b ≡ no_slot → ⊥) → tally no_slot n ≡ 0 → tally c n ≡ 0 → 0 < tally k n → Standing ns s b q n → ⊥
+not_first : (ns : List Node) (c k : ℕ) (s : Sequence) (b q : ℕ) (n : Numbered) → IsHead c (node_at ns k)
+    → (b ≡ no_slot → ⊥) → tally no_slot n ≡ 0 → tally c n ≡ 0 → 0 < tally k n → Standing ns s b q n → ⊥
 not_first ns c k s b q End hd nb none zc l h = absurd (omega arith)
 not_first ns c k s b q (Free j e rest) hd nb none zc l h =
     grind (arith, not_first ns c k s j (q + e) rest hd, ne-from_same, same-ne)
@@ -46,7 +49,8 @@ not_first ns c k s b q (Seq j e inner rest) hd nb none zc l h =
     search (rules, split_pos, same-ne, parent-in ns k (inside s j q e) no_slot s.start inner h.2, ne-from_same, not_first ns c k s j (q + e) rest hd)
 
 -- The head of the sequence of c is its first_slot member.
-pub head-first : (ns : List Node) (c k : ℕ) (s : Sequence) (b q : ℕ) (n : Numbered) → IsHead c (node_at ns k) → tally no_slot n ≡ 0 → tally c n ≡ 0 → 0 < tally k n → Standing ns s b q n → k ≡ first_slot n
+pub head-first : (ns : List Node) (c k : ℕ) (s : Sequence) (b q : ℕ) (n : Numbered) → IsHead c (node_at ns k)
+    → tally no_slot n ≡ 0 → tally c n ≡ 0 → 0 < tally k n → Standing ns s b q n → k ≡ first_slot n
 head-first ns c k s b q End hd none zc l h = absurd (omega arith)
 head-first ns c k s b q (Seq j e inner rest) hd none zc l h =
     search (rules, split_pos, same-ne, parent-in ns k (inside s j q e) no_slot s.start inner h.2, ne-from_same, not_first ns c k s j (q + e) rest hd)
@@ -68,7 +72,8 @@ Starts-first ns End u = u
 Starts-first ns n u = refl
 
 -- The first_slot member is a head.
-first-head : (ns : List Node) (s : Sequence) (q : ℕ) (n : Numbered) → Standing ns s no_slot q n → 0 < tally (first_slot n) n → IsHead s.parent (node_at ns (first_slot n))
+first-head : (ns : List Node) (s : Sequence) (q : ℕ) (n : Numbered) → Standing ns s no_slot q n
+    → 0 < tally (first_slot n) n → IsHead s.parent (node_at ns (first_slot n))
 first-head ns s q End h l = absurd (omega arith)
 first-head ns s q n h l = record { is_used = rw h.0.kind (omega arith); parent = h.0.parent; previous = h.0.previous }
 
@@ -81,7 +86,9 @@ empty-or End = inl refl
 empty-or n = inr (omega (arith, same-self))
 
 -- first_member_of finds where a sequence starts.
-pub Starts-head : (ns : List Node) (s : Sequence) (q : ℕ) (n : Numbered) → Standing ns s no_slot q n → ((k : ℕ) → IsHead s.parent (node_at ns k) → k ≡ first_slot n × (0 < tally k n)) → Starts ns (first_member_of ns s.parent) n
+pub Starts-head : (ns : List Node) (s : Sequence) (q : ℕ) (n : Numbered) → Standing ns s no_slot q n
+    → ((k : ℕ) → IsHead s.parent (node_at ns k) → k ≡ first_slot n × (0 < tally k n))
+    → Starts ns (first_member_of ns s.parent) n
 Starts-head ns s q n h only =
     let c = s.parent in
     let p = first_member_of ns c in
@@ -94,10 +101,13 @@ Starts-head ns s q n h only =
           grind (arith, get_or_past, empty-or, first-head, used-inside, true≢false, true-IsHead, fails_before_first)
     ]
 
-closed_rest : (ns : List Node) (s : Sequence) (j : ℕ) (n rest : Numbered) → (node_at ns j).parent.number ≡ s.parent → tally s.parent rest ≡ 0 → ((k : ℕ) → tally k n ≡ same k j + tally k rest) → IsClosed ns n → IsClosed ns rest
+closed_rest : (ns : List Node) (s : Sequence) (j : ℕ) (n rest : Numbered) → (node_at ns j).parent.number ≡ s.parent
+    → tally s.parent rest ≡ 0 → ((k : ℕ) → tally k n ≡ same k j + tally k rest) → IsClosed ns n → IsClosed ns rest
 closed_rest ns s j n rest pj z is closed k u l = grind (arith, same-ne)
 
-pub read-is : (fuel : ℕ) (ns : List Node) (s : Sequence) (b q : ℕ) (n : Numbered) (i : ℕ) → (node_at ns no_slot).kind ≡ kind.Unused → Standing ns s b q n → numbers n ≤ fuel → IsClosed ns n → tally s.parent n ≡ 0 → ((k : ℕ) → tally k n ≤ 1) → tally no_slot n ≡ 0 → Starts ns i n → read fuel ns i ≡ n
+pub read-is : (fuel : ℕ) (ns : List Node) (s : Sequence) (b q : ℕ) (n : Numbered) (i : ℕ)
+    → (node_at ns no_slot).kind ≡ kind.Unused → Standing ns s b q n → numbers n ≤ fuel → IsClosed ns n
+    → tally s.parent n ≡ 0 → ((k : ℕ) → tally k n ≤ 1) → tally no_slot n ≡ 0 → Starts ns i n → read fuel ns i ≡ n
 read-is zero ns s b q End i u h f closed z once none st = refl
 read-is zero ns s b q n i u h f closed z once none st = absurd (omega arith)
 read-is (suc fuel) ns s b q End i u h f closed z once none st = rw st refl
@@ -190,10 +200,12 @@ record WholeFacts (ns : List Node) (s : Sequence) (n : Numbered) : Type 0 where
   apart : tally s.parent n ≡ 0
   below : (k : ℕ) → 0 < tally k n → k < length ns
 
-whole_facts : (ns : List Node) (s : Sequence) (n : Numbered) → length ns < no_slot → s.parent ≡ no_slot → Stands ns s n → WholeFacts ns s n
+whole_facts : (ns : List Node) (s : Sequence) (n : Numbered) → length ns < no_slot → s.parent ≡ no_slot → Stands ns s n
+    → WholeFacts ns s n
 whole_facts ns s n short top h = grind (arith, none-unused, used-le, used-inside)
 
-top-start : (ns : List Node) (s : Sequence) (n : Numbered) → length ns < no_slot → s.parent ≡ no_slot → Stands ns s n → Starts ns (first_member_of ns no_slot) n
+top-start : (ns : List Node) (s : Sequence) (n : Numbered) → length ns < no_slot → s.parent ≡ no_slot → Stands ns s n
+    → Starts ns (first_member_of ns no_slot) n
 top-start ns s n short top h = grind (arith, whole_facts, head-first, Starts-head)
 
 -- There are no more members than slots.
@@ -201,48 +213,57 @@ pub numbers-few : (ns : List Node) (s : Sequence) (n : Numbered) → Stands ns s
 numbers-few ns s n h = grind (arith, used-le, used-inside ns, tallies-numbers (length ns) n, tallies-le (length ns) n)
 
 -- The slots determine the tree.
-pub numbered_of-Stands : (ns : List Node) (s : Sequence) (n : Numbered) → length ns < no_slot → s.parent ≡ no_slot → Stands ns s n → numbered_of ns ≡ n
+pub numbered_of-Stands : (ns : List Node) (s : Sequence) (n : Numbered) → length ns < no_slot → s.parent ≡ no_slot
+    → Stands ns s n → numbered_of ns ≡ n
 numbered_of-Stands ns s n short top h = grind (arith, whole_facts, read-is, numbers-few, top-start)
 
 -- Slots that hold a tree determine it.
-pub members_of-Stands : (ns : List Node) (s : Sequence) (n : Numbered) → length ns < no_slot → s.parent ≡ no_slot → Stands ns s n → (tree_of ns).members ≡ erase n
+pub members_of-Stands : (ns : List Node) (s : Sequence) (n : Numbered) → length ns < no_slot → s.parent ≡ no_slot
+    → Stands ns s n → (tree_of ns).members ≡ erase n
 members_of-Stands ns s n short top h = ap erase (numbered_of-Stands ns s n short top h)
 
-abbrev pub IsNonempty : Numbered → Type 0
-IsNonempty n = 0 < tally (first_slot n) n
+abbrev pub HasMember : Numbered → Type 0
+HasMember n = 0 < tally (first_slot n) n
 
 -- Where a member stands, a first one stands.
-pub nonempty-tally : (k : ℕ) (n : Numbered) → 0 < tally k n → IsNonempty n
+pub nonempty-tally : (k : ℕ) (n : Numbered) → 0 < tally k n → HasMember n
 nonempty-tally k End l = absurd (omega arith)
 nonempty-tally k n l = omega (arith, same-self)
 
-pub first-axis : (ns : List Node) (s : Sequence) (b q : ℕ) (n : Numbered) → Standing ns s b q n → IsNonempty n → axis_of (node_at ns (first_slot n)).axis ≡ s.axis
+pub first-axis : (ns : List Node) (s : Sequence) (b q : ℕ) (n : Numbered) → Standing ns s b q n → HasMember n
+    → axis_of (node_at ns (first_slot n)).axis ≡ s.axis
 first-axis ns s b q End h l = absurd (omega arith)
 first-axis ns s b q n h l = h.0.axis
 
-start-first : (ns : List Node) (i : ℕ) (n : Numbered) → IsNonempty n → Starts ns i n → i ≡ first_slot n
+start-first : (ns : List Node) (i : ℕ) (n : Numbered) → HasMember n → Starts ns i n → i ≡ first_slot n
 start-first ns i End l st = absurd (omega arith)
 start-first ns i n l st = st
 
 -- The top sequence is found where it begins.
-pub head_of-Stands : (ns : List Node) (s : Sequence) (n : Numbered) → length ns < no_slot → s.parent ≡ no_slot → Stands ns s n → IsNonempty n → first_member_of ns no_slot ≡ first_slot n
+pub head_of-Stands : (ns : List Node) (s : Sequence) (n : Numbered) → length ns < no_slot → s.parent ≡ no_slot
+    → Stands ns s n → HasMember n → first_member_of ns no_slot ≡ first_slot n
 head_of-Stands ns s n short top h l = start-first ns _ n l (top-start ns s n short top h)
 
-pub axis_of-Stands : (ns : List Node) (s : Sequence) (n : Numbered) → length ns < no_slot → s.parent ≡ no_slot → Stands ns s n → IsNonempty n → (tree_of ns).axis ≡ s.axis
+pub axis_of-Stands : (ns : List Node) (s : Sequence) (n : Numbered) → length ns < no_slot → s.parent ≡ no_slot
+    → Stands ns s n → HasMember n → (tree_of ns).axis ≡ s.axis
 axis_of-Stands ns s n short top h l = grind (arith, head_of-Stands, first-axis)
 
 -- A tree with this axis and these members.
-pub tree-by_parts : (t : Tree) (a : Axis) (m : Members) → t.axis ≡ a → t.members ≡ m → t ≡ record { axis = a; members = m }
+pub tree-by_parts : (t : Tree) (a : Axis) (m : Members) → t.axis ≡ a → t.members ≡ m
+    → t ≡ record { axis = a; members = m }
 tree-by_parts t a m ea em = rw (← ea, ← em) refl
 
-pub tree_of-Stands : (ns : List Node) (s : Sequence) (n : Numbered) → length ns < no_slot → s.parent ≡ no_slot → Stands ns s n → IsNonempty n → tree_of ns ≡ record { axis = s.axis; members = erase n }
+pub tree_of-Stands : (ns : List Node) (s : Sequence) (n : Numbered) → length ns < no_slot → s.parent ≡ no_slot
+    → Stands ns s n → HasMember n → tree_of ns ≡ record { axis = s.axis; members = erase n }
 tree_of-Stands ns s n short top h l = grind (arith, axis_of-Stands, members_of-Stands, tree-by_parts)
 
-tallies-less : (m j : ℕ) (n less : Numbered) → ((x : ℕ) → tally x less + same x j ≡ tally x n) → tallies m less + sums (λ i. same i j) m ≡ tallies m n
+tallies-less : (m j : ℕ) (n less : Numbered) → ((x : ℕ) → tally x less + same x j ≡ tally x n)
+    → tallies m less + sums (λ i. same i j) m ≡ tallies m n
 tallies-less zero j n less is = refl
 tallies-less (suc m) j n less is = omega (arith, is m, tallies-less m j n less is)
 
 -- A tree without one slot has one member less.
-pub numbers-less : (m j : ℕ) (n less : Numbered) → j < m → ((x : ℕ) → 0 < tally x n → x < m) → ((x : ℕ) → tally x less + same x j ≡ tally x n) → numbers less + 1 ≡ numbers n
+pub numbers-less : (m j : ℕ) (n less : Numbered) → j < m → ((x : ℕ) → 0 < tally x n → x < m)
+    → ((x : ℕ) → tally x less + same x j ≡ tally x n) → numbers less + 1 ≡ numbers n
 numbers-less m j n less l below is =
     omega (arith, tallies-numbers m n below, tallies-numbers m less (λ x c. below x (omega (arith, is x))), tallies-less m j n less is, sums-same j m l)

@@ -2,16 +2,17 @@
 use Rattle.std.proofs.Common.{rules, ℕ, ◌+◌, ◌<◌, ◌≤◌, ◌≡◌, List, ap, ◌∙◌, ◌⊎◌, inl, inr, arith, length, Bool}
 use Rattle.atlas_store.specs.declared.slots.Node.{Node}
 use Rattle.atlas_store.specs.declared.slots.NodeKind.TheVariants as kind
-use Rattle.atlas_store.specs.Slots.{node_at, use_count, no_slot}
+use Rattle.atlas_store.specs.Slots.{node_at, use_count}
+use Rattle.atlas_search.specs.Numbers.{no_slot, same}
 use Rattle.atlas_model.specs.Trees as tree
 use Rattle.atlas_model.specs.Trees.{IsNormal}
-use Rattle.atlas_store.specs.Slots.Numbered.{Numbered, tally, first_slot, same, numbers, erase, marked, joined, grown_by, lifted, lifted_to, is_free_at, is_alloc_at, is_seq_at, End, Free, Alloc, Seq}
+use Rattle.atlas_store.specs.Slots.Numbered.{Numbered, tally, first_slot, numbers, erase, marked, joined, grown_by, lifted, lifted_to, is_free_at, is_alloc_at, is_seq_at, End, Free, Alloc, Seq}
 use Rattle.atlas_store.specs.Slots.Standing.{Sequence, Standing, Stands, IsWhole, IsSlot}
 use Rattle.atlas_store.proofs.SlotLemmas.Reading.{numbers-less}
 use Rattle.atlas_store.proofs.SlotLemmas.JoiningWrites.{used-inside, none-unused, not-none}
 use Rattle.atlas_store.proofs.SlotLemmas.Frames.{same-self, same-ne, split_pos}
 use Rattle.atlas_store.proofs.SlotLemmas.Closing.{next-in}
-use Rattle.atlas_store.proofs.SlotLemmas.Editing.{IsKept, edited-keeps, joining, lifting, marking, free_here, alloc_here, seq_here}
+use Rattle.atlas_store.proofs.SlotLemmas.Editing.{IsCarried, edited-keeps, joining, lifting, marking, free_here, alloc_here, seq_here}
 use Rattle.atlas_store.proofs.SlotLemmas.Calm.{calm-all, normal-from_calm}
 use Rattle.atlas_store.specs.Slots.Calm.{IsCalmAt, IsCalmBut, NoneEmpty}
 
@@ -23,7 +24,8 @@ pub record IsSettlingTree (ns : List Node) (s : Sequence) (n : Numbered) (at : �
   pub free : (node_at ns at).kind ≡ kind.Free
   pub calm : IsCalmBut ns at
 
-pub fewer : (ns : List Node) (s : Sequence) (n less : Numbered) (j : ℕ) → Stands ns s n → (node_at ns j).kind ≡ kind.Free → ((x : ℕ) → tally x less + same x j ≡ tally x n) → numbers less + 1 ≡ numbers n
+pub fewer : (ns : List Node) (s : Sequence) (n less : Numbered) (j : ℕ) → Stands ns s n
+    → (node_at ns j).kind ≡ kind.Free → ((x : ℕ) → tally x less + same x j ≡ tally x n) → numbers less + 1 ≡ numbers n
 fewer ns s n less j h f is =
     numbers-less (length ns) j n less (used-inside ns j (rw f (omega arith))) (λ x c. used-inside ns x (rw (← h.numbered x) c)) is
 
@@ -31,7 +33,7 @@ fewer ns s n less j h f is =
 abbrev IsFuller : (across : ℕ) → (old new : Numbered) → Type 0
 IsFuller a m n = (erase n ≡ tree.End → erase m ≡ tree.End) × (NoneEmpty (erase m) → NoneEmpty (erase n))
 
-full-kept : (is : Numbered → Bool) → IsKept is IsFuller
+full-kept : (is : Numbered → Bool) → IsCarried is IsFuller
 full-kept is = grind arith
 
 full-grown : (a j e : ℕ) (n : Numbered) → IsFuller a (Free j e n) (grown_by j e n)
@@ -52,19 +54,22 @@ pub full-marked : (i : ℕ) (n : Numbered) → NoneEmpty (erase n) → NoneEmpty
 full-marked i n = (edited-keeps (is_alloc_at i) marking IsFuller (full-kept _) (λ a. alloc_here i (λ m. IsFuller a m (marking a m)) (λ g e rest. ((λ q. absurd (let z = q in cc)), (λ h. h)))) 0 n).1
 
 -- What a slot says of the slot before it.
-abbrev pub IsBefore : List Node → ℕ → ℕ → Numbered → Type 0
-IsBefore ns b k n =
+abbrev pub IsBackLinked : List Node → ℕ → ℕ → Numbered → Type 0
+IsBackLinked ns b k n =
     ((k ≡ first_slot n) × ((node_at ns k).previous.number ≡ b)) ⊎ (((node_at ns k).previous.number ≡ no_slot) ⊎ ((0 < tally (node_at ns k).previous.number n) × ((node_at ns (node_at ns k).previous.number).next.number ≡ k)))
 
-before_wider : (ns : List Node) (b j k : ℕ) (m n : Numbered) → (node_at ns j).next.number ≡ first_slot m → 0 < tally j n → ((x : ℕ) → tally x m ≤ tally x n) → IsBefore ns j k m → IsBefore ns b k n
+before_wider : (ns : List Node) (b j k : ℕ) (m n : Numbered) → (node_at ns j).next.number ≡ first_slot m → 0 < tally j n
+    → ((x : ℕ) → tally x m ≤ tally x n) → IsBackLinked ns j k m → IsBackLinked ns b k n
 before_wider ns b j k m n e l w (inl (x, y)) = grind arith
 before_wider ns b j k m n e l w (inr (inl y)) = inr (inl y)
 before_wider ns b j k m n e l w (inr (inr (x, y))) = inr (inr (omega (arith, w (node_at ns k).previous.number), y))
 
-inner_wider : (ns : List Node) (b k : ℕ) (m n : Numbered) → ((x : ℕ) → tally x m ≤ tally x n) → IsBefore ns no_slot k m → IsBefore ns b k n
+inner_wider : (ns : List Node) (b k : ℕ) (m n : Numbered) → ((x : ℕ) → tally x m ≤ tally x n) → IsBackLinked ns no_slot k m
+    → IsBackLinked ns b k n
 inner_wider ns b k m n w h = grind arith
 
-pub before-in : (ns : List Node) (k : ℕ) (s : Sequence) (b p : ℕ) (n : Numbered) → Standing ns s b p n → 0 < tally k n → IsBefore ns b k n
+pub before-in : (ns : List Node) (k : ℕ) (s : Sequence) (b p : ℕ) (n : Numbered) → Standing ns s b p n → 0 < tally k n
+    → IsBackLinked ns b k n
 before-in ns k s b p End h l = absurd (omega arith)
 before-in ns k s b p (Free j e rest) h l =
     grind (arith, before_wider, same-self, before-in ns k s j (p + e) rest h.2, same-ne)
@@ -74,20 +79,28 @@ before-in ns k s b p (Seq j e inner rest) h l =
     search (rules, split_pos, same-ne, same-self, inner_wider, before_wider, before-in ns k _ _ _ inner h.2, before-in ns k s j (p + e) rest h.3)
 
 -- The slot before is a slot or none, and a free one leads here.
-pub previous-slot : (ns : List Node) (k m : ℕ) (x : ℕ) → length ns < no_slot → IsWhole ns → (node_at ns k).kind ≡ kind.Free → x ≡ (node_at ns k).previous.number → m ≡ length ns → IsSlot m x
+pub previous-slot : (ns : List Node) (k m : ℕ) (x : ℕ) → length ns < no_slot → IsWhole ns
+    → (node_at ns k).kind ≡ kind.Free → x ≡ (node_at ns k).previous.number → m ≡ length ns → IsSlot m x
 previous-slot ns k m x short t f ex em = grind (arith, before-in ns k t.0 no_slot 0 t.1, used-inside ns)
 
-pub previous-leads : (ns : List Node) (k : ℕ) → length ns < no_slot → IsWhole ns → (node_at ns k).kind ≡ kind.Free → (node_at ns (node_at ns k).previous.number).kind ≡ kind.Free → (node_at ns (node_at ns k).previous.number).next.number ≡ k
+pub previous-leads : (ns : List Node) (k : ℕ) → length ns < no_slot → IsWhole ns → (node_at ns k).kind ≡ kind.Free
+    → (node_at ns (node_at ns k).previous.number).kind ≡ kind.Free
+    → (node_at ns (node_at ns k).previous.number).next.number ≡ k
 previous-leads ns k short t f g = grind (arith, not-none ns, none-unused ns short, before-in ns k t.0 no_slot 0 t.1)
 
-pub next-slot : (ns : List Node) (k m x : ℕ) → IsWhole ns → (node_at ns k).kind ≡ kind.Free → x ≡ (node_at ns k).next.number → m ≡ length ns → IsSlot m x
+pub next-slot : (ns : List Node) (k m x : ℕ) → IsWhole ns → (node_at ns k).kind ≡ kind.Free
+    → x ≡ (node_at ns k).next.number → m ≡ length ns → IsSlot m x
 next-slot ns k m x t f ex em =
     let h = t.3 in
     let here : 0 < tally k t.1 = rw (h.numbered k, f) (omega arith) in
     rw (ex, em) (elim (next-in ns k t.0 no_slot 0 t.1 h.standing here) [ inl y ↦ inl y | inr y ↦ inr (used-inside ns _ (rw (← h.numbered (node_at ns k).next.number) y)) ])
 
 -- Where neither neighbour is free and the leaf isn't alone in a container, the tree is normal.
-pub settled : (ns : List Node) (k : ℕ) (s : Sequence) (n : Numbered) → length ns < no_slot → IsSettlingTree ns s n k → ((node_at ns (node_at ns k).next.number).kind ≡ kind.Free → ⊥) → ((node_at ns (node_at ns k).previous.number).kind ≡ kind.Free → ⊥) → ((node_at ns k).previous.number ≡ no_slot → (node_at ns k).next.number ≡ no_slot → (node_at ns k).parent.number ≡ no_slot) → IsNormal (erase n)
+pub settled : (ns : List Node) (k : ℕ) (s : Sequence) (n : Numbered) → length ns < no_slot → IsSettlingTree ns s n k
+    → ((node_at ns (node_at ns k).next.number).kind ≡ kind.Free → ⊥)
+    → ((node_at ns (node_at ns k).previous.number).kind ≡ kind.Free → ⊥)
+    → ((node_at ns k).previous.number ≡ no_slot → (node_at ns k).next.number ≡ no_slot → (node_at ns k).parent.number ≡ no_slot)
+    → IsNormal (erase n)
 settled ns k s n short w nn np alone =
     let u = none-unused ns short in
     let here : IsCalmAt ns k = record { apart = λ _ g. nn g; nested = λ _ b a. alone b a } in

@@ -8,7 +8,8 @@ use Rattle.atlas_model.specs.Pixels.{box_of, rectangle_of}
 use Rattle.atlas_model.specs.Cuts.{cut}
 use Rattle.atlas_model.specs.Trees.{Tree, IsWellFormed, free_boxes}
 use Rattle.atlas_model.specs.Changes.{need, needed, place_need}
-use Rattle.atlas_store.specs.Slots.{node_at, no_slot, axis_of}
+use Rattle.atlas_store.specs.Slots.{node_at, axis_of}
+use Rattle.atlas_search.specs.Numbers.{no_slot}
 use Rattle.atlas_store.specs.Slots.Numbered.{Numbered, erase, End, Free, Alloc, Seq}
 use Rattle.atlas_store.specs.Slots.Standing.{Sequence, Standing, Stands, inside, member_box, spot}
 use Rattle.atlas_model.proofs.TreeLemmas.TreeBasics.{one_if, same_box-itself, free_among}
@@ -39,13 +40,15 @@ module _ (ns : List Node) (i : ℕ) where
   abbrev a : Axis
   a = axis_of (node_at ns i).axis
 
-  stored_box : (s : Sequence) (p e j : ℕ) → (node_at ns j).area ≡ rectangle_of (member_box s p e) → i ≡ j → same_box (member_box s p e) f ≡ true
+  stored_box : (s : Sequence) (p e j : ℕ) → (node_at ns j).area ≡ rectangle_of (member_box s p e) → i ≡ j
+      → same_box (member_box s p e) f ≡ true
   stored_box s p e j h q = grind (arith, same_box-itself)
 
   stored_axis : (s : Sequence) (j : ℕ) → axis_of (node_at ns j).axis ≡ s.axis → i ≡ j → s.axis ≡ a
   stored_axis s j h q = rw q (sym h)
 
-  pub stored-Standing : (s : Sequence) (b p : ℕ) (n : Numbered) → Standing ns s b p n → IsStoredAs i f a s.axis (spot s.axis p s.start) s.width n
+  pub stored-Standing : (s : Sequence) (b p : ℕ) (n : Numbered) → Standing ns s b p n
+      → IsStoredAs i f a s.axis (spot s.axis p s.start) s.width n
   stored-Standing s b p End h = tt
   stored-Standing s b p (Free j e rest) h =
       grind (arith, stored_box, eqb-true, stored_axis, moved-spot, stored-Standing s j (p + e) rest h.2)
@@ -72,7 +75,8 @@ both : (k m n : ℕ) → m * k + n * k ≡ (m + n) * k
 both k m n = grind arith
 
 module _ (i : ℕ) (f : Box) (a : Axis) where
-  few_slots : (axis : Axis) (o : Position) (across : ℕ) (n : Numbered) → IsStoredAs i f a axis o across n → free_tally i n ≤ hits f (free_among axis o across (erase n))
+  few_slots : (axis : Axis) (o : Position) (across : ℕ) (n : Numbered) → IsStoredAs i f a axis o across n
+      → free_tally i n ≤ hits f (free_among axis o across (erase n))
   few_slots axis o across End h = omega arith
   few_slots axis o across (Free j e rest) h =
       grind (arith, one_if, less, free_tally, hits, free_among, few_slots axis (moved axis o e) across rest h.1, hits-free)
@@ -80,7 +84,8 @@ module _ (i : ℕ) (f : Box) (a : Axis) where
   few_slots axis o across (Seq j e inner rest) h =
       search (rules, free_tally, hits, free_among, few_slots (other axis) o e inner h.0, few_slots axis (moved axis o e) across rest h.1, hits-seq)
 
-  pub aim-stored : (axis : Axis) (o : Position) (across : ℕ) (n : Numbered) → IsStoredAs i f a axis o across n → hits f (free_among axis o across (erase n)) ≤ free_tally i n → IsAim i f a axis o across n
+  pub aim-stored : (axis : Axis) (o : Position) (across : ℕ) (n : Numbered) → IsStoredAs i f a axis o across n
+      → hits f (free_among axis o across (erase n)) ≤ free_tally i n → IsAim i f a axis o across n
   aim-stored axis o across End h le = tt
   aim-stored axis o across (Free j e rest) h le =
       let here : one_if (i == j) ≤ one_if (same_box (box_at o (sized axis e across)) f) = less _ _ h.0.0 in
@@ -95,7 +100,8 @@ module _ (i : ℕ) (f : Box) (a : Axis) where
       (aim-stored (other axis) o e inner h.0 (omega arith), aim-stored axis (moved axis o e) across rest h.1 (omega arith))
 
   -- How many members a request adds.
-  pub needed-aim : (r : Sides) (axis : Axis) (o : Position) (across : ℕ) (n : Numbered) → IsAim i f a axis o across n → needed f r axis o across (erase n) ≡ free_tally i n * need (cut (box_sides f) r) a
+  pub needed-aim : (r : Sides) (axis : Axis) (o : Position) (across : ℕ) (n : Numbered) → IsAim i f a axis o across n
+      → needed f r axis o across (erase n) ≡ free_tally i n * need (cut (box_sides f) r) a
   needed-aim r axis o across End h = omega arith
   needed-aim r axis o across (Free j e rest) h =
       grind (arith, needed-aim r axis (moved axis o e) across rest h.1, free_tally, one_more, none_more)
@@ -116,10 +122,12 @@ pub record IsChoice (size : Sides) (ns : List Node) (s : Sequence) (n : Numbered
   pub well : IsWellFormed size (tree_in s n)
 
 -- A request with positive sides that fits the slot's box.
-abbrev pub IsFitting : List Node → ℕ → Sides → Type 0
-IsFitting ns i r = IsPositive r × Fits r (box_sides (box_of (node_at ns i).area))
+abbrev pub IsFittingSlot : List Node → ℕ → Sides → Type 0
+IsFittingSlot ns i r = IsPositive r × Fits r (box_sides (box_of (node_at ns i).area))
 
-pub aim-choice : (size : Sides) (ns : List Node) (s : Sequence) (n : Numbered) (i : ℕ) (r : Sides) → IsChoice size ns s n i → IsFitting ns i r → IsAim i (box_of (node_at ns i).area) (axis_of (node_at ns i).axis) s.axis origin (side (other s.axis) size) n
+pub aim-choice : (size : Sides) (ns : List Node) (s : Sequence) (n : Numbered) (i : ℕ) (r : Sides)
+    → IsChoice size ns s n i → IsFittingSlot ns i r
+    → IsAim i (box_of (node_at ns i).area) (axis_of (node_at ns i).axis) s.axis origin (side (other s.axis) size) n
 aim-choice size ns s n i r h fit =
     let f = box_of (node_at ns i).area in
     let a = axis_of (node_at ns i).axis in
@@ -131,7 +139,9 @@ aim-choice size ns s n i r h fit =
     aim-stored i f a s.axis origin (side (other s.axis) size) n whole (rw (free_once ns i s n h.free h.stands) once)
 
 -- How many members a request adds to the tree.
-pub place_need-choice : (size : Sides) (ns : List Node) (s : Sequence) (n : Numbered) (i : ℕ) (r : Sides) → IsChoice size ns s n i → IsFitting ns i r → place_need size (box_of (node_at ns i).area) r (tree_in s n) ≡ need (cut (box_sides (box_of (node_at ns i).area)) r) (axis_of (node_at ns i).axis)
+pub place_need-choice : (size : Sides) (ns : List Node) (s : Sequence) (n : Numbered) (i : ℕ) (r : Sides)
+    → IsChoice size ns s n i → IsFittingSlot ns i r
+    → place_need size (box_of (node_at ns i).area) r (tree_in s n) ≡ need (cut (box_sides (box_of (node_at ns i).area)) r) (axis_of (node_at ns i).axis)
 place_need-choice size ns s n i r h fit =
     let f = box_of (node_at ns i).area in
     let a = axis_of (node_at ns i).axis in

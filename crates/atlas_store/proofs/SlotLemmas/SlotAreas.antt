@@ -5,26 +5,26 @@ use Rattle.atlas_store.specs.declared.slots.NodeKind.TheVariants as kind
 use Rattle.atlas_model.specs.declared.geometry.Rectangle.{Rectangle}
 use Rattle.atlas_model.specs.Boxes.{Box}
 use Rattle.atlas_model.specs.Pixels.{rectangle_of, box_of}
-use Rattle.atlas_store.specs.Slots.{node_at, use_count, no_slot}
+use Rattle.atlas_store.specs.Slots.{node_at, use_count}
+use Rattle.atlas_search.specs.Numbers.{no_slot}
 use Rattle.atlas_store.specs.Slots.Numbered.{Numbered, tally, first_slot, End}
 use Rattle.atlas_store.specs.Slots.Standing.{Sequence, Standing, Stands, IsTree}
 use Rattle.atlas_store.proofs.SlotLemmas.Suffixes.{suffix-at}
+use Rattle.atlas_search.specs.Rectangles.{IsUnsigned}
 
--- Both coordinates of each corner are 0 or more.
-abbrev pub IsExact : Rectangle → Type 0
-IsExact r = r ≡ rectangle_of (box_of r)
-
-exact_of : (r : Rectangle) (b : Box) → r ≡ rectangle_of b → IsExact r
+exact_of : (r : Rectangle) (b : Box) → r ≡ rectangle_of b → IsUnsigned r
 exact_of r b e = rw e refl
 
-first-exact : (ns : List Node) (i : ℕ) (s : Sequence) (b p : ℕ) (m : Numbered) → first_slot m ≡ i → 0 < tally i m → Standing ns s b p m → IsExact (node_at ns i).area
+first-exact : (ns : List Node) (i : ℕ) (s : Sequence) (b p : ℕ) (m : Numbered) → first_slot m ≡ i → 0 < tally i m
+    → Standing ns s b p m → IsUnsigned (node_at ns i).area
 first-exact ns i s b p End e l h = absurd (omega arith)
 first-exact ns i s b p m e l h = rw (← e) (exact_of _ _ h.1)
 
 -- Each used slot stores the rectangle of a box.
-pub Stands-exact : (ns : List Node) (i : ℕ) (s : Sequence) (n : Numbered) → Stands ns s n → 0 < use_count (node_at ns i).kind → IsExact (node_at ns i).area
+pub Stands-exact : (ns : List Node) (i : ℕ) (s : Sequence) (n : Numbered) → Stands ns s n
+    → 0 < use_count (node_at ns i).kind → IsUnsigned (node_at ns i).area
 Stands-exact ns i s n h l =
     grind (arith, suffix-at ns i s no_slot 0 n h.standing (rw (h.numbered i) l), first-exact ns i)
 
-pub free-exact : (ns : List Node) (i : ℕ) → IsTree ns → (node_at ns i).kind ≡ kind.Free → IsExact (node_at ns i).area
+pub free-exact : (ns : List Node) (i : ℕ) → IsTree ns → (node_at ns i).kind ≡ kind.Free → IsUnsigned (node_at ns i).area
 free-exact ns i t f = Stands-exact ns i t.0 t.1 t.2 (rw f (omega arith))

@@ -7,7 +7,8 @@ use Rattle.atlas_model.specs.declared.geometry.Rectangle.{Rectangle}
 use Rattle.atlas_model.specs.Boxes.{Axis, Box, IsNonempty, box_at, sized}
 use Rattle.atlas_model.specs.Boxes.Axis.{Horizontal, Vertical}
 use Rattle.atlas_model.specs.Pixels.{rectangle_of, box_of, IsMeasurable}
-use Rattle.atlas_store.specs.Slots.{nodes, node_at, use_count, no_slot}
+use Rattle.atlas_store.specs.Slots.{nodes, node_at, use_count}
+use Rattle.atlas_search.specs.Numbers.{no_slot}
 use Rattle.atlas_model.specs.Trees.{IsCut, total}
 use Rattle.atlas_store.specs.Slots.Numbered.{Numbered, erase, tally, End, Free, Alloc, Seq}
 use Rattle.atlas_store.specs.Slots.Standing.{Sequence, Standing, inside, spot, member_box}
@@ -22,15 +23,19 @@ pub record IsSpan (r : Rectangle) : Type 0 where
 box-span : (b : Box) → b.max.x < 2 ^ 31 → b.max.y < 2 ^ 31 → IsNonempty b → IsSpan (rectangle_of b)
 box-span b m n full = record { measurable = (omega (arith, ints, full.0, full.1), omega (arith, ints, full.0, full.1)); nonempty = full }
 
-spot-span : (a : Axis) (start width p e : ℕ) → p + e < 2 ^ 31 → start + width < 2 ^ 31 → 0 < width → 0 < e → IsSpan (rectangle_of (box_at (spot a p start) (sized a e width)))
+spot-span : (a : Axis) (start width p e : ℕ) → p + e < 2 ^ 31 → start + width < 2 ^ 31 → 0 < width → 0 < e
+    → IsSpan (rectangle_of (box_at (spot a p start) (sized a e width)))
 spot-span Horizontal start width p e h k w l = box-span _ h k (omega arith, omega arith)
 spot-span Vertical start width p e h k w l = box-span _ k h (omega arith, omega arith)
 
-member-span : (s : Sequence) (p e : ℕ) → p + e < 2 ^ 31 → s.start + s.width < 2 ^ 31 → 0 < s.width → 0 < e → IsSpan (rectangle_of (member_box s p e))
+member-span : (s : Sequence) (p e : ℕ) → p + e < 2 ^ 31 → s.start + s.width < 2 ^ 31 → 0 < s.width → 0 < e
+    → IsSpan (rectangle_of (member_box s p e))
 member-span s p e h k w l = spot-span s.axis s.start s.width p e h k w l
 
-area-span : (ns : List Node) (i : ℕ) (s : Sequence) (before p : ℕ) (n : Numbered) → Standing ns s before p n → IsCut s.width (erase n)
-    → p + total (erase n) < 2 ^ 31 → s.start + s.width < 2 ^ 31 → 0 < s.width → 0 < tally i n → IsSpan (node_at ns i).area
+area-span : (ns : List Node) (i : ℕ) (s : Sequence) (before p : ℕ) (n : Numbered) → Standing ns s before p n
+    → IsCut s.width (erase n)
+    → p + total (erase n) < 2 ^ 31 → s.start + s.width < 2 ^ 31 → 0 < s.width → 0 < tally i n
+    → IsSpan (node_at ns i).area
 area-span ns i s before p End h cut along across wide l = absurd (omega arith)
 area-span ns i s before p (Free j e rest) h cut along across wide l =
     grind (
@@ -56,6 +61,7 @@ area-span ns i s before p (Seq j e inner rest) h cut along across wide l =
     ]
 
 -- Each used slot stores such a rectangle.
-pub Holds-span : (v : Shelf) (h : Holding) (i : ℕ) → Holds v h → 0 < use_count (node_at (nodes v.slots) i).kind → IsSpan (node_at (nodes v.slots) i).area
+pub Holds-span : (v : Shelf) (h : Holding) (i : ℕ) → Holds v h → 0 < use_count (node_at (nodes v.slots) i).kind
+    → IsSpan (node_at (nodes v.slots) i).area
 Holds-span v h i w l =
     area-span (nodes v.slots) i h.sequence no_slot 0 h.tree w.stands.standing w.cut (omega (arith, w.along)) w.across w.wide (rw (w.stands.numbered i) l)

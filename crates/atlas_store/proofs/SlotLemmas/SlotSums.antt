@@ -3,7 +3,8 @@ use Rattle.std.proofs.Common.{ℕ, suc, ◌+◌, ◌*◌, ◌<◌, ◌≤◌, �
 use Rattle.std.proofs.lemmas.Bool.{cases_eq}
 use Rattle.atlas_store.specs.declared.slots.Node.{Node}
 use Rattle.atlas_store.specs.Slots.{node_at, use_count}
-use Rattle.atlas_store.specs.Slots.Numbered.{Numbered, weigh, tally, same, End, Free, Alloc, Seq}
+use Rattle.atlas_store.specs.Slots.Numbered.{Numbered, weigh, tally, End, Free, Alloc, Seq}
+use Rattle.atlas_search.specs.Numbers.{same}
 use Rattle.atlas_store.specs.Slots.Standing.{Sequence, Stands}
 use Rattle.atlas_store.proofs.SlotLemmas.Frames.{same-self, same-ne}
 use Rattle.atlas_store.proofs.SlotLemmas.JoiningWrites.{used-inside}
@@ -13,7 +14,8 @@ abbrev pub slot_sum : (ℕ → Node → ℕ) → ℕ → List Node → ℕ
 slot_sum w i [] = 0
 slot_sum w i (n ∷ ns) = w i n + slot_sum w (i + 1) ns
 
-slot_sum-none : (t f : ℕ → ℕ) (i : ℕ) (ns : List Node) → ((k : ℕ) → i ≤ k → t k ≡ 0) → slot_sum (λ k n. t k * f k) i ns ≡ 0
+slot_sum-none : (t f : ℕ → ℕ) (i : ℕ) (ns : List Node) → ((k : ℕ) → i ≤ k → t k ≡ 0)
+    → slot_sum (λ k n. t k * f k) i ns ≡ 0
 slot_sum-none t f i [] none = refl
 slot_sum-none t f i (n ∷ ns) none = grind (arith, slot_sum-none t f (i + 1) ns (λ k l. none k (omega arith)))
 
@@ -23,7 +25,8 @@ slot_sum-add t u f i [] = refl
 slot_sum-add t u f i (n ∷ ns) = omega (arith, slot_sum-add t u f (i + 1) ns)
 
 -- Of the slots one is j.
-slot_sum-one : (f : ℕ → ℕ) (j i : ℕ) (ns : List Node) → i ≤ j → j < i + length ns → slot_sum (λ k n. same k j * f k) i ns ≡ f j
+slot_sum-one : (f : ℕ → ℕ) (j i : ℕ) (ns : List Node) → i ≤ j → j < i + length ns
+    → slot_sum (λ k n. same k j * f k) i ns ≡ f j
 slot_sum-one f j i [] l b = absurd (omega arith)
 slot_sum-one f j i (n ∷ ns) l b =
     elim (cases_eq i j) [
@@ -64,7 +67,8 @@ weigh-slots f ns (Seq j e inner rest) below =
 -- A sum over slots of which the unused weigh nothing.
 slot_sum-used : (w : ℕ → Node → ℕ) (t : ℕ → ℕ) (all : List Node) (i : ℕ) (ns : List Node)
     → ((k : ℕ) (n : Node) → use_count n.kind * w k n ≡ w k n) → ((k : ℕ) → t k ≡ use_count (node_at all k).kind)
-    → ((k : ℕ) → node_at all (i + k) ≡ node_at ns k) → slot_sum w i ns ≡ slot_sum (λ k n. t k * w k (node_at all k)) i ns
+    → ((k : ℕ) → node_at all (i + k) ≡ node_at ns k)
+    → slot_sum w i ns ≡ slot_sum (λ k n. t k * w k (node_at all k)) i ns
 slot_sum-used w t all i [] light is at = refl
 slot_sum-used w t all i (n ∷ ns) light is at =
     let this : node_at all i ≡ n = ap (λ k. node_at all k) (let e : i ≡ i + 0 = omega arith in e) ∙ at 0 in

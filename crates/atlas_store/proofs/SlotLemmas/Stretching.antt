@@ -3,21 +3,22 @@ use Rattle.std.proofs.Common.{ℕ, ◌+◌, ◌<◌, ◌≤◌, ◌≡◌, ◌�
 use Rattle.std.proofs.lemmas.Bool.{cases_eq}
 use Rattle.std.proofs.lemmas.List.{get_or_past, length-map}
 use Rattle.atlas_store.specs.declared.slots.Slot.{Slot}
-use Rattle.atlas_store.specs.declared.slots.Link.{Link}
+use Rattle.atlas_search.specs.declared.link.Link.{Link}
 use Rattle.atlas_store.specs.declared.slots.Node.{Node}
 use Rattle.atlas_store.specs.declared.slots.NodeKind.{NodeKind}
 use Rattle.atlas_store.specs.declared.slots.NodeKind.TheVariants as kind
 use Rattle.atlas_model.specs.declared.geometry.Size.{Size}
 use Rattle.atlas_model.specs.declared.geometry.Rectangle.{Rectangle}
-use Rattle.atlas_store.specs.declared.cut.Orientation.{Orientation}
-use Rattle.atlas_store.specs.declared.cut.Orientation.TheVariants as orientation
+use Rattle.atlas_search.specs.declared.cut.Orientation.{Orientation}
+use Rattle.atlas_search.specs.declared.cut.Orientation.TheVariants as orientation
 use Rattle.atlas_model.specs.Boxes.{Axis, Sides, other, side, sized, box_at}
 use Rattle.atlas_model.specs.Boxes.Axis.{Horizontal, Vertical}
 use Rattle.atlas_model.specs.Pixels.{sides_of, size_of, rectangle_of}
 use Rattle.atlas_model.specs.Trees.{total}
 use Rattle.atlas_store.specs.Slots.SlotCalls.{CanAppendTo}
-use Rattle.atlas_store.specs.Slots.{nodes, node_at, blank_node, use_count, no_slot, axis_of, KeepsUse}
-use Rattle.atlas_store.specs.Slots.Numbered.{Numbered, weigh, tally, same, erase, first_slot, End, Free, Alloc, Seq}
+use Rattle.atlas_store.specs.Slots.{nodes, node_at, blank_node, use_count, axis_of, KeepsUse}
+use Rattle.atlas_search.specs.Numbers.{no_slot, same}
+use Rattle.atlas_store.specs.Slots.Numbered.{Numbered, weigh, tally, erase, first_slot, End, Free, Alloc, Seq}
 use Rattle.atlas_store.specs.Slots.Standing.{Sequence, Standing, Stands, IsLinkedIn, inside, member_box, spot}
 use Rattle.atlas_store.specs.Slots.Growing.{last_after, last_slot, stretched, appended, stretched_area, Reaches}
 use Rattle.atlas_store.proofs.SlotLemmas.Frames.{IsWritten, Standing-same, same-self, same-ne, used-le, ne-from_same, ne-from_count}
@@ -37,18 +38,21 @@ last-later i k (Alloc j g f rest) some e = last-in i j rest e
 last-later i k (Seq j f inner rest) some e = omega (arith, last-in i j rest e)
 
 -- The rectangle of the last member is longer.
-box-stretched : (s : Sequence) (p e d : ℕ) (size : Size) → size ≡ size_of (sides_of size) → Reaches (sides_of size) s (p + (e + d))
+box-stretched : (s : Sequence) (p e d : ℕ) (size : Size) → size ≡ size_of (sides_of size)
+    → Reaches (sides_of size) s (p + (e + d))
     → stretched_area (rectangle_of (member_box s p e)) size ≡ rectangle_of (member_box s p (e + d))
 box-stretched s p e d size exact far = rw exact (along s.axis s.start s.width (sides_of size) far.0 far.1)
   where
-    along : (a : Axis) (start width : ℕ) (size : Sides) → p + (e + d) ≡ side a size → start + width ≡ side (other a) size
+    along : (a : Axis) (start width : ℕ) (size : Sides) → p + (e + d) ≡ side a size
+        → start + width ≡ side (other a) size
         → stretched_area (rectangle_of (box_at (spot a p start) (sized a e width))) (size_of size)
         ≡ rectangle_of (box_at (spot a p start) (sized a (e + d) width))
     along Horizontal start width size x y = rw (x, y) refl
     along Vertical start width size x y = rw (x, y) refl
 
 -- A free first member is the last, or stays.
-pub stretched-free : (d i e : ℕ) (m : Numbered) (P : (rest new : Numbered) → Type 0) → P End (Free i (e + d) End) → ((m ≡ End → ⊥) → P m (Free i e (stretched d m))) → P m (stretched d (Free i e m))
+pub stretched-free : (d i e : ℕ) (m : Numbered) (P : (rest new : Numbered) → Type 0) → P End (Free i (e + d) End)
+    → ((m ≡ End → ⊥) → P m (Free i e (stretched d m))) → P m (stretched d (Free i e m))
 stretched-free d i e End P last later = last
 stretched-free d i e m P last later = later (λ q. cc)
 
@@ -64,7 +68,8 @@ weigh-stretched w d (Alloc i g e rest) = ap (λ v. w i + v) (weigh-stretched w d
 weigh-stretched w d (Seq i e inner rest) = ap (λ v. w i + weigh w inner + v) (weigh-stretched w d rest)
 
 -- The length that is left after a member.
-next-reaches : (size : Sides) (s : Sequence) (p e l d : ℕ) → Reaches size s (p + (e + l + d)) → Reaches size s (p + e + (l + d))
+next-reaches : (size : Sides) (s : Sequence) (p e l d : ℕ) → Reaches size s (p + (e + l + d))
+    → Reaches size s (p + e + (l + d))
 next-reaches size s p e l d far = (omega (arith, far.0), far.1)
 
 abbrev longer_leaf : Node → Size → Node
@@ -76,7 +81,8 @@ module _ (ns ms : List Node) (i : ℕ) (size : Size) (exact : size ≡ size_of (
   away s b p n z h = Standing-same ns ms s b p n (λ x l. w.others x (ne-from_count i x n z l)) h
 
   -- The leaf itself.
-  at_end : (s : Sequence) (d b p e j : ℕ) → j ≡ i → Reaches (sides_of size) s (p + (e + 0 + d)) → Standing ns s b p (Free j e End) → Standing ms s b p (Free j (e + d) End)
+  at_end : (s : Sequence) (d b p e j : ℕ) → j ≡ i → Reaches (sides_of size) s (p + (e + 0 + d))
+      → Standing ns s b p (Free j e End) → Standing ms s b p (Free j (e + d) End)
   at_end s d b p e j is far h =
       let there : node_at ms j ≡ longer_leaf (node_at ns j) size = rw is w.there in (
         rw there (record { parent = h.0.parent; previous = h.0.previous; next = h.0.next; kind = h.0.kind; axis = h.0.axis }),
@@ -84,7 +90,9 @@ module _ (ns ms : List Node) (i : ℕ) (size : Size) (exact : size ≡ size_of (
         tt,
       )
 
-  Standing-stretched : (s : Sequence) (d b p : ℕ) (n : Numbered) → ((x : ℕ) → tally x n ≤ 1) → 0 < tally i n → last_after b n ≡ i → Reaches (sides_of size) s (p + (total (erase n) + d)) → Standing ns s b p n → Standing ms s b p (stretched d n)
+  Standing-stretched : (s : Sequence) (d b p : ℕ) (n : Numbered) → ((x : ℕ) → tally x n ≤ 1) → 0 < tally i n
+      → last_after b n ≡ i → Reaches (sides_of size) s (p + (total (erase n) + d)) → Standing ns s b p n
+      → Standing ms s b p (stretched d n)
   Standing-stretched s d b p End once l e far h = absurd (omega arith)
   Standing-stretched s d b p (Free j e rest) once l is far h =
       stretched-free d j e rest (λ m v. m ≡ rest → Standing ms s b p v) (λ q.
@@ -110,7 +118,8 @@ module _ (ns ms : List Node) (i : ℕ) (size : Size) (exact : size ≡ size_of (
   used_after : (x : ℕ) → use_count (node_at ms x).kind ≡ use_count (node_at ns x).kind
   used_after x = elim (cases_eq x i) [ inl e ↦ rw (e, w.there) refl | inr ne ↦ rw (w.others x ne) refl ]
 
-  pub Stands-stretched : (s : Sequence) (n : Numbered) (d : ℕ) → Stands ns s n → last_slot n ≡ i → Reaches (sides_of size) s (total (erase n) + d) → Stands ms s (stretched d n)
+  pub Stands-stretched : (s : Sequence) (n : Numbered) (d : ℕ) → Stands ns s n → last_slot n ≡ i
+      → Reaches (sides_of size) s (total (erase n) + d) → Stands ms s (stretched d n)
   Stands-stretched s n d h is far =
       let once : (x : ℕ) → tally x n ≤ 1 = λ x. omega (arith, h.numbered x, used-le (node_at ns x).kind) in
       let here : 0 < tally i n = rw (h.numbered i, free) (omega arith) in
@@ -125,15 +134,21 @@ abbrev beyond_area : Axis → Rectangle → Size → Rectangle
 beyond_area Horizontal area size = stretched_area (record area { min = record { x = area.max.x; y = area.min.y } }) size
 beyond_area Vertical area size = stretched_area (record area { min = record { x = area.min.x; y = area.max.y } }) size
 
-pub is-beyond : (o : Orientation) (area : Rectangle) (size : Size) (r : Rectangle) → (o ≡ orientation.Horizontal → r ≡ beyond_area Horizontal area size) → (o ≡ orientation.Vertical → r ≡ beyond_area Vertical area size) → r ≡ beyond_area (axis_of o) area size
+pub is-beyond : (o : Orientation) (area : Rectangle) (size : Size) (r : Rectangle)
+    → (o ≡ orientation.Horizontal → r ≡ beyond_area Horizontal area size)
+    → (o ≡ orientation.Vertical → r ≡ beyond_area Vertical area size) → r ≡ beyond_area (axis_of o) area size
 is-beyond orientation.Horizontal area size r h v = h refl
 is-beyond orientation.Vertical area size r h v = v refl
 
 -- Beyond a member lies the next one.
-box-beyond : (s : Sequence) (p e q d : ℕ) (size : Size) → size ≡ size_of (sides_of size) → p + e ≡ q → Reaches (sides_of size) s (q + d) → beyond_area s.axis (rectangle_of (member_box s p e)) size ≡ rectangle_of (member_box s q d)
+box-beyond : (s : Sequence) (p e q d : ℕ) (size : Size) → size ≡ size_of (sides_of size) → p + e ≡ q
+    → Reaches (sides_of size) s (q + d)
+    → beyond_area s.axis (rectangle_of (member_box s p e)) size ≡ rectangle_of (member_box s q d)
 box-beyond s p e q d size exact ends far = rw exact (along s.axis s.start s.width p e q d (sides_of size) ends far.0 far.1)
   where
-    along : (a : Axis) (start width p e q d : ℕ) (size : Sides) → p + e ≡ q → q + d ≡ side a size → start + width ≡ side (other a) size → beyond_area a (rectangle_of (box_at (spot a p start) (sized a e width))) (size_of size) ≡ rectangle_of (box_at (spot a q start) (sized a d width))
+    along : (a : Axis) (start width p e q d : ℕ) (size : Sides) → p + e ≡ q → q + d ≡ side a size
+        → start + width ≡ side (other a) size
+        → beyond_area a (rectangle_of (box_at (spot a p start) (sized a e width))) (size_of size) ≡ rectangle_of (box_at (spot a q start) (sized a d width))
     along Horizontal start width p e q d size x y z = rw (x, y, z) refl
     along Vertical start width p e q d size x y z = rw (x, y, z) refl
 
@@ -165,7 +180,8 @@ pub record IsStripAdded (ns ms : List Node) (i k : Link) (size : Size) : Type 0 
   pub others : (x : ℕ) → (x ≡ i.number → ⊥) → (x ≡ k.number → ⊥) → node_at ms x ≡ node_at ns x
 
 -- The other slots keep what they are used for.
-pub keeps-appended : (ns ms : List Node) (at fresh : Link) (size : Size) → IsStripAdded ns ms at fresh size → (x : ℕ) → x ≢ fresh.number → KeepsUse (node_at ns x) (node_at ms x)
+pub keeps-appended : (ns ms : List Node) (at fresh : Link) (size : Size) → IsStripAdded ns ms at fresh size → (x : ℕ)
+    → x ≢ fresh.number → KeepsUse (node_at ns x) (node_at ms x)
 keeps-appended ns ms at fresh size w x ne = grind (arith, cases_eq x at.number)
 
 -- A node of the sequence s whose member ends at p.
@@ -185,15 +201,18 @@ module _ (ns ms : List Node) (at fresh : Link) (size : Size) (exact : size ≡ s
   k = fresh.number
 
   -- A tree without the two.
-  without : (s : Sequence) (b p : ℕ) (n : Numbered) → tally i n ≡ 0 → tally k n ≡ 0 → Standing ns s b p n → Standing ms s b p n
+  without : (s : Sequence) (b p : ℕ) (n : Numbered) → tally i n ≡ 0 → tally k n ≡ 0 → Standing ns s b p n
+      → Standing ms s b p n
   without s b p n zi zk h = Standing-same ns ms s b p n (λ x l. w.others x (ne-from_count i x n zi l) (ne-from_count k x n zk l)) h
 
-  ends_at : (s : Sequence) (b a p e j : ℕ) (v : NodeKind) → IsLinkedIn (node_at ns j) s b a v → (node_at ns j).area ≡ rectangle_of (member_box s p e) → j ≡ i → EndsAt (node_at ns i) s (p + e)
+  ends_at : (s : Sequence) (b a p e j : ℕ) (v : NodeKind) → IsLinkedIn (node_at ns j) s b a v
+      → (node_at ns j).area ≡ rectangle_of (member_box s p e) → j ≡ i → EndsAt (node_at ns i) s (p + e)
   ends_at s b a p e j v h area is =
       rw (← is) (record { parent = h.parent; axis = h.axis; start = p; extent = e; ends = refl; area = area })
 
   -- The new leaf itself.
-  strip_stands : (s : Sequence) (d b p : ℕ) → b ≡ i → EndsAt (node_at ns i) s p → Reaches (sides_of size) s (p + d) → Standing ms s b p (Free k d End)
+  strip_stands : (s : Sequence) (d b p : ℕ) → b ≡ i → EndsAt (node_at ns i) s p → Reaches (sides_of size) s (p + d)
+      → Standing ms s b p (Free k d End)
   strip_stands s d b p is f far = (
     rw w.strip (record { parent = f.parent; previous = sym is; next = refl; kind = refl; axis = f.axis }),
     rw (w.strip, f.axis, f.area) (box-beyond s f.start f.extent p d size exact f.ends far),
@@ -204,13 +223,17 @@ module _ (ns ms : List Node) (at fresh : Link) (size : Size) (exact : size ≡ s
   unchanged j zi zk = w.others j (ne-from_same i j zi) (ne-from_same k j zk)
 
   -- A member that the new leaf may follow.
-  followed : (s : Sequence) (d b j : ℕ) (v : NodeKind) (rest : Numbered) → last_after j rest ≡ i → same i j + tally i rest ≤ 1 → same k j ≡ 0 → IsLinkedIn (node_at ns j) s b (first_slot rest) v → IsLinkedIn (node_at ms j) s b (first_slot (appended k d rest)) v
+  followed : (s : Sequence) (d b j : ℕ) (v : NodeKind) (rest : Numbered) → last_after j rest ≡ i
+      → same i j + tally i rest ≤ 1 → same k j ≡ 0 → IsLinkedIn (node_at ns j) s b (first_slot rest) v
+      → IsLinkedIn (node_at ms j) s b (first_slot (appended k d rest)) v
   followed s d b j v End is once z h =
       let there : node_at ms j ≡ record (node_at ns j) { next = fresh } = rw is w.last in
       rw there (record { parent = h.parent; previous = h.previous; next = refl; kind = h.kind; axis = h.axis })
   followed s d b j v rest is once z h = rw (unchanged j (omega (arith, last-later i j rest (λ q. cc) is)) z) h
 
-  Standing-appended : (s : Sequence) (d b p : ℕ) (n : Numbered) → ((x : ℕ) → tally x n ≤ 1) → tally k n ≡ 0 → (b ≡ i → EndsAt (node_at ns i) s p) → last_after b n ≡ i → Reaches (sides_of size) s (p + (total (erase n) + d)) → Standing ns s b p n → Standing ms s b p (appended k d n)
+  Standing-appended : (s : Sequence) (d b p : ℕ) (n : Numbered) → ((x : ℕ) → tally x n ≤ 1) → tally k n ≡ 0
+      → (b ≡ i → EndsAt (node_at ns i) s p) → last_after b n ≡ i → Reaches (sides_of size) s (p + (total (erase n) + d))
+      → Standing ns s b p n → Standing ms s b p (appended k d n)
   Standing-appended s d b p End once z ends is far h = strip_stands s d b p is (ends is) (omega (arith, far.0), far.1)
   Standing-appended s d b p (Free j e rest) once z ends is far h =
       let keeps = keeps-appended ns ms at fresh size w j (ne-from_same k j (omega arith)) in (
@@ -236,7 +259,8 @@ module _ (ns ms : List Node) (at fresh : Link) (size : Size) (exact : size ≡ s
   used_appended : (x : ℕ) → use_count (node_at ms x).kind ≡ use_count (node_at ns x).kind + same x k
   used_appended x = grind (arith, cases_eq x k, same-self, same-ne, keeps-appended ns ms at fresh size w)
 
-  pub Stands-appended : (s : Sequence) (n : Numbered) (d : ℕ) → Stands ns s n → last_slot n ≡ i → Reaches (sides_of size) s (total (erase n) + d) → Stands ms s (appended k d n)
+  pub Stands-appended : (s : Sequence) (n : Numbered) (d : ℕ) → Stands ns s n → last_slot n ≡ i
+      → Reaches (sides_of size) s (total (erase n) + d) → Stands ms s (appended k d n)
   Stands-appended s n d h is far =
       let once : (x : ℕ) → tally x n ≤ 1 = λ x. omega (arith, h.numbered x, used-le (node_at ns x).kind) in
       let new : tally k n ≡ 0 = h.numbered k ∙ ap use_count w.unused in
@@ -254,7 +278,8 @@ pub last-inside : (slots : List Slot) (i k : ℕ) → CanAppendTo (nodes slots) 
 last-inside slots i k can = omega (arith, used-within (nodes slots) i can.used, length-map slots (λ (s : Slot). s.node))
 
 -- What the writes make.
-pub appended-by : (ns ms1 ms : List Node) (at fresh : Link) (size : Size) (leaf unused n1 n2 : Node) → length ns < no_slot
+pub appended-by : (ns ms1 ms : List Node) (at fresh : Link) (size : Size) (leaf unused n1 n2 : Node)
+    → length ns < no_slot
     → fresh.number < length ns → CanAppendTo ns at.number fresh.number
     → leaf ≡ node_at ns at.number → unused ≡ node_at ns fresh.number
     → n1 ≡ record leaf { next = fresh } → n2 ≡ strip_node leaf at size unused

@@ -2,7 +2,7 @@
 use Rattle.std.proofs.Common.{ℕ, ◌+◌, ◌<◌, ◌≤◌, ◌≡◌, List, sym, inl, inr, arith}
 use Rattle.std.proofs.lemmas.Bool.{cases_eq}
 use Rattle.atlas_store.specs.declared.slots.Node.{Node}
-use Rattle.atlas_store.specs.Slots.{no_slot}
+use Rattle.atlas_search.specs.Numbers.{no_slot}
 use Rattle.atlas_store.specs.Slots.Numbered.{Numbered, tally, first_slot, End, Free, Alloc, Seq}
 use Rattle.atlas_store.specs.Slots.Standing.{Sequence, Standing, inside}
 use Rattle.atlas_store.proofs.SlotLemmas.Frames.{same-ne, split_pos}
@@ -17,12 +17,14 @@ pub record Suffix (ns : List Node) (i : ℕ) (n : Numbered) : Type 0 where
   pub within : (k : ℕ) → tally k members ≤ tally k n
   pub here : 0 < tally i members
 
-abbrev pub suffix-wider : (ns : List Node) (i : ℕ) (m n : Numbered) → ((k : ℕ) → tally k m ≤ tally k n) → Suffix ns i m → Suffix ns i n
+abbrev pub suffix-wider : (ns : List Node) (i : ℕ) (m n : Numbered) → ((k : ℕ) → tally k m ≤ tally k n) → Suffix ns i m
+    → Suffix ns i n
 suffix-wider ns i m n l f =
     record { at = f.at; before = f.before; start = f.start; members = f.members; standing = f.standing; begins = f.begins; within = λ k. omega (arith, f.within k, l k); here = f.here }
 
 -- Each member begins a suffix of its sequence.
-pub suffix-at : (ns : List Node) (i : ℕ) (s : Sequence) (before p : ℕ) (n : Numbered) → Standing ns s before p n → 0 < tally i n → Suffix ns i n
+pub suffix-at : (ns : List Node) (i : ℕ) (s : Sequence) (before p : ℕ) (n : Numbered) → Standing ns s before p n
+    → 0 < tally i n → Suffix ns i n
 suffix-at ns i s before p End h l = absurd (omega arith)
 suffix-at ns i s before p (Free j e rest) h l =
     elim (cases_eq i j) [

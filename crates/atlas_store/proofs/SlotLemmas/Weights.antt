@@ -4,8 +4,9 @@ use Rattle.std.proofs.lemmas.Bool.{true≢false}
 use Rattle.atlas_store.specs.declared.slots.Node.{Node}
 use Rattle.atlas_store.specs.declared.slots.NodeKind.{NodeKind}
 use Rattle.atlas_store.specs.declared.slots.NodeKind.TheVariants as kind
-use Rattle.atlas_store.specs.Slots.{node_at, no_slot}
-use Rattle.atlas_store.specs.Slots.Numbered.{Numbered, tally, same, first_slot, is_free_at, is_alloc_at, End, Free, Alloc, Seq}
+use Rattle.atlas_store.specs.Slots.{node_at}
+use Rattle.atlas_search.specs.Numbers.{no_slot, same}
+use Rattle.atlas_store.specs.Slots.Numbered.{Numbered, tally, first_slot, is_free_at, is_alloc_at, End, Free, Alloc, Seq}
 use Rattle.atlas_store.specs.Slots.Standing.{Sequence, Standing, Stands, inside}
 use Rattle.atlas_store.proofs.SlotLemmas.Frames.{same-self, same-ne}
 
@@ -83,11 +84,13 @@ module _ (ns : List Node) (i : ℕ) where
   other_kind : (j : ℕ) (k l : NodeKind) → (node_at ns i).kind ≡ k → (node_at ns j).kind ≡ l → (k ≡ l → ⊥) → 0 ≡ same i j
   other_kind j k l ki lj ne = sym (same-ne i j (λ e. ne (sym ki ∙ ap (λ x. (node_at ns x).kind) e ∙ lj)))
 
-  pub free_place : (s : Sequence) (n : Numbered) → (node_at ns i).kind ≡ kind.Free → Stands ns s n → places (is_free_at i) n ≡ 1
+  pub free_place : (s : Sequence) (n : Numbered) → (node_at ns i).kind ≡ kind.Free → Stands ns s n
+      → places (is_free_at i) n ≡ 1
   free_place s n f h = grind (arith, places-Standing, other_kind)
 
   pub free_once : (s : Sequence) (n : Numbered) → (node_at ns i).kind ≡ kind.Free → Stands ns s n → free_tally i n ≡ 1
   free_once s n f h = sym (places-free i n) ∙ free_place s n f h
 
-  pub alloc_place : (s : Sequence) (n : Numbered) → (node_at ns i).kind ≡ kind.Alloc → Stands ns s n → places (is_alloc_at i) n ≡ 1
+  pub alloc_place : (s : Sequence) (n : Numbered) → (node_at ns i).kind ≡ kind.Alloc → Stands ns s n
+      → places (is_alloc_at i) n ≡ 1
   alloc_place s n f h = grind (arith, places-Standing, other_kind)

@@ -5,25 +5,25 @@ use Rattle.std.proofs.lemmas.Bool.{cases_eq, cases_lt, cond_both, cond-true, con
 use Rattle.std.proofs.lemmas.List.{length-map}
 use Rattle.atlas_store.specs.declared.slots.Slot.{Slot}
 use Rattle.atlas_model.specs.declared.geometry.Size.{Size}
-use Rattle.atlas_store.specs.declared.slots.Link.{Link}
+use Rattle.atlas_search.specs.declared.link.Link.{Link}
 use Rattle.atlas_store.specs.declared.slots.Node.{Node}
 use Rattle.atlas_store.specs.declared.slots.Ring.{Ring}
 use Rattle.atlas_store.specs.declared.slots.NodeKind.{NodeKind}
 use Rattle.atlas_store.specs.declared.slots.NodeKind.TheVariants as kind
-use Rattle.atlas_store.specs.declared.search.table.ListHead.{ListHead}
-use Rattle.atlas_store.specs.declared.search.bands.Place.{Place}
+use Rattle.atlas_search.specs.declared.table.ListHead.{ListHead}
+use Rattle.atlas_search.specs.declared.bands.Place.{Place}
 use Rattle.atlas_model.specs.Boxes.{box_sides}
 use Rattle.atlas_model.specs.Pixels.{sides_of, box_of}
 use Rattle.atlas_model.specs.Choice.{Options}
 use Rattle.atlas_store.specs.Slots.{nodes, rings, node_at, ring_at, use_count}
-use Rattle.atlas_store.specs.Slots.Numbered.{same}
+use Rattle.atlas_search.specs.Numbers.{same, occurs, without, lists_with}
 use Rattle.atlas_store.specs.Slots.Standing.{IsSlot}
-use Rattle.atlas_store.specs.Slots.Lists.{IsList, IsFiled, AreFiled, Places, occurs, without, filed, node_sides, node_top, is_free, tag_of}
-use Rattle.atlas_store.specs.Search.Bands.{list_of, number_of}
-use Rattle.atlas_store.specs.Search.Tables.{head_of, low_of, is_used_at}
-use Rattle.atlas_store.specs.Slots.Links.{IsSlotOrTag, IsFiledSlot, IsDetachedSlot, IsUnlisted, first_after, with_mark, with_count, with_next, with_ring_previous, lists_with, unlisted, listed}
-use Rattle.atlas_store.proofs.ListLemmas.Occurrences.{same-self, same-ne, ne-from_occurs, without-none, occurs-without}
-use Rattle.atlas_store.proofs.SearchLemmas.BandLaws.{list_of-most}
+use Rattle.atlas_store.specs.Slots.Lists.{IsList, IsFiled, AreFiled, Places, filed, node_sides, node_top, is_free, tag_of}
+use Rattle.atlas_search.specs.Bands.{list_of, number_of}
+use Rattle.atlas_search.specs.Tables.{head_of, low_of, is_used_at}
+use Rattle.atlas_store.specs.Slots.Links.{IsSlotOrTag, IsFiledSlot, IsDetachedSlot, IsUnlisted, first_after, with_mark, with_count, with_next, with_ring_previous, unlisted, listed}
+use Rattle.atlas_search.proofs.Occurrences.{same-self, same-ne, ne-from_occurs, without-none, occurs-without}
+use Rattle.atlas_search.proofs.SearchLemmas.BandLaws.{list_of-most}
 use Rattle.atlas_store.proofs.StoreLemmas.Unlinking.{CanUnlink, IsList-kept, IsList-unlinked, Line-kept, Line-inside, can-unlink, others-unlinked, unlinked-by}
 pub use Rattle.atlas_store.proofs.SlotLemmas.Frames.{past-unused, used-inside}
 
@@ -57,7 +57,8 @@ filed-use o k n = grind (arith, free_use, and_parts)
 pub with_mark-same : (detached : ℕ → Bool) (i : ℕ) (mark : Bool) → with_mark detached i mark i ≡ mark
 with_mark-same detached i mark = cond-true _ mark (detached i) (eq-eqb i i refl)
 
-pub with_mark-other : (detached : ℕ → Bool) (i : ℕ) (mark : Bool) (k : ℕ) → (k ≡ i → ⊥) → with_mark detached i mark k ≡ detached k
+pub with_mark-other : (detached : ℕ → Bool) (i : ℕ) (mark : Bool) (k : ℕ) → (k ≡ i → ⊥)
+    → with_mark detached i mark k ≡ detached k
 with_mark-other detached i mark k ne = cond-false _ mark (detached k) (ne_eqb k i ne)
 
 pub with_count-same : (claimed : ℕ → ℕ) (i n : ℕ) → with_count claimed i n i ≡ n
@@ -91,11 +92,13 @@ module _ (o : Options) (ns : List Node) (rs : List Ring) (heads : List ListHead)
   pub elsewhere : (k i : ℕ) → k < 2704 → (k ≡ list_for o (node_at ns i) → ⊥) → occurs i (p.free_lists k) ≡ 0
   elsewhere k i l ne = elim (cases_lt 0 (occurs i (p.free_lists k))) [ inl h ↦ absurd (ne (listed-list k i l h)) | inr z ↦ omega arith ]
 
-  pub apart : (k m i : ℕ) → k < 2704 → m < 2704 → (k ≡ m → ⊥) → 0 < occurs i (p.free_lists k) → occurs i (p.free_lists m) ≡ 0
+  pub apart : (k m i : ℕ) → k < 2704 → m < 2704 → (k ≡ m → ⊥) → 0 < occurs i (p.free_lists k)
+      → occurs i (p.free_lists m) ≡ 0
   apart k m i lk lm ne h = elsewhere m i lm (λ q. ne (listed-list k i lk h ∙ sym q))
 
   -- A slot that is free and not detached stands in its list.
-  pub listed-one : (i : ℕ) → (node_at ns i).kind ≡ kind.Free → p.detached i ≡ false → occurs i (p.free_lists (list_for o (node_at ns i))) ≡ 1
+  pub listed-one : (i : ℕ) → (node_at ns i).kind ≡ kind.Free → p.detached i ≡ false
+      → occurs i (p.free_lists (list_for o (node_at ns i))) ≡ 1
   listed-one i e nl =
       let k = list_for o (node_at ns i) in
       (f.free k (list_of-most o (node_sides (node_at ns i)))).each i ∙ unless-not (p.detached i) _ nl ∙ filed-free o (node_at ns i) e
@@ -121,7 +124,11 @@ module _ (o : Options) (ns : List Node) (rs : List Ring) (heads : List ListHead)
   used-not-unused_list i u = elim (cases_lt 0 (occurs i p.unused_list)) [ inl h ↦ (let e = unused_list-use i h in absurd (omega (arith, e.0))) | inr z ↦ omega arith ]
 
 -- A list stays as it was: its slots keep their rings.
-pub IsFiled-kept : (o : Options) (ns : List Node) (rs ts : List Ring) (heads heads' : List ListHead) (k : ℕ) (xs ys : List ℕ) (detached detached' : ℕ → Bool) → head_of heads' k ≡ head_of heads k → low_of heads' k ≡ low_of heads k → ys ≡ xs → length rs ≤ length ts → ((j : ℕ) → 0 < occurs j xs → ring_at ts j ≡ ring_at rs j) → ((j : ℕ) → unless_detached (detached' j) (filed o k (node_at ns j)) ≡ unless_detached (detached j) (filed o k (node_at ns j))) → IsFiled o ns rs heads k xs detached → IsFiled o ns ts heads' k ys detached'
+pub IsFiled-kept : (o : Options) (ns : List Node) (rs ts : List Ring) (heads heads' : List ListHead) (k : ℕ) (xs ys : List ℕ) (detached detached' : ℕ → Bool)
+    → head_of heads' k ≡ head_of heads k → low_of heads' k ≡ low_of heads k → ys ≡ xs → length rs ≤ length ts
+    → ((j : ℕ) → 0 < occurs j xs → ring_at ts j ≡ ring_at rs j)
+    → ((j : ℕ) → unless_detached (detached' j) (filed o k (node_at ns j)) ≡ unless_detached (detached j) (filed o k (node_at ns j)))
+    → IsFiled o ns rs heads k xs detached → IsFiled o ns ts heads' k ys detached'
 IsFiled-kept o ns rs ts heads heads' k xs ys detached detached' eh el ey lt same_at marks h =
     grind (arith, IsList-kept rs ts (tag_of k) (head_of heads k) xs lt same_at h.links)
 
@@ -129,13 +136,15 @@ IsFiled-kept o ns rs ts heads heads' k xs ys detached detached' eh el ey lt same
 pub record IsTakenOut (rs ts : List Ring) (before : ℕ) (first new : Link) (i : ℕ) : Type 0 where
   pub same_length : length ts ≡ length rs
   pub links : (xs : List ℕ) → IsList rs before first xs → 0 < occurs i xs → IsList ts before new (without i xs)
-  pub others : (xs : List ℕ) (k : ℕ) → IsList rs before first xs → 0 < occurs i xs → occurs k xs ≡ 0 → ring_at ts k ≡ ring_at rs k
+  pub others : (xs : List ℕ) (k : ℕ) → IsList rs before first xs → 0 < occurs i xs → occurs k xs ≡ 0
+      → ring_at ts k ≡ ring_at rs k
 
 -- Slot i joined the list that comes after `before`, in front.
 pub record IsPutIn (rs ts : List Ring) (before : ℕ) (first new : Link) (i : ℕ) : Type 0 where
   pub same_length : length ts ≡ length rs
   pub links : (xs : List ℕ) → IsList rs before first xs → occurs i xs ≡ 0 → IsList ts before new (i ∷ xs)
-  pub others : (xs : List ℕ) (k : ℕ) → IsList rs before first xs → (k ≡ i → ⊥) → occurs k xs ≡ 0 → ring_at ts k ≡ ring_at rs k
+  pub others : (xs : List ℕ) (k : ℕ) → IsList rs before first xs → (k ≡ i → ⊥) → occurs k xs ≡ 0
+      → ring_at ts k ≡ ring_at rs k
 
 -- The lists but list m stay.
 pub record ChangesList (heads heads' : List ListHead) (m : ℕ) : Type 0 where
@@ -152,10 +161,12 @@ module _ (o : Options) (ns : List Node) (rs ts : List Ring) (heads heads' : List
   used_free : (j : ℕ) → 0 < occurs j p.unused_list → occurs j (p.free_lists m) ≡ 0
   used_free j h = unused-nowhere o ns rs heads unused p f m j below (unused_list-use o ns rs heads unused p f j h).0
 
-  marks : (k : ℕ) (mark : Bool) → (k ≡ m → ⊥) → (j : ℕ) → unless_detached (with_mark p.detached i mark j) (filed o k (node_at ns j)) ≡ unless_detached (p.detached j) (filed o k (node_at ns j))
+  marks : (k : ℕ) (mark : Bool) → (k ≡ m → ⊥) → (j : ℕ)
+      → unless_detached (with_mark p.detached i mark j) (filed o k (node_at ns j)) ≡ unless_detached (p.detached j) (filed o k (node_at ns j))
   marks k mark ne j = grind (arith, filed-other, unless-le, with_mark-other)
 
-  pub AreFiled-unlisted : p.detached i ≡ false → IsTakenOut rs ts (tag_of m) (head_of heads m) (head_of heads' m) i → low_of heads' m ≡ low_of heads m → AreFiled o ns ts heads' unused (unlisted p i)
+  pub AreFiled-unlisted : p.detached i ≡ false → IsTakenOut rs ts (tag_of m) (head_of heads m) (head_of heads' m) i
+      → low_of heads' m ≡ low_of heads m → AreFiled o ns ts heads' unused (unlisted p i)
   AreFiled-unlisted kept w same_low =
       let mine = f.free m below in
       let one : occurs i (p.free_lists m) ≡ 1 = rw em (listed-one o ns rs heads unused p f i is_free kept) in
@@ -174,7 +185,10 @@ module _ (o : Options) (ns : List Node) (rs ts : List Ring) (heads heads' : List
         each = λ j l. f.each j (omega (arith, w.same_length));
       }
 
-  pub AreFiled-listed : p.detached i ≡ true → IsPutIn rs ts (tag_of m) (head_of heads m) (head_of heads' m) i → low_of heads' m ≤ node_top (node_at ns i) → ((j : ℕ) → 0 < occurs j (p.free_lists m) → low_of heads' m ≤ low_of heads m) → AreFiled o ns ts heads' unused (listed p m i)
+  pub AreFiled-listed : p.detached i ≡ true → IsPutIn rs ts (tag_of m) (head_of heads m) (head_of heads' m) i
+      → low_of heads' m ≤ node_top (node_at ns i)
+      → ((j : ℕ) → 0 < occurs j (p.free_lists m) → low_of heads' m ≤ low_of heads m)
+      → AreFiled o ns ts heads' unused (listed p m i)
   AreFiled-listed kept w low lower =
       let mine = f.free m below in
       let none : occurs i (p.free_lists m) ≡ 0 = detached-nowhere o ns rs heads unused p f m i below kept in
@@ -211,23 +225,28 @@ module _ (o : Options) (ns : List Node) (rs ts : List Ring) (heads heads' : List
 
 -- Another bound is kept of list m.
 pub AreFiled-sharpened : (o : Options) (ns : List Node) (rs : List Ring) (heads heads' : List ListHead) (unused : Link) (p : Places) (m low : ℕ)
-    → ((k : ℕ) → head_of heads' k ≡ head_of heads k) → ((k : ℕ) → k ≢ m → low_of heads' k ≡ low_of heads k) → low_of heads' m ≡ low
+    → ((k : ℕ) → head_of heads' k ≡ head_of heads k) → ((k : ℕ) → k ≢ m → low_of heads' k ≡ low_of heads k)
+    → low_of heads' m ≡ low
     → ((i : ℕ) → (node_at ns i).kind ≡ kind.Free → p.detached i ≡ false → list_for o (node_at ns i) ≡ m → low ≤ node_top (node_at ns i))
     → AreFiled o ns rs heads unused p → AreFiled o ns rs heads' unused p
 AreFiled-sharpened o ns rs heads heads' unused p m low firsts lows here below f =
     grind (arith, below, listed-kind, listed-kept, listed-list, IsFiled-kept)
 
-pub number-is : (o : Options) (place : Place) (size : Size) (node n : Node) → number_of place ≡ list_of o (sides_of size) → sides_of size ≡ box_sides (box_of node.area) → node ≡ n → number_of place ≡ list_for o n
+pub number-is : (o : Options) (place : Place) (size : Size) (node n : Node)
+    → number_of place ≡ list_of o (sides_of size) → sides_of size ≡ box_sides (box_of node.area) → node ≡ n
+    → number_of place ≡ list_for o n
 number-is o place size node n e s r = e ∙ ap (list_of o) s ∙ ap (list_for o) r
 
 -- No list holds a detached slot.
-pub is-unlisted : (o : Options) (slots : List Slot) (heads : List ListHead) (i m : ℕ) → IsDetachedSlot o slots heads i → m ≡ list_for o (node_at (nodes slots) i) → IsUnlisted (rings slots) (tag_of m) (head_of heads m) i
+pub is-unlisted : (o : Options) (slots : List Slot) (heads : List ListHead) (i m : ℕ) → IsDetachedSlot o slots heads i
+    → m ≡ list_for o (node_at (nodes slots) i) → IsUnlisted (rings slots) (tag_of m) (head_of heads m) i
 is-unlisted o slots heads i m k em =
     let below : m < 2704 = rw em (list_of-most o (node_sides (node_at (nodes slots) i))) in
     (k.places.free_lists m, (k.filed.free m below).links, detached-nowhere o _ _ heads k.unused k.places k.filed m i below k.is_detached)
 
 -- A slot that stands in a list makes it one that is used.
-pub is-used : (rs : List Ring) (heads : List ListHead) (k j : ℕ) (xs : List ℕ) → length rs < 4294967295 → IsList rs (tag_of k) (head_of heads k) xs → 0 < occurs j xs → is_used_at heads k ≡ true
+pub is-used : (rs : List Ring) (heads : List ListHead) (k j : ℕ) (xs : List ℕ) → length rs < 4294967295
+    → IsList rs (tag_of k) (head_of heads k) xs → 0 < occurs j xs → is_used_at heads k ≡ true
 is-used rs heads k j [] short h l = absurd (omega arith)
 is-used rs heads k j (x ∷ xs) short h l = grind (arith, ne_eqb)
 
@@ -298,10 +317,12 @@ module _ {o : Options} {slots : List Slot} {heads : List ListHead} {i : ℕ} (k 
     pub leaves-next : (count : ℕ) → count ≡ length slots → IsSlot count ring.next.number
     leaves-next count ec = rw (er, ec, ← same_count) leaves.next
 
-pub listed-by : (o : Options) (ns ms : List Node) (rs ts : List Ring) (heads heads' : List ListHead) (i m top : ℕ) (new : Link) → length rs < 4294967295 → ms ≡ ns → m ≡ list_for o (node_at ns i) → (node_at ns i).kind ≡ kind.Free
+pub listed-by : (o : Options) (ns ms : List Node) (rs ts : List Ring) (heads heads' : List ListHead) (i m top : ℕ) (new : Link)
+    → length rs < 4294967295 → ms ≡ ns → m ≡ list_for o (node_at ns i) → (node_at ns i).kind ≡ kind.Free
     → ChangesList heads heads' m → head_of heads' m ≡ new → top ≡ node_top (node_at ns i) → low_of heads' m ≤ top
     → (is_used_at heads m ≡ true → low_of heads' m ≤ low_of heads m) → IsPutIn rs ts (tag_of m) (head_of heads m) new i
-    → (unused : Link) (p : Places) → AreFiled o ns rs heads unused p → p.detached i ≡ true → AreFiled o ms ts heads' unused (listed p (list_for o (node_at ns i)) i)
+    → (unused : Link) (p : Places) → AreFiled o ns rs heads unused p → p.detached i ≡ true
+    → AreFiled o ms ts heads' unused (listed p (list_for o (node_at ns i)) i)
 listed-by o ns ms rs ts heads heads' i m top new short en em free changes first es low lower w unused p f kept =
     grind (
       arith,

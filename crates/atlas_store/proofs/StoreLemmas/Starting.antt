@@ -8,9 +8,10 @@ use Rattle.atlas_model.specs.Pixels.{sides_of, options_of, rectangle_of}
 use Rattle.atlas_model.specs.Choice.{AreValid}
 use Rattle.atlas_model.specs.Changes.{fresh}
 use Rattle.atlas_model.specs.States.{started}
-use Rattle.atlas_store.specs.Slots.{nodes, no_slot}
+use Rattle.atlas_store.specs.Slots.{nodes}
+use Rattle.atlas_search.specs.Numbers.{no_slot}
 use Rattle.atlas_store.specs.Slots.Standing.{Stands, member_box}
-use Rattle.atlas_store.specs.Search.Tables.{is_used_at}
+use Rattle.atlas_search.specs.Tables.{is_used_at}
 use Rattle.atlas_store.specs.Slots.Reading.{tree_of}
 use Rattle.atlas_store.specs.Stored.{Shelf, Stored, Holds, IsAtlas, state_of}
 use Rattle.atlas_store.specs.Store.Holdings.{IsDetachedLeaf}
@@ -37,12 +38,14 @@ whole_stands : (size : Size) → IsPositive (sides_of size)
     → Stands (nodes (one_free_slot size ∷ [])) (detached_holding (sides_of size)).sequence (detached_holding (sides_of size)).tree
 whole_stands size h = grind (arith, whole_area, same-self, same-ne)
 
-whole_holds : (v : Shelf) (size : Size) → IsStart v size → IsPositive (sides_of size) → (sides_of size).width < 2 ^ 31 → (sides_of size).height < 2 ^ 31
+whole_holds : (v : Shelf) (size : Size) → IsStart v size → IsPositive (sides_of size) → (sides_of size).width < 2 ^ 31
+    → (sides_of size).height < 2 ^ 31
     → Holds v (detached_holding (sides_of size))
 whole_holds v size s h wide high = grind (arith, whole_stands, AreFiled-one)
 
 -- The one slot is a detached leaf.
-pub whole_leaf : (v : Shelf) (size : Size) → IsStart v size → IsPositive (sides_of size) → (sides_of size).width < 2 ^ 31 → (sides_of size).height < 2 ^ 31
+pub whole_leaf : (v : Shelf) (size : Size) → IsStart v size → IsPositive (sides_of size)
+    → (sides_of size).width < 2 ^ 31 → (sides_of size).height < 2 ^ 31
     → IsDetachedLeaf v 0 (detached_holding (sides_of size))
 whole_leaf v size s h wide high = grind (arith, whole_holds)
 

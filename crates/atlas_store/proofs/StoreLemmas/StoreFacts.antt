@@ -5,22 +5,26 @@ use Rattle.std.specs.Vec.{with_items}
 use Rattle.atlas_store.specs.declared.store.Store.{Store}
 use Rattle.atlas_store.specs.declared.slots.Slot.{Slot}
 use Rattle.atlas_store.specs.declared.slots.Node.{Node}
-use Rattle.atlas_store.specs.Slots.{nodes, no_slot}
+use Rattle.atlas_store.specs.Slots.{nodes}
+use Rattle.atlas_search.specs.Numbers.{no_slot}
 use Rattle.atlas_store.specs.Stored.{Holding, HoldsWith}
 use Rattle.atlas_store.specs.Store.Holdings.{shelf_of, HasSlotsFor, KeepsRoom, after_take}
 use Rattle.atlas_store.proofs.StoreLemmas.StoreSteps.{AreSlots, length-nodes, length-rings, some-front}
 use Rattle.atlas_store.proofs.StoreLemmas.StoreTakes.{rest-length}
 
 -- The slots that a store has once a call on them is done.
-pub are-slots : {A : Type 0} (s : Store A) {given mid : List Slot} → given ≡ s.slots.items → length given ≡ vec_len s.slots
+pub are-slots : {A : Type 0} (s : Store A) {given mid : List Slot} → given ≡ s.slots.items
+    → length given ≡ vec_len s.slots
     → length mid ≡ length given → AreSlots s.slots.items given mid (with_items s.slots mid).items
 are-slots s {given} {mid} value len long = grind (arith, with_items_is)
 
 -- A relation of the slots that the call was given and left is one of the store's slots before and after.
-pub across-call : (R : List Slot → List Slot → Type 0) {own old mid new : List Slot} → AreSlots own old mid new → R old mid → R own new
+pub across-call : (R : List Slot → List Slot → Type 0) {own old mid new : List Slot} → AreSlots own old mid new
+    → R old mid → R own new
 across-call R {own} {old} {mid} {new} s r = subst (λ x. R x new) s.given (subst (R old) (sym s.left) r)
 
-pub slots-room : {A : Type 0} (old new : Store A) {given mid : List Slot} → AreSlots old.slots.items given mid new.slots.items
+pub slots-room : {A : Type 0} (old new : Store A) {given mid : List Slot}
+    → AreSlots old.slots.items given mid new.slots.items
     → vec_capacity new.slots ≡ vec_capacity old.slots → new.options ≡ old.options → KeepsRoom old new
 slots-room old new s room options = grind arith
 
@@ -30,12 +34,14 @@ module _ {A : Type 0} (old new : Store A) (i : ℕ) (n : Node) (slot : Slot) whe
       → (old.unused.number ≡ no_slot → ⊥) → length new.slots.items ≡ length old.slots.items
   taken-length again ne = grind (arith, length-set, length-nodes)
 
-  pushed-length : (old.unused.number ≡ no_slot → new.slots.items ≡ old.slots.items ++ slot ∷ []) → old.unused.number ≡ no_slot
+  pushed-length : (old.unused.number ≡ no_slot → new.slots.items ≡ old.slots.items ++ slot ∷ [])
+      → old.unused.number ≡ no_slot
       → length new.slots.items ≡ length old.slots.items + 1
   pushed-length fresh e = ap (λ s. length s) (fresh e) ∙ length_push old.slots.items slot
 
   pub taken-longer : ((old.unused.number ≡ no_slot → ⊥) → nodes new.slots.items ≡ set (nodes old.slots.items) i n)
-      → (old.unused.number ≡ no_slot → new.slots.items ≡ old.slots.items ++ slot ∷ []) → length old.slots.items ≤ length new.slots.items
+      → (old.unused.number ≡ no_slot → new.slots.items ≡ old.slots.items ++ slot ∷ [])
+      → length old.slots.items ≤ length new.slots.items
   taken-longer again fresh = grind (arith, pushed-length, taken-length)
 
   -- One slot fewer can be taken then.

@@ -2,29 +2,31 @@
 use Rattle.std.proofs.Common.{ℕ, ◌+◌, ◌<◌, ◌≤◌, ◌≡◌, ◌≢◌, List, [], ◌∷◌, refl, sym, ap, ◌∙◌, ◌++◌, arith, length, set, length-set, Bool, true, false, ◌⊎◌, inl, inr, subst}
 use Rattle.std.proofs.lemmas.Bool.{cases_eq, cases_lt}
 use Rattle.atlas_store.specs.declared.slots.Slot.{Slot}
-use Rattle.atlas_store.specs.declared.slots.Link.{Link}
+use Rattle.atlas_search.specs.declared.link.Link.{Link}
 use Rattle.atlas_store.specs.declared.slots.Node.{Node}
 use Rattle.atlas_store.specs.declared.slots.Ring.{Ring}
 use Rattle.atlas_store.specs.declared.slots.placing.Parts.{Parts}
 use Rattle.atlas_store.specs.declared.slots.placing.Plan.{Plan}
 use Rattle.atlas_store.specs.declared.slots.NodeKind.TheVariants as kind
-use Rattle.atlas_store.specs.declared.search.table.ListHead.{ListHead}
+use Rattle.atlas_search.specs.declared.table.ListHead.{ListHead}
 use Rattle.atlas_model.specs.Choice.{Options}
 use Rattle.atlas_model.specs.Pixels.{options_of}
-use Rattle.atlas_store.specs.Search.Tables.{head_of, low_of}
-use Rattle.atlas_store.specs.Slots.{nodes, rings, node_at, use_count, KeepsUse, no_slot}
+use Rattle.atlas_search.specs.Tables.{head_of, low_of}
+use Rattle.atlas_store.specs.Slots.{nodes, rings, node_at, use_count, KeepsUse}
+use Rattle.atlas_search.specs.Numbers.{no_slot, front, occurs}
 use Rattle.atlas_store.specs.Slots.Numbered.{Numbered, joined, lifted}
 use Rattle.atlas_store.specs.Slots.Standing.{Sequence, Stands}
 use Rattle.atlas_store.specs.Slots.SlotCalls.{IsLeafFreed, IsNextJoined, IsChildLifted}
 use Rattle.atlas_store.specs.Slots.Placing.{granted_by, left_by, marks_of, planned, taken_by, CanPlace, IsPlaced}
 use Rattle.atlas_store.proofs.SlotLemmas.Frames.{Standing-same, same-ne}
-use Rattle.atlas_store.specs.Slots.Lists.{AreFiled, Places, Line, front, is_free, occurs}
+use Rattle.atlas_store.specs.Slots.Lists.{AreFiled, Places, Line, is_free}
 use Rattle.std.proofs.lemmas.List.{length-map, length_push}
-use Rattle.atlas_store.specs.Slots.Links.{with_mark, with_count, given_back, IsSolid, IsTaken}
+use Rattle.atlas_store.specs.Slots.Links.{with_mark, with_count, given_back, IsTaken}
+use Rattle.atlas_search.specs.Rectangles.{IsSolid}
 use Rattle.atlas_store.specs.Stored.{Shelf, Holding, Holds, HoldsWith, IsDetachedOnly, places_of}
 use Rattle.atlas_store.specs.Store.Holdings.{node_in, IsLow, IsDetachedLeaf, after_take, after_mark, after_join, after_lift, after_place}
 use Rattle.atlas_store.proofs.StoreLemmas.Filing.{AreFiled-sharpened, with_mark-same, with_mark-other, with_count-same, with_count-other}
-use Rattle.atlas_store.proofs.StoreLemmas.Taking.{AreFiled-moved, AreFiled-nodes, IsMoved}
+use Rattle.atlas_store.proofs.StoreLemmas.Taking.{AreFiled-moved, AreFiled-nodes, StaysOrIsOut}
 use Rattle.atlas_store.proofs.SlotLemmas.NumberedCuts.{IsRecut, recut-marked, recut-joined, recut-lifted, recut-planned}
 use Rattle.atlas_store.proofs.SlotLemmas.Placing.{Stands-placed, placed-leaf, placed-others, placed-part, untaken-unmarked, used_after}
 use Rattle.atlas_store.proofs.SlotLemmas.JoiningWrites.{none-unused}
@@ -41,7 +43,8 @@ pub held_again : (claimed claimed' : ℕ → ℕ) (v : Shelf) (new : List Slot) 
 held_again claimed claimed' v new unused h tree unused_list detached short holds stands filed recut = grind arith
 
 -- A slot that keeps its use stays as it was for the lists.
-pub moved-kept : (n m : Node) (detached detached' : Bool) → KeepsUse n m → detached' ≡ detached → IsMoved n m detached detached'
+pub moved-kept : (n m : Node) (detached detached' : Bool) → KeepsUse n m → detached' ≡ detached
+    → StaysOrIsOut n m detached detached'
 moved-kept n m detached detached' k e = inl (k.kind, k.area, e)
 
 pub use-kept : (n m : Node) → KeepsUse n m → use_count m.kind ≡ use_count n.kind
@@ -49,9 +52,11 @@ use-kept n m k = ap use_count k.kind
 
 -- One detached slot changes, and stays in use.
 pub filed-one : (o : Options) (ns ms : List Node) (rs ts : List Ring) (heads : List ListHead) (unused : Link) (p : Places) (i : ℕ) (mark : Bool)
-    → ts ≡ rs → IsMoved (node_at ns i) (node_at ms i) (p.detached i) mark → use_count (node_at ms i).kind ≡ use_count (node_at ns i).kind
+    → ts ≡ rs → StaysOrIsOut (node_at ns i) (node_at ms i) (p.detached i) mark
+    → use_count (node_at ms i).kind ≡ use_count (node_at ns i).kind
     → ((k : ℕ) → k ≢ i → KeepsUse (node_at ns k) (node_at ms k))
-    → AreFiled o ns rs heads unused p → AreFiled o ms ts heads unused (record p { detached = with_mark p.detached i mark })
+    → AreFiled o ns rs heads unused p
+    → AreFiled o ms ts heads unused (record p { detached = with_mark p.detached i mark })
 filed-one o ns ms rs ts heads unused p i mark same here used others filed =
     grind (arith, with_mark-same, moved-kept, with_mark-other, use-kept, AreFiled-moved)
 
@@ -62,7 +67,8 @@ pub record AreSlots (own old mid new : List Slot) : Type 0 where
   pub long : length mid ≡ length old
 
 -- What a call says of the slots that it was given and of those that it left is so of the shelf's.
-pub over-shelf : (P : List Slot → List Slot → Type 0) (own old mid new : List Slot) → AreSlots own old mid new → P old mid
+pub over-shelf : (P : List Slot → List Slot → Type 0) (own old mid new : List Slot) → AreSlots own old mid new
+    → P old mid
     → P own new
 over-shelf P own old mid new a p = subst (λ s. P s new) a.given (subst (P old) (sym a.left) p)
 
@@ -76,7 +82,8 @@ pub filed-before : (claimed : ℕ → ℕ) (v : Shelf) (old : List Slot) (h : Ho
     → AreFiled (options_of v.options) (nodes old) (rings old) v.heads v.unused (places_of claimed h)
 filed-before claimed v old h e holds = grind arith
 
-pub stands-before : (claimed : ℕ → ℕ) (v : Shelf) (old : List Slot) (h : Holding) → old ≡ v.slots → HoldsWith claimed v h → Stands (nodes old) h.sequence h.tree
+pub stands-before : (claimed : ℕ → ℕ) (v : Shelf) (old : List Slot) (h : Holding) → old ≡ v.slots
+    → HoldsWith claimed v h → Stands (nodes old) h.sequence h.tree
 stands-before claimed v old h e holds = let Q : List Slot → Type 0 = λ slots. Stands (nodes slots) h.sequence h.tree in subst Q (sym e) holds.stands
 
 -- A granted leaf becomes free.
@@ -93,8 +100,8 @@ marked-holds v new at long w was h holds =
 -- Two slots change: i stays in use, and j is claimed or was.
 pub record ChangesTwo (ns ms : List Node) (i j : ℕ) (claimed claimed' : ℕ → ℕ) (detached detached' : ℕ → Bool) : Type 0 where
   pub apart : i ≢ j
-  pub first : IsMoved (node_at ns i) (node_at ms i) (detached i) (detached' i)
-  pub second : IsMoved (node_at ns j) (node_at ms j) (detached j) (detached' j)
+  pub first : StaysOrIsOut (node_at ns i) (node_at ms i) (detached i) (detached' i)
+  pub second : StaysOrIsOut (node_at ns j) (node_at ms j) (detached j) (detached' j)
   pub used : use_count (node_at ms i).kind ≡ use_count (node_at ns i).kind
   pub counted : claimed' j + use_count (node_at ms j).kind ≡ claimed j + use_count (node_at ns j).kind
   pub hands : (k : ℕ) → k ≢ j → claimed' k ≡ claimed k
@@ -103,9 +110,10 @@ pub record ChangesTwo (ns ms : List Node) (i j : ℕ) (claimed claimed' : ℕ �
 
 pub filed-two : (o : Options) (ns ms : List Node) (rs ts : List Ring) (heads : List ListHead) (unused : Link) (p : Places) (claimed' : ℕ → ℕ) (detached' : ℕ → Bool) (i j : ℕ)
     → ts ≡ rs → ChangesTwo ns ms i j p.claimed claimed' p.detached detached'
-    → AreFiled o ns rs heads unused p → AreFiled o ms ts heads unused (record p { claimed = claimed'; detached = detached' })
+    → AreFiled o ns rs heads unused p
+    → AreFiled o ms ts heads unused (record p { claimed = claimed'; detached = detached' })
 filed-two o ns ms rs ts heads unused p claimed' detached' i j same c filed =
-    let moved : (k : ℕ) → IsMoved (node_at ns k) (node_at ms k) (p.detached k) (detached' k) = λ k. grind (arith, cases_eq k i, cases_eq k j, moved-kept) in
+    let moved : (k : ℕ) → StaysOrIsOut (node_at ns k) (node_at ms k) (p.detached k) (detached' k) = λ k. grind (arith, cases_eq k i, cases_eq k j, moved-kept) in
     let counts : (k : ℕ) → k < length rs → claimed' k + use_count (node_at ms k).kind ≡ p.claimed k + use_count (node_at ns k).kind =
     λ k _. grind (arith, cases_eq k i, cases_eq k j, use-kept) in
     subst (λ r. AreFiled o ms r heads unused (record p { claimed = claimed'; detached = detached' })) (sym same)
@@ -113,14 +121,17 @@ filed-two o ns ms rs ts heads unused p claimed' detached' i j same c filed =
 
 -- What is claimed may be said in another way.
 pub filed-claimed : (o : Options) (ns : List Node) (rs : List Ring) (heads : List ListHead) (unused : Link) (p : Places) (claimed' : ℕ → ℕ)
-    → ((i : ℕ) → claimed' i ≡ p.claimed i) → AreFiled o ns rs heads unused p → AreFiled o ns rs heads unused (record p { claimed = claimed' })
+    → ((i : ℕ) → claimed' i ≡ p.claimed i) → AreFiled o ns rs heads unused p
+    → AreFiled o ns rs heads unused (record p { claimed = claimed' })
 filed-claimed o ns rs heads unused p claimed' e filed = grind (arith, AreFiled-nodes)
 
-pub holds-claimed : (claimed claimed' : ℕ → ℕ) (v : Shelf) (h : Holding) → ((i : ℕ) → claimed' i ≡ claimed i) → HoldsWith claimed v h → HoldsWith claimed' v h
+pub holds-claimed : (claimed claimed' : ℕ → ℕ) (v : Shelf) (h : Holding) → ((i : ℕ) → claimed' i ≡ claimed i)
+    → HoldsWith claimed v h → HoldsWith claimed' v h
 holds-claimed claimed claimed' v h e holds = grind (arith, filed-claimed)
 
 -- One slot that was claimed, and is no more.
-pub claimed-back : (claimed : ℕ → ℕ) (j m : ℕ) → claimed j ≡ 0 → (i : ℕ) → with_count (with_count claimed j m) j 0 i ≡ claimed i
+pub claimed-back : (claimed : ℕ → ℕ) (j m : ℕ) → claimed j ≡ 0 → (i : ℕ)
+    → with_count (with_count claimed j m) j 0 i ≡ claimed i
 claimed-back claimed j m none i = grind (arith, with_count-same, with_count-other)
 
 -- A free leaf leaves its list, or enters it: the nodes stay.
@@ -128,18 +139,21 @@ pub listed-holds : (v : Shelf) (old mid new : List Slot) (heads : List ListHead)
     → AreSlots v.slots old mid new → nodes mid ≡ nodes old
     → (AreFiled (options_of v.options) (nodes old) (rings old) v.heads v.unused (places_of (λ i. 0) h)
     → AreFiled (options_of v.options) (nodes mid) (rings mid) heads v.unused (record (places_of (λ i. 0) h) { free_lists = free_lists; detached = detached }))
-    → Holds v h → Holds (record v { slots = new; heads = heads }) (record h { free_lists = free_lists; detached = detached })
+    → Holds v h
+    → Holds (record v { slots = new; heads = heads }) (record h { free_lists = free_lists; detached = detached })
 listed-holds v old mid new heads h free_lists detached a same filed holds =
     grind (arith, stands-before, filed-before, short-mid)
 
 -- Another bound is kept of a list.
 pub sharpened-holds : (v : Shelf) (heads : List ListHead) (m low : ℕ) (h : Holding)
-    → ((k : ℕ) → head_of heads k ≡ head_of v.heads k) → ((k : ℕ) → k ≢ m → low_of heads k ≡ low_of v.heads k) → low_of heads m ≡ low
+    → ((k : ℕ) → head_of heads k ≡ head_of v.heads k) → ((k : ℕ) → k ≢ m → low_of heads k ≡ low_of v.heads k)
+    → low_of heads m ≡ low
     → IsLow v h m low → Holds v h → Holds (record v { heads = heads }) h
 sharpened-holds v heads m low h firsts lows here below holds = grind (arith, AreFiled-sharpened)
 
 -- The rectangle of a free leaf is exact.
-pub leaf-exact : (v : Shelf) (old : List Slot) (at : ℕ) (h : Holding) → old ≡ v.slots → Holds v h → (node_in v at).kind ≡ kind.Free
+pub leaf-exact : (v : Shelf) (old : List Slot) (at : ℕ) (h : Holding) → old ≡ v.slots → Holds v h
+    → (node_in v at).kind ≡ kind.Free
     → IsSolid (node_at (nodes old) at).area
 leaf-exact v old at h e holds free = grind (arith, slot-exact)
 
@@ -217,11 +231,13 @@ lifted-holds v mid new unused i c long w back h leaf =
     (w.tree h.sequence h.tree leaf.holds.top leaf.holds.stands) (recut-lifted i h.sequence.width h.tree)
 
 -- A fact of a node of a shelf is one of the slots that a call was given.
-pub node-before : (P : Node → Type 0) (v : Shelf) (old : List Slot) (i : ℕ) → old ≡ v.slots → P (node_in v i) → P (node_at (nodes old) i)
+pub node-before : (P : Node → Type 0) (v : Shelf) (old : List Slot) (i : ℕ) → old ≡ v.slots → P (node_in v i)
+    → P (node_at (nodes old) i)
 node-before P v old i e p = let Q : List Slot → Type 0 = λ slots. P (node_at (nodes slots) i) in subst Q (sym e) p
 
 -- The tree stays where a slot that isn't used changes, and stays unused.
-pub stands-taken : (ns ms : List Node) (i : ℕ) (s : Sequence) (n : Numbered) → (node_at ns i).kind ≡ kind.Unused → (node_at ms i).kind ≡ kind.Unused
+pub stands-taken : (ns ms : List Node) (i : ℕ) (s : Sequence) (n : Numbered) → (node_at ns i).kind ≡ kind.Unused
+    → (node_at ms i).kind ≡ kind.Unused
     → ((k : ℕ) → k ≢ i → node_at ms k ≡ node_at ns k) → Stands ns s n → Stands ms s n
 stands-taken ns ms i s n was is others stands = grind (arith, others, Standing-same)
 
@@ -230,11 +246,13 @@ pub taken-holds : (v : Shelf) (new : List Slot) (unused : Link) (at : ℕ) (h : 
     → length new ≤ 16777216
     → ((k : ℕ) → k ≢ at → node_at (nodes new) k ≡ node_at (nodes v.slots) k)
     → IsTaken (options_of v.options) v.slots new v.heads unused (places_of claimed h) at
-    → HoldsWith claimed v h → HoldsWith (with_count claimed at 1) (record v { slots = new; unused = unused }) (after_take h)
+    → HoldsWith claimed v h
+    → HoldsWith (with_count claimed at 1) (record v { slots = new; unused = unused }) (after_take h)
 taken-holds v new unused at h claimed short others taken holds = grind (arith, held_again, stands-taken, others)
 
 -- A list of slots begins at a slot.
-pub some-front : (xs : List ℕ) (rs : List Ring) → length rs ≤ 16777216 → Line rs xs → front xs ≡ no_slot → 1 ≤ length xs → ⊥
+pub some-front : (xs : List ℕ) (rs : List Ring) → length rs ≤ 16777216 → Line rs xs → front xs ≡ no_slot → 1 ≤ length xs
+    → ⊥
 some-front [] rs short line e h = omega arith
 some-front (x ∷ xs) rs short line e h = omega (arith, line.0, e)
 
@@ -266,7 +284,7 @@ module _ (v : Shelf) (new : List Slot) (at : Link) (p : Plan) (t : Parts) (long 
   abbrev ms : List Node
   ms = nodes new
 
-  placed_moved : (i : ℕ) → IsMoved (node_at ns i) (node_at ms i) (h.detached i) (marks_of (left_by p t) i)
+  placed_moved : (i : ℕ) → StaysOrIsOut (node_at ns i) (node_at ms i) (h.detached i) (marks_of (left_by p t) i)
   placed_moved i = elim (cases_eq i at.number) [
     | inl e ↦ inr (inl (ap h.detached e ∙ detached), inr (ap (λ x. is_free (node_at ms x).kind) e ∙ (placed-leaf ns ms at p t placed).1))
     | inr ne ↦ elim (cases_lt 0 (occurs i (taken_by p t))) [

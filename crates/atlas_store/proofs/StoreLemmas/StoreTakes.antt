@@ -29,8 +29,7 @@ use Rattle.atlas_store.specs.Slots.{nodes}
 use Rattle.atlas_store.specs.Slots.Placing.{across_of, slots_of, taken_by, CanPlace, IsFeasible}
 use Rattle.atlas_store.specs.Slots.Reading.{extent_of}
 use Rattle.atlas_store.specs.Slots.Links.{with_count, tail_of}
-use Rattle.atlas_store.specs.Slots.Lists.{occurs}
-use Rattle.atlas_store.specs.Slots.Numbered.{same}
+use Rattle.atlas_search.specs.Numbers.{occurs, same}
 use Rattle.atlas_store.specs.Stored.{Shelf, Holding, Holds, HoldsWith}
 use Rattle.atlas_store.specs.Store.Holdings.{shelf_of, node_in, HasSlotsFor, KeepsRoom, with_unused_list}
 use Rattle.atlas_store.specs.Store.StoreCalls.{AreSlotsTaken, IsPlaceable, IsSlotTaken, IsUnusedSlot}

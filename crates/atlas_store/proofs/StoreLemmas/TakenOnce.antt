@@ -3,12 +3,13 @@ use Rattle.std.proofs.Common.{arith, ℕ, ◌≡◌, List, [], ◌∷◌, length
 use Rattle.std.proofs.lemmas.Bool.{cases_lt}
 use Rattle.std.proofs.lemmas.List.{get_or_past}
 use Rattle.std.proofs.lemmas.List.Elements.{All-from_get_or, All-get_or}
-use Rattle.atlas_store.specs.declared.slots.Link.{Link}
+use Rattle.atlas_search.specs.declared.link.Link.{Link}
 use Rattle.atlas_store.specs.declared.slots.Node.{Node}
 use Rattle.atlas_store.specs.declared.slots.Slot.{Slot}
 use Rattle.atlas_model.specs.declared.geometry.Size.{Size}
 use Rattle.atlas_store.specs.Generations.{AreFirstGenerations}
-use Rattle.atlas_store.specs.Slots.{nodes, node_at, no_slot, blank_node, AreTakenOnce}
+use Rattle.atlas_store.specs.Slots.{nodes, node_at, blank_node, AreTakenOnce}
+use Rattle.atlas_search.specs.Numbers.{no_slot}
 use Rattle.atlas_store.specs.Store.Starts.{one_free_slot}
 use Rattle.atlas_store.specs.Stored.{AtlasValue, Shelf}
 
@@ -35,7 +36,8 @@ once-whole {slots} {u} size whole none = record {
 }
 
 -- What an atlas stores was taken once where its slots are in their first generations.
-pub once-first : (v : AtlasValue) → AreTakenOnce (nodes v.stored.shelf.slots) v.stored.shelf.unused → AreFirstGenerations v
+pub once-first : (v : AtlasValue) → AreTakenOnce (nodes v.stored.shelf.slots) v.stored.shelf.unused
+    → AreFirstGenerations v
 once-first v f =
     let P : Node → Type 0 = λ n. n.generation ≡ 0 in
     record {
@@ -43,7 +45,8 @@ once-first v f =
       used = f.none;
     }
 
-pub first-once : (v : AtlasValue) → AreFirstGenerations v → AreTakenOnce (nodes v.stored.shelf.slots) v.stored.shelf.unused
+pub first-once : (v : AtlasValue) → AreFirstGenerations v
+    → AreTakenOnce (nodes v.stored.shelf.slots) v.stored.shelf.unused
 first-once v f =
     let ns = nodes v.stored.shelf.slots in
     let P : Node → Type 0 = λ n. n.generation ≡ 0 in

@@ -3,24 +3,30 @@ use Rattle.std.proofs.Common.{ℕ, ◌+◌, ◌<◌, ◌≡◌, List, [], ◌∷
 use Rattle.std.proofs.lemmas.Bool.{cond-false, and_left, ne_eqb}
 use Rattle.std.proofs.lemmas.List.{get_or_past, length-map, get_or_append_left, get_or_push, length_push, map-append}
 use Rattle.atlas_store.specs.declared.slots.Slot.{Slot}
-use Rattle.atlas_store.specs.declared.slots.Link.{Link}
+use Rattle.atlas_search.specs.declared.link.Link.{Link}
 use Rattle.atlas_store.specs.declared.slots.Node.{Node}
 use Rattle.atlas_store.specs.declared.slots.Ring.{Ring}
 use Rattle.atlas_store.specs.declared.slots.NodeKind.{NodeKind}
 use Rattle.atlas_store.specs.declared.slots.NodeKind.TheVariants as kind
-use Rattle.atlas_store.specs.declared.search.table.ListHead.{ListHead}
+use Rattle.atlas_search.specs.declared.table.ListHead.{ListHead}
 use Rattle.atlas_model.specs.Choice.{Options}
-use Rattle.atlas_store.specs.Slots.{nodes, rings, node_at, ring_at, use_count, no_slot, blank_node, blank_ring, blank_slot}
-use Rattle.atlas_store.specs.Slots.Lists.{AreFiled, Places, IsList, Line, occurs, front, filed, is_free, tag_of}
-use Rattle.atlas_store.specs.Search.Tables.{head_of, is_used_at}
+use Rattle.atlas_store.specs.Slots.{nodes, rings, node_at, ring_at, use_count, blank_node, blank_ring, blank_slot}
+use Rattle.atlas_search.specs.Numbers.{no_slot, occurs, front}
+use Rattle.atlas_store.specs.Slots.Lists.{AreFiled, Places, IsList, Line, filed, is_free, tag_of}
+use Rattle.atlas_search.specs.Tables.{head_of, is_used_at}
 use Rattle.atlas_store.specs.Slots.Links.{with_count, with_mark, tail_of, renewed, given_back, IsTaken, TakesFirst}
-use Rattle.atlas_store.proofs.ListLemmas.Occurrences.{same-self, same-ne, ne-from_occurs}
+use Rattle.atlas_search.proofs.Occurrences.{same-self, same-ne, ne-from_occurs}
 use Rattle.atlas_store.proofs.StoreLemmas.Unlinking.{IsList-kept, Line-kept, Line-inside, Line-given}
 use Rattle.atlas_store.proofs.StoreLemmas.Filing.{unless-le, filed-use, with_mark-same, unless_detached, unless-detached, unused_list-use, unused-nowhere, with_count-same, with_count-other, past-unused}
 
 -- The lists stay in order where the nodes change: each slot is filed as before, is used or claimed as before, and keeps
 -- its rectangle if it stands in a list.
-pub AreFiled-nodes : (o : Options) (ns ms : List Node) (rs : List Ring) (heads : List ListHead) (unused : Link) (p : Places) (claimed' : ℕ → ℕ) (detached' : ℕ → Bool) → ((k i : ℕ) → unless_detached (detached' i) (filed o k (node_at ms i)) ≡ unless_detached (p.detached i) (filed o k (node_at ns i))) → ((i : ℕ) → i < length rs → claimed' i + use_count (node_at ms i).kind ≡ p.claimed i + use_count (node_at ns i).kind) → ((k i : ℕ) → k < 2704 → 0 < occurs i (p.free_lists k) → (node_at ms i).area ≡ (node_at ns i).area) → AreFiled o ns rs heads unused p → AreFiled o ms rs heads unused (record p { claimed = claimed'; detached = detached' })
+pub AreFiled-nodes : (o : Options) (ns ms : List Node) (rs : List Ring) (heads : List ListHead) (unused : Link) (p : Places) (claimed' : ℕ → ℕ) (detached' : ℕ → Bool)
+    → ((k i : ℕ) → unless_detached (detached' i) (filed o k (node_at ms i)) ≡ unless_detached (p.detached i) (filed o k (node_at ns i)))
+    → ((i : ℕ) → i < length rs → claimed' i + use_count (node_at ms i).kind ≡ p.claimed i + use_count (node_at ns i).kind)
+    → ((k i : ℕ) → k < 2704 → 0 < occurs i (p.free_lists k) → (node_at ms i).area ≡ (node_at ns i).area)
+    → AreFiled o ns rs heads unused p
+    → AreFiled o ms rs heads unused (record p { claimed = claimed'; detached = detached' })
 AreFiled-nodes o ns ms rs heads unused p claimed' detached' files counts areas f = grind arith
 
 -- A slot stands in no list: it is detached or not free.
@@ -28,11 +34,12 @@ abbrev pub IsOut : Bool → NodeKind → Type 0
 IsOut detached k = (detached ≡ true) ⊎ (is_free k ≡ false)
 
 -- A slot is as before for the lists, or was and is out of them.
-abbrev pub IsMoved : (n m : Node) (detached detached' : Bool) → Type 0
-IsMoved n m detached detached' =
+abbrev pub StaysOrIsOut : (n m : Node) (detached detached' : Bool) → Type 0
+StaysOrIsOut n m detached detached' =
     ((m.kind ≡ n.kind) × (m.area ≡ n.area) × (detached' ≡ detached)) ⊎ (IsOut detached n.kind × IsOut detached' m.kind)
 
-filed-out : (o : Options) (k : ℕ) (n : Node) (detached : Bool) → IsOut detached n.kind → unless_detached detached (filed o k n) ≡ 0
+filed-out : (o : Options) (k : ℕ) (n : Node) (detached : Bool) → IsOut detached n.kind
+    → unless_detached detached (filed o k n) ≡ 0
 filed-out o k n detached (inl e) = unless-detached detached (filed o k n) e
 filed-out o k n detached (inr e) = grind (arith, cond-false, and_left, unless_detached)
 
@@ -40,7 +47,11 @@ filed-same : (o : Options) (k : ℕ) (n m : Node) → m.kind ≡ n.kind → m.ar
 filed-same o k n m e a = grind arith
 
 -- The lists stay in order where the nodes of slots that are out of them change.
-pub AreFiled-moved : (o : Options) (ns ms : List Node) (rs : List Ring) (heads : List ListHead) (unused : Link) (p : Places) (claimed' : ℕ → ℕ) (detached' : ℕ → Bool) → ((i : ℕ) → IsMoved (node_at ns i) (node_at ms i) (p.detached i) (detached' i)) → ((i : ℕ) → i < length rs → claimed' i + use_count (node_at ms i).kind ≡ p.claimed i + use_count (node_at ns i).kind) → AreFiled o ns rs heads unused p → AreFiled o ms rs heads unused (record p { claimed = claimed'; detached = detached' })
+pub AreFiled-moved : (o : Options) (ns ms : List Node) (rs : List Ring) (heads : List ListHead) (unused : Link) (p : Places) (claimed' : ℕ → ℕ) (detached' : ℕ → Bool)
+    → ((i : ℕ) → StaysOrIsOut (node_at ns i) (node_at ms i) (p.detached i) (detached' i))
+    → ((i : ℕ) → i < length rs → claimed' i + use_count (node_at ms i).kind ≡ p.claimed i + use_count (node_at ns i).kind)
+    → AreFiled o ns rs heads unused p
+    → AreFiled o ms rs heads unused (record p { claimed = claimed'; detached = detached' })
 AreFiled-moved o ns ms rs heads unused p claimed' detached' moved counts f =
     grind (arith, AreFiled-nodes, unless_detached, filed-same, filed-out)
 
@@ -53,7 +64,8 @@ module _ (o : Options) (ns : List Node) (rs : List Ring) (heads : List ListHead)
   ring_at-grown : (i : ℕ) → ring_at (rs ++ blank_ring ∷ []) i ≡ ring_at rs i
   ring_at-grown i = grind (arith, get_or_append_left, get_or_push, get_or_past, length_push)
 
-  pub AreFiled-grown : length ns ≡ length rs → AreFiled o (ns ++ blank_node ∷ []) (rs ++ blank_ring ∷ []) heads unused (record p { claimed = with_count p.claimed (length rs) 1 })
+  pub AreFiled-grown : length ns ≡ length rs
+      → AreFiled o (ns ++ blank_node ∷ []) (rs ++ blank_ring ∷ []) heads unused (record p { claimed = with_count p.claimed (length rs) 1 })
   AreFiled-grown el =
       let longer = length_push rs blank_ring in
       let ms = ns ++ blank_node ∷ [] in
@@ -66,11 +78,13 @@ module _ (o : Options) (ns : List Node) (rs : List Ring) (heads : List ListHead)
       }
 
   -- The first unused slot is taken.
-  pub AreFiled-taken : (x : ℕ) (rest : List ℕ) (next : Link) → p.unused_list ≡ x ∷ rest → next ≡ (ring_at rs x).next → AreFiled o ns rs heads next (record p { unused_list = rest; claimed = with_count p.claimed x 1 })
+  pub AreFiled-taken : (x : ℕ) (rest : List ℕ) (next : Link) → p.unused_list ≡ x ∷ rest → next ≡ (ring_at rs x).next
+      → AreFiled o ns rs heads next (record p { unused_list = rest; claimed = with_count p.claimed x 1 })
   AreFiled-taken x rest next es en = grind (arith, with_count-same, same-self, with_count-other, same-ne)
 
   -- A claimed slot becomes the first spare one.
-  pub AreFiled-given : (ts : List Ring) (i : ℕ) (ring : Ring) (next : Link) → i < length rs → 0 < p.claimed i → ts ≡ set rs i ring → ring.next ≡ unused → next.number ≡ i → AreFiled o ns ts heads next (given_back p i)
+  pub AreFiled-given : (ts : List Ring) (i : ℕ) (ring : Ring) (next : Link) → i < length rs → 0 < p.claimed i
+      → ts ≡ set rs i ring → ring.next ≡ unused → next.number ≡ i → AreFiled o ns ts heads next (given_back p i)
   AreFiled-given ts i ring next li hi et er en =
       let lt : length ts ≡ length rs = rw et (length-set rs i ring) in
       let now = f.each i li in
@@ -87,12 +101,15 @@ module _ (o : Options) (ns : List Node) (rs : List Ring) (heads : List ListHead)
 unused_kind : (k : NodeKind) → use_count k ≡ 0 → k ≡ kind.Unused
 unused_kind k e = grind arith
 
-nil-from_inside : (rs : List Ring) (unused_list : List ℕ) → length rs < 4294967295 → Line rs unused_list → front unused_list ≡ no_slot → unused_list ≡ []
+nil-from_inside : (rs : List Ring) (unused_list : List ℕ) → length rs < 4294967295 → Line rs unused_list
+    → front unused_list ≡ no_slot → unused_list ≡ []
 nil-from_inside rs [] short l e = refl
 nil-from_inside rs (x ∷ xs) short l e = absurd (omega (arith, l.0))
 
 -- No slot is unused: a new one is taken.
-taken-fresh : (o : Options) (old new : List Slot) (slot : Slot) (heads : List ListHead) (unused : Link) (at : ℕ) → length old < 4294967295 → unused.number ≡ no_slot → at ≡ length old → new ≡ old ++ slot ∷ [] → slot ≡ blank_slot → (p : Places) → AreFiled o (nodes old) (rings old) heads unused p → IsTaken o old new heads unused p at
+taken-fresh : (o : Options) (old new : List Slot) (slot : Slot) (heads : List ListHead) (unused : Link) (at : ℕ)
+    → length old < 4294967295 → unused.number ≡ no_slot → at ≡ length old → new ≡ old ++ slot ∷ [] → slot ≡ blank_slot
+    → (p : Places) → AreFiled o (nodes old) (rings old) heads unused p → IsTaken o old new heads unused p at
 taken-fresh o old new slot heads unused at short none ea en es p f =
     let ln : length (nodes old) ≡ length old = length-map old _ in
     let lr : length (rings old) ≡ length old = length-map old _ in
@@ -114,17 +131,25 @@ taken-fresh o old new slot heads unused at short none ea en es p f =
     }
 
 -- The first unused slot is taken.
-taken-again : (o : Options) (old new : List Slot) (heads : List ListHead) (unused next : Link) → (unused.number ≡ no_slot → ⊥) → next ≡ (ring_at (rings old) unused.number).next → nodes new ≡ set (nodes old) unused.number (renewed (node_at (nodes old) unused.number)) → rings new ≡ rings old → (p : Places) → AreFiled o (nodes old) (rings old) heads unused p → IsTaken o old new heads next p unused.number
+taken-again : (o : Options) (old new : List Slot) (heads : List ListHead) (unused next : Link)
+    → (unused.number ≡ no_slot → ⊥) → next ≡ (ring_at (rings old) unused.number).next
+    → nodes new ≡ set (nodes old) unused.number (renewed (node_at (nodes old) unused.number)) → rings new ≡ rings old
+    → (p : Places) → AreFiled o (nodes old) (rings old) heads unused p → IsTaken o old new heads next p unused.number
 taken-again o old new heads unused next some en em er p f =
     grind (arith, length-map, same-self, unused_list-use, unused_kind, get_or-set_same, get_or-set_other, AreFiled-taken, AreFiled-moved)
 
 -- The same where the slots are seen through another name.
-taken-again_by : (o : Options) (old items ys new : List Slot) (heads : List ListHead) (unused : Link) (ring : Ring) → items ≡ old → new ≡ ys → (unused.number ≡ no_slot → ⊥) → ring ≡ ring_at (rings old) unused.number → nodes ys ≡ set (nodes items) unused.number (renewed (node_at (nodes items) unused.number)) → rings ys ≡ rings items → (p : Places) → AreFiled o (nodes old) (rings old) heads unused p → IsTaken o old new heads ring.next p unused.number
+taken-again_by : (o : Options) (old items ys new : List Slot) (heads : List ListHead) (unused : Link) (ring : Ring)
+    → items ≡ old → new ≡ ys → (unused.number ≡ no_slot → ⊥) → ring ≡ ring_at (rings old) unused.number
+    → nodes ys ≡ set (nodes items) unused.number (renewed (node_at (nodes items) unused.number))
+    → rings ys ≡ rings items → (p : Places) → AreFiled o (nodes old) (rings old) heads unused p
+    → IsTaken o old new heads ring.next p unused.number
 taken-again_by o old items ys new heads unused ring ei ey some eg em er p f =
     grind (arith, taken-again o old new heads unused ring.next some)
 
 -- What is taken is the first of the unused slots, or else a new one.
-pub takes-fresh : (old new : List Slot) (slot : Slot) (unused at : Link) → length old < 4294967295 → unused.number ≡ no_slot
+pub takes-fresh : (old new : List Slot) (slot : Slot) (unused at : Link) → length old < 4294967295
+    → unused.number ≡ no_slot
     → at.number ≡ length old → new ≡ old ++ slot ∷ [] → slot ≡ blank_slot → TakesFirst old new unused unused at
 takes-fresh old new slot unused at short none ea en es =
     let last : new ≡ old ++ blank_slot ∷ [] = en ∙ ap (λ s. old ++ s ∷ []) es in
@@ -144,7 +169,8 @@ takes-fresh old new slot unused at short none ea en es =
 
 pub takes-again : (old items ys new : List Slot) (unused : Link) (ring : Ring) → items ≡ old → new ≡ ys
     → (unused.number ≡ no_slot → ⊥) → ring ≡ ring_at (rings old) unused.number
-    → nodes ys ≡ set (nodes items) unused.number (renewed (node_at (nodes items) unused.number)) → rings ys ≡ rings items
+    → nodes ys ≡ set (nodes items) unused.number (renewed (node_at (nodes items) unused.number))
+    → rings ys ≡ rings items
     → TakesFirst old new unused ring.next unused
 takes-again old items ys new unused ring ei ey some eg em er =
     let at = unused.number in
@@ -158,7 +184,10 @@ takes-again old items ys new unused ring ei ey some eg em er =
       once = λ f. absurd (some f.none);
     }
 
-pub given-by : (o : Options) (old new : List Slot) (heads : List ListHead) (unused at : Link) (ring : Ring) → at.number < length old → rings new ≡ set (rings old) at.number ring → nodes new ≡ nodes old → ring.next ≡ unused → (p : Places) → AreFiled o (nodes old) (rings old) heads unused p → 0 < p.claimed at.number → AreFiled o (nodes new) (rings new) heads at (given_back p at.number)
+pub given-by : (o : Options) (old new : List Slot) (heads : List ListHead) (unused at : Link) (ring : Ring)
+    → at.number < length old → rings new ≡ set (rings old) at.number ring → nodes new ≡ nodes old → ring.next ≡ unused
+    → (p : Places) → AreFiled o (nodes old) (rings old) heads unused p → 0 < p.claimed at.number
+    → AreFiled o (nodes new) (rings new) heads at (given_back p at.number)
 given-by o old new heads unused at ring li er en es p f h =
     let inside : at.number < length (rings old) = rw (length-map old (λ (s : Slot). s.ring)) li in
     rw en (AreFiled-given o (nodes old) (rings old) heads unused p f (rings new) at.number ring at inside h er es refl)
@@ -174,7 +203,9 @@ none-used : (heads : List ListHead) (k : ℕ) → is_used_at heads k ≡ false �
 none-used heads k e = grind (arith, ne_eqb)
 
 -- One free slot, which is detached: the lists are empty.
-pub AreFiled-one : (o : Options) (n : Node) (ring : Ring) (heads : List ListHead) (unused : Link) → n.kind ≡ kind.Free → ((k : ℕ) → is_used_at heads k ≡ false) → unused.number ≡ no_slot → AreFiled o (n ∷ []) (ring ∷ []) heads unused one_detached
+pub AreFiled-one : (o : Options) (n : Node) (ring : Ring) (heads : List ListHead) (unused : Link) → n.kind ≡ kind.Free
+    → ((k : ℕ) → is_used_at heads k ≡ false) → unused.number ≡ no_slot
+    → AreFiled o (n ∷ []) (ring ∷ []) heads unused one_detached
 AreFiled-one o n ring heads unused e empty none =
     grind (arith, empty-list, none-used, unless-detached, with_mark-same, unless-le, filed-use, past-unused)
 

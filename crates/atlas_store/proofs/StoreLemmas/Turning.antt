@@ -8,16 +8,16 @@ use Rattle.atlas_store.specs.declared.store.Store.{Store}
 use Rattle.atlas_model.specs.Trees.{IsNormal}
 use Rattle.atlas_model.specs.Changes.{nf}
 use Rattle.atlas_store.specs.Slots.Calm.{IsCalmAt, IsCalmBut, NoneEmpty}
-use Rattle.atlas_store.specs.Slots.{nodes, rings, no_slot}
-use Rattle.atlas_store.specs.Slots.Numbered.{erase, numbers, same, tally, marked, lifted, first_slot}
+use Rattle.atlas_store.specs.Slots.{nodes, rings}
+use Rattle.atlas_search.specs.Numbers.{no_slot, same, occurs}
+use Rattle.atlas_store.specs.Slots.Numbered.{erase, numbers, tally, marked, lifted, first_slot}
 use Rattle.atlas_store.specs.Slots.Parts.{joined_node}
 use Rattle.atlas_store.specs.Slots.Standing.{IsSlot, IsWhole, IsTree}
-use Rattle.atlas_store.specs.Slots.Lists.{occurs}
 use Rattle.atlas_store.specs.Stored.{Shelf, Holding, Holds, IsDetachedOnly}
 use Rattle.atlas_store.specs.Store.Holdings.{IsDetachedLeaf, KeepsRoom, node_in, with_detached, with_free_lists, after_mark, after_join, after_lift}
 use Rattle.atlas_store.specs.Store.Freeing.{IsSettlingAt, IsTurned, IsApartNext, IsApart, IsFreeable, IsFreed}
 use Rattle.atlas_store.proofs.StoreLemmas.Filing.{with_mark-same, with_mark-other}
-use Rattle.atlas_store.proofs.ListLemmas.Occurrences.{same-self, same-ne, ne-from_same}
+use Rattle.atlas_search.proofs.Occurrences.{same-self, same-ne, ne-from_same}
 use Rattle.atlas_store.proofs.SlotLemmas.Joining.{first-joined}
 use Rattle.atlas_store.proofs.SlotLemmas.JoiningWrites.{can-join, used-inside}
 use Rattle.atlas_store.proofs.SlotLemmas.Lifting.{first-lifted}
@@ -34,7 +34,8 @@ few-slots v h w = simp length-map w.short
 count-nodes : (v : Shelf) → length (nodes v.slots) ≡ length v.slots
 count-nodes v = simp length-map
 
-pub settling-tree_of : (v : Shelf) (at : ℕ) (h : Holding) → IsSettlingAt v at h → IsSettlingTree (nodes v.slots) h.sequence h.tree at
+pub settling-tree_of : (v : Shelf) (at : ℕ) (h : Holding) → IsSettlingAt v at h
+    → IsSettlingTree (nodes v.slots) h.sequence h.tree at
 settling-tree_of v at h w = grind arith
 
 whole-of : (v : Shelf) (h : Holding) → Holds v h → IsWhole (nodes v.slots)
@@ -45,10 +46,12 @@ tree-in v h w = (h.sequence, h.tree, w.stands)
 
 -- The neighbours of the leaf at work are slots or none.
 
-pub next-inside : (v : Shelf) (at m : ℕ) (n : Node) → ((h : Holding) × IsSettlingAt v at h) → n ≡ node_in v at → m ≡ length v.slots → IsSlot m n.next.number
+pub next-inside : (v : Shelf) (at m : ℕ) (n : Node) → ((h : Holding) × IsSettlingAt v at h) → n ≡ node_in v at
+    → m ≡ length v.slots → IsSlot m n.next.number
 next-inside v at m n t e em = grind (arith, next-slot, whole-of, count-nodes)
 
-pub previous-inside : (v : Shelf) (at m : ℕ) (n : Node) → ((h : Holding) × IsSettlingAt v at h) → n ≡ node_in v at → m ≡ length v.slots → IsSlot m n.previous.number
+pub previous-inside : (v : Shelf) (at m : ℕ) (n : Node) → ((h : Holding) × IsSettlingAt v at h) → n ≡ node_in v at
+    → m ≡ length v.slots → IsSlot m n.previous.number
 previous-inside v at m n t e em = grind (arith, few-slots, previous-slot, whole-of, count-nodes)
 
 -- A slot other than the one at work stands in its list.
@@ -69,32 +72,44 @@ pub record IsJoinable (v : Shelf) (i j at : ℕ) (h : Holding) : Type 0 where
   pub calm : IsCalmBut (nodes v.slots) at
   pub full : NoneEmpty (erase h.tree)
 
-apart-next : (v : Shelf) (i j : ℕ) (h : Holding) → Holds v h → (node_in v i).kind ≡ kind.Free → (node_in v i).next.number ≡ j → (node_in v j).kind ≡ kind.Free → j ≡ i → ⊥
+apart-next : (v : Shelf) (i j : ℕ) (h : Holding) → Holds v h → (node_in v i).kind ≡ kind.Free
+    → (node_in v i).next.number ≡ j → (node_in v j).kind ≡ kind.Free → j ≡ i → ⊥
 apart-next v i j h w fi e fj = grind (arith, few-slots, can-join, tree-in)
 
-leads-here : (v : Shelf) (at x : ℕ) (h : Holding) → IsSettlingAt v at h → x ≡ (node_in v at).previous.number → (node_in v x).kind ≡ kind.Free → (node_in v x).next.number ≡ at
+leads-here : (v : Shelf) (at x : ℕ) (h : Holding) → IsSettlingAt v at h → x ≡ (node_in v at).previous.number
+    → (node_in v x).kind ≡ kind.Free → (node_in v x).next.number ≡ at
 leads-here v at x h w e f = grind (arith, few-slots, previous-leads, whole-of)
 
 -- Only the leaf at work and the one that was taken out of its list are detached.
-only-two : (i j : ℕ) (h : Holding) (free_lists : ℕ → List ℕ) → IsDetachedOnly (i ∷ []) h → IsDetachedOnly (i ∷ j ∷ []) (with_detached j true (with_free_lists free_lists h))
+only-two : (i j : ℕ) (h : Holding) (free_lists : ℕ → List ℕ) → IsDetachedOnly (i ∷ []) h
+    → IsDetachedOnly (i ∷ j ∷ []) (with_detached j true (with_free_lists free_lists h))
 only-two i j h free_lists only k z = grind (arith, ne-from_same, with_mark-other, only, same-ne)
 
-pub next-listed : (v : Shelf) (at x : ℕ) (h : Holding) → IsSettlingAt v at h → x ≡ (node_in v at).next.number → (node_in v x).kind ≡ kind.Free → h.detached x ≡ false
+pub next-listed : (v : Shelf) (at x : ℕ) (h : Holding) → IsSettlingAt v at h → x ≡ (node_in v at).next.number
+    → (node_in v x).kind ≡ kind.Free → h.detached x ≡ false
 next-listed v at x h w e f = listed v at x h w (apart-next v at x h w.leaf.holds w.leaf.kind (sym e) f)
 
-pub previous-listed : (v : Shelf) (at x : ℕ) (h : Holding) → IsSettlingAt v at h → x ≡ (node_in v at).previous.number → (node_in v x).kind ≡ kind.Free → h.detached x ≡ false
+pub previous-listed : (v : Shelf) (at x : ℕ) (h : Holding) → IsSettlingAt v at h → x ≡ (node_in v at).previous.number
+    → (node_in v x).kind ≡ kind.Free → h.detached x ≡ false
 previous-listed v at x h w e f = grind (arith, listed, apart-next, leads-here)
 
-pub joinable-next : (v u : Shelf) (at x : ℕ) (h : Holding) (free_lists : ℕ → List ℕ) → IsSettlingAt v at h → x ≡ (node_in v at).next.number → (node_in v x).kind ≡ kind.Free → nodes u.slots ≡ nodes v.slots → Holds u (with_detached x true (with_free_lists free_lists h)) → IsJoinable u at x at (with_detached x true (with_free_lists free_lists h))
+pub joinable-next : (v u : Shelf) (at x : ℕ) (h : Holding) (free_lists : ℕ → List ℕ) → IsSettlingAt v at h
+    → x ≡ (node_in v at).next.number → (node_in v x).kind ≡ kind.Free → nodes u.slots ≡ nodes v.slots
+    → Holds u (with_detached x true (with_free_lists free_lists h))
+    → IsJoinable u at x at (with_detached x true (with_free_lists free_lists h))
 joinable-next v u at x h free_lists w e f same_nodes holds =
     grind (arith, apart-next, with_mark-other, with_mark-same, only-two)
 
-pub joinable-previous : (v u : Shelf) (at x : ℕ) (h : Holding) (free_lists : ℕ → List ℕ) → IsSettlingAt v at h → x ≡ (node_in v at).previous.number → (node_in v x).kind ≡ kind.Free → nodes u.slots ≡ nodes v.slots → Holds u (with_detached x true (with_free_lists free_lists h)) → IsJoinable u x at at (with_detached x true (with_free_lists free_lists h))
+pub joinable-previous : (v u : Shelf) (at x : ℕ) (h : Holding) (free_lists : ℕ → List ℕ) → IsSettlingAt v at h
+    → x ≡ (node_in v at).previous.number → (node_in v x).kind ≡ kind.Free → nodes u.slots ≡ nodes v.slots
+    → Holds u (with_detached x true (with_free_lists free_lists h))
+    → IsJoinable u x at at (with_detached x true (with_free_lists free_lists h))
 joinable-previous v u at x h free_lists w e f same_nodes holds =
     grind (arith, leads-here, apart-next, with_mark-same, with_mark-other, only-two)
 
 -- One slot was given back, so there is one member fewer.
-pub fewer-given : (v u : Shelf) (h less : Holding) (j : ℕ) → Holds v h → Holds u less → length u.slots ≡ length v.slots → less.unused_list ≡ j ∷ h.unused_list → numbers less.tree + 1 ≡ numbers h.tree
+pub fewer-given : (v u : Shelf) (h less : Holding) (j : ℕ) → Holds v h → Holds u less → length u.slots ≡ length v.slots
+    → less.unused_list ≡ j ∷ h.unused_list → numbers less.tree + 1 ≡ numbers h.tree
 fewer-given v u h less j w k same_length given =
     let lj : j < length (rings u.slots) = (rw given at k.filed.line).0 in
     let nv : length (nodes v.slots) ≡ length v.slots = simp length-map in
@@ -114,11 +129,15 @@ fewer-given v u h less j w k same_length given =
         grind (arith, cases_lt 0 (tally x h.tree), used-inside (nodes v.slots) x)
 
 -- An unused slot is not free.
-unused_list-apart : (u : Shelf) (less : Holding) (c j : ℕ) (rest : List ℕ) → Holds u less → less.unused_list ≡ j ∷ rest → (node_in u c).kind ≡ kind.Free → c ≡ j → ⊥
+unused_list-apart : (u : Shelf) (less : Holding) (c j : ℕ) (rest : List ℕ) → Holds u less → less.unused_list ≡ j ∷ rest
+    → (node_in u c).kind ≡ kind.Free → c ≡ j → ⊥
 unused_list-apart u less c j rest k given f e = grind (arith, same-self)
 
 -- What a join makes of two leaves that can be joined.
-pub settling-joined : (v u : Shelf) (i j at : ℕ) (h : Holding) → IsJoinable v i j at h → Holds u (after_join i (node_in v i).next.number h) → length u.slots ≡ length v.slots → IsCalmBut (nodes u.slots) i → node_in u i ≡ joined_node (node_in v i) (node_in v j) → (less : Holding) × IsSettlingAt u i less × IsTurned 1 h less
+pub settling-joined : (v u : Shelf) (i j at : ℕ) (h : Holding) → IsJoinable v i j at h
+    → Holds u (after_join i (node_in v i).next.number h) → length u.slots ≡ length v.slots → IsCalmBut (nodes u.slots) i
+    → node_in u i ≡ joined_node (node_in v i) (node_in v j)
+    → (less : Holding) × IsSettlingAt u i less × IsTurned 1 h less
 settling-joined v u i j at h w was same_length calm leaf =
     let k : Holds u (after_join i j h) = subst (λ x. Holds u (after_join i x h)) w.next was in (
       after_join i j h,
@@ -141,7 +160,8 @@ abbrev pub NoneFreed : (v u : Shelf) → Type 0
 NoneFreed v u = (k : ℕ) → (node_in u k).kind ≡ kind.Free → (node_in v k).kind ≡ kind.Free
 
 -- After a leaf that took in the next one nothing is free, since that one was calm.
-pub apart-next_joined : (v u : Shelf) (i j : ℕ) (h : Holding) → IsJoinable v i j i h → node_in u i ≡ joined_node (node_in v i) (node_in v j) → NoneFreed v u → IsApartNext u i
+pub apart-next_joined : (v u : Shelf) (i j : ℕ) (h : Holding) → IsJoinable v i j i h
+    → node_in u i ≡ joined_node (node_in v i) (node_in v j) → NoneFreed v u → IsApartNext u i
 apart-next_joined v u i j h w leaf frees f =
     let e : (node_in u i).next.number ≡ (node_in v j).next.number = ap (λ (n : Node). n.next.number) leaf in
     let back : (node_in v (node_in v j).next.number).kind ≡ kind.Free = frees _ (rw (← e) f) in
@@ -149,7 +169,8 @@ apart-next_joined v u i j h w leaf frees f =
     can.apart.1 (w.calm.apart j w.apart w.next_free back)
 
 -- Nothing beside a leaf that was taken in by the previous one is free, since that one was calm.
-pub apart-previous_joined : (v u : Shelf) (i j : ℕ) (h : Holding) → IsJoinable v i j j h → IsApartNext v j → node_in u i ≡ joined_node (node_in v i) (node_in v j) → NoneFreed v u → IsApart u i
+pub apart-previous_joined : (v u : Shelf) (i j : ℕ) (h : Holding) → IsJoinable v i j j h → IsApartNext v j
+    → node_in u i ≡ joined_node (node_in v i) (node_in v j) → NoneFreed v u → IsApart u i
 apart-previous_joined v u i j h w next leaf frees =
     let en : (node_in u i).next.number ≡ (node_in v j).next.number = ap (λ (n : Node). n.next.number) leaf in
     let ep : (node_in u i).previous.number ≡ (node_in v i).previous.number = ap (λ (n : Node). n.previous.number) leaf in
@@ -163,7 +184,8 @@ apart-previous_joined v u i j h w next leaf frees =
     }
 
 -- Turns of a tree are those of the same tree with other lists.
-pub turned-same : (n : ℕ) (h free_lists less : Holding) → free_lists.tree ≡ h.tree → free_lists.sequence ≡ h.sequence → IsTurned n free_lists less → IsTurned n h less
+pub turned-same : (n : ℕ) (h free_lists less : Holding) → free_lists.tree ≡ h.tree → free_lists.sequence ≡ h.sequence
+    → IsTurned n free_lists less → IsTurned n h less
 turned-same n h free_lists less et es w = grind arith
 
 pub turned-none : (h : Holding) → IsTurned 0 h h
@@ -173,7 +195,9 @@ pub turned-then : (n k : ℕ) (h m less : Holding) → IsTurned n h m → IsTurn
 turned-then n k h m less x y = grind arith
 
 -- What a lift makes of the leaf at work.
-pub settling-lifted : (v u : Shelf) (c at : ℕ) (h : Holding) → IsSettlingAt v at h → Holds u (after_lift c at h) → length u.slots ≡ length v.slots → IsCalmBut (nodes u.slots) c → (node_in u c).kind ≡ kind.Free → (less : Holding) × IsSettlingAt u c less × IsTurned 1 h less
+pub settling-lifted : (v u : Shelf) (c at : ℕ) (h : Holding) → IsSettlingAt v at h → Holds u (after_lift c at h)
+    → length u.slots ≡ length v.slots → IsCalmBut (nodes u.slots) c → (node_in u c).kind ≡ kind.Free
+    → (less : Holding) × IsSettlingAt u c less × IsTurned 1 h less
 settling-lifted v u c at h w k same_length calm free =
     let ne : c ≡ at → ⊥ = unused_list-apart u (after_lift c at h) c at h.unused_list k refl free in
     let outer = with_detached c true (record h { tree = lifted c h.tree }) in (
@@ -193,7 +217,8 @@ settling-lifted v u c at h w k same_length calm free =
     )
 
 -- Where no neighbour is free and the leaf isn't alone in a container, the tree is normal.
-pub settled-at : (v : Shelf) (at : ℕ) (n : Node) (h : Holding) → n ≡ node_in v at → IsSettlingAt v at h → IsApart v at → (n.previous.number ≡ no_slot → n.next.number ≡ no_slot → n.parent.number ≡ no_slot) → IsNormal (erase h.tree)
+pub settled-at : (v : Shelf) (at : ℕ) (n : Node) (h : Holding) → n ≡ node_in v at → IsSettlingAt v at h → IsApart v at
+    → (n.previous.number ≡ no_slot → n.next.number ≡ no_slot → n.parent.number ≡ no_slot) → IsNormal (erase h.tree)
 settled-at v at n h e w apart alone = grind (arith, few-slots, settled, settling-tree_of)
 
 -- A freeing between two turns, from the tree of h on: n slots were given back, and slot `at` of the tree of m settles.
@@ -208,7 +233,9 @@ pub granted-inside : (v : Shelf) (i : ℕ) → (node_in v i).kind ≡ kind.Alloc
 granted-inside v i was = used-inside (nodes v.slots) i (rw was (omega arith))
 
 -- A marking begins a freeing.
-pub freeing-marked : (v u : Shelf) (i : ℕ) (n : Node) (h : Holding) → IsFreeable v i h → Holds u (after_mark i h) → (((k : ℕ) → IsCalmAt (nodes v.slots) k) → IsCalmBut (nodes u.slots) i) → node_in u i ≡ record n { kind = kind.Free } → IsFreeing u i i 0 h (after_mark i h)
+pub freeing-marked : (v u : Shelf) (i : ℕ) (n : Node) (h : Holding) → IsFreeable v i h → Holds u (after_mark i h)
+    → (((k : ℕ) → IsCalmAt (nodes v.slots) k) → IsCalmBut (nodes u.slots) i)
+    → node_in u i ≡ record n { kind = kind.Free } → IsFreeing u i i 0 h (after_mark i h)
 freeing-marked v u i n h w k calm free =
     let few = few-slots v h w.holds in
     let inside = granted-inside v i w.granted in
@@ -226,15 +253,20 @@ freeing-marked v u i n h w k calm free =
     }
 
 -- Turns go on with it.
-pub freeing-turned : (u : Shelf) (i next n k : ℕ) (h m less : Holding) (at : ℕ) (now : Shelf) → IsFreeing now i at n h m → IsSettlingAt u next less → IsTurned k m less → IsFreeing u i next (n + k) h less
+pub freeing-turned : (u : Shelf) (i next n k : ℕ) (h m less : Holding) (at : ℕ) (now : Shelf) → IsFreeing now i at n h m
+    → IsSettlingAt u next less → IsTurned k m less → IsFreeing u i next (n + k) h less
 freeing-turned u i next n k h m less at now w s t = grind arith
 
 -- There are no more turns than slots.
-pub freeing-short : (v u : Shelf) (i at n : ℕ) (h m : Holding) → IsFreeable v i h → IsFreeing u i at n h m → n < length v.slots
+pub freeing-short : (v u : Shelf) (i at n : ℕ) (h m : Holding) → IsFreeable v i h → IsFreeing u i at n h m
+    → n < length v.slots
 freeing-short v u i at n h m w f = grind (arith, length-map, numbers-few)
 
 -- And ends it where the tree is normal and the leaf is listed.
-pub freed-listed : (v now u : Shelf) (i at n : ℕ) (h m : Holding) (free_lists : ℕ → List ℕ) → IsFreeable v i h → IsFreeing now i at n h m → IsNormal (erase m.tree) → Holds u (with_detached at false (with_free_lists free_lists m)) → IsFreed v u i n h (with_detached at false (with_free_lists free_lists m))
+pub freed-listed : (v now u : Shelf) (i at n : ℕ) (h m : Holding) (free_lists : ℕ → List ℕ) → IsFreeable v i h
+    → IsFreeing now i at n h m → IsNormal (erase m.tree)
+    → Holds u (with_detached at false (with_free_lists free_lists m))
+    → IsFreed v u i n h (with_detached at false (with_free_lists free_lists m))
 freed-listed v now u i at n h m free_lists w f normal k =
     grind (arith, few-slots, with_mark-same, with_mark-other, same-ne, nf-normal, erase-marked_at, granted-inside)
 

@@ -3,8 +3,9 @@ use Rattle.std.proofs.Common.{ℕ, zero, suc, ◌+◌, ◌<◌, ◌≤◌, ◌�
 use Rattle.std.proofs.lemmas.List.{length-map}
 use Rattle.atlas_store.specs.declared.slots.Ring.{Ring}
 use Rattle.atlas_store.specs.Slots.{nodes, rings}
-use Rattle.atlas_store.specs.Slots.Numbered.{tally, same, numbers}
-use Rattle.atlas_store.specs.Slots.Lists.{Line, occurs}
+use Rattle.atlas_store.specs.Slots.Numbered.{tally, numbers}
+use Rattle.atlas_search.specs.Numbers.{same, occurs}
+use Rattle.atlas_store.specs.Slots.Lists.{Line}
 use Rattle.atlas_store.specs.Stored.{Shelf, Holding, Holds}
 use Rattle.atlas_store.proofs.SlotLemmas.JoiningWrites.{used-inside}
 use Rattle.atlas_store.proofs.SlotLemmas.Reading.{sums, sums-add, sums-none, sums-same, tallies-numbers}
@@ -13,7 +14,8 @@ sums-all : (f : ℕ → ℕ) (m : ℕ) → ((i : ℕ) → i < m → f i ≡ 1) �
 sums-all f zero one = refl
 sums-all f (suc m) one = omega (arith, one m (omega arith), sums-all f m (λ i l. one i (omega arith)))
 
-sums-occurs : (rs : List Ring) (m : ℕ) (xs : List ℕ) → length rs ≤ m → Line rs xs → sums (λ i. occurs i xs) m ≡ length xs
+sums-occurs : (rs : List Ring) (m : ℕ) (xs : List ℕ) → length rs ≤ m → Line rs xs
+    → sums (λ i. occurs i xs) m ≡ length xs
 sums-occurs rs m [] l line = sums-none (λ i. 0) m (λ i b. refl)
 sums-occurs rs m (x ∷ xs) l line =
     omega (arith, sums-add (λ i. same i x) (λ i. occurs i xs) m, sums-same x m (omega (arith, line.0)), sums-occurs rs m xs l line.2)

@@ -42,7 +42,8 @@ module _ (xs : List Slot) (i : ℕ) (d : Slot) (low : i < length xs) where
   pub free-more : (get_or xs i d).node.kind ≡ kind.Free → IsMoreArea free_areas xs i d
   free-more is = record { list = free-next xs i d low is }
 
-  pub free-past : (b : Bool) → b ≡ sameb the_type (get_or xs i d).node.kind kind.Free → b ≡ false → IsPastArea free_areas xs i
+  pub free-past : (b : Bool) → b ≡ sameb the_type (get_or xs i d).node.kind kind.Free → b ≡ false
+      → IsPastArea free_areas xs i
   free-past b test is = record { list = free-pass xs i d b low test is }
 
   pub live-more : (get_or xs i d).node.kind ≡ kind.Alloc → IsMoreArea live_areas xs i d
@@ -53,7 +54,8 @@ module _ (xs : List Slot) (i : ℕ) (d : Slot) (low : i < length xs) where
             ∙ ap (λ k. cond (is_alloc k) ((get_or xs i d).node.area ∷ live_areas (nodes (drop (i + 1) xs))) (live_areas (nodes (drop (i + 1) xs)))) is;
       }
 
-  pub live-past : (b : Bool) → b ≡ sameb the_type (get_or xs i d).node.kind kind.Alloc → b ≡ false → IsPastArea live_areas xs i
+  pub live-past : (b : Bool) → b ≡ sameb the_type (get_or xs i d).node.kind kind.Alloc → b ≡ false
+      → IsPastArea live_areas xs i
   live-past b test is =
       record {
         list =
@@ -69,7 +71,8 @@ module _ (L : List Node → List Rectangle) (xs : List Slot) (i : ℕ) (d : Slot
     pub more-rest : All IsShownArea (L (nodes (drop i xs))) → All IsShownArea (L (nodes (drop (i + 1) xs)))
     more-rest all = All-rest IsShownArea _ _ _ more.list all
 
-    pub more-sum : (sum next part all : ℕ) → sum + area_sum (L (nodes (drop i xs))) ≡ all → part ≡ area (box_of (get_or xs i d).node.area) → next ≡ sum + part
+    pub more-sum : (sum next part all : ℕ) → sum + area_sum (L (nodes (drop i xs))) ≡ all
+        → part ≡ area (box_of (get_or xs i d).node.area) → next ≡ sum + part
         → next + area_sum (L (nodes (drop (i + 1) xs))) ≡ all
     more-sum sum next part all so_far this is =
         omega (
@@ -82,7 +85,8 @@ module _ (L : List Node → List Rectangle) (xs : List Slot) (i : ℕ) (past : I
   pub past-rest : All IsShownArea (L (nodes (drop i xs))) → All IsShownArea (L (nodes (drop (i + 1) xs)))
   past-rest all = subst (All IsShownArea) past.list all
 
-  pub past-sum : (sum next all : ℕ) → sum + area_sum (L (nodes (drop i xs))) ≡ all → next ≡ sum → next + area_sum (L (nodes (drop (i + 1) xs))) ≡ all
+  pub past-sum : (sum next all : ℕ) → sum + area_sum (L (nodes (drop i xs))) ≡ all → next ≡ sum
+      → next + area_sum (L (nodes (drop (i + 1) xs))) ≡ all
   past-sum sum next all so_far is = omega (arith, ap area_sum past.list)
 
 -- All slots.
@@ -94,7 +98,8 @@ sum_by-map f g (x ∷ xs) = omega (arith, sum_by-cons f (g x) (map g xs), sum_by
 abbrev grant_area : Grant → ℕ
 grant_area g = area g.box
 
-live_sum-list : (k : ℕ) (ns : List Node) → area_sum (live_areas ns) ≡ sum_by grant_area (map grant_of (allocated_from k ns))
+live_sum-list : (k : ℕ) (ns : List Node)
+    → area_sum (live_areas ns) ≡ sum_by grant_area (map grant_of (allocated_from k ns))
 live_sum-list k [] = refl
 live_sum-list k (n ∷ ns) = by_test (is_alloc n.kind) (live_sum-list (k + 1) ns)
   where
@@ -111,7 +116,8 @@ live_sum-list k (n ∷ ns) = by_test (is_alloc n.kind) (live_sum-list (k + 1) ns
     by_test false h = h
 
 -- What holds of each allocated grant's rectangle holds of the rectangles.
-pub live_areas-shown : (P : Rectangle → Type 0) (k : ℕ) (ns : List Node) → All (λ (a : Allocation). P a.rectangle) (allocated_from k ns) → All P (live_areas ns)
+pub live_areas-shown : (P : Rectangle → Type 0) (k : ℕ) (ns : List Node)
+    → All (λ (a : Allocation). P a.rectangle) (allocated_from k ns) → All P (live_areas ns)
 live_areas-shown P k [] h = All-nil P
 live_areas-shown P k (n ∷ ns) h = by_test (is_alloc n.kind) (live_areas-shown P (k + 1) ns) h
   where
@@ -123,7 +129,8 @@ live_areas-shown P k (n ∷ ns) h = by_test (is_alloc n.kind) (live_areas-shown 
         (rest (All-rest (λ (a : Allocation). P a.rectangle) (allocation_at k n) _ _ refl all))
     by_test false rest all = rest all
 
-sides_small : (x : Axis) (s : Sides) → side x s < 2 ^ 31 → side (other x) s < 2 ^ 31 → (s.width < 2 ^ 31) × (s.height < 2 ^ 31)
+sides_small : (x : Axis) (s : Sides) → side x s < 2 ^ 31 → side (other x) s < 2 ^ 31
+    → (s.width < 2 ^ 31) × (s.height < 2 ^ 31)
 sides_small Horizontal s h k = (h, k)
 sides_small Vertical s h k = (k, h)
 

@@ -5,7 +5,8 @@ use Rattle.std.proofs.lemmas.Bool.{and_parts, eqb-true, false≢true}
 use Rattle.std.specs.Option.{IfNone, is_some}
 use Rattle.atlas_model.specs.Changes.{nf, mark, only, release}
 use Rattle.atlas_model.specs.Pixels.{options_of}
-use Rattle.atlas_store.specs.Slots.{nodes, node_at, use_count, no_slot}
+use Rattle.atlas_store.specs.Slots.{nodes, node_at, use_count}
+use Rattle.atlas_search.specs.Numbers.{no_slot}
 use Rattle.atlas_store.specs.Slots.Numbered.{Numbered, tally, first_slot, erase, id_of}
 use Rattle.atlas_store.specs.Slots.Reading.{tree_of}
 use Rattle.atlas_model.specs.States.{State, IsSound, after_freeing, used_in}
@@ -21,7 +22,7 @@ use Rattle.atlas_model.specs.Trees as tree
 use Rattle.atlas_store.specs.Slots.Numbered.{End}
 use Rattle.atlas_store.proofs.SlotLemmas.Frames.{same-self}
 use Rattle.atlas_store.proofs.SlotLemmas.JoiningWrites.{none-unused, used-inside}
-use Rattle.atlas_store.proofs.SlotLemmas.Reading.{IsNonempty, tree_of-Stands}
+use Rattle.atlas_store.proofs.SlotLemmas.Reading.{HasMember, tree_of-Stands}
 use Rattle.atlas_store.proofs.SlotLemmas.Normal.{numbers-erase}
 use Rattle.atlas_model.proofs.TreeLemmas.TreeCounts.{release_nodes}
 use Rattle.atlas_model.proofs.StepLemmas.StepKeeping.{freeing_sound}
@@ -30,28 +31,30 @@ use Rattle.atlas_store.proofs.WalkLemmas.NamedSlots.{id_of-parts, is_alloc-true,
 use Rattle.atlas_store.proofs.WalkLemmas.Observing.{nodes-short, nodes-below, members-IsAtlas, nonempty-IsAtlas, tree_of-IsAtlas}
 
 -- A tree with a first slot has members.
-nonempty-first : (n : Numbered) → (first_slot n ≡ no_slot → ⊥) → IsNonempty n
+nonempty-first : (n : Numbered) → (first_slot n ≡ no_slot → ⊥) → HasMember n
 nonempty-first End h = absurd (h refl)
 nonempty-first n h = omega (arith, same-self)
 
 -- The parts of a name.
-pub record IsNamed (ns : List Node) (id : ℕ) : Type 0 where
+pub record IsNameOf (ns : List Node) (id : ℕ) : Type 0 where
   pub kind : (node_at ns (slot_of id)).kind ≡ kind.Alloc
   pub names : id_of (slot_of id) (node_at ns (slot_of id)).generation ≡ id
 
-pub named-parts : (ns : List Node) (id : ℕ) → is_named ns id ≡ true → IsNamed ns id
+pub named-parts : (ns : List Node) (id : ℕ) → is_named ns id ≡ true → IsNameOf ns id
 named-parts ns id h =
     let parts = and_parts _ _ h in
     let age : (node_at ns (slot_of id)).generation ≡ id / 2 ^ 24 = eqb-true _ _ parts.1 in
     record { kind = is_alloc-true _ parts.0; names = ap (id_of (slot_of id)) age ∙ id_of-parts id }
 
 -- The state after a freeing, of its parts.
-pub state-freed : (new old : State) (set : ℕ → Bool) → new.tree ≡ release set old.tree → new.size ≡ old.size → new.options ≡ old.options → new.limit ≡ old.limit → new.kept ≡ old.kept
+pub state-freed : (new old : State) (set : ℕ → Bool) → new.tree ≡ release set old.tree → new.size ≡ old.size
+    → new.options ≡ old.options → new.limit ≡ old.limit → new.kept ≡ old.kept
     → IsSound old → new ≡ after_freeing old set
 state-freed new old set et es eo el ek sound = grind (arith, release_nodes)
 
 -- As many turns more as members fewer, and one.
-pub turns-sum : (now before n used used' : ℕ) → now ≡ before + 1 + n → used' + n ≡ used → now + used' ≡ before + 1 + used
+pub turns-sum : (now before n used used' : ℕ) → now ≡ before + 1 + n → used' + n ≡ used
+    → now + used' ≡ before + 1 + used
 turns-sum now before n used used' t u = omega arith
 
 module _ (v : Stored) (a : IsAtlas v) (id : ℕ) where
@@ -70,13 +73,15 @@ module _ (v : Stored) (a : IsAtlas v) (id : ℕ) where
       grind (arith, named-parts ns id h, members-IsAtlas, slot_id ns a.holding.sequence no_slot 0 a.holding.tree id (slot_of id))
 
   -- Whether a slot was found says whether the id is live.
-  pub live-found : (slots : List Slot) (o : Option ℕ) → slots ≡ v.shelf.slots → IfSome o (λ at. is_named (nodes slots) id ≡ true) → IfNone o (is_named (nodes slots) id ≡ false)
+  pub live-found : (slots : List Slot) (o : Option ℕ) → slots ≡ v.shelf.slots
+      → IfSome o (λ at. is_named (nodes slots) id ≡ true) → IfNone o (is_named (nodes slots) id ≡ false)
       → (is_some o ≡ true) ↔ Contains (ids (tree_of (nodes v.shelf.slots)).members) id
   live-found slots None same found missed = grind (arith, false≢true, live-named)
   live-found slots (Some at) same found missed = ((λ _. named-live (ap (λ l. is_named (nodes l) id) (sym same) ∙ found)), (λ _. refl))
 
   -- The slot of a live id can be freed.
-  pub freeable : (at : ℕ) → at ≡ slot_of id → Contains (ids (tree_of (nodes v.shelf.slots)).members) id → IsFreeable v.shelf at a.holding
+  pub freeable : (at : ℕ) → at ≡ slot_of id → Contains (ids (tree_of (nodes v.shelf.slots)).members) id
+      → IsFreeable v.shelf at a.holding
   freeable at same live = grind (arith, named-parts, live-named, members-IsAtlas)
 
   -- What is left of a freeing.
@@ -96,7 +101,8 @@ module _ (v : Stored) (a : IsAtlas v) (id : ℕ) where
         ∙ ap with_members (freed.tree ∙ ap (λ k. nf (mark (only k) (erase a.holding.tree))) is.names)
         ∙ sym (ap (release (only id)) (tree_of-IsAtlas v a))
 
-    pub state-IsFreed : (m turns before : ℕ) → state_of (record { stored = record { shelf = u; first = v.first; used = m; size = v.size; limit = v.limit }; turns = turns; capacity = 0 })
+    pub state-IsFreed : (m turns before : ℕ)
+        → state_of (record { stored = record { shelf = u; first = v.first; used = m; size = v.size; limit = v.limit }; turns = turns; capacity = 0 })
         ≡ after_freeing (state_of (record { stored = v; turns = before; capacity = 0 })) (only id)
     state-IsFreed m turns before =
         state-freed (state_of (record { stored = record { shelf = u; first = v.first; used = m; size = v.size; limit = v.limit }; turns = turns; capacity = 0 })) (state_of (record { stored = v; turns = before; capacity = 0 })) (only id) tree-freed refl (ap options_of same_options) refl same_length a.sound
@@ -119,7 +125,8 @@ module _ (v : Stored) (a : IsAtlas v) (id : ℕ) where
     }
 
     -- As many members fewer as slots were given back.
-    pub used-IsFreed : (m turns before : ℕ) → used_in (state_of (record { stored = record { shelf = u; first = v.first; used = m; size = v.size; limit = v.limit }; turns = turns; capacity = 0 })) + n
+    pub used-IsFreed : (m turns before : ℕ)
+        → used_in (state_of (record { stored = record { shelf = u; first = v.first; used = m; size = v.size; limit = v.limit }; turns = turns; capacity = 0 })) + n
         ≡ used_in (state_of (record { stored = v; turns = before; capacity = 0 }))
     used-IsFreed m turns before = grind (arith, tree-freed, named-parts, live-named, members-IsAtlas, numbers-erase)
 
@@ -127,12 +134,15 @@ module _ (v : Stored) (a : IsAtlas v) (id : ℕ) where
 pub record FreesBox (v : Stored) (u : Shelf) (id n : ℕ) : Type 0 where
   pub few : n ≤ v.used
   pub atlas : IsAtlas (record { shelf = u; first = v.first; used = v.used - n; size = v.size; limit = v.limit })
-  pub state : (m turns before : ℕ) → state_of (record { stored = record { shelf = u; first = v.first; used = m; size = v.size; limit = v.limit }; turns = turns; capacity = 0 })
+  pub state : (m turns before : ℕ)
+      → state_of (record { stored = record { shelf = u; first = v.first; used = m; size = v.size; limit = v.limit }; turns = turns; capacity = 0 })
       ≡ after_freeing (state_of (record { stored = v; turns = before; capacity = 0 })) (only id)
-  pub used : (m turns before : ℕ) → used_in (state_of (record { stored = record { shelf = u; first = v.first; used = m; size = v.size; limit = v.limit }; turns = turns; capacity = 0 })) + n
+  pub used : (m turns before : ℕ)
+      → used_in (state_of (record { stored = record { shelf = u; first = v.first; used = m; size = v.size; limit = v.limit }; turns = turns; capacity = 0 })) + n
       ≡ used_in (state_of (record { stored = v; turns = before; capacity = 0 }))
 
-pub frees-box : (v : Stored) (a : IsAtlas v) (u : Shelf) (id at n : ℕ) → Contains (ids (tree_of (nodes v.shelf.slots)).members) id → at ≡ slot_of id
+pub frees-box : (v : Stored) (a : IsAtlas v) (u : Shelf) (id at n : ℕ)
+    → Contains (ids (tree_of (nodes v.shelf.slots)).members) id → at ≡ slot_of id
     → ((h : Holding) → IsFreeable v.shelf at h → (h' : Holding) × IsFreed v.shelf u at n h h')
     → length u.slots ≡ length v.shelf.slots → u.options ≡ v.shelf.options → FreesBox v u id n
 frees-box v a u id at n live same freed same_length same_options =

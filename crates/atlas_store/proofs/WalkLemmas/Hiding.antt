@@ -20,7 +20,8 @@ hidden-append : (ns : List Node) (xs ys : List ℕ) → hidden ns (xs ++ ys) ≡
 hidden-append ns [] ys = refl
 hidden-append ns (x ∷ xs) ys = hidden-append (with_kind ns (x % 2 ^ 24) kind.Unused) xs ys
 
-hidable-append : (ns : List Node) (xs ys : List ℕ) → AreHidable ns xs → AreHidable (hidden ns xs) ys → AreHidable ns (xs ++ ys)
+hidable-append : (ns : List Node) (xs ys : List ℕ) → AreHidable ns xs → AreHidable (hidden ns xs) ys
+    → AreHidable ns (xs ++ ys)
 hidable-append ns [] ys h k = k
 hidable-append ns (x ∷ xs) ys h k = (h.0, hidable-append (with_kind ns (x % 2 ^ 24) kind.Unused) xs ys h.1 k)
 
@@ -37,31 +38,36 @@ length-hidden ns [] = refl
 length-hidden ns (x ∷ xs) = grind (arith, length-hidden (with_kind ns (x % 2 ^ 24) kind.Unused) xs, length-set)
 
 -- One slot more is hidden.
-pub hidden-more : (ns now new : List Node) (ids : List ℕ) (k id at : ℕ) → k < length ids → id ≡ get_or ids k id → at ≡ id % 2 ^ 24
+pub hidden-more : (ns now new : List Node) (ids : List ℕ) (k id at : ℕ) → k < length ids → id ≡ get_or ids k id
+    → at ≡ id % 2 ^ 24
     → now ≡ hidden ns (take k ids) → new ≡ with_kind now at kind.Unused → new ≡ hidden ns (take (k + 1) ids)
 hidden-more ns now new ids k id at l is slot e w =
     let here : take (k + 1) ids ≡ take k ids ++ id ∷ [] = take_more ids k id l ∙ ap (λ v. take k ids ++ v ∷ []) (sym is) in
     w ∙ ap (λ v. with_kind now v kind.Unused) slot ∙ ap (λ v. with_kind v (id % 2 ^ 24) kind.Unused) e ∙ sym (ap (hidden ns) here ∙ hidden-append ns (take k ids) (id ∷ []))
 
-pub hidable-more : (ns now : List Node) (ids : List ℕ) (k id : ℕ) → k < length ids → id ≡ get_or ids k id → now ≡ hidden ns (take k ids) → AreHidable ns (take k ids)
+pub hidable-more : (ns now : List Node) (ids : List ℕ) (k id : ℕ) → k < length ids → id ≡ get_or ids k id
+    → now ≡ hidden ns (take k ids) → AreHidable ns (take k ids)
     → is_named now id ≡ true → AreHidable ns (take (k + 1) ids)
 hidable-more ns now ids k id l is e h named =
     let here : take (k + 1) ids ≡ take k ids ++ id ∷ [] = take_more ids k id l ∙ ap (λ v. take k ids ++ v ∷ []) (sym is) in
     subst (AreHidable ns) (sym here) (hidable-append ns (take k ids) (id ∷ []) h (subst (λ v. is_named v id ≡ true) e named, tt))
 
 -- Of ids that can be hidden each names a slot where those before it are hidden.
-pub named-next : (ns : List Node) (ids : List ℕ) (k id : ℕ) → k < length ids → id ≡ get_or ids k id → AreHidable ns ids → is_named (hidden ns (take k ids)) id ≡ true
+pub named-next : (ns : List Node) (ids : List ℕ) (k id : ℕ) → k < length ids → id ≡ get_or ids k id → AreHidable ns ids
+    → is_named (hidden ns (take k ids)) id ≡ true
 named-next ns ids k id l is h =
     let here : take (k + 1) ids ≡ take k ids ++ id ∷ [] = take_more ids k id l ∙ ap (λ v. take k ids ++ v ∷ []) (sym is) in
     let front : AreHidable ns (take (k + 1) ids) = hidable-front ns (take (k + 1) ids) (drop (k + 1) ids) (subst (AreHidable ns) (sym (take-append-drop (k + 1) ids)) h) in
     (hidable-back ns (take k ids) (id ∷ []) (subst (AreHidable ns) here front)).0
 
-pub not-hidable : (ns now : List Node) (ids : List ℕ) (k id : ℕ) → k < length ids → id ≡ get_or ids k id → now ≡ hidden ns (take k ids) → is_named now id ≡ false
+pub not-hidable : (ns now : List Node) (ids : List ℕ) (k id : ℕ) → k < length ids → id ≡ get_or ids k id
+    → now ≡ hidden ns (take k ids) → is_named now id ≡ false
     → AreHidable ns ids → ⊥
 not-hidable ns now ids k id l is e missed h = grind (arith, true≢false, named-next)
 
 -- A slot that was hidden is shown again.
-with_kind-back : (ns : List Node) (i : ℕ) → (node_at ns i).kind ≡ kind.Alloc → with_kind (with_kind ns i kind.Unused) i kind.Alloc ≡ ns
+with_kind-back : (ns : List Node) (i : ℕ) → (node_at ns i).kind ≡ kind.Alloc
+    → with_kind (with_kind ns i kind.Unused) i kind.Alloc ≡ ns
 with_kind-back ns i was =
     let inside : i < length ns = used-inside ns i (subst (λ k. 0 < use_count k) (sym was) (omega arith)) in
     let there : node_at (with_kind ns i kind.Unused) i ≡ record (node_at ns i) { kind = kind.Unused } = get_or-set_same ns i _ blank_node inside in
@@ -71,7 +77,8 @@ with_kind-back ns i was =
     ∙ set-set ns i _ (node_at ns i)
     ∙ set-get_or ns i blank_node
 
-pub shown-inside : (ns now : List Node) (ids : List ℕ) (k id at m : ℕ) → k < length ids → id ≡ get_or ids k id → at ≡ id % 2 ^ 24
+pub shown-inside : (ns now : List Node) (ids : List ℕ) (k id at m : ℕ) → k < length ids → id ≡ get_or ids k id
+    → at ≡ id % 2 ^ 24
     → now ≡ hidden ns (take (k + 1) ids) → AreHidable ns ids → m ≡ length now → at < m
 shown-inside ns now ids k id at m l is slot e h em =
     let was = named-parts (hidden ns (take k ids)) id (named-next ns ids k id l is h) in
@@ -79,8 +86,10 @@ shown-inside ns now ids k id at m l is slot e h em =
     let inside : id % 2 ^ 24 < length (hidden ns (take k ids)) = used-inside (hidden ns (take k ids)) (id % 2 ^ 24) used in
     omega (arith, inside, slot, em, ap length e, length-hidden ns (take k ids), length-hidden ns (take (k + 1) ids))
 
-pub shown-more : (ns now new : List Node) (ids : List ℕ) (k id at : ℕ) → k < length ids → id ≡ get_or ids k id → at ≡ id % 2 ^ 24
-    → now ≡ hidden ns (take (k + 1) ids) → AreHidable ns ids → new ≡ with_kind now at kind.Alloc → new ≡ hidden ns (take k ids)
+pub shown-more : (ns now new : List Node) (ids : List ℕ) (k id at : ℕ) → k < length ids → id ≡ get_or ids k id
+    → at ≡ id % 2 ^ 24
+    → now ≡ hidden ns (take (k + 1) ids) → AreHidable ns ids → new ≡ with_kind now at kind.Alloc
+    → new ≡ hidden ns (take k ids)
 shown-more ns now new ids k id at l is slot e h w =
     let here : take (k + 1) ids ≡ take k ids ++ id ∷ [] = take_more ids k id l ∙ ap (λ v. take k ids ++ v ∷ []) (sym is) in
     let was = named-parts (hidden ns (take k ids)) id (named-next ns ids k id l is h) in
@@ -123,17 +132,20 @@ module _ (ns : List Node) (id : ℕ) where
   one_name : (k : ℕ) → is_named ns id ≡ true → is_named ns k ≡ true → k % 2 ^ 24 ≡ id % 2 ^ 24 → k ≡ id
   one_name k named also e = grind arith
 
-  stronger : (k : ℕ) → is_named ns id ≡ true → is_named ns k ≡ true → (k ≡ id → ⊥) → is_named (with_kind ns (id % 2 ^ 24) kind.Unused) k ≡ true
+  stronger : (k : ℕ) → is_named ns id ≡ true → is_named ns k ≡ true → (k ≡ id → ⊥)
+      → is_named (with_kind ns (id % 2 ^ 24) kind.Unused) k ≡ true
   stronger k named also ne = grind (arith, same_name, elsewhere, one_name)
 
-  named-weaker : (xs : List ℕ) → AreNamedOnce (with_kind ns (id % 2 ^ 24) kind.Unused) xs → AreNamedOnce ns xs × (is_among xs id ≡ false)
+  named-weaker : (xs : List ℕ) → AreNamedOnce (with_kind ns (id % 2 ^ 24) kind.Unused) xs
+      → AreNamedOnce ns xs × (is_among xs id ≡ false)
   named-weaker [] h = (tt, refl)
   named-weaker (x ∷ xs) h =
       let w = weaker x h.0 in
       let rest = named-weaker xs h.2 in
       ((w.0, h.1, rest.0), or-false (only x id) (is_among xs id) (ne_eqb id x (λ e. w.1 (sym e))) rest.1)
 
-  named-stronger : (xs : List ℕ) → is_named ns id ≡ true → AreNamedOnce ns xs → is_among xs id ≡ false → AreNamedOnce (with_kind ns (id % 2 ^ 24) kind.Unused) xs
+  named-stronger : (xs : List ℕ) → is_named ns id ≡ true → AreNamedOnce ns xs → is_among xs id ≡ false
+      → AreNamedOnce (with_kind ns (id % 2 ^ 24) kind.Unused) xs
   named-stronger [] named h none = tt
   named-stronger (x ∷ xs) named h none =
       let parts = or-parts (only x id) (is_among xs id) none in
@@ -149,7 +161,8 @@ named-hidable ns (x ∷ xs) h =
     (h.0, named-hidable (with_kind ns (x % 2 ^ 24) kind.Unused) xs (named-stronger ns x xs h.0 h.2 h.1))
 
 -- Whether all were hidden says whether each id names a slot, and none stands twice.
-pub named-hidden : (ns : List Node) (ids : List ℕ) (count : ℕ) → AreHidable ns (take count ids) → (count ≢ length ids → AreHidable ns ids → ⊥)
+pub named-hidden : (ns : List Node) (ids : List ℕ) (count : ℕ) → AreHidable ns (take count ids)
+    → (count ≢ length ids → AreHidable ns ids → ⊥)
     → (count ≡ length ids) ↔ AreNamedOnce ns ids
 named-hidden ns ids count front last = grind (arith, hidable-named, take_all, named-hidable)
 

@@ -33,7 +33,8 @@ module _ {X : Type 0} where
   find-none p (x ∷ xs) h = grind (arith, find-none p xs)
 
   -- What is found passes, and counts for each weaker test.
-  find-some : (p q : X → Bool) (xs : List X) (y : X) → find p xs ≡ Some y → (p y ≡ true → q y ≡ true) → (p y ≡ true) × (1 ≤ count_by q xs)
+  find-some : (p q : X → Bool) (xs : List X) (y : X) → find p xs ≡ Some y → (p y ≡ true → q y ≡ true)
+      → (p y ≡ true) × (1 ≤ count_by q xs)
   find-some p q [] y h weaker = absurd (cc)
   find-some p q (x ∷ xs) y h weaker = grind (arith, one_if, count_by-cons, find-some p q xs y)
 
@@ -64,13 +65,14 @@ slot_sum-some w i (n ∷ ns) h = by_weight (w i n) refl (slot_sum-some w (i + 1)
 all-at : (w : ℕ → Node → ℕ) (j : ℕ) (ns : List Node) → j < length ns → w j (node_at ns j) ≤ slot_sum w 0 ns
 all-at w j ns l = grind (arith, slot_sum, slot_sum-at)
 
-all-some : (w : ℕ → Node → ℕ) (ns : List Node) → 1 ≤ slot_sum w 0 ns → (j : ℕ) × (j < length ns) × (1 ≤ w j (node_at ns j))
+all-some : (w : ℕ → Node → ℕ) (ns : List Node) → 1 ≤ slot_sum w 0 ns
+    → (j : ℕ) × (j < length ns) × (1 ≤ w j (node_at ns j))
 all-some w ns h =
     let there = slot_sum-some w 0 ns h in
     (there.at, there.inside, subst (λ k. 1 ≤ w k (node_at ns there.at)) (let e : 0 + there.at ≡ there.at = omega arith in e) there.weighs)
 
-abbrev has_id : ℕ → Grant → Bool
-has_id id g = g.id == id
+abbrev has_grant_id : ℕ → Grant → Bool
+has_grant_id id g = g.id == id
 
 abbrev has_both : ℕ → Box → Grant → Bool
 has_both id b g = (g.id == id) && same_box g.box b
@@ -88,38 +90,41 @@ weighs-parts true true h = (refl, refl)
 weighs-parts b c h = absurd (omega arith)
 
 -- An allocated slot is named by its id.
-pub named-true : (ns : List Node) (i : ℕ) (id : ℕ) → i < 2 ^ 24 → is_alloc (node_at ns i).kind ≡ true → id_of i (node_at ns i).generation ≡ id
+pub named-true : (ns : List Node) (i : ℕ) (id : ℕ) → i < 2 ^ 24 → is_alloc (node_at ns i).kind ≡ true
+    → id_of i (node_at ns i).generation ≡ id
     → (is_named ns id ≡ true) × (id % 2 ^ 24 ≡ i)
 named-true ns i id l is e = grind arith
 
 -- No slot is named by an id that counts nothing.
-named-false : (ns : List Node) (id : ℕ) → slot_sum (alloc_weight (has_id id)) 0 ns ≡ 0 → is_named ns id ≡ false
+named-false : (ns : List Node) (id : ℕ) → slot_sum (alloc_weight (has_grant_id id)) 0 ns ≡ 0 → is_named ns id ≡ false
 named-false ns id none =
-    grind (arith, and_parts, is_alloc-true, eqb-true, eq-eqb, used-inside ns, id_of-parts id, one_if, all-at (alloc_weight (has_id id)) (id % 2 ^ 24) ns)
+    grind (arith, and_parts, is_alloc-true, eqb-true, eq-eqb, used-inside ns, id_of-parts id, one_if, all-at (alloc_weight (has_grant_id id)) (id % 2 ^ 24) ns)
 
 -- A live id has a rectangle.
 pub not_missed : (o : Option Box) → IsSome o → option_map rectangle_of o ≡ None → ⊥
 not_missed o some e = grind arith
 
 -- The node that a slot shows.
-node_at-slot : (slots : List Slot) (i : ℕ) (s : Slot) → i < length slots → s ≡ get_or slots i s → node_at (nodes slots) i ≡ s.node
+node_at-slot : (slots : List Slot) (i : ℕ) (s : Slot) → i < length slots → s ≡ get_or slots i s
+    → node_at (nodes slots) i ≡ s.node
 node_at-slot [] i s l e = absurd (omega arith)
 node_at-slot (x ∷ xs) zero s l e = ap (λ (k : Slot). k.node) (sym e)
 node_at-slot (x ∷ xs) (suc i) s l e = node_at-slot xs i s (omega arith) e
 
 module _ (v : Stored) (a : IsAtlas v) (id : ℕ) where
-  counted : (p : Grant → Bool) → count_by p (live (sides_of v.size) (tree_of (nodes v.shelf.slots))) ≡ slot_sum (alloc_weight p) 0 (nodes v.shelf.slots)
+  counted : (p : Grant → Bool)
+      → count_by p (live (sides_of v.size) (tree_of (nodes v.shelf.slots))) ≡ slot_sum (alloc_weight p) 0 (nodes v.shelf.slots)
   counted p = sym (live-IsAtlas v a p) ∙ count-allocated p 0 (nodes v.shelf.slots)
 
-  by_found : (o : Option Grant) → find (has_id id) (live (sides_of v.size) (tree_of (nodes v.shelf.slots))) ≡ o
+  by_found : (o : Option Grant) → find (has_grant_id id) (live (sides_of v.size) (tree_of (nodes v.shelf.slots))) ≡ o
       → option_map rectangle_of (option_map (λ (g : Grant). g.box) o) ≡ named_area (nodes v.shelf.slots) id
   by_found None e =
       let ns = nodes v.shelf.slots in
-      let no_name : is_named ns id ≡ false = named-false ns id (sym (counted (has_id id)) ∙ find-none (has_id id) _ e) in
+      let no_name : is_named ns id ≡ false = named-false ns id (sym (counted (has_grant_id id)) ∙ find-none (has_grant_id id) _ e) in
       sym (ap (λ b. cond b (Some (node_at ns (id % 2 ^ 24)).area) None) no_name)
   by_found (Some x) e =
       let ns = nodes v.shelf.slots in
-      let both = find-some (has_id id) (has_both id x.box) _ x e (λ h. and_from _ _ h (same_box-itself x.box)) in
+      let both = find-some (has_grant_id id) (has_both id x.box) _ x e (λ h. and_from _ _ h (same_box-itself x.box)) in
       let there = all-some (alloc_weight (has_both id x.box)) ns (subst (λ k. 1 ≤ k) (counted (has_both id x.box)) both.1) in
       let i = there.0 in
       let parts = weighs-parts (is_alloc (node_at ns i).kind) (has_both id x.box (grant (id_of i (node_at ns i).generation) (box_of (node_at ns i).area))) there.2 in
@@ -135,9 +140,10 @@ module _ (v : Stored) (a : IsAtlas v) (id : ℕ) where
   -- The rectangle of an id is that of the slot that it names.
   pub named-IsAtlas : option_map rectangle_of (option_map (λ (g : Grant). g.box) (find (λ g. g.id == id) (live (sides_of v.size) (tree_of (nodes v.shelf.slots)))))
       ≡ named_area (nodes v.shelf.slots) id
-  named-IsAtlas = by_found (find (has_id id) (live (sides_of v.size) (tree_of (nodes v.shelf.slots)))) refl
+  named-IsAtlas = by_found (find (has_grant_id id) (live (sides_of v.size) (tree_of (nodes v.shelf.slots)))) refl
 
-  pub named-found : (slots : List Slot) (at : ℕ) (s : Slot) → slots ≡ v.shelf.slots → is_named (nodes slots) id ≡ true → at ≡ id % 2 ^ 24 → at < length slots
+  pub named-found : (slots : List Slot) (at : ℕ) (s : Slot) → slots ≡ v.shelf.slots → is_named (nodes slots) id ≡ true
+      → at ≡ id % 2 ^ 24 → at < length slots
       → s ≡ get_or v.shelf.slots at s
       → option_map rectangle_of (option_map (λ (g : Grant). g.box) (find (λ g. g.id == id) (live (sides_of v.size) (tree_of (nodes v.shelf.slots)))))
       ≡ Some s.node.area

@@ -6,7 +6,8 @@ use Rattle.atlas_model.specs.Boxes.{Axis, Box, side, origin}
 use Rattle.atlas_model.specs.Boxes.Axis.{Horizontal, Vertical}
 use Rattle.atlas_model.specs.Pixels.{box_of, sides_of}
 use Rattle.atlas_model.specs.Replies.{grant_of}
-use Rattle.atlas_store.specs.Slots.{nodes, node_at, no_slot}
+use Rattle.atlas_store.specs.Slots.{nodes, node_at}
+use Rattle.atlas_search.specs.Numbers.{no_slot}
 use Rattle.atlas_store.specs.Slots.Numbered.{Numbered, first_slot, erase}
 use Rattle.atlas_store.specs.Slots.Reading.{tree_of}
 use Rattle.atlas_store.specs.Slots.Standing.{Sequence, Stands, spot}
@@ -22,12 +23,12 @@ use Rattle.atlas_model.proofs.TreeLemmas.TreeBasics.{live_among, free_among}
 use Rattle.atlas_model.proofs.TreeLemmas.TreeIdle.{nothing_live}
 use Rattle.atlas_store.proofs.SlotLemmas.Frames.{same-self}
 use Rattle.atlas_store.proofs.SlotLemmas.JoiningWrites.{none-unused, used-inside}
-use Rattle.atlas_store.proofs.SlotLemmas.Reading.{IsNonempty, tree_of-Stands, members_of-Stands}
+use Rattle.atlas_store.proofs.SlotLemmas.Reading.{HasMember, tree_of-Stands, members_of-Stands}
 use Rattle.atlas_store.proofs.SlotLemmas.Normal.{numbers-erase}
 use Rattle.atlas_store.proofs.SlotLemmas.LeafCounts.{live-Stands, free-Stands}
 
 -- Members that fill a side are some.
-pub nonempty-total : (n : Numbered) → 0 < total (erase n) → IsNonempty n
+pub nonempty-total : (n : Numbered) → 0 < total (erase n) → HasMember n
 nonempty-total End h = absurd (omega arith)
 nonempty-total n h = omega (arith, same-self)
 
@@ -42,7 +43,7 @@ pub nodes-below : (slots : List Slot) → length slots ≤ 16777216 → length (
 nodes-below slots h = omega (arith, length-map slots (λ (s : Slot). s.node))
 
 -- A member that nothing follows is the last.
-lone : (ns : List Node) (s : Sequence) (n : Numbered) → length ns < no_slot → Stands ns s n → IsNonempty n
+lone : (ns : List Node) (s : Sequence) (n : Numbered) → length ns < no_slot → Stands ns s n → HasMember n
     → (node_at ns (first_slot n)).kind ≡ kind.Free → (node_at ns (first_slot n)).next.number ≡ no_slot
     → (i : ℕ) × (e : ℕ) × (n ≡ Free i e End)
 lone ns s End short h some free last = absurd (omega arith)
@@ -63,7 +64,7 @@ module _ (v : Stored) (a : IsAtlas v) where
   pub members-IsAtlas : (tree_of (nodes v.shelf.slots)).members ≡ erase a.holding.tree
   members-IsAtlas = grind (arith, members_of-Stands, nodes-below)
 
-  pub nonempty-IsAtlas : IsNonempty a.holding.tree
+  pub nonempty-IsAtlas : HasMember a.holding.tree
   nonempty-IsAtlas = grind arith
 
   pub tree_of-IsAtlas : tree_of (nodes v.shelf.slots) ≡ record { axis = a.holding.sequence.axis; members = erase a.holding.tree }
@@ -87,7 +88,8 @@ module _ (v : Stored) (a : IsAtlas v) where
   first-IsAtlas = grind (arith, nonempty-IsAtlas, used-inside, length-map)
 
   -- An atlas whose first slot is free and has nothing after it has nothing live.
-  pub idle-none_live : (node_at (nodes v.shelf.slots) v.first.number).kind ≡ kind.Free → (node_at (nodes v.shelf.slots) v.first.number).next.number ≡ no_slot
+  pub idle-none_live : (node_at (nodes v.shelf.slots) v.first.number).kind ≡ kind.Free
+      → (node_at (nodes v.shelf.slots) v.first.number).next.number ≡ no_slot
       → live (sides_of v.size) (tree_of (nodes v.shelf.slots)) ≡ []
   idle-none_live free last = grind (arith, lone, nodes-below, nonempty-IsAtlas, tree_of-IsAtlas)
 
@@ -104,10 +106,12 @@ module _ (v : Stored) (a : IsAtlas v) where
       (subst (λ k. (node_at ns k).kind ≡ kind.Free) (sym first) at.standing.0.kind, subst (λ k. (node_at ns k).next.number ≡ no_slot) (sym first) at.standing.0.next)
 
   -- Both, of a copy of the first slot.
-  pub idle-read : (n : Node) → n ≡ node_at (nodes v.shelf.slots) v.first.number → n.kind ≡ kind.Free → n.next.number ≡ no_slot
+  pub idle-read : (n : Node) → n ≡ node_at (nodes v.shelf.slots) v.first.number → n.kind ≡ kind.Free
+      → n.next.number ≡ no_slot
       → live (sides_of v.size) (tree_of (nodes v.shelf.slots)) ≡ []
   idle-read n e free last = idle-none_live (ap (λ (k : Node). k.kind) (sym e) ∙ free) (ap (λ (k : Node). k.next.number) (sym e) ∙ last)
 
-  pub none_live-read : (n : Node) → n ≡ node_at (nodes v.shelf.slots) v.first.number → live (sides_of v.size) (tree_of (nodes v.shelf.slots)) ≡ []
+  pub none_live-read : (n : Node) → n ≡ node_at (nodes v.shelf.slots) v.first.number
+      → live (sides_of v.size) (tree_of (nodes v.shelf.slots)) ≡ []
       → (n.kind ≡ kind.Free) × (n.next.number ≡ no_slot)
   none_live-read n e none = grind (arith, none_live-idle)

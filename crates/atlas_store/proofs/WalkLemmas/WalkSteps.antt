@@ -37,7 +37,8 @@ not_free kind.Free b e f = absurd (true≢false (sym e ∙ f))
 not_free k b e f = refl
 
 -- And from one that isn't.
-allocated-past : (xs : List Slot) (i : ℕ) (d : Slot) (b : Bool) → i < length xs → b ≡ sameb the_type (get_or xs i d).node.kind kind.Alloc → b ≡ false
+allocated-past : (xs : List Slot) (i : ℕ) (d : Slot) (b : Bool) → i < length xs
+    → b ≡ sameb the_type (get_or xs i d).node.kind kind.Alloc → b ≡ false
     → allocated_from i (nodes (drop i xs)) ≡ allocated_from (i + 1) (nodes (drop (i + 1) xs))
 allocated-past xs i d b low test is =
     at_drop_more (λ ys. allocated_from i (nodes ys)) xs i d low
@@ -50,7 +51,8 @@ free-next xs i d low is =
     at_drop_more (λ ys. free_areas (nodes ys)) xs i d low
     ∙ ap (λ k. cond (is_free k) ((get_or xs i d).node.area ∷ free_areas (nodes (drop (i + 1) xs))) (free_areas (nodes (drop (i + 1) xs)))) is
 
-pub free-pass : (xs : List Slot) (i : ℕ) (d : Slot) (b : Bool) → i < length xs → b ≡ sameb the_type (get_or xs i d).node.kind kind.Free → b ≡ false
+pub free-pass : (xs : List Slot) (i : ℕ) (d : Slot) (b : Bool) → i < length xs
+    → b ≡ sameb the_type (get_or xs i d).node.kind kind.Free → b ≡ false
     → free_areas (nodes (drop i xs)) ≡ free_areas (nodes (drop (i + 1) xs))
 free-pass xs i d b low test is =
     at_drop_more (λ ys. free_areas (nodes ys)) xs i d low
@@ -58,7 +60,8 @@ free-pass xs i d b low test is =
 
 -- The call at one allocated slot more.
 pub visits-allocated : {F : Type 0} (g : Mut F (ℕ × (Bor Rectangle × Unit {0})) (Unit {0})) (f f' at last : F) (xs : List Slot) (i : ℕ) (d : Slot) (id : ℕ) (shown : Bor Rectangle)
-    → i < length xs → (get_or xs i d).node.kind ≡ kind.Alloc → id ≡ id_of i (get_or xs i d).node.generation → shown.now ≡ (get_or xs i d).node.area
+    → i < length xs → (get_or xs i d).node.kind ≡ kind.Alloc → id ≡ id_of i (get_or xs i d).node.generation
+    → shown.now ≡ (get_or xs i d).node.area
     → Called g f (id, (shown, tt)) tt f' → at ≡ f'
     → FoldsTo (CalledAtGrant g) at (allocated_from (i + 1) (nodes (drop (i + 1) xs))) last
     → FoldsTo (CalledAtGrant g) f (allocated_from i (nodes (drop i xs))) last
@@ -103,15 +106,18 @@ module _ {F : Type 0} (g : Mut F (Bor Rectangle × Unit {0}) (Unit {0})) (xs : L
   From f k = IsCallableAlong g (λ _. Unit {0}) f (free_areas (nodes (drop k xs)))
 
   -- A callback may be called at a free slot.
-  pub asks-free : (f : F) (shown : Bor Rectangle) → (get_or xs i d).node.kind ≡ kind.Free → shown.now ≡ (get_or xs i d).node.area → From f i → Takes g f (shown, tt)
+  pub asks-free : (f : F) (shown : Bor Rectangle) → (get_or xs i d).node.kind ≡ kind.Free
+      → shown.now ≡ (get_or xs i d).node.area → From f i → Takes g f (shown, tt)
   asks-free f shown is same h = search (rules, along-first, free-next)
 
   -- And after that call at those that follow.
-  pub asks-more-free : (f f' at : F) → (get_or xs i d).node.kind ≡ kind.Free → CalledAt g f (get_or xs i d).node.area tt f' → at ≡ f' → From f i → From at (i + 1)
+  pub asks-more-free : (f f' at : F) → (get_or xs i d).node.kind ≡ kind.Free
+      → CalledAt g f (get_or xs i d).node.area tt f' → at ≡ f' → From f i → From at (i + 1)
   asks-more-free f f' at is call here h = search (rules, along-rest, free-next)
 
   -- A slot that isn't free is passed over.
-  pub asks-past-free : (f at : F) (b : Bool) → b ≡ sameb the_type (get_or xs i d).node.kind kind.Free → b ≡ false → at ≡ f → From f i → From at (i + 1)
+  pub asks-past-free : (f at : F) (b : Bool) → b ≡ sameb the_type (get_or xs i d).node.kind kind.Free → b ≡ false
+      → at ≡ f → From f i → From at (i + 1)
   asks-past-free f at b test is here h = search (rules, free-pass)
 
 module _ {F : Type 0} (g : Mut F (ℕ × (Bor Rectangle × Unit {0})) (Unit {0})) (xs : List Slot) (i : ℕ) (d : Slot) (low : i < length xs) where
@@ -119,15 +125,19 @@ module _ {F : Type 0} (g : Mut F (ℕ × (Bor Rectangle × Unit {0})) (Unit {0})
   GrantsFrom f k = IsCallableAlongGrants g (λ _. Unit {0}) f (allocated_from k (nodes (drop k xs)))
 
   -- A callback may be called at an allocated slot.
-  pub asks-allocated : (f : F) (id : ℕ) (shown : Bor Rectangle) → (get_or xs i d).node.kind ≡ kind.Alloc → id ≡ id_of i (get_or xs i d).node.generation
+  pub asks-allocated : (f : F) (id : ℕ) (shown : Bor Rectangle) → (get_or xs i d).node.kind ≡ kind.Alloc
+      → id ≡ id_of i (get_or xs i d).node.generation
       → shown.now ≡ (get_or xs i d).node.area → GrantsFrom f i → Takes g f (id, (shown, tt))
   asks-allocated f id shown is same_id same h = search (rules, along-first, allocated-next)
 
   -- And after that call at those that follow.
-  pub asks-more-allocated : (f f' at : F) (id : ℕ) (shown : Bor Rectangle) → (get_or xs i d).node.kind ≡ kind.Alloc → id ≡ id_of i (get_or xs i d).node.generation
-      → shown.now ≡ (get_or xs i d).node.area → Called g f (id, (shown, tt)) tt f' → at ≡ f' → GrantsFrom f i → GrantsFrom at (i + 1)
+  pub asks-more-allocated : (f f' at : F) (id : ℕ) (shown : Bor Rectangle) → (get_or xs i d).node.kind ≡ kind.Alloc
+      → id ≡ id_of i (get_or xs i d).node.generation
+      → shown.now ≡ (get_or xs i d).node.area → Called g f (id, (shown, tt)) tt f' → at ≡ f' → GrantsFrom f i
+      → GrantsFrom at (i + 1)
   asks-more-allocated f f' at id shown is same_id same call here h = search (rules, along-rest, allocated-next)
 
   -- A slot that isn't allocated is passed over.
-  pub asks-past-allocated : (f at : F) (b : Bool) → b ≡ sameb the_type (get_or xs i d).node.kind kind.Alloc → b ≡ false → at ≡ f → GrantsFrom f i → GrantsFrom at (i + 1)
+  pub asks-past-allocated : (f at : F) (b : Bool) → b ≡ sameb the_type (get_or xs i d).node.kind kind.Alloc → b ≡ false
+      → at ≡ f → GrantsFrom f i → GrantsFrom at (i + 1)
   asks-past-allocated f at b test is here h = search (rules, allocated-past)

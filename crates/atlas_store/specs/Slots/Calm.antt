@@ -4,7 +4,8 @@ use Rattle.atlas_store.specs.declared.slots.Node.{Node}
 use Rattle.atlas_store.specs.declared.slots.NodeKind.TheVariants as kind
 use Rattle.atlas_model.specs.Trees.{Members}
 use Rattle.atlas_model.specs.Trees.Members.{End, Free, Alloc, Seq}
-use Rattle.atlas_store.specs.Slots.{node_at, no_slot}
+use Rattle.atlas_store.specs.Slots.{node_at}
+use Rattle.atlas_search.specs.Numbers.{no_slot}
 
 -- If the slot k is free, the next one isn't, and it isn't alone in a container.
 pub record IsCalmAt (ns : List Node) (k : ℕ) : Type 0 where

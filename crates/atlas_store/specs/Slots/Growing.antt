@@ -5,7 +5,7 @@ use Rattle.atlas_model.specs.declared.geometry.Rectangle.{Rectangle}
 use Rattle.atlas_model.specs.Boxes.{Axis, Sides, other, side}
 use Rattle.atlas_model.specs.Trees.{total}
 use Rattle.atlas_store.specs.Slots.Links.{with_mark}
-use Rattle.atlas_store.specs.Slots.{no_slot}
+use Rattle.atlas_search.specs.Numbers.{no_slot}
 use Rattle.atlas_store.specs.Slots.Numbered.{Numbered, erase, first_slot, End, Free, Alloc, Seq}
 use Rattle.atlas_store.specs.Slots.Standing.{Sequence}
 use Rattle.atlas_store.specs.Stored.{Holding}

@@ -2,20 +2,17 @@
 use Rattle.std.specs.Prelude.{ℕ, ◌+◌, ◌%◌, ◌≡◌, ◌≢◌, ◌<◌, ◌==◌, ◌⊎◌, Bool, true, false, if◌then◌else◌}
 use Rattle.std.specs.Prelude.{List, [], ◌∷◌, ◌++◌, length, slice_set}
 use Rattle.atlas_store.specs.declared.slots.Slot.{Slot}
-use Rattle.atlas_store.specs.declared.slots.Link.{Link}
+use Rattle.atlas_search.specs.declared.link.Link.{Link}
 use Rattle.atlas_store.specs.declared.slots.Node.{Node}
 use Rattle.atlas_store.specs.declared.slots.Ring.{Ring}
 use Rattle.atlas_store.specs.declared.slots.NodeKind.TheVariants as kind
-use Rattle.atlas_store.specs.declared.search.bands.Place.{Place}
-use Rattle.atlas_store.specs.declared.search.table.ListHead.{ListHead}
-use Rattle.atlas_model.specs.declared.geometry.Rectangle.{Rectangle}
-use Rattle.atlas_model.specs.Boxes.{IsNonempty}
-use Rattle.atlas_model.specs.Pixels.{box_of}
-use Rattle.atlas_store.specs.Rectangles.{IsUnsigned}
+use Rattle.atlas_search.specs.declared.bands.Place.{Place}
+use Rattle.atlas_search.specs.declared.table.ListHead.{ListHead}
 use Rattle.atlas_model.specs.Choice.{Options}
-use Rattle.atlas_store.specs.Slots.{nodes, rings, node_at, ring_at, blank_slot, no_slot, AreTakenOnce}
-use Rattle.atlas_store.specs.Search.Tables.{is_used_at}
-use Rattle.atlas_store.specs.Slots.Lists.{IsList, AreFiled, Line, Places, front, occurs, tag_of, without}
+use Rattle.atlas_store.specs.Slots.{nodes, rings, node_at, ring_at, blank_slot, AreTakenOnce}
+use Rattle.atlas_search.specs.Tables.{is_used_at}
+use Rattle.atlas_store.specs.Slots.Lists.{IsList, AreFiled, Line, Places, tag_of}
+use Rattle.atlas_search.specs.Numbers.{front, lists_with, no_slot, occurs, without}
 
 -- The list that begins with this link, after `before`, is in order, and slot i does not stand in it.
 abbrev pub IsUnlisted : List Ring → (before : ℕ) → Link → ℕ → Type 0
@@ -49,15 +46,6 @@ with_count claimed i n k = if k == i then n else claimed k
 -- Slot i is gone from each list.
 abbrev pub lists_without : (ℕ → List ℕ) → ℕ → ℕ → List ℕ
 lists_without free_lists i k = without i (free_lists k)
-
--- Slot i stands first in list m.
-abbrev pub lists_with : (ℕ → List ℕ) → (m i : ℕ) → ℕ → List ℕ
-lists_with free_lists m i k = if k == m then i ∷ free_lists k else free_lists k
-
--- A rectangle with sides above 0, and no corner below 0.
-pub record IsSolid (r : Rectangle) : Type 0 where
-  pub unsigned : IsUnsigned r
-  pub nonempty : IsNonempty (box_of r)
 
 -- The lists are in order, and slot i is not detached.
 pub record IsFiledSlot (o : Options) (slots : List Slot) (heads : List ListHead) (i : ℕ) : Type 0 where

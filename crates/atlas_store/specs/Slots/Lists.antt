@@ -1,34 +1,19 @@
 -- Lists of slots that run through the slots' rings. No public clause cites this module.
 use Rattle.std.specs.Prelude.{ℕ, ◌+◌, ◌≡◌, ◌<◌, ◌≤◌, ◌==◌, ◌&&◌, Bool, true, false, List, [], ◌∷◌, length}
 use Rattle.std.specs.Prelude.{if◌then◌else◌}
-use Rattle.atlas_store.specs.declared.slots.Link.{Link}
+use Rattle.atlas_search.specs.declared.link.Link.{Link}
 use Rattle.atlas_store.specs.declared.slots.Node.{Node}
 use Rattle.atlas_store.specs.declared.slots.Ring.{Ring}
 use Rattle.atlas_store.specs.declared.slots.NodeKind.{NodeKind}
 use Rattle.atlas_store.specs.declared.slots.NodeKind.TheVariants as kind
-use Rattle.atlas_store.specs.declared.search.table.ListHead.{ListHead}
+use Rattle.atlas_search.specs.declared.table.ListHead.{ListHead}
 use Rattle.atlas_model.specs.Boxes.{Sides, box_sides}
 use Rattle.atlas_model.specs.Pixels.{box_of}
 use Rattle.atlas_model.specs.Choice.{Options}
-use Rattle.atlas_store.specs.Search.Bands.{list_of}
-use Rattle.atlas_store.specs.Search.Tables.{head_of, low_of}
-use Rattle.atlas_store.specs.Slots.{node_at, ring_at, use_count, no_slot}
-use Rattle.atlas_store.specs.Slots.Numbered.{same}
-
--- The first of a list, or none.
-abbrev pub front : List ℕ → ℕ
-front [] = no_slot
-front (x ∷ xs) = x
-
--- How often a slot stands in a list.
-abbrev pub occurs : ℕ → List ℕ → ℕ
-occurs k [] = 0
-occurs k (x ∷ xs) = same k x + occurs k xs
-
--- The list without the first i.
-abbrev pub without : ℕ → List ℕ → List ℕ
-without i [] = []
-without i (x ∷ xs) = if i == x then xs else x ∷ without i xs
+use Rattle.atlas_search.specs.Bands.{list_of}
+use Rattle.atlas_search.specs.Tables.{head_of, low_of}
+use Rattle.atlas_store.specs.Slots.{node_at, ring_at, use_count}
+use Rattle.atlas_search.specs.Numbers.{front, no_slot, occurs, same}
 
 -- The list xs runs through the rings in both directions; `before` comes before its first.
 abbrev pub Chain : List Ring → ℕ → List ℕ → Type 0

@@ -2,7 +2,7 @@
 use Rattle.std.specs.Prelude.{ℕ, ◌+◌, ◌*◌, ◌==◌, Bool, false, if◌then◌else◌}
 use Rattle.atlas_model.specs.Trees.{Members, most_slots}
 use Rattle.atlas_model.specs.Trees as tree
-use Rattle.atlas_store.specs.Slots.{no_slot}
+use Rattle.atlas_search.specs.Numbers.{no_slot, same}
 
 -- An allocated member has the generation of its slot in place of its id.
 pub data Numbered : Type 0 where
@@ -21,10 +21,6 @@ erase End = tree.End
 erase (Free i e rest) = tree.Free e (erase rest)
 erase (Alloc i g e rest) = tree.Alloc (id_of i g) e (erase rest)
 erase (Seq i e inner rest) = tree.Seq e (erase inner) (erase rest)
-
--- 1 if the numbers are equal.
-abbrev pub same : ℕ → ℕ → ℕ
-same i j = if i == j then 1 else 0
 
 -- The sum of what the members' slots weigh.
 abbrev pub weigh : (weight : ℕ → ℕ) → Numbered → ℕ

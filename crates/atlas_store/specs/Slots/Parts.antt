@@ -1,30 +1,17 @@
 -- What a free leaf becomes where a request is placed. No public clause cites this module.
 use Rattle.std.specs.Prelude.{ℕ, ℤ, ◌+◌, ◌+ℤ◌, ◌-ℤ◌}
-use Rattle.atlas_store.specs.declared.slots.Link.{Link}
+use Rattle.atlas_search.specs.declared.link.Link.{Link}
 use Rattle.atlas_store.specs.declared.slots.Node.{Node}
 use Rattle.atlas_store.specs.declared.slots.NodeKind.TheVariants as kind
 use Rattle.atlas_model.specs.declared.geometry.Rectangle.{Rectangle}
-use Rattle.atlas_store.specs.declared.cut.Orientation.{Orientation}
-use Rattle.atlas_store.specs.declared.cut.Orientation.TheVariants as orientation
+use Rattle.atlas_search.specs.declared.cut.Orientation.{Orientation}
+use Rattle.atlas_search.specs.declared.cut.Orientation.TheVariants as orientation
 use Rattle.atlas_model.specs.Boxes.{Axis, Box}
 use Rattle.atlas_model.specs.Boxes.Axis.{Horizontal, Vertical}
 use Rattle.atlas_model.specs.Pixels.{box_of, rectangle_of}
-use Rattle.atlas_store.specs.Slots.{axis_of, no_slot}
-
--- How long a rectangle is along an axis.
-abbrev pub length_in : Orientation → Rectangle → ℤ
-length_in orientation.Horizontal r = r.max.x -ℤ r.min.x
-length_in orientation.Vertical r = r.max.y -ℤ r.min.y
-
--- The first e of a rectangle along an axis.
-abbrev pub front_in : Orientation → (e : ℤ) → Rectangle → Rectangle
-front_in orientation.Horizontal e r = record r { max = record r.max { x = r.min.x +ℤ e } }
-front_in orientation.Vertical e r = record r { max = record r.max { y = r.min.y +ℤ e } }
-
--- What is left of a rectangle after the first e along an axis.
-abbrev pub back_in : Orientation → (e : ℤ) → Rectangle → Rectangle
-back_in orientation.Horizontal e r = record r { min = record r.min { x = r.min.x +ℤ e } }
-back_in orientation.Vertical e r = record r { min = record r.min { y = r.min.y +ℤ e } }
+use Rattle.atlas_store.specs.Slots.{axis_of}
+use Rattle.atlas_search.specs.Numbers.{no_slot}
+use Rattle.atlas_search.specs.Rectangles.{flipped}
 
 -- The first p of a box along an axis.
 abbrev pub front_part : Axis → (p : ℕ) → Box → Box
@@ -35,10 +22,6 @@ front_part Vertical p b = record { min = b.min; max = record { x = b.max.x; y = 
 abbrev pub back_part : Axis → (p : ℕ) → Box → Box
 back_part Horizontal p b = record { min = record { x = b.min.x + p; y = b.min.y }; max = b.max }
 back_part Vertical p b = record { min = record { x = b.min.x; y = b.min.y + p }; max = b.max }
-
-abbrev pub flipped : Orientation → Orientation
-flipped orientation.Horizontal = orientation.Vertical
-flipped orientation.Vertical = orientation.Horizontal
 
 -- A leaf that keeps p of its extent, and that `after` follows.
 abbrev pub front_node : Node → (p : ℕ) → (after : Link) → Node

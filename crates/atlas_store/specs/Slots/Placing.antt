@@ -1,7 +1,7 @@
 -- How a free leaf gives way to a request by a plan: the slots that this takes, what is written in them, and what the tree
 -- becomes. No public clause cites this module.
 use Rattle.std.specs.Prelude.{ℕ, ◌-◌, ◌<◌, ◌≤◌, ◌≡◌, ◌≢◌, Bool, true, false, List, [], ◌∷◌, length}
-use Rattle.atlas_store.specs.declared.slots.Link.{Link}
+use Rattle.atlas_search.specs.declared.link.Link.{Link}
 use Rattle.atlas_store.specs.declared.slots.Node.{Node}
 use Rattle.atlas_store.specs.declared.slots.NodeKind.{NodeKind}
 use Rattle.atlas_store.specs.declared.slots.NodeKind.TheVariants as kind
@@ -10,9 +10,9 @@ use Rattle.atlas_store.specs.declared.slots.placing.Plan.{Plan}
 use Rattle.atlas_store.specs.declared.slots.placing.Plan.TheVariants as plan
 use Rattle.atlas_model.specs.Boxes.{other, side, box_sides}
 use Rattle.atlas_model.specs.Pixels.{box_of}
-use Rattle.atlas_store.specs.Slots.{node_at, no_slot, axis_of}
+use Rattle.atlas_store.specs.Slots.{node_at, axis_of}
+use Rattle.atlas_search.specs.Numbers.{no_slot, occurs}
 use Rattle.atlas_store.specs.Slots.Links.{with_mark}
-use Rattle.atlas_store.specs.Slots.Lists.{occurs}
 use Rattle.atlas_store.specs.Slots.Numbered.{Numbered, edited_in, is_free_at, on_free, End, Free, Alloc, Seq}
 use Rattle.atlas_store.specs.Slots.Parts.{front_node, back_node, inner_node}
 use Rattle.atlas_store.specs.Slots.Reading.{extent_of}

@@ -7,7 +7,8 @@ use Rattle.atlas_store.specs.declared.slots.NodeKind.TheVariants as kind
 use Rattle.atlas_model.specs.Boxes.{side, box_sides}
 use Rattle.atlas_model.specs.Pixels.{box_of}
 use Rattle.atlas_model.specs.Trees.{Tree}
-use Rattle.atlas_store.specs.Slots.{node_at, use_count, axis_of, no_slot}
+use Rattle.atlas_store.specs.Slots.{node_at, use_count, axis_of}
+use Rattle.atlas_search.specs.Numbers.{no_slot}
 use Rattle.atlas_store.specs.Slots.Numbered.{Numbered, erase, End, Free, Alloc, Seq}
 
 -- The extent of a slot along the axis of its sequence.

@@ -7,7 +7,8 @@ use Rattle.atlas_model.specs.declared.geometry.Size.{Size}
 use Rattle.atlas_model.specs.Boxes.{other, side}
 use Rattle.atlas_model.specs.Pixels.{sides_of}
 use Rattle.atlas_model.specs.Trees.{total}
-use Rattle.atlas_store.specs.Slots.{nodes, rings, node_at, no_slot, KeepsUse}
+use Rattle.atlas_store.specs.Slots.{nodes, rings, node_at, KeepsUse}
+use Rattle.atlas_search.specs.Numbers.{no_slot}
 use Rattle.atlas_store.specs.Slots.Numbered.{Numbered, marked, joined, lifted}
 use Rattle.atlas_store.specs.Slots.Numbered.{End, Free, Seq, erase, first_slot}
 use Rattle.atlas_store.specs.Slots.Standing.{Sequence, Standing, Stands}

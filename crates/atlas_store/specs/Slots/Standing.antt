@@ -1,13 +1,14 @@
 -- That slots stand for a numbered tree. No public clause cites this module.
 use Rattle.std.specs.Prelude.{ℕ, ◌+◌, ◌≡◌, ◌<◌, ◌⊎◌, List, slice_set}
-use Rattle.atlas_store.specs.declared.slots.Link.{Link}
+use Rattle.atlas_search.specs.declared.link.Link.{Link}
 use Rattle.atlas_store.specs.declared.slots.Node.{Node}
 use Rattle.atlas_store.specs.declared.slots.NodeKind.{NodeKind}
 use Rattle.atlas_store.specs.declared.slots.NodeKind.TheVariants as kind
 use Rattle.atlas_model.specs.Boxes.{Axis, Position, Box, other, sized, box_at}
 use Rattle.atlas_model.specs.Boxes.Axis.{Horizontal, Vertical}
 use Rattle.atlas_model.specs.Pixels.{rectangle_of}
-use Rattle.atlas_store.specs.Slots.{node_at, use_count, axis_of, no_slot}
+use Rattle.atlas_store.specs.Slots.{node_at, use_count, axis_of}
+use Rattle.atlas_search.specs.Numbers.{no_slot}
 use Rattle.atlas_store.specs.Slots.Numbered.{Numbered, tally, first_slot, End, Free, Alloc, Seq}
 
 -- A sequence: the slot that holds it, its axis, where it lies across and how wide it is there.

@@ -1,12 +1,14 @@
 -- How the calls on slots and lists change what they hold. No public clause cites this module.
 use Rattle.std.specs.Prelude.{ℕ, ◌+◌, ◌≡◌, ◌≤◌, ◌⊎◌, Bool, true, false, List, ◌∷◌, length, vec_capacity}
 use Rattle.atlas_store.specs.declared.store.Store.{Store}
+use Rattle.atlas_store.specs.declared.store.turns.Turns.{Turns}
+use Rattle.atlas_model.specs.declared.options.AllocatorOptions.{AllocatorOptions}
 use Rattle.atlas_store.specs.declared.slots.Node.{Node}
 use Rattle.atlas_store.specs.declared.slots.placing.Parts.{Parts}
 use Rattle.atlas_store.specs.declared.slots.placing.Plan.{Plan}
 use Rattle.atlas_store.specs.declared.slots.NodeKind.TheVariants as kind
 use Rattle.atlas_model.specs.Pixels.{options_of}
-use Rattle.atlas_store.specs.Search.Bands.{list_of}
+use Rattle.atlas_search.specs.Bands.{list_of}
 use Rattle.atlas_model.specs.Trees.{most_slots}
 use Rattle.atlas_store.specs.Slots.Lists.{node_sides, node_top}
 use Rattle.atlas_store.specs.Slots.{nodes, node_at, AreTakenOnce}
@@ -18,6 +20,18 @@ use Rattle.atlas_store.specs.Stored.{Shelf, Holding, Holds}
 -- The stored part of a store.
 abbrev pub shelf_of : {A : Type 0} → Store A → Shelf
 shelf_of s = record { slots = s.slots.items; heads = s.lists; unused = s.unused; options = s.options }
+
+-- For how many slots there is memory.
+abbrev pub capacity_in : {A : Type 0} → Store A → ℕ
+capacity_in s = vec_capacity s.slots
+
+-- The turns that were taken.
+abbrev pub turns_in : {A : Type 0} → Store A → Turns
+turns_in s = s.turns
+
+-- The options by which free slots are listed.
+abbrev pub options_in : {A : Type 0} → Store A → AllocatorOptions
+options_in s = s.options
 
 -- Slot i is detached, or isn't.
 abbrev pub with_detached : (i : ℕ) → Bool → Holding → Holding

@@ -4,12 +4,13 @@ use Rattle.atlas_store.specs.declared.store.Store.{Store}
 use Rattle.atlas_model.specs.declared.options.AllocatorOptions.{AllocatorOptions}
 use Rattle.atlas_store.specs.declared.slots.Slot.{Slot}
 use Rattle.atlas_store.specs.declared.slots.NodeKind.TheVariants as kind
-use Rattle.atlas_store.specs.declared.cut.Orientation.TheVariants as orientation
+use Rattle.atlas_search.specs.declared.cut.Orientation.TheVariants as orientation
 use Rattle.atlas_model.specs.declared.geometry.Size.{Size}
 use Rattle.atlas_model.specs.Boxes.{Sides}
 use Rattle.atlas_model.specs.Boxes.Axis.{Vertical}
 use Rattle.atlas_model.specs.Pixels.{sides_of}
-use Rattle.atlas_store.specs.Slots.{nodes, no_slot}
+use Rattle.atlas_store.specs.Slots.{nodes}
+use Rattle.atlas_search.specs.Numbers.{no_slot}
 use Rattle.atlas_store.specs.Slots.Numbered.{End, Free}
 use Rattle.atlas_store.specs.Slots.Links.{with_mark}
 use Rattle.atlas_store.specs.Stored.{Holding, Holds}
@@ -54,11 +55,15 @@ start_holding free_lists size =
     }
 
 -- One free slot of this size, in its list, and no other slot.
-pub record IsStarted {A : Type 0} (old new : Store A) (size : Size) (given : AllocatorOptions) : Type 0 where
+pub record IsBegun {A : Type 0} (new : Store A) (size : Size) (given : AllocatorOptions) : Type 0 where
   pub holds : (free_lists : ℕ → List ℕ) × Holds (shelf_of new) (start_holding free_lists (sides_of size))
   pub slots : nodes new.slots.items ≡ nodes (one_free_slot size ∷ [])
   pub one : length new.slots.items ≡ 1
   pub once : IsTakenOnce new
   pub options : new.options ≡ given
+
+-- It is so from now on; the memory stays.
+pub record IsStarted {A : Type 0} (old new : Store A) (size : Size) (given : AllocatorOptions) : Type 0 where
+  pub begun : IsBegun new size given
   pub capacity : vec_capacity new.slots ≡ vec_capacity old.slots
   pub turns : new.turns ≡ old.turns

@@ -1,13 +1,13 @@
 -- What each call of the store does, in one word. No public clause cites this module.
 use Rattle.std.specs.Prelude.{ℕ, ◌+◌, ◌-◌, ◌<◌, ◌≤◌, ◌≡◌, ◌≢◌, ◌⊎◌, List, [], ◌∷◌, length, true, false, vec_capacity}
 use Rattle.atlas_store.specs.declared.store.Store.{Store}
-use Rattle.atlas_store.specs.declared.slots.Link.{Link}
+use Rattle.atlas_search.specs.declared.link.Link.{Link}
 use Rattle.atlas_store.specs.declared.slots.placing.Parts.{Parts}
 use Rattle.atlas_store.specs.declared.slots.placing.Plan.{Plan}
 use Rattle.atlas_store.specs.declared.slots.NodeKind.TheVariants as kind
 use Rattle.atlas_store.specs.Slots.Calm.{IsCalmAt, IsCalmBut}
 use Rattle.atlas_store.specs.Slots.Links.{with_count}
-use Rattle.atlas_store.specs.Slots.Lists.{occurs}
+use Rattle.atlas_search.specs.Numbers.{occurs}
 use Rattle.atlas_store.specs.Slots.Parts.{joined_node}
 use Rattle.atlas_store.specs.Slots.Placing.{across_of, granted_by, left_by, slots_of, IsFeasible}
 use Rattle.atlas_store.specs.Slots.Reading.{extent_of}

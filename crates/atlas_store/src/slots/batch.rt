@@ -6,8 +6,9 @@ ghost use Rattle.atlas_store.specs.Slots.{nodes, rings};
 ghost use Rattle.atlas_store.specs.Batches.{AreHidable, AreNamedOnce, hidden};
 
 use crate::slots::walks::{named_slot, slot_number};
-use crate::slots::{Link, NodeKind, Slot, set_kind};
+use crate::slots::{NodeKind, Slot, set_kind};
 use atlas_model::AllocId;
+use atlas_search::link::Link;
 
 // Hides the slots of ids, up to the first id that names none. The answer is how many were hidden.
 fn hide(slots: &mut [Slot], ids: &[AllocId]) -> usize

@@ -2,17 +2,17 @@
 //! or the sequence is put into a new one along the other axis. They leave the lists alone.
 ghost use Rattle.std.specs.Prelude.{◌≡◌, ◌<◌, length};
 ghost use Rattle.atlas_store.specs.declared.slots.NodeKind.TheVariants.{Free};
-ghost use Rattle.atlas_store.specs.declared.cut.Orientation.TheVariants.{Horizontal, Vertical};
+ghost use Rattle.atlas_search.specs.declared.cut.Orientation.TheVariants.{Horizontal, Vertical};
 ghost use Rattle.atlas_model.specs.Pixels.{sides_of, size_of};
 ghost use Rattle.atlas_store.specs.Slots.{nodes, node_at};
 ghost use Rattle.atlas_store.specs.Slots.Growing.{stretched_area};
 ghost use Rattle.atlas_store.specs.Slots.SlotCalls.{CanAppendTo, CanWrapTop, HasFirst};
 ghost use Rattle.atlas_store.specs.Slots.SlotCalls.{IsLeafAppended, IsLeafStretched, IsTopHung, IsTopWrapped};
 
-use crate::cut::Orientation;
-use crate::slots::placing::across;
-use crate::slots::{Link, NO_SLOT, Node, NodeKind, Slot, read_node, write_node};
+use crate::slots::{Node, NodeKind, Slot, read_node, write_node};
 use atlas_model::{Rectangle, Size, point2};
+use atlas_search::cut::{Orientation, across};
+use atlas_search::link::{Link, NO_SLOT};
 
 /// The free leaf at `at` reaches to the far corner of a size.
 pub fn stretch_leaf(slots: &mut [Slot], at: Link, size: Size)

@@ -1,26 +1,28 @@
 //! The lists of free slots, by the bands of both sides, and the list of unused slots: links inside the slots.
 ghost use Rattle.std.specs.Prelude.{◌≡◌, ◌<◌, ℕ, true, false, List, ◌∷◌, length, slice_set, vec_capacity};
-ghost use Rattle.atlas_store.specs.Search.Bands.{list_of, number_of};
-ghost use Rattle.atlas_store.specs.Search.Tables.{head_of, low_of};
-ghost use Rattle.atlas_model.specs.Boxes.{IsPositive, box_sides};
+ghost use Rattle.atlas_search.specs.Bands.{list_of, number_of};
+ghost use Rattle.atlas_search.specs.Tables.{head_of, low_of};
 ghost use Rattle.atlas_model.specs.Choice.{Options};
-ghost use Rattle.atlas_model.specs.Pixels.{box_of, options_of, sides_of};
+ghost use Rattle.atlas_model.specs.Pixels.{options_of};
 ghost use Rattle.atlas_store.specs.Slots.{blank_slot, nodes, rings, node_at, ring_at};
 ghost use Rattle.atlas_store.specs.Slots.Standing.{IsSlot};
-ghost use Rattle.atlas_store.specs.declared.slots.Link.{Link};
-ghost use Rattle.atlas_store.specs.declared.search.table.ListHead.{ListHead};
-ghost use Rattle.atlas_store.specs.Slots.Lists.{AreFiled, IsList, Places, node_sides, occurs, tag_of};
+ghost use Rattle.atlas_search.specs.declared.link.Link.{Link};
+ghost use Rattle.atlas_search.specs.declared.table.ListHead.{ListHead};
+ghost use Rattle.atlas_store.specs.Slots.Lists.{AreFiled, IsList, Places, node_sides, tag_of};
+ghost use Rattle.atlas_search.specs.Numbers.{occurs};
 ghost use Rattle.atlas_store.specs.declared.slots.NodeKind.TheVariants.{Free};
-ghost use Rattle.atlas_store.specs.Slots.Links.{CanTake, IsSlotOrTag, IsFiledSlot, IsInTable, IsDetachedSlot, IsSolid};
+ghost use Rattle.atlas_store.specs.Slots.Links.{CanTake, IsSlotOrTag, IsFiledSlot, IsInTable, IsDetachedSlot};
+ghost use Rattle.atlas_search.specs.Rectangles.{IsSolid};
 ghost use Rattle.atlas_store.specs.Slots.Links.{IsUnlisted, TakesFirst};
 ghost use Rattle.atlas_store.specs.Slots.Links.{first_after, given_back, listed, renewed, unlisted, with_next};
 ghost use Rattle.atlas_store.specs.Slots.Links.{with_ring_previous};
 
-use crate::cut::Orientation;
-use crate::search::bands::{BANDS, Place, Scale};
-use crate::search::table::Table;
-use crate::slots::{Link, NO_SLOT, Node, NodeKind, Ring, Slot, read_node, read_ring, write_node};
-use atlas_model::{Rectangle, Size, point2};
+use crate::slots::{Node, NodeKind, Ring, Slot, read_node, read_ring, write_node};
+use atlas_model::{Rectangle, point2};
+use atlas_search::bands::{BANDS, Place, Scale};
+use atlas_search::cut::{Orientation, exact_size, top_in};
+use atlas_search::link::{Link, NO_SLOT};
+use atlas_search::table::Table;
 use std::alloc::Allocator;
 
 // From this number on, what comes before a slot is none: the slot is the first of the list with the rest as its number.
@@ -90,23 +92,6 @@ fn push_front(slots: &mut [Slot], before: Link, first: Link, at: Link)
     slot.ring.previous = before;
     slot.ring.next = first;
     set_ring_previous(slots, first, at);
-}
-
-/// The size of an exact rectangle.
-pub fn exact_size(area: Rectangle) -> Size
-    requires { IsSolid area }
-    ensures positive { IsPositive (sides_of result) }
-    ensures sides { sides_of result ≡ box_sides (box_of area) }
-{
-    area.size()
-}
-
-// The `min.y` of a rectangle.
-fn top_in(area: Rectangle) -> u32
-    requires { IsSolid area }
-    ensures { result ≡ (box_of area).min.y }
-{
-    area.min.y as u32
 }
 
 /// Takes a free slot out of its list; it is detached from then on.

@@ -7,23 +7,12 @@ ghost use Rattle.atlas_store.specs.Slots.{nodes, rings, node_at, axis_of};
 ghost use Rattle.atlas_store.specs.Slots.Placing.{across_of, CanPlace, IsCutInto, IsPlaced};
 ghost use Rattle.atlas_store.specs.Slots.Reading.{extent_of};
 ghost use Rattle.atlas_store.specs.Slots.Standing.{IsTree};
-ghost use Rattle.atlas_store.specs.Slots.Parts.{back_part, flipped, front_node, front_part, inner_node};
+ghost use Rattle.atlas_store.specs.Slots.Parts.{back_part, front_node, front_part, inner_node};
 
-use crate::cut::Orientation;
-use crate::slots::{
-    Link, NO_SLOT, Node, NodeKind, Slot, read_node, set_kind, set_previous, write_node,
-};
+use crate::slots::{Node, NodeKind, Slot, read_node, set_kind, set_previous, write_node};
 use atlas_model::{Rectangle, point2};
-
-/// The other axis.
-pub fn across(axis: Orientation) -> Orientation
-    ensures { result ≡ flipped axis }
-{
-    match axis {
-        Orientation::Horizontal => Orientation::Vertical,
-        Orientation::Vertical => Orientation::Horizontal,
-    }
-}
+use atlas_search::cut::{Orientation, across};
+use atlas_search::link::{Link, NO_SLOT};
 
 // The two parts of a leaf's rectangle that is cut after its first `extent` pixels along an axis.
 #[inline(always)]

@@ -5,10 +5,10 @@ ghost use Rattle.atlas_model.specs.Pixels.{sides_of, size_of};
 ghost use Rattle.atlas_store.specs.Stored.{Holding};
 ghost use Rattle.atlas_store.specs.Slots.Growing.{IsEnd, IsLone};
 
-use crate::slots::Link;
 use crate::slots::extending::{append_leaf, stretch_leaf, wrap_top};
 use crate::store::Store;
 use atlas_model::Size;
+use atlas_search::link::Link;
 use std::alloc::Allocator;
 
 impl<A: Allocator> Store<A> {

@@ -1,12 +1,11 @@
--- The free slot that a request takes, and how it is granted.
+-- How the free slot that a request takes is granted.
 use Rattle.std.proofs.Common.{ℕ, ◌<◌, ◌≤◌, ◌≡◌, ◌≢◌, List, length, true, false, refl, sym, ap, subst, ◌∙◌, arith}
 use Rattle.std.proofs.lemmas.List.{length-map}
 use Rattle.atlas_store.specs.declared.store.Store.{Store}
 use Rattle.atlas_store.specs.declared.slots.Slot.{Slot}
 use Rattle.atlas_store.specs.declared.slots.Node.{Node}
 use Rattle.atlas_store.specs.declared.slots.NodeKind.TheVariants as kind
-use Rattle.atlas_store.specs.declared.search.best.Found.{Found}
-use Rattle.atlas_tree.specs.declared.requests.Chosen.{Chosen}
+use Rattle.atlas_search.specs.declared.best.Found.{Found}
 use Rattle.atlas_store.specs.declared.slots.placing.Plan.{Plan}
 use Rattle.atlas_model.specs.declared.allocation.Allocation.{Allocation}
 use Rattle.atlas_model.specs.declared.geometry.Rectangle.{Rectangle}
@@ -16,54 +15,25 @@ use Rattle.atlas_model.specs.Choice.{IsPick}
 use Rattle.atlas_model.specs.Trees.{ungranted, leaves}
 use Rattle.atlas_store.specs.Slots.{nodes, node_at}
 use Rattle.atlas_store.specs.Slots.Numbered.{erase, id_of}
-use Rattle.atlas_store.specs.Search.Picks.{AreFreeBoxes, IsFreeSlot, IsSearchable}
+use Rattle.atlas_store.specs.Slots.Picks.{AreFreeBoxes, IsFreeSlot, IsSearchable}
 use Rattle.atlas_store.specs.Stored.{Shelf, Holding, Holds, places_of}
 use Rattle.atlas_store.specs.Store.Holdings.{shelf_of, node_in, with_detached, with_free_lists, IsLow}
-use Rattle.atlas_store.specs.Search.Bands.{list_of}
+use Rattle.atlas_search.specs.Bands.{list_of}
 use Rattle.atlas_store.specs.Slots.Lists.{node_sides, node_top}
 use Rattle.atlas_tree.specs.Plans.Planning.{IsPlanReady, IsPlanDone, IsPlanned}
 use Rattle.atlas_store.specs.Store.StoreCalls.{IsPlaceable, IsSharpened, UnlistsLeaf}
-use Rattle.atlas_tree.specs.Plans.Chosen.{IsAtRest, IsChosen, IsGrantable, IsGrantMade}
+use Rattle.atlas_store.specs.Store.Choosing.{IsAtRest, IsChosen}
+use Rattle.atlas_tree.specs.Plans.Chosen.{IsGrantable, IsGrantMade}
 use Rattle.atlas_store.proofs.StoreLemmas.Filing.{with_mark-same, with_mark-other}
 use Rattle.atlas_store.proofs.SlotLemmas.Frames.{same-ne}
 use Rattle.atlas_store.proofs.SlotLemmas.JoiningWrites.{used-inside}
-use Rattle.atlas_store.proofs.SlotLemmas.FreeSlots.{AreFreeBoxes-stands, exact-free, searchable}
+use Rattle.atlas_store.proofs.SlotLemmas.FreeSlots.{exact-free}
+use Rattle.atlas_store.proofs.StoreLemmas.Choosing.{rest-free}
 use Rattle.atlas_store.proofs.StoreLemmas.StoreTakes.{slots-kept}
 
 module _ (v : Shelf) (h : Holding) (rest : IsAtRest v h) where
-  pub rest-searchable : (slots : List Slot) → slots ≡ v.slots → IsSearchable (options_of v.options) slots v.heads
-  rest-searchable slots e =
-      let P : List Slot → Type 0 = λ s. IsSearchable (options_of v.options) s v.heads in
-      subst P (sym e) (searchable (options_of v.options) v.slots v.heads v.unused (places_of (λ i. 0) h) h.sequence h.tree rest.holds.filed (λ i. rest.listed i refl) rest.holds.stands rest.holds.wide rest.holds.cut rest.holds.short rest.holds.valid)
-
-  pub rest-free : AreFreeBoxes (nodes v.slots) (ungranted (leaves h.sequence.axis origin h.sequence.width (erase h.tree)))
-  rest-free = AreFreeBoxes-stands (nodes v.slots) h.sequence h.tree rest.holds.stands rest.start
-
-  -- The slot that was found, in the words of the store.
-  module _ (slots : List Slot) (e : slots ≡ v.slots) (r : Sides) (found : Found)
-      (free : IsFreeSlot (nodes slots) found.at.number) (area : (node_at (nodes slots) found.at.number).area ≡ found.rectangle)
-      (picked : (free : List Box) → AreFreeBoxes (nodes slots) free → IsPick free (options_of v.options) r (box_of found.rectangle)) where
-    free_here : (node_in v found.at.number).kind ≡ kind.Free
-    free_here = subst (λ s. IsFreeSlot (nodes s) found.at.number) e free
-
-    area_here : (node_in v found.at.number).area ≡ found.rectangle
-    area_here = subst (λ s. (node_at (nodes s) found.at.number).area ≡ found.rectangle) e area
-
-    picked_here : (free : List Box) → AreFreeBoxes (nodes v.slots) free → IsPick free (options_of v.options) r (box_of found.rectangle)
-    picked_here = subst (λ s. (free : List Box) → AreFreeBoxes (nodes s) free → IsPick free (options_of v.options) r (box_of found.rectangle)) e picked
-
-    -- The same of the slot's own rectangle.
-    picked_there : (free : List Box) → AreFreeBoxes (nodes v.slots) free → IsPick free (options_of v.options) r (box_of (node_in v found.at.number).area)
-    picked_there = subst (λ (q : Rectangle). (free : List Box) → AreFreeBoxes (nodes v.slots) free → IsPick free (options_of v.options) r (box_of q)) (sym area_here) picked_here
-
-    pub found-chosen : (found.list < 2704) × (found.list ≡ list_of (options_of v.options) (node_sides (node_at (nodes slots) found.at.number)))
-        → ((i : ℕ) → IsFreeSlot (nodes slots) i → i ≢ found.at.number → list_of (options_of v.options) (node_sides (node_at (nodes slots) i)) ≡ found.list
-        → found.low ≤ node_top (node_at (nodes slots) i))
-        → IsChosen v r (record { at = found.at; list = found.list; low = found.low })
-    found-chosen list low = grind (arith, free_here, picked_there)
-
   -- The leaf of a slot that was chosen.
-  module _ (r : Sides) (p : Chosen) (chosen : IsChosen v r p) where
+  module _ (r : Sides) (p : Found) (chosen : IsChosen v r p) where
     pub chosen-inside : p.at.number < length v.slots
     chosen-inside =
         omega (arith, used-inside (nodes v.slots) p.at.number (rw chosen.free (omega arith)), length-map v.slots (λ (s : Slot). s.node))
@@ -72,20 +42,23 @@ module _ (v : Shelf) (h : Holding) (rest : IsAtRest v h) where
     chosen-exact = grind (arith, exact-free)
 
     pub chosen-fits : Fits r (box_sides (box_of (node_in v p.at.number).area))
-    chosen-fits = (chosen.pick _ rest-free).best.candidate.fitting.fits
+    chosen-fits = (chosen.pick _ (rest-free v h rest)).best.candidate.fitting.fits
 
 -- It stands in its list.
-pub listed-chosen : {A : Type 0} {v : Store A} {r : Sides} {p : Chosen} {plan : Plan} {h : Holding} → IsGrantable v r p plan h
+pub listed-chosen : {A : Type 0} {v : Store A} {r : Sides} {p : Found} {plan : Plan} {h : Holding}
+    → IsGrantable v r p plan h
     → (h : Holding) × Holds (shelf_of v) h × (h.detached p.at.number ≡ false)
 listed-chosen {A} {v} {r} {p} {plan} {h} w = (h, w.rest.holds, w.rest.listed p.at.number refl)
 
 -- Once the slot is detached, no other slot of its list lies above the strip that the search saw.
-chosen-low : (v u : Shelf) (r : Sides) (p : Chosen) → IsChosen v r p → nodes u.slots ≡ nodes v.slots → u.options ≡ v.options
+chosen-low : (v u : Shelf) (r : Sides) (p : Found) → IsChosen v r p → nodes u.slots ≡ nodes v.slots
+    → u.options ≡ v.options
     → (h : Holding) → h.detached p.at.number ≡ true → IsLow u h p.list p.low
 chosen-low v u r p w same options h is_detached i free kept list = grind arith
 
 -- The slot leaves its list, for which another strip is kept then.
-pub unlisted-sharpened : {A : Type 0} {v u v' : Store A} {r : Sides} (p : Chosen) → IsChosen (shelf_of v) r p → UnlistsLeaf v u p.at.number
+pub unlisted-sharpened : {A : Type 0} {v u v' : Store A} {r : Sides} (p : Found) → IsChosen (shelf_of v) r p
+    → UnlistsLeaf v u p.at.number
     → IsSharpened u v' p.list p.low → UnlistsLeaf v v' p.at.number
 unlisted-sharpened {A} {v} {u} {v'} {r} p w one two = record {
   kept = λ h holds listed.
@@ -101,7 +74,7 @@ unlisted-sharpened {A} {v} {u} {v'} {r} p w one two = record {
   turns = two.turns ∙ one.turns;
 }
 
-module _ {A : Type 0} {v v' : Store A} {r : Sides} {p : Chosen} {plan : Plan} {h : Holding} (w : IsGrantable v r p plan h) (u : UnlistsLeaf v v' p.at.number) where
+module _ {A : Type 0} {v v' : Store A} {r : Sides} {p : Found} {plan : Plan} {h : Holding} (w : IsGrantable v r p plan h) (u : UnlistsLeaf v v' p.at.number) where
   left : (free_lists : ℕ → List ℕ) × Holds (shelf_of v') (with_detached p.at.number true (with_free_lists free_lists h))
   left = u.kept h w.rest.holds (w.rest.listed p.at.number refl)
 
@@ -124,8 +97,10 @@ module _ {A : Type 0} {v v' : Store A} {r : Sides} {p : Chosen} {plan : Plan} {h
     pub granted-short : to < 16777216
     granted-short = omega (arith, granted-inside, placed_there.1.holds.short)
 
-    pub grant-made : (allocation : Allocation) (node : Node) → node ≡ node_in (shelf_of new) to → allocation.id ≡ id_of to node.generation
-        → allocation.rectangle ≡ node.area → (to : ℕ) × (h' : Holding) × IsGrantMade (shelf_of new) p plan allocation to h h'
+    pub grant-made : (allocation : Allocation) (node : Node) → node ≡ node_in (shelf_of new) to
+        → allocation.id ≡ id_of to node.generation
+        → allocation.rectangle ≡ node.area
+        → (to : ℕ) × (h' : Holding) × IsGrantMade (shelf_of new) p plan allocation to h h'
     grant-made allocation node same is lies =
         let made = placed_there.1 in (
           to,

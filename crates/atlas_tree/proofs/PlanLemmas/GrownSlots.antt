@@ -7,8 +7,9 @@ use Rattle.atlas_store.specs.declared.slots.NodeKind.TheVariants as kind
 use Rattle.atlas_model.specs.Boxes.{Sides, side, IsPositive}
 use Rattle.atlas_model.specs.Trees.{total}
 use Rattle.atlas_model.specs.Changes.{grown_members}
-use Rattle.atlas_store.specs.Slots.{nodes, no_slot}
-use Rattle.atlas_store.specs.Slots.Lists.{is_free, occurs}
+use Rattle.atlas_store.specs.Slots.{nodes}
+use Rattle.atlas_search.specs.Numbers.{no_slot, occurs}
+use Rattle.atlas_store.specs.Slots.Lists.{is_free}
 use Rattle.atlas_store.specs.Slots.Links.{with_mark}
 use Rattle.atlas_store.specs.Slots.Numbered.{erase}
 use Rattle.atlas_store.specs.Slots.Standing.{IsSlot}
@@ -19,7 +20,7 @@ use Rattle.atlas_store.specs.Store.StoreCalls.{ListsLeaf, UnlistsLeaf}
 use Rattle.atlas_store.specs.Store.TopCalls.{IsAppended, IsEnlarged, IsExtendable, IsNested, IsStretched}
 use Rattle.atlas_tree.specs.Plans.Growths.{IsTreeOf, IsGrownHolding, IsLengthenable, IsLengthened, IsWidenable, IsWidened, strip_after, strip_need}
 use Rattle.atlas_store.proofs.StoreLemmas.Filing.{with_mark-same, with_mark-other}
-use Rattle.atlas_store.proofs.SlotLemmas.Reading.{IsNonempty}
+use Rattle.atlas_store.proofs.SlotLemmas.Reading.{HasMember}
 use Rattle.atlas_store.proofs.WalkLemmas.Observing.{nonempty-total}
 use Rattle.atlas_model.proofs.TreeLemmas.TreeBasics.{side_positive}
 use Rattle.atlas_store.proofs.StoreLemmas.StoreTakes.{slots-kept, fewer-slots}
@@ -28,17 +29,20 @@ use Rattle.atlas_store.proofs.SlotLemmas.Stretching.{first-stretched}
 use Rattle.atlas_tree.proofs.PlanLemmas.GrownTrees.{last-inside, erase-stretched, erase-appended, first-appended}
 
 -- A leaf that was listed, and is again.
-listed-again : (detached : ℕ → Bool) (k : ℕ) → ((i : ℕ) → occurs i [] ≡ 0 → detached i ≡ false) → (i : ℕ) → occurs i [] ≡ 0 → with_mark (with_mark detached k true) k false i ≡ false
+listed-again : (detached : ℕ → Bool) (k : ℕ) → ((i : ℕ) → occurs i [] ≡ 0 → detached i ≡ false) → (i : ℕ)
+    → occurs i [] ≡ 0 → with_mark (with_mark detached k true) k false i ≡ false
 listed-again detached k only i z = grind (arith, with_mark-same, with_mark-other)
 
-end_some : (size : Sides) (d last : ℕ) (h : Holding) → IsEnd size d last h → IsNonempty h.tree
+end_some : (size : Sides) (d last : ℕ) (h : Holding) → IsEnd size d last h → HasMember h.tree
 end_some size d last h end = nonempty-total h.tree end.some
 
 -- The last member is a slot.
-pub last-slot : (v : Shelf) (h : Holding) → Holds v h → 0 < total (erase h.tree) → IsSlot (length v.slots) (last_slot h.tree)
+pub last-slot : (v : Shelf) (h : Holding) → Holds v h → 0 < total (erase h.tree)
+    → IsSlot (length v.slots) (last_slot h.tree)
 last-slot v h holds some = grind (arith, last-inside, nonempty-total, length-map)
 
-pub end-slot : (v : Shelf) (size : Sides) (d last : ℕ) (h : Holding) → Holds v h → IsEnd size d last h → IsSlot (length v.slots) last
+pub end-slot : (v : Shelf) (size : Sides) (d last : ℕ) (h : Holding) → Holds v h → IsEnd size d last h
+    → IsSlot (length v.slots) last
 end-slot v size d last h holds end = subst (IsSlot (length v.slots)) end.ends (last-slot v h holds end.some)
 
 need-free : (v : Shelf) (last : ℕ) → (node_in v last).kind ≡ kind.Free → strip_need v last ≡ 0
@@ -48,7 +52,8 @@ need-busy : (v : Shelf) (last : ℕ) → ((node_in v last).kind ≡ kind.Free �
 need-busy v last busy = grind arith
 
 -- The answer whether the last member is free says whether a strip takes a slot.
-pub need-answer : (v : Shelf) (last : ℕ) (t : Bool) → (IsTrue t ↔ ((node_in v last).kind ≡ kind.Free)) → cond (not t) 1 0 ≡ strip_need v last
+pub need-answer : (v : Shelf) (last : ℕ) (t : Bool) → (IsTrue t ↔ ((node_in v last).kind ≡ kind.Free))
+    → cond (not t) 1 0 ≡ strip_need v last
 need-answer v last true says = sym (need-free v last (says.0 refl))
 need-answer v last false says = sym (need-busy v last (λ f. true≢false (sym (says.1 f))))
 
@@ -81,7 +86,8 @@ module _ {A : Type 0} {v v1 : Store A} {size : Sides} {last d n : ℕ} {h : Hold
     pub stretch-list : (h' : Holding) × IsDetachedLeaf (shelf_of v2) last h'
     stretch-list = (after_stretch d to_stretch, stretched_leaf)
 
-    pub stretch-lengthened : {v3 : Store A} → ListsLeaf v2 v3 last → (h' : Holding) × IsLengthened v3 n d (strip_need (shelf_of v) last) h h'
+    pub stretch-lengthened : {v3 : Store A} → ListsLeaf v2 v3 last
+        → (h' : Holding) × IsLengthened v3 n d (strip_need (shelf_of v) last) h h'
     stretch-lengthened {v3} w3 =
         let got = w3.kept (after_stretch d to_stretch) stretched_leaf in
         let none : strip_need (shelf_of v) last ≡ 0 = need-free (shelf_of v) last free in
@@ -103,7 +109,8 @@ module _ {A : Type 0} {v v1 : Store A} {size : Sides} {last d n : ℕ} {h : Hold
         )
 
 -- There is a slot for a strip after any other last member.
-pub append-ready : {A : Type 0} {v : Store A} {size : Sides} {last d n : ℕ} {h : Holding} → IsLengthenable v size last d n h
+pub append-ready : {A : Type 0} {v : Store A} {size : Sides} {last d n : ℕ} {h : Holding}
+    → IsLengthenable v size last d n h
     → ((node_in (shelf_of v) last).kind ≡ kind.Free → ⊥)
     → (h' : Holding) × (d' : ℕ) × IsExtendable (shelf_of v) size last d' h' × HasSlotsFor 1 v h'
 append-ready {A} {v} {size} {last} {d} {n} {h} s busy = grind (arith, need-busy, fewer-slots)
@@ -127,7 +134,8 @@ module _ {A : Type 0} {v v1 : Store A} {size : Sides} {last k d n : ℕ} {h : Ho
   pub append-list : (h' : Holding) × IsDetachedLeaf (shelf_of v1) k h'
   append-list = (with_strip, strip_leaf)
 
-  pub append-lengthened : {v2 : Store A} → ListsLeaf v1 v2 k → (h' : Holding) × IsLengthened v2 n d (strip_need (shelf_of v) last) h h'
+  pub append-lengthened : {v2 : Store A} → ListsLeaf v1 v2 k
+      → (h' : Holding) × IsLengthened v2 n d (strip_need (shelf_of v) last) h h'
   append-lengthened {v2} w2 =
       let got = w2.kept with_strip strip_leaf in
       let one : strip_need (shelf_of v) last ≡ 1 = need-busy (shelf_of v) last busy in (
@@ -205,7 +213,8 @@ module _ {A : Type 0} {v v1 : Store A} {at : ℕ} {old : Sides} {h : Holding} (t
     pub whole-list : (h' : Holding) × IsDetachedLeaf (shelf_of v2) at h'
     whole-list = (after_whole size at to_enlarge, enlarged_leaf)
 
-    pub whole-grown : {v3 : Store A} → ListsLeaf v2 v3 at → IsPositive size → (h' : Holding) × IsGrownHolding (shelf_of v3) old size at 0 h h'
+    pub whole-grown : {v3 : Store A} → ListsLeaf v2 v3 at → IsPositive size
+        → (h' : Holding) × IsGrownHolding (shelf_of v3) old size at 0 h h'
     whole-grown w3 positive =
         let got = w3.kept (after_whole size at to_enlarge) enlarged_leaf in
         let some : 0 < side h.sequence.axis size = side_positive h.sequence.axis size positive in (

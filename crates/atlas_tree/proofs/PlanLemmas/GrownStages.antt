@@ -59,7 +59,8 @@ middle-old : (axis : Axis) (old new : Sides) → side axis old ≡ side axis new
 middle-old Horizontal old new e = let back : new.width ≡ old.width = sym e in λ i. record { width = back i; height = old.height }
 middle-old Vertical old new e = let back : new.height ≡ old.height = sym e in λ i. record { width = old.width; height = back i }
 
-middle-new : (axis : Axis) (old new : Sides) → side (other axis) old ≡ side (other axis) new → middle_of axis old new ≡ new
+middle-new : (axis : Axis) (old new : Sides) → side (other axis) old ≡ side (other axis) new
+    → middle_of axis old new ≡ new
 middle-new Horizontal old new e = λ i. record { width = new.width; height = e i }
 middle-new Vertical old new e = λ i. record { width = e i; height = new.height }
 
@@ -94,22 +95,27 @@ along_need v last old new axis = if_longer (side axis old) (side axis new) (stri
 abbrev pub across_need : (old new : Sides) → Axis → ℕ
 across_need old new axis = if_longer (side (other axis) old) (side (other axis) new) 2
 
-pub need-is : (v : Shelf) (old new : Sides) (h : Holding) → Holds v h → 0 < total (erase h.tree) → is_one_free (erase h.tree) ≡ false
+pub need-is : (v : Shelf) (old new : Sides) (h : Holding) → Holds v h → 0 < total (erase h.tree)
+    → is_one_free (erase h.tree) ≡ false
     → IsNeedOf old new h (along_need v (last_slot h.tree) old new h.sequence.axis + across_need old new h.sequence.axis)
 need-is v old new h holds some busy = nodes-grown_by (nodes v.slots) h.sequence h.tree holds.stands (nonempty-total h.tree some) old new h.sequence.axis busy
 
 module _ (v : Shelf) (old new : Sides) (h : Holding) (p : Growth) (w : IsGrowthOf old new h p) where
-  pub strip-longer : (t : Bool) → (IsTrue t ↔ ((node_in v p.last.number).kind ≡ kind.Free)) → side h.sequence.axis old < side h.sequence.axis new
+  pub strip-longer : (t : Bool) → (IsTrue t ↔ ((node_in v p.last.number).kind ≡ kind.Free))
+      → side h.sequence.axis old < side h.sequence.axis new
       → cond (not t) 1 0 ≡ along_need v (last_slot h.tree) old new h.sequence.axis
   strip-longer t says longer = grind (arith, need-answer, if_longer-more)
 
-  pub strip-same : side h.sequence.axis old ≡ side h.sequence.axis new → along_need v (last_slot h.tree) old new h.sequence.axis ≡ 0
+  pub strip-same : side h.sequence.axis old ≡ side h.sequence.axis new
+      → along_need v (last_slot h.tree) old new h.sequence.axis ≡ 0
   strip-same e = if_longer-not (side h.sequence.axis old) (side h.sequence.axis new) (strip_need v (last_slot h.tree)) (omega arith)
 
-  pub top-wider : side (other h.sequence.axis) old < side (other h.sequence.axis) new → across_need old new h.sequence.axis ≡ 2
+  pub top-wider : side (other h.sequence.axis) old < side (other h.sequence.axis) new
+      → across_need old new h.sequence.axis ≡ 2
   top-wider wider = if_longer-more (side (other h.sequence.axis) old) (side (other h.sequence.axis) new) 2 wider
 
-  pub top-same : side (other h.sequence.axis) old ≡ side (other h.sequence.axis) new → across_need old new h.sequence.axis ≡ 0
+  pub top-same : side (other h.sequence.axis) old ≡ side (other h.sequence.axis) new
+      → across_need old new h.sequence.axis ≡ 0
   top-same e = if_longer-not (side (other h.sequence.axis) old) (side (other h.sequence.axis) new) 2 (omega arith)
 
 -- The tree has grown along its axis, and there are the slots to grow across it.
@@ -153,7 +159,8 @@ module _ {A : Type 0} {v : Store A} {old new : Sides} {first n : ℕ} {p : Growt
     pub longer-ready : IsLengthenable v (sides_of p.middle) p.last.number (side axis new - side axis old) (across_need old new axis) h
     longer-ready = grind (arith, longer-end, longer-more, longer-slots)
 
-    pub longer-midway : {v' : Store A} → IsLonger v v' (sides_of p.middle) p.last.number → IsMidwayIn v' old new first n h
+    pub longer-midway : {v' : Store A} → IsLonger v v' (sides_of p.middle) p.last.number
+        → IsMidwayIn v' old new first n h
     longer-midway told = let got = told.kept h (side axis new - side axis old) (across_need old new axis) longer-ready in let l = got.1 in (
       got.0,
       record {

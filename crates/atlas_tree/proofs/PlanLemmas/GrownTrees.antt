@@ -5,7 +5,8 @@ use Rattle.atlas_store.specs.declared.slots.Node.{Node}
 use Rattle.atlas_store.specs.declared.slots.NodeKind.{NodeKind}
 use Rattle.atlas_store.specs.declared.slots.NodeKind.TheVariants as kind
 use Rattle.atlas_model.specs.Boxes.{Axis, Sides, other, side}
-use Rattle.atlas_store.specs.Slots.{node_at, no_slot}
+use Rattle.atlas_store.specs.Slots.{node_at}
+use Rattle.atlas_search.specs.Numbers.{no_slot}
 use Rattle.atlas_store.specs.Slots.Lists.{is_free}
 use Rattle.atlas_model.specs.Trees.{Members, Tree, total, is_one_free, node_count}
 use Rattle.atlas_model.specs.Trees as tree
@@ -16,7 +17,7 @@ use Rattle.atlas_store.specs.Slots.Growing.{last_after, last_slot, stretched, ap
 use Rattle.atlas_tree.specs.Plans.Growths.{strip_after}
 use Rattle.atlas_store.proofs.SlotLemmas.Frames.{same-self}
 use Rattle.atlas_store.proofs.SlotLemmas.JoiningWrites.{used-inside}
-use Rattle.atlas_store.proofs.SlotLemmas.Reading.{IsNonempty}
+use Rattle.atlas_store.proofs.SlotLemmas.Reading.{HasMember}
 use Rattle.atlas_store.proofs.SlotLemmas.Normal.{numbers-erase}
 use Rattle.atlas_model.proofs.TreeLemmas.TreeKept.{total-lengthened}
 use Rattle.atlas_store.proofs.SlotLemmas.Stretching.{weigh-stretched, weigh-appended}
@@ -25,13 +26,14 @@ use Rattle.atlas_model.proofs.TreeLemmas.TreeGrowth.{grown-other}
 
 -- The last member.
 
-pub last-inside : (ns : List Node) (s : Sequence) (n : Numbered) → Stands ns s n → IsNonempty n → last_slot n < length ns
+pub last-inside : (ns : List Node) (s : Sequence) (n : Numbered) → Stands ns s n → HasMember n
+    → last_slot n < length ns
 last-inside ns s n h some =
     used-inside ns (last_slot n) (subst (λ k. 0 < k) (h.numbered (last_slot n)) (last-member n some))
 
 -- A free last member is longer.
 pub erase-stretched : (d : ℕ) (ns : List Node) (s : Sequence) (b p : ℕ) (n : Numbered) → Standing ns s b p n
-    → (node_at ns (last_after b n)).kind ≡ kind.Free → ((node_at ns b).kind ≡ kind.Free → IsNonempty n)
+    → (node_at ns (last_after b n)).kind ≡ kind.Free → ((node_at ns b).kind ≡ kind.Free → HasMember n)
     → erase (stretched d n) ≡ lengthened d (erase n)
 erase-stretched d ns s b p End h free some = let none : 0 < 0 = some free in absurd (omega arith)
 erase-stretched d ns s b p (Free i e End) h free some = refl
@@ -64,7 +66,7 @@ erase-appended k d ns s b p (Seq i e inner rest) h busy =
 
 -- The first member stays.
 
-pub first-appended : (k d : ℕ) (n : Numbered) → IsNonempty n → first_slot (appended k d n) ≡ first_slot n
+pub first-appended : (k d : ℕ) (n : Numbered) → HasMember n → first_slot (appended k d n) ≡ first_slot n
 first-appended k d End some = absurd (omega arith)
 first-appended k d (Free i e rest) some = refl
 first-appended k d (Alloc i g e rest) some = refl
@@ -80,28 +82,32 @@ if_longer-more a b n h = ap (λ t. cond t n 0) (lt-ltb a b h)
 pub if_longer-not : (a b n : ℕ) → b ≤ a → if_longer a b n ≡ 0
 if_longer-not a b n h = ap (λ t. cond t n 0) (le-ltb a b h)
 
-module _ (ns : List Node) (s : Sequence) (n : Numbered) (h : Stands ns s n) (some : IsNonempty n) where
+module _ (ns : List Node) (s : Sequence) (n : Numbered) (h : Stands ns s n) (some : HasMember n) where
   abbrev last_kind : NodeKind
   last_kind = (node_at ns (last_slot n)).kind
 
-  nodes_longer : (d : ℕ) (k : NodeKind) → last_kind ≡ k → node_count (lengthened d (erase n)) ≡ numbers n + strip_after (is_free k)
+  nodes_longer : (d : ℕ) (k : NodeKind) → last_kind ≡ k
+      → node_count (lengthened d (erase n)) ≡ numbers n + strip_after (is_free k)
   nodes_longer d k e = by_kind k e
     where
       longer : (last_kind ≡ kind.Free → ⊥) → node_count (lengthened d (erase n)) ≡ numbers n + 1
       longer busy =
           ap node_count (sym (erase-appended 0 d ns s no_slot 0 n h.standing busy)) ∙ sym (numbers-erase (appended 0 d n)) ∙ weigh-appended (λ _. 1) 0 d n
 
-      by_kind : (k : NodeKind) → last_kind ≡ k → node_count (lengthened d (erase n)) ≡ numbers n + strip_after (is_free k)
+      by_kind : (k : NodeKind) → last_kind ≡ k
+          → node_count (lengthened d (erase n)) ≡ numbers n + strip_after (is_free k)
       by_kind kind.Free q =
           ap node_count (sym (erase-stretched d ns s no_slot 0 n h.standing q (λ _. some))) ∙ sym (numbers-erase (stretched d n)) ∙ weigh-stretched (λ _. 1) d n ∙ omega arith
       by_kind kind.Alloc q = longer (λ f. absurd (cc))
       by_kind kind.Container q = longer (λ f. absurd (cc))
       by_kind kind.Unused q = longer (λ f. absurd (cc))
 
-  nodes_longer_to : (a b : ℕ) → node_count (lengthened_to a b (erase n)) ≡ numbers n + if_longer a b (strip_after (is_free last_kind))
+  nodes_longer_to : (a b : ℕ)
+      → node_count (lengthened_to a b (erase n)) ≡ numbers n + if_longer a b (strip_after (is_free last_kind))
   nodes_longer_to a b = by_test (ltb a b)
     where
-      by_test : (x : Bool) → node_count (cond x (lengthened (b - a) (erase n)) (erase n)) ≡ numbers n + cond x (strip_after (is_free last_kind)) 0
+      by_test : (x : Bool)
+          → node_count (cond x (lengthened (b - a) (erase n)) (erase n)) ≡ numbers n + cond x (strip_after (is_free last_kind)) 0
       by_test true = nodes_longer (b - a) last_kind refl
       by_test false = sym (numbers-erase n) ∙ omega arith
 
@@ -140,5 +146,6 @@ pub widened-more : (u w : ℕ) (axis : Axis) (m : Members) → u < w
     → widened u w axis m ≡ record { axis = other axis; members = tree.Seq u m (tree.Free (w - u) tree.End) }
 widened-more u w axis m h = grind (arith, lt-ltb)
 
-pub widened-same : (u w : ℕ) (axis : Axis) (m : Members) → w ≤ u → widened u w axis m ≡ record { axis = axis; members = m }
+pub widened-same : (u w : ℕ) (axis : Axis) (m : Members) → w ≤ u
+    → widened u w axis m ≡ record { axis = axis; members = m }
 widened-same u w axis m h = grind (arith, le-ltb)

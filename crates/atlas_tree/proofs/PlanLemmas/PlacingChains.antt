@@ -7,8 +7,7 @@ use Rattle.atlas_store.specs.declared.slots.placing.Parts.{Parts}
 use Rattle.atlas_store.specs.declared.slots.placing.Plan.{Plan}
 use Rattle.atlas_store.specs.declared.slots.placing.Plan.TheVariants as plan
 use Rattle.atlas_store.specs.Slots.{nodes, node_at}
-use Rattle.atlas_store.specs.Slots.Lists.{occurs}
-use Rattle.atlas_store.specs.Slots.Numbered.{same}
+use Rattle.atlas_search.specs.Numbers.{occurs, same}
 use Rattle.atlas_store.specs.Slots.Placing.{granted_by, left_by, marks_of, planned}
 use Rattle.atlas_store.specs.Stored.{Holding, Holds}
 use Rattle.atlas_store.specs.Store.Holdings.{

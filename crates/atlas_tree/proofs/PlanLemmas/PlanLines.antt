@@ -5,7 +5,7 @@ use Rattle.atlas_model.specs.Boxes.{Sides, box_sides, Fits, IsPositive}
 use Rattle.atlas_model.specs.Cuts.{cut, cut_axis}
 use Rattle.atlas_model.specs.Cuts.Cut.{Whole, Strip, Corner}
 use Rattle.atlas_model.specs.Pixels.{box_of, rectangle_of}
-use Rattle.atlas_store.specs.Slots.Links.{IsSolid}
+use Rattle.atlas_search.specs.Rectangles.{IsSolid}
 
 -- The line by the sides that are equal.
 
@@ -16,5 +16,6 @@ line a b whole r p q = rw p (rw q refl)
 -- The plan can be carried out.
 
 -- A rectangle that a request fits.
-pub exact-leaf : (area : Rectangle) (r : Sides) → area ≡ rectangle_of (box_of area) → IsPositive r → Fits r (box_sides (box_of area)) → IsSolid area
+pub exact-leaf : (area : Rectangle) (r : Sides) → area ≡ rectangle_of (box_of area) → IsPositive r
+    → Fits r (box_sides (box_of area)) → IsSolid area
 exact-leaf area r e p f = record { unsigned = e; nonempty = (omega (arith, p.0, f.0), omega (arith, p.1, f.1)) }

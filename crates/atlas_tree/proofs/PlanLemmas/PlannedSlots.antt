@@ -5,7 +5,7 @@ use Rattle.atlas_store.specs.declared.slots.placing.Plan.{Plan}
 use Rattle.atlas_store.specs.declared.slots.placing.Plan.TheVariants as plan
 use Rattle.atlas_store.specs.declared.slots.NodeKind.TheVariants as kind
 use Rattle.atlas_store.specs.Slots.{nodes, use_count}
-use Rattle.atlas_store.specs.Slots.Lists.{occurs}
+use Rattle.atlas_search.specs.Numbers.{occurs}
 use Rattle.atlas_store.specs.Slots.Numbered.{tally, first_slot}
 use Rattle.atlas_store.specs.Slots.Placing.{granted_by, taken_by}
 use Rattle.atlas_store.specs.Stored.{Shelf, Holding, Holds}

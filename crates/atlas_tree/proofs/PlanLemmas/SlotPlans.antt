@@ -27,19 +27,8 @@ use Rattle.atlas_model.specs.Trees.{Members, Tree, node_count}
 use Rattle.atlas_model.specs.Trees as tree
 use Rattle.atlas_model.specs.Changes.{put, placed, place, place_need}
 use Rattle.atlas_store.specs.Slots.{node_at, axis_of}
-use Rattle.atlas_store.specs.Slots.Numbered.{
-  Numbered,
-  tally,
-  numbers,
-  same,
-  erase,
-  id_of,
-  is_free_at,
-  End,
-  Free,
-  Alloc,
-  Seq,
-}
+use Rattle.atlas_store.specs.Slots.Numbered.{Numbered, tally, numbers, erase, id_of, is_free_at, End, Free, Alloc, Seq}
+use Rattle.atlas_search.specs.Numbers.{same}
 use Rattle.atlas_store.specs.Slots.Placing.{granted_by, planned, put_by, putting, slots_of}
 use Rattle.atlas_store.specs.Slots.Standing.{Sequence, Stands}
 use Rattle.atlas_tree.specs.Plans.Planning.{IsPlanFor}
@@ -48,7 +37,7 @@ use Rattle.atlas_store.proofs.SlotLemmas.Weights.{free_tally, free_once, places-
 use Rattle.atlas_store.proofs.SlotLemmas.Editing.{edited-absent}
 use Rattle.atlas_store.proofs.SlotLemmas.Normal.{numbers-erase}
 use Rattle.atlas_model.proofs.TreeLemmas.TreeCounts.{place_nodes}
-use Rattle.atlas_store.proofs.SlotLemmas.SlotAims.{IsAim, IsChoice, IsFitting, aim-choice, tree_in, place_need-choice}
+use Rattle.atlas_store.proofs.SlotLemmas.SlotAims.{IsAim, IsChoice, IsFittingSlot, aim-choice, tree_in, place_need-choice}
 
 -- Axes
 
@@ -128,7 +117,7 @@ module _ (leaf : Node) (r : Sides) (p : Plan) (for : IsPlanFor leaf r p) (t : Pa
       )
 
 module _ (size : Sides) (ns : List Node) (s : Sequence) (n : Numbered) (i : ℕ) (r : Sides)
-    (h : IsChoice size ns s n i) (fit : IsFitting ns i r) (p : Plan) (for : IsPlanFor (node_at ns i) r p) where
+    (h : IsChoice size ns s n i) (fit : IsFittingSlot ns i r) (p : Plan) (for : IsPlanFor (node_at ns i) r p) where
   -- The tree once a plan is carried out in the leaf: `placed` by the model.
   pub planned-placed : (t : Parts) (g : ℕ) → tree_in s (planned p t i g s.width n) ≡ place size
       (box_of (node_at ns i).area) r (id_of (granted_by p t i) g) (tree_in s n)

@@ -1,5 +1,5 @@
 -- How an atlas that isn't one free box grows. No public clause cites this module.
-use Rattle.std.specs.Prelude.{ℕ, ◌+◌, ◌-◌, ◌<◌, ◌≡◌, Bool, true, false, [], length, vec_capacity}
+use Rattle.std.specs.Prelude.{ℕ, ◌+◌, ◌-◌, ◌<◌, ◌≡◌, Bool, true, false, [], length}
 use Rattle.atlas_store.specs.declared.store.Store.{Store}
 use Rattle.atlas_tree.specs.declared.growth.Growth.{Growth}
 use Rattle.atlas_model.specs.Boxes.{Axis, Sides, Fits, other, side, sized}
@@ -10,7 +10,7 @@ use Rattle.atlas_model.specs.Changes.{grown_members, lengthened}
 use Rattle.atlas_store.specs.Slots.Lists.{is_free}
 use Rattle.atlas_store.specs.Slots.Numbered.{erase, first_slot, numbers}
 use Rattle.atlas_store.specs.Stored.{Shelf, Holding, Holds, IsDetachedOnly}
-use Rattle.atlas_store.specs.Store.Holdings.{shelf_of, node_in, HasSlotsFor, KeepsRoom}
+use Rattle.atlas_store.specs.Store.Holdings.{capacity_in, options_in, turns_in, shelf_of, node_in, HasSlotsFor, KeepsRoom}
 use Rattle.atlas_store.specs.Slots.Growing.{IsEnd, IsLone, IsSpanning, last_slot, top_along}
 use Rattle.atlas_store.specs.Store.TopCalls.{IsNestable}
 
@@ -97,9 +97,9 @@ pub record IsLengthenable {A : Type 0} (s : Store A) (size : Sides) (last d n : 
 pub record IsLonger {A : Type 0} (old new : Store A) (size : Sides) (last : ℕ) : Type 0 where
   pub kept : (h : Holding) (d n : ℕ) → IsLengthenable old size last d n h
       → (h' : Holding) × IsLengthened new n d (strip_need (shelf_of old) last) h h'
-  pub options : new.options ≡ old.options
-  pub capacity : vec_capacity new.slots ≡ vec_capacity old.slots
-  pub turns : new.turns ≡ old.turns
+  pub options : options_in new ≡ options_in old
+  pub capacity : capacity_in new ≡ capacity_in old
+  pub turns : turns_in new ≡ turns_in old
 
 -- The top sequence begins at slot `first`, spans the size `inner`, and is to be the first of two that are d wider.
 pub record IsWidenable {A : Type 0} (s : Store A) (inner size : Sides) (first d : ℕ) (h : Holding) : Type 0 where
@@ -111,9 +111,9 @@ pub record IsWidenable {A : Type 0} (s : Store A) (inner size : Sides) (first d 
 pub record IsWidenedTo {A : Type 0} (old new : Store A) (inner size : Sides) (first top : ℕ) : Type 0 where
   pub kept : (h : Holding) (d : ℕ) → IsWidenable old inner size first d h
       → (h' : Holding) × IsWidened (shelf_of new) top d h h'
-  pub options : new.options ≡ old.options
-  pub capacity : vec_capacity new.slots ≡ vec_capacity old.slots
-  pub turns : new.turns ≡ old.turns
+  pub options : options_in new ≡ options_in old
+  pub capacity : capacity_in new ≡ capacity_in old
+  pub turns : turns_in new ≡ turns_in old
 
 -- The tree that begins at slot `first` can grow so.
 abbrev pub CanGrow : {A : Type 0} → Store A → (first : ℕ) → Growth → Type 0
@@ -123,9 +123,9 @@ CanGrow s first p = (h : Holding) × (n : ℕ) × IsGrowable s (sides_of p.from)
 pub record IsTreeGrown {A : Type 0} (old new : Store A) (first top : ℕ) (p : Growth) : Type 0 where
   pub grown : (h : Holding) (n : ℕ) → IsGrowable old (sides_of p.from) (sides_of p.to) first n p h
       → (h' : Holding) × IsGrownHolding (shelf_of new) (sides_of p.from) (sides_of p.to) top n h h'
-  pub options : new.options ≡ old.options
-  pub capacity : vec_capacity new.slots ≡ vec_capacity old.slots
-  pub turns : new.turns ≡ old.turns
+  pub options : options_in new ≡ options_in old
+  pub capacity : capacity_in new ≡ capacity_in old
+  pub turns : turns_in new ≡ turns_in old
 
 -- Slot `at` is the one free box of an atlas.
 abbrev pub IsOneBox : {A : Type 0} → Store A → (at : ℕ) → Type 0
@@ -136,4 +136,4 @@ pub record IsBoxGrown {A : Type 0} (old new : Store A) (size : Sides) (at : ℕ)
   pub grown : (h : Holding) (before : Sides) → IsTreeOf (shelf_of old) before at h → IsLone at h
       → (h' : Holding) × IsGrownHolding (shelf_of new) before size at 0 h h'
   pub room : KeepsRoom old new
-  pub turns : new.turns ≡ old.turns
+  pub turns : turns_in new ≡ turns_in old

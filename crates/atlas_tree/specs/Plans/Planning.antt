@@ -1,6 +1,6 @@
 -- The plan of a request, by the lines of the cut table, and what it makes of a tree. No public clause cites this
 -- module.
-use Rattle.std.specs.Prelude.{ℕ, ◌≡◌, ◌-◌, [], length, vec_capacity}
+use Rattle.std.specs.Prelude.{ℕ, ◌≡◌, ◌-◌, [], length}
 use Rattle.atlas_store.specs.declared.store.Store.{Store}
 use Rattle.atlas_store.specs.declared.slots.placing.Parts.{Parts}
 use Rattle.atlas_store.specs.declared.slots.placing.Plan.{Plan}
@@ -14,7 +14,7 @@ use Rattle.atlas_store.specs.declared.slots.NodeKind.TheVariants as kind
 use Rattle.atlas_store.specs.Slots.{axis_of}
 use Rattle.atlas_store.specs.Slots.Placing.{granted_by, planned, slots_of}
 use Rattle.atlas_store.specs.Stored.{Shelf, Holding, Holds, IsDetachedOnly}
-use Rattle.atlas_store.specs.Store.Holdings.{shelf_of, KeepsTakenOnce, node_in}
+use Rattle.atlas_store.specs.Store.Holdings.{capacity_in, options_in, turns_in, shelf_of, KeepsTakenOnce, node_in}
 use Rattle.atlas_store.specs.Store.StoreCalls.{IsPlaceable}
 
 -- The plan is the line of the cut table for a leaf and a request: p lies along the leaf's sequence, and q across.
@@ -52,6 +52,6 @@ pub record IsPlanned (new : Shelf) (at to : ℕ) (p : Plan) (h h' : Holding) : T
 pub record IsPlanDone {A : Type 0} (old new : Store A) (at to : ℕ) (p : Plan) : Type 0 where
   pub kept : (h : Holding) → IsPlaceable old at p h → (h' : Holding) × IsPlanned (shelf_of new) at to p h h'
   pub once : KeepsTakenOnce old new
-  pub options : new.options ≡ old.options
-  pub capacity : vec_capacity new.slots ≡ vec_capacity old.slots
-  pub turns : new.turns ≡ old.turns
+  pub options : options_in new ≡ options_in old
+  pub capacity : capacity_in new ≡ capacity_in old
+  pub turns : turns_in new ≡ turns_in old

@@ -4,28 +4,26 @@ use Rattle.std.specs.Prelude.{◌==◌, if◌then◌else◌}
 use Rattle.std.specs.List.{count_by}
 use Rattle.std.proofs.lemmas.Bool.{cases_eq, cases_Bool, both_ways, cond-true, cond-false, lt-ltb, eqb-true, not-false}
 use Rattle.std.proofs.lemmas.List.{get_or-set_same, get_or-set_other, get_or-map, length-set, map-set}
-use Rattle.atlas_store.specs.declared.search.best.Found.{Found}
+use Rattle.atlas_search.specs.declared.best.Found.{Found}
 use Rattle.guillotiere.specs.declared.simple.boxes.FreeBox.{FreeBox}
 use Rattle.atlas_model.specs.declared.geometry.Rectangle.{Rectangle}
-use Rattle.atlas_store.specs.declared.slots.Link.{Link}
-use Rattle.atlas_store.specs.declared.search.table.ListHead.{ListHead}
-use Rattle.atlas_store.specs.Search.Bands.{list_of}
+use Rattle.atlas_search.specs.declared.link.Link.{Link}
+use Rattle.atlas_search.specs.declared.table.ListHead.{ListHead}
+use Rattle.atlas_search.specs.Bands.{list_of}
 use Rattle.atlas_model.specs.Boxes.{Box, AreSameBoxes, same_box}
 use Rattle.guillotiere.specs.FreeBoxes.BoxShelves.{has_width, stored_item, free_item_boxes, free_count, idle_item, with_after, AreKept, IsClaimed}
 use Rattle.atlas_model.specs.Choice.{Options, AreValid}
-use Rattle.atlas_store.specs.Search.Items.{Item, no_item, item_at, item_box, item_sides, IsPath}
-use Rattle.atlas_store.specs.Slots.Links.{IsSolid}
-use Rattle.atlas_store.specs.Slots.Lists.{occurs, without}
-use Rattle.atlas_store.specs.Search.Lookups.{AreListed, IsStanding}
-use Rattle.atlas_store.specs.Slots.Numbered.{same}
+use Rattle.atlas_search.specs.Items.{Item, no_item, item_at, item_box, item_sides, IsPath}
+use Rattle.atlas_search.specs.Rectangles.{IsSolid}
+use Rattle.atlas_search.specs.Numbers.{occurs, without, same, no_slot}
+use Rattle.atlas_search.specs.Lookups.{AreListed, IsStanding}
 use Rattle.atlas_model.specs.Pixels.{box_of}
-use Rattle.atlas_store.specs.Slots.{no_slot}
-use Rattle.atlas_store.specs.Search.Tables.{head_of, low_of, is_used_at}
+use Rattle.atlas_search.specs.Tables.{head_of, low_of, is_used_at}
 use Rattle.atlas_model.proofs.ListLemmas.Counting.{count_by-cons}
-use Rattle.atlas_store.proofs.SearchLemmas.ItemPaths.{path-frame, path-next, path-bypassed, path-begun, list_at, listed-without, listed-with}
-use Rattle.atlas_store.proofs.ListLemmas.Occurrences.{same-self, same-ne}
+use Rattle.atlas_search.proofs.SearchLemmas.ItemPaths.{path-frame, path-next, path-bypassed, path-begun, list_at, listed-without, listed-with}
+use Rattle.atlas_search.proofs.Occurrences.{same-self, same-ne}
 use Rattle.atlas_model.proofs.TreeLemmas.TreeBasics.{same_box-true, same_box-itself}
-use Rattle.atlas_store.proofs.SearchLemmas.Showing.{path-inside}
+use Rattle.atlas_search.proofs.SearchLemmas.Showing.{path-inside}
 use Rattle.guillotiere.proofs.SimpleLemmas.EntryCounts.{count-of_free, count-of_idle, kept-idle, unused_list-idle}
 
 -- ---- counts of free boxes
@@ -42,7 +40,8 @@ unit-free : (p : Box → Bool) (t : Item) → t.is_free ≡ true → unit p t �
 unfolding unit
 unit-free p t f = cond-true t.is_free (if p (item_box t) then 1 else 0) 0 f
 
-count-free : (p : Box → Bool) (e : Item) (es : List Item) → count_by p (free_item_boxes (e ∷ es)) ≡ unit p e + count_by p (free_item_boxes es)
+count-free : (p : Box → Bool) (e : Item) (es : List Item)
+    → count_by p (free_item_boxes (e ∷ es)) ≡ unit p e + count_by p (free_item_boxes es)
 count-free p e es = grind (arith, unit, count_by-cons, unit-free, unit-idle)
 
 count-set : (p : Box → Bool) (es : List Item) (i : ℕ) (e : Item) → i < length es
@@ -57,7 +56,8 @@ pub boxes-with : (es : List Item) (i : ℕ) (e : Item) → i < length es → (it
 boxes-with es i e l idle free p = grind (arith, count-set, unit-idle, unit-free, count_by-cons)
 
 -- An idle entry in the place of a free one.
-pub boxes-without : (es : List Item) (i : ℕ) (e : Item) → i < length es → (item_at es i).is_free ≡ true → e.is_free ≡ false
+pub boxes-without : (es : List Item) (i : ℕ) (e : Item) → i < length es → (item_at es i).is_free ≡ true
+    → e.is_free ≡ false
     → AreSameBoxes (item_box (item_at es i) ∷ free_item_boxes (slice_set es i e)) (free_item_boxes es)
 boxes-without es i e l free idle p = grind (arith, count-set, unit-idle, unit-free, count_by-cons)
 
@@ -99,7 +99,8 @@ exact-width r e = grind (arith, lt-ltb)
 
 -- ---- an entry is taken
 
-listed-same : (o : Options) (heads : List ListHead) (es es' : List Item) → ((i : ℕ) → item_at es' i ≡ item_at es i) → length es ≤ length es' → length es' ≤ no_slot
+listed-same : (o : Options) (heads : List ListHead) (es es' : List Item) → ((i : ℕ) → item_at es' i ≡ item_at es i)
+    → length es ≤ length es' → length es' ≤ no_slot
     → AreListed o heads es → AreListed o heads es'
 listed-same o heads es es' at longer short listed = grind (arith, path-frame)
 
@@ -141,7 +142,8 @@ taken-new o heads es unused used short kept =
     each_by i l (inr ne) =
         omega (arith, same-ne i (length es) ne, kept.each i (omega (arith, l, length-more es)), ap free_count (item_at-more es i))
 
-pub unused-inside : (o : Options) (heads : List ListHead) (es : List Item) (unused : Link) (used : ℕ) → unused.number ≢ no_slot
+pub unused-inside : (o : Options) (heads : List ListHead) (es : List Item) (unused : Link) (used : ℕ)
+    → unused.number ≢ no_slot
     → AreKept o (record { entries = es; heads = heads; unused = unused; used = used }) → unused.number < length es
 unused-inside o heads es unused used some kept = go kept.unused_list kept.chain
   where
@@ -150,13 +152,17 @@ unused-inside o heads es unused used some kept = go kept.unused_list kept.chain
     go (x ∷ xs) p = omega (arith, p.0, p.1)
 
 -- The first of the unused entries.
-pub taken-again : (o : Options) (heads : List ListHead) (es : List Item) (unused after : Link) (used : ℕ) → unused.number ≢ no_slot
-    → after.number ≡ (item_at es unused.number).after → AreKept o (record { entries = es; heads = heads; unused = unused; used = used })
+pub taken-again : (o : Options) (heads : List ListHead) (es : List Item) (unused after : Link) (used : ℕ)
+    → unused.number ≢ no_slot
+    → after.number ≡ (item_at es unused.number).after
+    → AreKept o (record { entries = es; heads = heads; unused = unused; used = used })
     → IsClaimed o (record { entries = es; heads = heads; unused = after; used = used + 1 }) unused.number
 taken-again o heads es unused after used some leads kept = go kept.unused_list kept.chain kept.each kept.used
   where
-    go : (xs : List ℕ) → IsPath es unused.number xs no_slot → ((i : ℕ) → i < length es → occurs i xs + 0 + free_count (item_at es i) ≡ 1)
-        → used + length xs ≡ length es → IsClaimed o (record { entries = es; heads = heads; unused = after; used = used + 1 }) unused.number
+    go : (xs : List ℕ) → IsPath es unused.number xs no_slot
+        → ((i : ℕ) → i < length es → occurs i xs + 0 + free_count (item_at es i) ≡ 1)
+        → used + length xs ≡ length es
+        → IsClaimed o (record { entries = es; heads = heads; unused = after; used = used + 1 }) unused.number
     go [] p each count = absurd (some p)
     go (x ∷ xs) p each count =
         record {
@@ -202,7 +208,8 @@ put-kept o heads heads' es unused used x k e claimed free after exact list few h
     not_unused : (i : ℕ) → 0 < occurs i claimed.kept.unused_list → i ≢ x
     not_unused i h is = omega (arith, h, here, same-self x, ap (λ n. occurs n claimed.kept.unused_list) is)
 
-    each_by : (i : ℕ) → i < length (slice_set es x e) → (i ≡ x) ⊎ (i ≢ x) → occurs i claimed.kept.unused_list + 0 + free_count (item_at (slice_set es x e) i) ≡ 1
+    each_by : (i : ℕ) → i < length (slice_set es x e) → (i ≡ x) ⊎ (i ≢ x)
+        → occurs i claimed.kept.unused_list + 0 + free_count (item_at (slice_set es x e) i) ≡ 1
     each_by i l (inl is) =
         omega (
           arith,
@@ -217,7 +224,8 @@ put-kept o heads heads' es unused used x k e claimed free after exact list few h
         omega (arith, claimed.kept.each i (omega (arith, l, length-set es x e)), same-ne i x ne, ap free_count (item_at-other es x i e ne))
 
 -- What an index reads.
-pub read-item : (bs : List FreeBox) (i : ℕ) (b : FreeBox) → i < length bs → b ≡ get_or bs i b → stored_item b ≡ item_at (map stored_item bs) i
+pub read-item : (bs : List FreeBox) (i : ℕ) (b : FreeBox) → i < length bs → b ≡ get_or bs i b
+    → stored_item b ≡ item_at (map stored_item bs) i
 read-item bs i b l read = ap stored_item read ∙ sym (get_or-map stored_item bs i b no_item l)
 
 pub written-after : (bs : List FreeBox) (i : ℕ) (b : FreeBox) (after : Link) → i < length bs → b ≡ get_or bs i b
@@ -236,11 +244,13 @@ pub same-links : (es es1 : List Item) → es1 ≡ es → IsSameButLinks es es1
 unfolding IsSameButLinks
 same-links es es1 is = (ap length is, λ i. (ap (λ ts. (item_at ts i).area) is, ap (λ ts. (item_at ts i).is_free) is), ap free_item_boxes is)
 
-pub linked-after : (es es1 : List Item) (b after : ℕ) → b < length es → es1 ≡ with_after es b after → IsSameButLinks es es1
+pub linked-after : (es es1 : List Item) (b after : ℕ) → b < length es → es1 ≡ with_after es b after
+    → IsSameButLinks es es1
 unfolding IsSameButLinks
 linked-after es es1 b after inside is = grind (arith, length-set, boxes-with_after, item_at-same, item_at-other)
 
-pub boxes-left : (es es1 : List Item) (x : ℕ) (e : Item) (area : Rectangle) → IsSameButLinks es es1 → (item_at es x).is_free ≡ true → (item_at es x).area ≡ area
+pub boxes-left : (es es1 : List Item) (x : ℕ) (e : Item) (area : Rectangle) → IsSameButLinks es es1
+    → (item_at es x).is_free ≡ true → (item_at es x).area ≡ area
     → e.is_free ≡ false → AreSameBoxes (box_of area ∷ free_item_boxes (slice_set es1 x e)) (free_item_boxes es)
 unfolding IsSameButLinks
 boxes-left es es1 x e area links free is idle = grind (arith, free-inside, boxes-without)
@@ -271,7 +281,8 @@ module _ (o : Options) (heads heads' : List ListHead) (es es1 : List Item) (unus
   in_list : 0 < occurs x (kept.listed.free_lists k)
   in_list = subst (λ n. 0 < occurs x (kept.listed.free_lists n)) standing.list (kept.listed.each x standing.free)
 
-  lows : (i : ℕ) → (item_at es i).is_free ≡ true → list_at o es i ≡ k → i ≢ x → low_of heads' k ≤ (item_box (item_at es i)).min.y
+  lows : (i : ℕ) → (item_at es i).is_free ≡ true → list_at o es i ≡ k → i ≢ x
+      → low_of heads' k ≤ (item_box (item_at es i)).min.y
   lows i f e ne = subst (λ n. n ≤ (item_box (item_at es i)).min.y) (sym low_is) (standing.low i f e ne)
 
   finish : length es1 ≡ length es
@@ -306,7 +317,8 @@ module _ (o : Options) (heads heads' : List ListHead) (es es1 : List Item) (unus
       still : (i : ℕ) → i ≢ x → (item_at es' i).after ≡ (item_at es1 i).after
       still i ne = ap (λ (t : Item). t.after) (other i ne)
 
-      same_kept : (i : ℕ) → i ≢ x → ((item_at es' i).area ≡ (item_at es i).area) × ((item_at es' i).is_free ≡ (item_at es i).is_free)
+      same_kept : (i : ℕ) → i ≢ x
+          → ((item_at es' i).area ≡ (item_at es i).area) × ((item_at es' i).is_free ≡ (item_at es i).is_free)
       same_kept i ne = (ap (λ (t : Item). t.area) (other i ne) ∙ (same_box i).0, ap (λ (t : Item). t.is_free) (other i ne) ∙ (same_box i).1)
 
       in_other : (j i : ℕ) → j ≢ k → j < 2704 → 0 < occurs i (kept.listed.free_lists j) → i ≢ x
@@ -315,7 +327,8 @@ module _ (o : Options) (heads heads' : List ListHead) (es es1 : List Item) (unus
       not_x_unused : (i : ℕ) → 0 < occurs i kept.unused_list → i ≢ x
       not_x_unused i h e = omega (arith, h, not_unused, ap (λ n. occurs n kept.unused_list) e)
 
-      each_by : (i : ℕ) → i < length es' → (i ≡ x) ⊎ (i ≢ x) → occurs i (x ∷ kept.unused_list) + 0 + free_count (item_at es' i) ≡ 1
+      each_by : (i : ℕ) → i < length es' → (i ≡ x) ⊎ (i ≢ x)
+          → occurs i (x ∷ kept.unused_list) + 0 + free_count (item_at es' i) ≡ 1
       each_by i l (inl e) =
           omega (
             arith,
@@ -339,8 +352,10 @@ module _ (o : Options) (heads heads' : List ListHead) (es es1 : List Item) (unus
   first-removed leads was_first is = grind (arith, path-begun, length-set, few, in_list, item_at-other, finish)
 
   -- Any other one, after b.
-  pub next-removed : (b : ℕ) → (item_at es b).is_free ≡ true → list_at o es b ≡ k → (item_at es b).after ≡ x → head_of heads' k ≡ head_of heads k
-      → es1 ≡ with_after es b (item_at es x).after → AreKept o (record { entries = es'; heads = heads'; unused = found.at; used = used' })
+  pub next-removed : (b : ℕ) → (item_at es b).is_free ≡ true → list_at o es b ≡ k → (item_at es b).after ≡ x
+      → head_of heads' k ≡ head_of heads k
+      → es1 ≡ with_after es b (item_at es x).after
+      → AreKept o (record { entries = es'; heads = heads'; unused = found.at; used = used' })
   next-removed b b_free b_list b_next heads_same is =
       finish long same_box
       (subst (λ h. IsPath es' h.number (without x (kept.listed.free_lists k)) no_slot) (sym heads_same)
@@ -370,7 +385,8 @@ module _ (o : Options) (heads heads' : List ListHead) (es es1 : List Item) (unus
       other_after : (i : ℕ) → i ≢ b → (item_at es1 i).after ≡ (item_at es i).after
       other_after i ne = ap (λ (t : Item). t.after) (not_b i ne)
 
-      same_box : (i : ℕ) → ((item_at es1 i).area ≡ (item_at es i).area) × ((item_at es1 i).is_free ≡ (item_at es i).is_free)
+      same_box : (i : ℕ)
+          → ((item_at es1 i).area ≡ (item_at es i).area) × ((item_at es1 i).is_free ≡ (item_at es i).is_free)
       same_box i =
           elim (cases_eq i b) [
             | inl e ↦ subst (λ n. ((item_at es1 n).area ≡ (item_at es n).area) × ((item_at es1 n).is_free ≡ (item_at es n).is_free)) (sym e)
@@ -381,7 +397,8 @@ module _ (o : Options) (heads heads' : List ListHead) (es es1 : List Item) (unus
       apart : b ≢ x
       apart e = no_loop (kept.listed.free_lists k) (head_of heads k).number (λ i. kept.listed.once k i few) b_in (kept.listed.path k few)
         where
-          no_loop : (xs : List ℕ) (from : ℕ) → ((i : ℕ) → occurs i xs ≤ 1) → 0 < occurs b xs → IsPath es from xs no_slot → ⊥
+          no_loop : (xs : List ℕ) (from : ℕ) → ((i : ℕ) → occurs i xs ≤ 1) → 0 < occurs b xs → IsPath es from xs no_slot
+              → ⊥
           no_loop [] from once h p = omega (arith, h)
           no_loop (y ∷ ys) from once h p =
               elim (path-next es from y ys no_slot b p h) [
@@ -399,7 +416,8 @@ module _ (o : Options) (heads heads' : List ListHead) (es es1 : List Item) (unus
 
 -- ---- no box, and one box
 
-pub empty-kept : (o : Options) (heads : List ListHead) (unused : Link) → AreValid o → ((k : ℕ) → is_used_at heads k ≡ false) → unused.number ≡ no_slot
+pub empty-kept : (o : Options) (heads : List ListHead) (unused : Link) → AreValid o
+    → ((k : ℕ) → is_used_at heads k ≡ false) → unused.number ≡ no_slot
     → AreKept o (record { entries = []; heads = heads; unused = unused; used = 0 })
 empty-kept o heads unused valid none last =
     record {

@@ -3,13 +3,11 @@ use Rattle.std.proofs.Common.{◌≡◌, ℕ, zero, suc, ◌+◌, ◌<◌, ◌�
 use Rattle.std.proofs.Math.Nat.{max-eq_left}
 use Rattle.std.proofs.lemmas.Bool.{cases_eq, cases_Bool, cond-true, cond-false}
 use Rattle.atlas_model.specs.Choice.{Options}
-use Rattle.atlas_store.specs.Search.Items.{Item, item_at, item_box, IsPath}
-use Rattle.atlas_store.specs.Slots.{no_slot}
-use Rattle.atlas_store.specs.Slots.Lists.{occurs}
-use Rattle.atlas_store.specs.Slots.Numbered.{same}
+use Rattle.atlas_search.specs.Items.{Item, item_at, item_box, IsPath}
+use Rattle.atlas_search.specs.Numbers.{no_slot, occurs, same}
 use Rattle.guillotiere.specs.FreeBoxes.BoxShelves.{BoxShelf, AddsWhatIsUsed, AreKept, AreKeptWith, free_count, free_item_boxes}
-use Rattle.atlas_store.proofs.ListLemmas.Occurrences.{same-self, same-ne}
-use Rattle.atlas_store.proofs.SearchLemmas.Showing.{path-inside}
+use Rattle.atlas_search.proofs.Occurrences.{same-self, same-ne}
+use Rattle.atlas_search.proofs.SearchLemmas.Showing.{path-inside}
 use Rattle.guillotiere.proofs.SimpleLemmas.FreeItems.{are-free}
 
 -- ---- one entry
@@ -24,11 +22,13 @@ pub idle-of_count : (t : Item) → free_count t ≡ 0 → t.is_free ≡ false
 idle-of_count t none = elim (cases_Bool t.is_free) [ inl f ↦ absurd (omega (arith, count-of_free t f)) | inr f ↦ f ]
 
 -- An entry that counts elsewhere isn't free.
-pub kept-idle : (claimed : ℕ → ℕ) (o : Options) (v : BoxShelf) (kept : AreKeptWith claimed o v) (i : ℕ) → i < length v.entries → 0 < occurs i kept.unused_list + claimed i
+pub kept-idle : (claimed : ℕ → ℕ) (o : Options) (v : BoxShelf) (kept : AreKeptWith claimed o v) (i : ℕ)
+    → i < length v.entries → 0 < occurs i kept.unused_list + claimed i
     → (item_at v.entries i).is_free ≡ false
 kept-idle claimed o v kept i inside some = idle-of_count (item_at v.entries i) (omega (arith, kept.each i inside))
 
-pub unused_list-idle : (claimed : ℕ → ℕ) (o : Options) (v : BoxShelf) (kept : AreKeptWith claimed o v) (i : ℕ) → 0 < occurs i kept.unused_list → (item_at v.entries i).is_free ≡ false
+pub unused_list-idle : (claimed : ℕ → ℕ) (o : Options) (v : BoxShelf) (kept : AreKeptWith claimed o v) (i : ℕ)
+    → 0 < occurs i kept.unused_list → (item_at v.entries i).is_free ≡ false
 unused_list-idle claimed o v kept i some =
     kept-idle claimed o v kept i (path-inside v.entries v.unused.number kept.unused_list no_slot kept.chain i some) (omega arith)
 
@@ -68,12 +68,14 @@ sums-same j (suc m) l =
       | inr ne ↦ omega (arith, same-ne m j ne, sums-same j m (omega arith))
     ]
 
-sums-occurs : (es : List Item) (from m : ℕ) (xs : List ℕ) (to : ℕ) → length es ≤ m → IsPath es from xs to → sums (λ i. occurs i xs) m ≡ length xs
+sums-occurs : (es : List Item) (from m : ℕ) (xs : List ℕ) (to : ℕ) → length es ≤ m → IsPath es from xs to
+    → sums (λ i. occurs i xs) m ≡ length xs
 sums-occurs es from m [] to l path = sums-none (λ i. 0) m (λ i b. refl)
 sums-occurs es from m (x ∷ xs) to l path =
     omega (arith, sums-add (λ i. same i x) (λ i. occurs i xs) m, sums-same x m (omega (arith, path.1)), sums-occurs es (item_at es x).after m xs to l path.2)
 
-count-first : (t : Item) (es : List Item) → length (free_item_boxes (t ∷ es)) ≡ free_count t + length (free_item_boxes es)
+count-first : (t : Item) (es : List Item)
+    → length (free_item_boxes (t ∷ es)) ≡ free_count t + length (free_item_boxes es)
 count-first t es =
     elim (cases_Bool t.is_free) [
       | inl f ↦ omega (arith, count-of_free t f, ap length (cond-true t.is_free (item_box t ∷ free_item_boxes es) (free_item_boxes es) f))
@@ -107,7 +109,8 @@ used-few claimed o v kept = omega (arith, kept.used)
 pub used-all : (o : Options) (v : BoxShelf) → AreKept o v → v.unused.number ≡ no_slot → v.used ≡ length v.entries
 used-all o v kept none = go kept.unused_list kept.chain kept.used
   where
-    go : (xs : List ℕ) → IsPath v.entries v.unused.number xs no_slot → v.used + length xs ≡ length v.entries → v.used ≡ length v.entries
+    go : (xs : List ℕ) → IsPath v.entries v.unused.number xs no_slot → v.used + length xs ≡ length v.entries
+        → v.used ≡ length v.entries
     go [] path count = omega arith
     go (x ∷ xs) path count = absurd (omega (arith, none, path.0, path.1, kept.listed.short))
 
@@ -115,7 +118,8 @@ used-all o v kept none = go kept.unused_list kept.chain kept.used
 pub used-less : (o : Options) (v : BoxShelf) → AreKept o v → (v.unused.number ≡ no_slot → ⊥) → v.used < length v.entries
 used-less o v kept some = go kept.unused_list kept.chain kept.used
   where
-    go : (xs : List ℕ) → IsPath v.entries v.unused.number xs no_slot → v.used + length xs ≡ length v.entries → v.used < length v.entries
+    go : (xs : List ℕ) → IsPath v.entries v.unused.number xs no_slot → v.used + length xs ≡ length v.entries
+        → v.used < length v.entries
     go [] path count = absurd (some path)
     go (x ∷ xs) path count = omega arith
 
@@ -125,5 +129,6 @@ pub uses-old : (o : Options) (old new : BoxShelf) → AreKept o new → AddsWhat
 uses-old o old new kept adds = subst (λ n. length new.entries ≡ max (length old.entries) n) (used-free o new kept) adds
 
 -- Nothing is added where nothing changes.
-pub uses-same : (o : Options) (v : BoxShelf) → AreKept o v → length v.entries ≡ max (length v.entries) (length (free_item_boxes v.entries))
+pub uses-same : (o : Options) (v : BoxShelf) → AreKept o v
+    → length v.entries ≡ max (length v.entries) (length (free_item_boxes v.entries))
 uses-same o v kept = sym (max-eq_left (omega (arith, used-free o v kept, used-few (λ i. 0) o v kept)))

@@ -4,8 +4,8 @@ use Rattle.std.specs.List.{Contains}
 use Rattle.std.proofs.lemmas.Bool.{cases_Bool, both_ways, cond-true, cond-false}
 use Rattle.atlas_model.specs.Boxes.{Box}
 use Rattle.guillotiere.specs.FreeBoxes.BoxShelves.{free_item_boxes}
-use Rattle.atlas_store.specs.Search.Items.{Item, item_at, item_box}
-use Rattle.atlas_store.specs.Search.Lookups.{AreFreeItems}
+use Rattle.atlas_search.specs.Items.{Item, item_at, item_box}
+use Rattle.atlas_search.specs.Lookups.{AreFreeItems}
 
 free-first : (t : Item) (es : List Item) → t.is_free ≡ true → free_item_boxes (t ∷ es) ≡ item_box t ∷ free_item_boxes es
 free-first t es f = cond-true t.is_free (item_box t ∷ free_item_boxes es) (free_item_boxes es) f
@@ -20,7 +20,8 @@ Entry es b = (i : ℕ) × ((item_at es i).is_free ≡ true) × (item_box (item_a
 later : (t : Item) (es : List Item) (b : Box) → Entry es b → Entry (t ∷ es) b
 later t es b e = (suc e.0, e.1, e.2)
 
-split : (t : Item) (es : List Item) (b : Box) (i : ℕ) → t.is_free ≡ true → i < length (item_box t ∷ free_item_boxes es) → get_or (item_box t ∷ free_item_boxes es) i b ≡ b
+split : (t : Item) (es : List Item) (b : Box) (i : ℕ) → t.is_free ≡ true → i < length (item_box t ∷ free_item_boxes es)
+    → get_or (item_box t ∷ free_item_boxes es) i b ≡ b
     → (Contains (free_item_boxes es) b → Entry es b) → Entry (t ∷ es) b
 split t es b zero f l is rest = (0, f, is)
 split t es b (suc i) f l is rest = later t es b (rest (i, omega arith, is))
@@ -38,7 +39,8 @@ entry_of (t ∷ es) b h =
       idle-first t es,
     )
 
-box_of_entry : (es : List Item) (i : ℕ) → (item_at es i).is_free ≡ true → Contains (free_item_boxes es) (item_box (item_at es i))
+box_of_entry : (es : List Item) (i : ℕ) → (item_at es i).is_free ≡ true
+    → Contains (free_item_boxes es) (item_box (item_at es i))
 box_of_entry [] i f = absurd (both_ways false refl f)
 box_of_entry (t ∷ es) zero f = subst (λ bs. Contains bs (item_box t)) (sym (free-first t es f)) (0, omega arith, refl)
 box_of_entry (t ∷ es) (suc i) f =

@@ -7,9 +7,9 @@ use Rattle.atlas_model.specs.Boxes.{Sides, box_at, AreSameBoxes}
 use Rattle.guillotiere.specs.FreeBoxes.BoxShelves.{free_item_boxes}
 use Rattle.atlas_model.specs.Choice.{rounded, IsPick}
 use Rattle.guillotiere.specs.FreeBoxes.FreeLists.{state_of_items}
-use Rattle.atlas_store.specs.Search.Items.{Item}
+use Rattle.atlas_search.specs.Items.{Item}
 use Rattle.atlas_model.specs.Pixels.{box_of, rectangle_of, sides_of, size_of, options_of}
-use Rattle.atlas_store.specs.Search.Requests.{CanBeRounded}
+use Rattle.atlas_search.specs.Requests.{CanBeRounded}
 use Rattle.atlas_model.specs.Simple.{kept_rest, SimplyGrants}
 
 pub simply_grants : (old new : List Item) (whole : Sides) (options : AllocatorOptions) (s : Sides) (size : Size) (picked granted : Rectangle)

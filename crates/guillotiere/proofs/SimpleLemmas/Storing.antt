@@ -9,17 +9,16 @@ use Rattle.atlas_model.specs.declared.error.AtlasError.{AtlasError}
 use Rattle.atlas_model.specs.declared.options.AllocatorOptions.{AllocatorOptions}
 use Rattle.atlas_model.specs.Boxes.{Box, Sides, box_sides, whole_box, IsPositive, IsNonempty, IsWithin}
 use Rattle.guillotiere.specs.FreeBoxes.BoxShelves.{BoxShelf, free_item_boxes, has_width, stored_item, AreKept}
-use Rattle.atlas_store.specs.Search.Items.{Item, no_item, item_at, item_box}
-use Rattle.atlas_store.specs.Slots.Links.{IsSolid}
-use Rattle.atlas_store.specs.Search.Lookups.{AreListed}
+use Rattle.atlas_search.specs.Items.{Item, no_item, item_at, item_box}
+use Rattle.atlas_search.specs.Rectangles.{IsSolid, IsUnsigned}
+use Rattle.atlas_search.specs.Lookups.{AreListed}
 use Rattle.guillotiere.specs.declared.simple.boxes.FreeBox.{FreeBox}
-use Rattle.atlas_store.specs.declared.search.table.ListHead.{ListHead}
+use Rattle.atlas_search.specs.declared.table.ListHead.{ListHead}
 use Rattle.guillotiere.proofs.SimpleLemmas.BoxStoring.{exact-width, free-inside, read-item}
 use Rattle.guillotiere.proofs.SimpleLemmas.FreeItems.{are-free}
 use Rattle.std.proofs.lemmas.List.{get_or_default, length-map}
 use Rattle.atlas_model.specs.Choice.{Options}
 use Rattle.atlas_model.specs.Pixels.{natural, box_of, rectangle_of, sides_of, options_of}
-use Rattle.atlas_store.specs.Rectangles.{IsUnsigned}
 use Rattle.atlas_model.specs.Simple.SimpleAtlasCall.{Allocate}
 use Rattle.atlas_model.specs.Simple.{SimpleStep, simple_answer}
 use Rattle.guillotiere.specs.FreeBoxes.FreeLists.{IsStoredState, state_of_items}
@@ -53,7 +52,8 @@ whole-box size = grind arith
 
 -- Whether an entry is a rectangle, and whether its box is free.
 
-boxed : (bs : List FreeBox) (r : Rectangle) → has_width r ≡ true → Any (λ b. b.area ≡ r) bs → Contains (free_item_boxes (map stored_item bs)) (box_of r)
+boxed : (bs : List FreeBox) (r : Rectangle) → has_width r ≡ true → Any (λ b. b.area ≡ r) bs
+    → Contains (free_item_boxes (map stored_item bs)) (box_of r)
 boxed bs r wide any =
     let es = map stored_item bs in
     let b = any.1 in
@@ -62,7 +62,8 @@ boxed bs r wide any =
     subst (λ (t : Item). t.is_free ≡ true) at (subst (λ (q : Rectangle). has_width q ≡ true) (sym any.4) wide) in
     subst (λ (x : Box). Contains (free_item_boxes es) x) (ap item_box (sym at) ∙ ap box_of any.4) ((are-free es).of_box any.0 free)
 
-unboxed : (o : Options) (heads : List ListHead) (bs : List FreeBox) (r : Rectangle) → AreListed o heads (map stored_item bs) → IsUnsigned r
+unboxed : (o : Options) (heads : List ListHead) (bs : List FreeBox) (r : Rectangle)
+    → AreListed o heads (map stored_item bs) → IsUnsigned r
     → Contains (free_item_boxes (map stored_item bs)) (box_of r) → Any (λ b. b.area ≡ r) bs
 unboxed o heads bs r listed unsigned has =
     let es = map stored_item bs in
@@ -76,7 +77,8 @@ unboxed o heads bs r listed unsigned has =
 
 -- Whether one free box has the allocator's size.
 
-pub whole-listed : (v : BoxShelf) (bs : List FreeBox) (size : Size) (options : AllocatorOptions) (r : Rectangle) (answer : Bool) → v.entries ≡ map stored_item bs
+pub whole-listed : (v : BoxShelf) (bs : List FreeBox) (size : Size) (options : AllocatorOptions) (r : Rectangle) (answer : Bool)
+    → v.entries ≡ map stored_item bs
     → IsStoredState v size options → r ≡ whole_rectangle size → (IsTrue answer ↔ Any (λ b. b.area ≡ r) bs)
     → (IsTrue answer ↔ Any (λ b. box_sides b ≡ sides_of size) (free_item_boxes v.entries))
 whole-listed v bs size options r answer are stored e says = (
@@ -92,12 +94,14 @@ whole-listed v bs size options r answer are stored e says = (
           nonempty = subst (λ (x : Box). IsNonempty x) (sym (ap box_of e)) stored.simple.nonempty;
         }
 
-    there : Contains (free_item_boxes v.entries) (box_of r) → Any (λ b. box_sides b ≡ sides_of size) (free_item_boxes v.entries)
+    there : Contains (free_item_boxes v.entries) (box_of r)
+        → Any (λ b. box_sides b ≡ sides_of size) (free_item_boxes v.entries)
     there has =
         let is : box_of r ≡ whole_box (sides_of size) = ap box_of e ∙ whole-box size in
         (has.0, box_of r, has.1, has.2, ap box_sides is ∙ whole-sides (sides_of size))
 
-    back : Any (λ b. box_sides b ≡ sides_of size) (free_item_boxes v.entries) → Contains (free_item_boxes v.entries) (box_of r)
+    back : Any (λ b. box_sides b ≡ sides_of size) (free_item_boxes v.entries)
+        → Contains (free_item_boxes v.entries) (box_of r)
     back any =
         let b = any.1 in
         let inside = All-contains (λ q. IsNonempty q × IsWithin (sides_of size) q) (free_item_boxes v.entries) b stored.simple.boxes (any.0, any.2, any.3) in

@@ -1,15 +1,15 @@
 -- What private calls do to the free boxes of the simple allocator, in one word. No public clause cites this module.
 use Rattle.std.specs.Prelude.{ℕ, ◌≡◌, ◌≢◌, ◌+◌, ◌≤◌, ◌++◌, List, max, vec_len, vec_capacity}
 use Rattle.guillotiere.specs.declared.simple.boxes.FreeBoxes.{FreeBoxes}
-use Rattle.atlas_store.specs.declared.search.best.Found.{Found}
-use Rattle.atlas_store.specs.declared.slots.Link.{Link}
+use Rattle.atlas_search.specs.declared.best.Found.{Found}
+use Rattle.atlas_search.specs.declared.link.Link.{Link}
 use Rattle.atlas_model.specs.Boxes.{AreSameBoxes, Box, Fits, IsPositive, Sides, box_sides}
 use Rattle.atlas_model.specs.Choice.{Options}
 use Rattle.atlas_model.specs.Pixels.{box_of}
-use Rattle.atlas_store.specs.Search.Lookups.{IsStanding}
-use Rattle.atlas_store.specs.Search.Tables.{head_of, low_of}
+use Rattle.atlas_search.specs.Lookups.{IsStanding}
+use Rattle.atlas_search.specs.Tables.{head_of, low_of}
 use Rattle.guillotiere.specs.FreeBoxes.BoxShelves.{AreKept, BoxShelf, box_shelf, free_item_boxes, with_after}
-use Rattle.atlas_store.specs.Slots.{no_slot}
+use Rattle.atlas_search.specs.Numbers.{no_slot}
 
 -- n more entries can be used without memory, and each has a number.
 pub record HasEntriesFor {A : Type 0} (n : ℕ) (b : FreeBoxes A) : Type 0 where

@@ -5,15 +5,13 @@ use Rattle.std.specs.Prelude.{if◌then◌else◌}
 use Rattle.guillotiere.specs.declared.simple.boxes.FreeBox.{FreeBox}
 use Rattle.guillotiere.specs.declared.simple.boxes.FreeBoxes.{FreeBoxes}
 use Rattle.atlas_model.specs.declared.geometry.Rectangle.{Rectangle}
-use Rattle.atlas_store.specs.declared.slots.Link.{Link}
-use Rattle.atlas_store.specs.declared.search.table.ListHead.{ListHead}
+use Rattle.atlas_search.specs.declared.link.Link.{Link}
+use Rattle.atlas_search.specs.declared.table.ListHead.{ListHead}
 use Rattle.atlas_model.specs.Boxes.{Box}
 use Rattle.atlas_model.specs.Choice.{Options}
-use Rattle.atlas_store.specs.Search.Items.{Item, no_item, item_at, item_box, IsPath}
-use Rattle.atlas_store.specs.Slots.Lists.{occurs}
-use Rattle.atlas_store.specs.Slots.Numbered.{same}
-use Rattle.atlas_store.specs.Search.Lookups.{AreListed}
-use Rattle.atlas_store.specs.Slots.{no_slot}
+use Rattle.atlas_search.specs.Items.{Item, no_item, item_at, item_box, IsPath}
+use Rattle.atlas_search.specs.Numbers.{occurs, same, no_slot}
+use Rattle.atlas_search.specs.Lookups.{AreListed}
 
 -- A free box has a width, an unused entry has none.
 abbrev pub has_width : Rectangle → Bool

@@ -6,7 +6,7 @@ use Rattle.atlas_model.specs.Boxes.{Box, Sides, whole_box}
 use Rattle.guillotiere.specs.declared.simple.boxes.FreeBoxes.{FreeBoxes}
 use Rattle.guillotiere.specs.FreeBoxes.BoxShelves.{BoxShelf, box_shelf, free_item_boxes, AreKept}
 use Rattle.atlas_model.specs.Choice.{Options}
-use Rattle.atlas_store.specs.Search.Items.{Item}
+use Rattle.atlas_search.specs.Items.{Item}
 use Rattle.atlas_model.specs.Pixels.{sides_of, options_of}
 use Rattle.atlas_model.specs.Simple.{SimpleState, IsSimple, is_kept, kept_rest}
 

@@ -7,20 +7,19 @@ ghost use Rattle.guillotiere.specs.FreeBoxes.BoxShelves.{AreKept, IsClaimed, box
 ghost use Rattle.guillotiere.specs.FreeBoxes.BoxShelves.{stored_item};
 ghost use Rattle.atlas_model.specs.Boxes.{AreSameBoxes};
 ghost use Rattle.atlas_model.specs.Choice.{AreValid, Options};
-ghost use Rattle.atlas_store.specs.Slots.Links.{IsSolid};
-ghost use Rattle.atlas_store.specs.Search.Lookups.{IsStanding};
+ghost use Rattle.atlas_search.specs.Rectangles.{IsSolid, IsUnsigned};
+ghost use Rattle.atlas_search.specs.Lookups.{IsStanding};
 ghost use Rattle.atlas_model.specs.Pixels.{box_of, options_of};
-ghost use Rattle.atlas_store.specs.Rectangles.{IsUnsigned};
-ghost use Rattle.atlas_store.specs.Slots.{no_slot};
-ghost use Rattle.atlas_store.specs.Search.Tables.{is_used_at};
+ghost use Rattle.atlas_search.specs.Numbers.{no_slot};
+ghost use Rattle.atlas_search.specs.Tables.{is_used_at};
 
 use atlas_model::{AtlasError, Rectangle, point2};
-use atlas_store::search::Entry;
-use atlas_store::search::bands::Scale;
-use atlas_store::search::best::Found;
-use atlas_store::search::table::{LISTS, Table};
-use atlas_store::slots::lists::exact_size;
-use atlas_store::slots::{Link, NO_SLOT};
+use atlas_search::bands::Scale;
+use atlas_search::best::Found;
+use atlas_search::cut::{exact_size, top_in};
+use atlas_search::link::{Link, NO_SLOT};
+use atlas_search::search::Entry;
+use atlas_search::table::{LISTS, Table};
 use std::alloc::Allocator;
 
 /// A free box and the entry after it in its list; or an unused entry, whose rectangle is empty, and the next one.
@@ -68,14 +67,6 @@ fn unused_box(after: Link) -> FreeBox
         },
         after,
     }
-}
-
-// The `min.y` of a box.
-fn top_in(area: Rectangle) -> u32
-    requires { IsUnsigned area }
-    ensures { result ≡ (box_of area).min.y }
-{
-    area.min.y as u32
 }
 
 impl<A: Allocator> FreeBoxes<A> {

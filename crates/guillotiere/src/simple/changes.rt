@@ -7,7 +7,7 @@ ghost use Rattle.guillotiere.specs.FreeBoxes.BoxCalls.{AreFiledBoxes};
 ghost use Rattle.guillotiere.specs.FreeBoxes.BoxShelves.{AddsWhatIsUsed, AreKept, box_shelf, free_item_boxes};
 ghost use Rattle.guillotiere.specs.FreeBoxes.FreeLists.{kept_beyond};
 ghost use Rattle.atlas_model.specs.Pixels.{box_of, options_of, sides_of};
-ghost use Rattle.atlas_store.specs.Rectangles.{IsUnsigned};
+ghost use Rattle.atlas_search.specs.Rectangles.{IsUnsigned};
 ghost use Rattle.atlas_model.specs.Simple.{IsGuarded, IsSimple, SimpleStep, live_boxes, simple_done};
 ghost use Rattle.atlas_model.specs.Simple.SimpleAtlasCall.{Clear, Grow, Reset, Start};
 ghost use Rattle.atlas_store.specs.Slots.{nodes};
@@ -18,8 +18,8 @@ use super::{SimpleAtlasAllocator, keep, kept_count};
 use crate::simple::boxes::FreeBoxes;
 use atlas_allocator::{AtlasAllocator, store_of};
 use atlas_model::{AllocatorOptions, AtlasError, Rectangle, Size};
-use atlas_store::cut::guillotine;
-use atlas_store::search::bands::Scale;
+use atlas_search::bands::Scale;
+use atlas_search::cut::guillotine;
 use atlas_store::slots::{NodeKind, Slot};
 use std::alloc::Allocator;
 
@@ -98,11 +98,12 @@ impl<A: Allocator + Copy> SimpleAtlasAllocator<A> {
     {
         let size = source.size();
         let store = store_of(source);
+        let options = store.scale();
         let mut boxes = FreeBoxes::new(*self.boxes.entries.allocator())?;
-        file_free(&mut boxes, store.slots.as_slice(), &store.options)?;
+        file_free(&mut boxes, store.slots(), &options)?;
         self.boxes = boxes;
         self.size = size;
-        self.options = store.options.copy();
+        self.options = options;
         Ok(())
     }
 }

@@ -12,16 +12,12 @@ use crate::atlas_model::{
     AllocId, Allocation, AllocatorOptions, AtlasError, ChangeList, Rectangle, Size, SlotCount,
     DEFAULT_OPTIONS, MOST_SLOTS,
 };
-use crate::atlas_store::search::bands::Scale;
-use crate::atlas_store::search::table::Table;
-use crate::atlas_store::slots::batch::are_named_once;
+use crate::atlas_search::link::{Link, NO_SLOT};
 use crate::atlas_store::slots::walks::{named_slot, slot_number};
-use crate::atlas_store::slots::{Link, NodeKind, NO_SLOT};
-use crate::atlas_store::store::turns::Turns;
+use crate::atlas_store::slots::NodeKind;
 use crate::atlas_store::store::Store;
 use crate::atlas_tree::freeing::free_leaf;
 use crate::atlas_tree::growth::{grow_tree, grow_whole, growth_for, slots_for};
-use crate::atlas_tree::requests::make_room;
 use wollemigo_support::alloc::{Allocator, Global};
 use wollemigo_support::prelude::Vec;
 
@@ -69,15 +65,7 @@ impl<A: Allocator + Copy> AtlasAllocator<A> {
         options: &AllocatorOptions,
         limit: u32,
     ) -> Result<Self, AtlasError> {
-        let none = Link::NONE;
-        let mut store = Store {
-            slots: Vec::with_capacity(alloc, 1)?,
-            lists: Table::new(alloc)?,
-            unused: none,
-            options: Scale::new(options),
-            turns: Turns::new(),
-        };
-        store.start(size, options);
+        let store = Store::new(alloc, size, options)?;
         Ok(AtlasAllocator {
             store,
             first: Link { number: 0 },
@@ -113,7 +101,7 @@ impl<A: Allocator + Copy> AtlasAllocator<A> {
     pub fn slots(&self) -> SlotCount {
         SlotCount {
             used: self.used,
-            kept: self.store.slots.len() as u32,
+            kept: self.store.slots().len() as u32,
             limit: self.limit,
         }
     }
@@ -121,8 +109,9 @@ impl<A: Allocator + Copy> AtlasAllocator<A> {
     /// The rectangle of a live id, in pixels; None for every other id.
     #[inline]
     pub fn get(&self, id: AllocId) -> Option<Rectangle> {
-        let at = named_slot(&self.store.slots, id)?;
-        Some(self.store.slots[at].node.area)
+        let slots = self.store.slots();
+        let at = named_slot(slots, id)?;
+        Some(slots[at].node.area)
     }
 
     /// Grants a request: the part of the rounded size at the `min` of the free rectangle that is picked. None if the
@@ -176,7 +165,7 @@ impl<A: Allocator + Copy> AtlasAllocator<A> {
         }
         let growth = growth_for(&self.store, self.first, self.size, new_size);
         let added = slots_for(&self.store, growth);
-        make_room(&mut self.store, self.used, self.limit, added)?;
+        self.store.make_room(self.used, self.limit, added)?;
         self.first = grow_tree(&mut self.store, self.first, growth);
         self.used += added;
         self.size = new_size;
@@ -198,8 +187,8 @@ impl<A: Allocator + Copy> AtlasAllocator<A> {
     #[inline]
     pub fn resize_and_rearrange(&mut self, new_size: Size) -> Result<ChangeList<A>, AtlasError> {
         let order = self.refit_order()?;
-        let alloc = *self.store.slots.allocator();
-        let options = self.store.options.plain();
+        let alloc = self.store.allocator();
+        let options = self.store.options();
         let mut placed = AtlasAllocator::with_slot_limit(alloc, new_size, &options, self.limit)?;
         let list = refit(&mut placed, order)?;
         self.become_like(placed);
@@ -224,10 +213,7 @@ impl<A: Allocator + Copy> AtlasAllocator<A> {
             size,
             limit,
         } = other;
-        self.store.slots = store.slots;
-        self.store.lists = store.lists;
-        self.store.unused = store.unused;
-        self.store.options = store.options;
+        self.store.replace(store);
         (self.first, self.used) = (first, used);
         (self.size, self.limit) = (size, limit);
     }
@@ -237,7 +223,7 @@ impl<A: Allocator + Copy> AtlasAllocator<A> {
     #[inline]
     pub fn clear(&mut self) -> Result<(), AtlasError> {
         let size = self.size;
-        let options = self.store.options.plain();
+        let options = self.store.options();
         self.restart(size, &options);
         Ok(())
     }
@@ -284,13 +270,13 @@ impl<A: Allocator + Copy> AtlasAllocator<A> {
     // Whether each of these ids is live, and none is there twice.
     #[inline]
     fn are_live_once(&mut self, ids: &[AllocId]) -> bool {
-        are_named_once(&mut self.store.slots, ids)
+        self.store.are_named_once(ids)
     }
 
     // Whether an id is live.
     #[inline]
     fn is_live(&self, id: AllocId) -> bool {
-        named_slot(&self.store.slots, id).is_some()
+        named_slot(self.store.slots(), id).is_some()
     }
 
     // Frees the box of a live id.
@@ -315,8 +301,9 @@ impl<A: Allocator + Copy> Index<AllocId> for AtlasAllocator<A> {
     /// The rectangle of an id. Requires that the id is live: `get` is the test.
     #[inline]
     fn index(&self, id: AllocId) -> &Rectangle {
-        match named_slot(&self.store.slots, id) {
-            Some(at) => &self.store.slots[at].node.area,
+        let slots = self.store.slots();
+        match named_slot(slots, id) {
+            Some(at) => &slots[at].node.area,
             None => unreachable!(),
         }
     }

@@ -24,8 +24,8 @@ use wollemigo_support::alloc::{Allocator, Global};
 use wollemigo_support::hash::{BuildHasher, BuildHasherDefault, Hash};
 
 /// Rectangles under keys in the pages of a texture array. Contracts see a `CacheState`: how the cache was made, the
-/// atlas of each page, the entries, the most recently used first, how many numbers they had so far, the frame, and how
-/// the cache was used.
+/// atlas of each page, the entries, the most recently used first, how many numbers they had so far, how many more there is
+/// memory for in reserve, the frame, and how the cache was used.
 
 pub struct TextureCache<
     K: Copy + Eq + Hash,
@@ -145,6 +145,7 @@ impl<K: Copy + Eq + Hash, S: BuildHasher, A: Allocator + Copy> TextureCache<K, S
     ///
     /// A new key with an empty size, of which a side is 0 or below, becomes a blank entry: `Placed` with a place that is
     /// empty. It takes no room, so that no page changes and nothing goes, and it never goes for another key's room.
+    /// While entries are in reserve, it is never refused with `Memory`.
     #[inline]
     pub fn insert(
         &mut self,
@@ -202,20 +203,35 @@ impl<K: Copy + Eq + Hash, S: BuildHasher, A: Allocator + Copy> TextureCache<K, S
         asked: Size,
         changes: &mut Changes<K, A>,
     ) -> Result<Inserted, CacheError> {
+        let mut from = 0;
+        let mut to = self.rooms.len() as usize;
         loop {
-            if let Some(place) = self.add(key, size, asked)? {
+            if let Some(place) = self.add(key, size, asked, from, to)? {
                 return Ok(Inserted::Placed(place));
             }
-            if !self.make_room(asked, changes)? {
-                self.rooms.prove_kept();
-                return Ok(Inserted::FrameFull);
-            }
+            let page = match self.make_room(asked, changes)? {
+                Some(page) => page,
+                _ => {
+                    self.rooms.prove_kept();
+                    return Ok(Inserted::FrameFull);
+                }
+            };
+            // The others have no room still.
+            from = page as usize;
+            to = from + 1;
         }
     }
 
-    // Adds a key on the first page that has room for it; None if none has.
+    // Adds a key on the first page that has room for it, which is one of these, if any has; None if none has.
     #[inline]
-    fn add(&mut self, key: K, size: Size, asked: Size) -> Result<Option<Place>, CacheError> {
+    fn add(
+        &mut self,
+        key: K,
+        size: Size,
+        asked: Size,
+        from: usize,
+        to: usize,
+    ) -> Result<Option<Place>, CacheError> {
         let granted = grant(
             &mut self.rooms,
             &mut self.entries,
@@ -223,6 +239,8 @@ impl<K: Copy + Eq + Hash, S: BuildHasher, A: Allocator + Copy> TextureCache<K, S
             size,
             asked,
             self.frame,
+            from,
+            to,
         )?;
         let entry = match granted {
             Some(entry) => entry,
@@ -233,38 +251,42 @@ impl<K: Copy + Eq + Hash, S: BuildHasher, A: Allocator + Copy> TextureCache<K, S
         Ok(Some(place_of(entry, &self.rooms.options())))
     }
 
-    // One change for a request that has room on no page; `false` if nothing can be done.
+    // One change for a request that has room on no page: the page that changed; None if nothing can be done.
     #[inline]
-    fn make_room(&mut self, asked: Size, changes: &mut Changes<K, A>) -> Result<bool, CacheError> {
+    fn make_room(
+        &mut self,
+        asked: Size,
+        changes: &mut Changes<K, A>,
+    ) -> Result<Option<u32>, CacheError> {
         changes.reserve(1)?;
         if let Some((page, size)) = self.rooms.grow_page()? {
             changes.push_reserved(CacheChange::PageGrown { page, size });
-            return Ok(true);
+            return Ok(Some(page));
         }
         if let Some((page, size)) = self.rooms.add_page()? {
             changes.push_reserved(CacheChange::PageAdded { page, size });
-            return Ok(true);
+            return Ok(Some(page));
         }
         Ok(self.evict(changes))
     }
 
-    // Of the entries that lie on a page the least recently used one goes, if this frame didn't use it; whether it did.
+    // Of the entries that lie on a page the least recently used one goes, if this frame didn't use it: its page.
     #[inline]
-    fn evict(&mut self, changes: &mut Changes<K, A>) -> bool {
+    fn evict(&mut self, changes: &mut Changes<K, A>) -> Option<u32> {
         let (number, entry) = match oldest_lying(&self.entries) {
             Some((number, entry)) => (number, entry),
             _ => {
-                return false;
+                return None;
             }
         };
         if entry.frame == self.frame {
-            return false;
+            return None;
         }
         take_out(&mut self.rooms, &mut self.entries, number, entry);
         self.counts.evictions = count(self.counts.evictions);
         let place = place_of(entry, &self.rooms.options());
         let key = entry.key;
         changes.push_reserved(CacheChange::Evicted { key, place });
-        true
+        Some(entry.page)
     }
 }

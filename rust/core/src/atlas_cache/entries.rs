@@ -45,12 +45,25 @@ impl<K: Copy> Entry<K> {
 
 /// Entries under their keys, in the order of their use. Each has a number; those of entries which are gone are given to
 /// later ones before new numbers are. Contracts see a `Table`: the numbers with their entries, the most recently used
-/// first, and how many numbers were ever given out.
+/// first, how many numbers were ever given out, and for how many more entries there is memory in reserve.
 
 pub struct Entries<K: Copy + Eq + Hash, S: BuildHasher = DefaultHasher, A: Allocator = Global> {
     map: HashMap<K, u32, S, A>,
     recency: Recency<A>,
     items: Vec<Entry<K>, A>,
+}
+
+// Memory for one more behind all, if there are no more than so many.
+#[inline]
+fn make_room<K: Copy, A: Allocator>(
+    items: &mut Vec<Entry<K>, A>,
+    count: usize,
+) -> Result<(), CacheError> {
+    if count < items.len() {
+        return Ok(());
+    }
+    items.reserve(1)?;
+    Ok(())
 }
 
 // Puts an entry at a number: in the place of what stood there, or behind all.
@@ -158,11 +171,11 @@ impl<K: Copy + Eq + Hash, S: BuildHasher, A: Allocator + Copy> Entries<K, S, A> 
 
     /// An entry with a new key joins, the most recently used from now on, and gets a number, whatever it had: one that is
     /// none's, and the next one only if all that were given out are in use. `Numbers` only if all are, and `Memory` if
-    /// memory is refused; then nothing changes.
+    /// memory is refused, which is never asked for where entries are in reserve; then nothing changes.
     #[inline]
     pub fn push(&mut self, entry: Entry<K>) -> Result<u32, CacheError> {
         self.map.reserve(1)?;
-        self.items.reserve(1)?;
+        make_room(&mut self.items, self.recency.len())?;
         let number = self.recency.push()?;
         let entry = Entry { number, ..entry };
         store(&mut self.items, number, entry);
@@ -192,7 +205,8 @@ impl<K: Copy + Eq + Hash, S: BuildHasher, A: Allocator + Copy> Entries<K, S, A> 
         self.recency.made()
     }
 
-    /// Asks for room for so many more entries. Nothing else changes. `Memory` if memory is refused.
+    /// At least so many entries are in reserve from now on: none of the next ones that come is refused for memory. Nothing
+    /// else changes, and nothing at all with `Memory`, if memory is refused.
     #[inline]
     pub fn reserve(&mut self, additional: usize) -> Result<(), CacheError> {
         self.map.reserve(additional)?;
@@ -201,7 +215,7 @@ impl<K: Copy + Eq + Hash, S: BuildHasher, A: Allocator + Copy> Entries<K, S, A> 
         Ok(())
     }
 
-    /// All entries go. Keeps its memory, which is tested.
+    /// All entries go. Keeps its memory: what the entries had is in reserve.
     #[inline]
     pub fn clear(&mut self) {
         self.map.clear();

@@ -10,13 +10,15 @@ use wollemigo_support::alloc::{Allocator, Global};
 use wollemigo_support::prelude::Vec;
 
 /// The numbers of entries in the order of their use. The number of an entry that is gone is given to a later one.
-/// Contracts see an `Order`: the numbers, the most recently used first, and how many were ever given out.
+/// Contracts see an `Order`: the numbers, the most recently used first, how many were ever given out, and for how many more
+/// entries there is memory in reserve.
 
 pub struct Recency<A: Allocator = Global> {
     links: Vec<Link, A>,
     ends: Link,
     unused: u32,
     count: usize,
+    reserved: usize,
 }
 
 // The ends of an order with no entry.
@@ -67,6 +69,7 @@ impl<A: Allocator> Recency<A> {
             ends: NO_ENDS,
             unused: NO_ENTRY,
             count: 0,
+            reserved: 0,
         }
     }
 
@@ -129,12 +132,14 @@ impl<A: Allocator> Recency<A> {
     }
 
     /// A new entry, the most recently used from now on: its number. That is one that was given out before and belongs to no
-    /// entry, or, if all of those are in use, the next one. `Numbers` only if all are in use, and `Memory` if memory is refused; then nothing changes.
+    /// entry, or, if all of those are in use, the next one. `Numbers` only if all are in use, and `Memory` if memory is
+    /// refused, which is never asked for where entries are in reserve; then nothing changes.
     #[inline]
     pub fn push(&mut self) -> Result<u32, CacheError> {
         let number = take_number(&mut self.links, &mut self.unused)?;
         push_front(&mut self.links, &mut self.ends, number);
         self.count += 1;
+        self.reserved = self.reserved.saturating_sub(1);
         Ok(number)
     }
 
@@ -158,19 +163,22 @@ impl<A: Allocator> Recency<A> {
         self.links.len() as u32
     }
 
-    /// Asks for room for so many more entries. Nothing else changes. `Memory` if memory is refused.
+    /// At least so many entries are in reserve from now on: none of the next ones that come is refused for memory. Nothing
+    /// else changes, and nothing at all with `Memory`, if memory is refused.
     #[inline]
     pub fn reserve(&mut self, additional: usize) -> Result<(), CacheError> {
         self.links.reserve(additional)?;
+        self.reserved = self.reserved.max(additional);
         Ok(())
     }
 
-    /// All entries go, and the numbers begin again at 0. Keeps its memory, which is tested.
+    /// All entries go, and the numbers begin again at 0. Keeps its memory: what the entries had is in reserve.
     #[inline]
     pub fn clear(&mut self) {
         self.links.clear();
         self.ends = NO_ENDS;
         self.unused = NO_ENTRY;
+        self.reserved += self.count;
         self.count = 0;
     }
 }

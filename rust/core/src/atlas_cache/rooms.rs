@@ -6,7 +6,7 @@ mod usable;
 
 use crate::atlas_cache::error::CacheError;
 use crate::atlas_cache::options::CacheOptions;
-use crate::guillotiere::pages::{page_with_room, prove_page};
+use crate::guillotiere::pages::prove_page;
 use crate::guillotiere::{AllocId, Allocation, AtlasAllocator, AtlasError, Size};
 use wollemigo_support::alloc::{Allocator, Global};
 use wollemigo_support::prelude::Vec;
@@ -33,35 +33,34 @@ fn number(page: usize, most: u32) -> u32 {
     page as u32
 }
 
-// Grants a request on a page that has room for it.
+// Grants a request on a page; None if it has no room there.
 #[inline]
 fn take<A: Allocator + Copy>(
     pages: &mut Vec<AtlasAllocator<A>, A>,
     page: usize,
     asked: Size,
-) -> Result<Allocation, CacheError> {
+) -> Result<Option<Allocation>, CacheError> {
     match pages[page].allocate(asked) {
-        Ok(Some(granted)) => Ok(granted),
-        Ok(None) => unreachable!(),
+        Ok(granted) => Ok(granted),
         Err(error) => Err(refusal(error)),
     }
 }
 
-// Grants a request on the first page that has room for it.
+// Grants a request on the first page that has room for it, which is one of these, if any has.
 #[inline]
 fn place_first<A: Allocator + Copy>(
     pages: &mut Vec<AtlasAllocator<A>, A>,
     options: &CacheOptions,
+    from: usize,
+    to: usize,
     asked: Size,
 ) -> Result<Option<(u32, Allocation)>, CacheError> {
-    let page = match page_with_room(pages, asked) {
-        Some(page) => page,
-        _ => {
-            return Ok(None);
+    for page in from..to {
+        if let Some(granted) = take(pages, page, asked)? {
+            return Ok(Some((number(page, options.pages), granted)));
         }
-    };
-    let granted = take(pages, page, asked)?;
-    Ok(Some((number(page, options.pages), granted)))
+    }
+    Ok(None)
 }
 
 // Frees the rectangle of an id of a page, if it has one.
@@ -244,7 +243,19 @@ impl<A: Allocator + Copy> Rooms<A> {
     /// is refused. Unless something is granted, nothing changes.
     #[inline]
     pub fn place(&mut self, asked: Size) -> Result<Option<(u32, Allocation)>, CacheError> {
-        place_first(&mut self.pages, &self.options, asked)
+        let to = self.pages.len();
+        self.place_among(0, to, asked)
+    }
+
+    // The same, where none but the pages from `from` on and before `to` can have room: only these are looked at.
+    #[inline]
+    pub(crate) fn place_among(
+        &mut self,
+        from: usize,
+        to: usize,
+        asked: Size,
+    ) -> Result<Option<(u32, Allocation)>, CacheError> {
+        place_first(&mut self.pages, &self.options, from, to, asked)
     }
 
     /// Frees the rectangle of an id of a page. Asks that the id is live there. No other rectangle moves. Takes no

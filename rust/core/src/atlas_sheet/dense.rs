@@ -48,15 +48,15 @@ fn areas<A: Allocator + Copy>(
     Ok(areas)
 }
 
-// How many pixels a sheet has.
+/// How many pixels a sheet has.
 #[inline]
-fn pixels_of(size: Size) -> u64 {
+pub fn pixels_of(size: Size) -> u64 {
     size.width.max(0) as u64 * size.height.max(0) as u64
 }
 
-// How many pixels the sprites have together, or the greatest number.
+/// How many pixels the sprites have together, or the greatest number.
 #[inline]
-fn sprite_pixels(sprites: &[Size]) -> u64 {
+pub fn sprite_pixels(sprites: &[Size]) -> u64 {
     let mut area: u64 = 0;
     for sprite in sprites {
         area = area.saturating_add(pixels_of(*sprite));

@@ -30,15 +30,15 @@ pub struct Pages<A: Allocator = Global> {
     pub places: Vec<OnPage, A>,
 }
 
-// Whether no sprite has a place.
+/// Whether no sprite has a place.
 #[inline]
-fn is_bare(places: &[Option<Placed>]) -> bool {
+pub fn is_bare(places: &[Option<Placed>]) -> bool {
     places.iter().all(|place| place.is_none())
 }
 
-// Where the sprites without a place lie next: in the smallest sheet that takes them all, or in a full one.
+/// Where the sprites without a place lie next: in the smallest sheet that takes them all, or in a full one.
 #[inline]
-fn next_page<A: Allocator + Copy>(
+pub fn next_page<A: Allocator + Copy>(
     alloc: A,
     left: &[Size],
     options: &SheetOptions,
@@ -54,9 +54,9 @@ fn next_page<A: Allocator + Copy>(
     }
 }
 
-// The sprites that have no place.
+/// The sprites that have no place.
 #[inline]
-fn sprites_left<A: Allocator>(
+pub fn sprites_left<A: Allocator>(
     alloc: A,
     sprites: &[Size],
     places: &[Option<OnPage>],
@@ -82,9 +82,9 @@ fn found_on(page: usize, place: Option<Placed>) -> Option<OnPage> {
     Some(OnPage { page, placed })
 }
 
-// The places with those that the sprites without one found on a sheet, in their order.
+/// The places with those that the sprites without one found on a sheet, in their order.
 #[inline]
-fn put_on<A: Allocator>(
+pub fn put_on<A: Allocator>(
     alloc: A,
     page: usize,
     places: &[Option<OnPage>],
@@ -104,9 +104,12 @@ fn put_on<A: Allocator>(
     Ok(all)
 }
 
-// The places, where each sprite has one.
+/// The places, where each sprite has one.
 #[inline]
-fn all_on<A: Allocator>(alloc: A, places: &[Option<OnPage>]) -> Result<Vec<OnPage, A>, SheetError> {
+pub fn all_on<A: Allocator>(
+    alloc: A,
+    places: &[Option<OnPage>],
+) -> Result<Vec<OnPage, A>, SheetError> {
     let mut all = Vec::new(alloc);
     for place in places {
         if let Some(placed) = place {

@@ -2,14 +2,15 @@
 //! The slots of an atlas: the tree's part and the lists' part of each, and the calls that read and write them.
 
 pub mod batch;
+pub mod entry;
 pub mod extending;
 pub mod lists;
-pub mod pick;
 pub mod placing;
 pub mod walks;
 
 use crate::atlas_model::Rectangle;
-use crate::atlas_store::cut::Orientation;
+use crate::atlas_search::cut::Orientation;
+use crate::atlas_search::link::{Link, NO_SLOT};
 
 /// What a slot of an atlas is used for.
 #[derive(Clone, Copy, Debug, PartialEq, Eq, Hash)]
@@ -23,20 +24,6 @@ pub enum NodeKind {
     /// Nothing: the slot may be taken.
     Unused,
 }
-
-/// The number of a slot, or `NO_SLOT` for none.
-#[derive(Clone, Copy, Debug, PartialEq, Eq)]
-pub struct Link {
-    pub number: u32,
-}
-
-impl Link {
-    /// The link to no slot.
-    pub const NONE: Link = Link { number: NO_SLOT };
-}
-
-/// The number that means no slot.
-pub const NO_SLOT: u32 = 4294967295;
 
 /// The tree's part of a slot: its place among its siblings, what it is, and its rectangle.
 #[derive(Clone, Copy, Debug, PartialEq, Eq)]

@@ -1,17 +1,18 @@
 // Erased from crates/atlas_store/src/store.rt by rust/erase: don't edit.
 //! The slots of an atlas with their lists: each call keeps the tree that the slots represent, and the lists, in order.
 
+pub mod choosing;
 pub mod extend;
 pub mod start;
 pub mod turns;
+pub mod views;
 
-use crate::atlas_store::search::bands::Scale;
-use crate::atlas_store::search::table::Table;
+use crate::atlas_search::bands::Scale;
+use crate::atlas_search::link::{Link, NO_SLOT};
+use crate::atlas_search::table::Table;
 use crate::atlas_store::slots::lists::{enlist, give_back, take_slot, unlist};
 use crate::atlas_store::slots::placing::{place_leaf, Parts, Plan};
-use crate::atlas_store::slots::{
-    join_next, lift, mark_free, read_node, Link, Node, NodeKind, Slot, NO_SLOT,
-};
+use crate::atlas_store::slots::{join_next, lift, mark_free, read_node, Node, NodeKind, Slot};
 use crate::atlas_store::store::turns::Turns;
 use wollemigo_support::alloc::{AllocError, Allocator};
 use wollemigo_support::prelude::Vec;
@@ -20,11 +21,11 @@ use wollemigo_support::prelude::Vec;
 /// markings, joins and lifts, and is nothing at run time.
 
 pub struct Store<A: Allocator> {
-    pub slots: Vec<Slot, A>,
-    pub lists: Table<A>,
-    pub unused: Link,
-    pub options: Scale,
-    pub turns: Turns,
+    slots: Vec<Slot, A>,
+    lists: Table<A>,
+    unused: Link,
+    options: Scale,
+    turns: Turns,
 }
 
 impl<A: Allocator> Store<A> {

@@ -1,7 +1,7 @@
 // Erased from crates/atlas_tree/src/freeing.rt by rust/erase: don't edit.
 //! Freeing a leaf of the tree of slots, by the calls of `store`.
 
-use crate::atlas_store::slots::{Link, NO_SLOT};
+use crate::atlas_search::link::{Link, NO_SLOT};
 use crate::atlas_store::store::Store;
 use wollemigo_support::alloc::Allocator;
 

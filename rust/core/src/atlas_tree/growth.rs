@@ -2,8 +2,8 @@
 //! Growing the tree of an atlas, by the calls of `store` and `extend`.
 
 use crate::atlas_model::{size2, Size};
-use crate::atlas_store::cut::Orientation;
-use crate::atlas_store::slots::{Link, NO_SLOT};
+use crate::atlas_search::cut::Orientation;
+use crate::atlas_search::link::{Link, NO_SLOT};
 use crate::atlas_store::store::Store;
 use wollemigo_support::alloc::Allocator;
 

@@ -1,62 +1,22 @@
 // Erased from crates/atlas_tree/src/requests.rt by rust/erase: don't edit.
-//! Granting a request: the free slot that it takes, how its leaf gives way (a plan), the slots that this needs, and the
-//! placing itself, by the calls of `store`.
+//! Granting a request: how the leaf of the free slot that it takes gives way (a plan), the slots that this needs, and
+//! the placing itself, by the calls of `store`.
 
-use crate::atlas_model::{Allocation, AtlasError, Size};
-use crate::atlas_store::cut::{orientation_of, Orientation};
-use crate::atlas_store::slots::lists::exact_size;
-use crate::atlas_store::slots::pick::pick;
+use crate::atlas_model::{Allocation, Size};
+use crate::atlas_search::best::Found;
+use crate::atlas_search::cut::{exact_size, orientation_of, Orientation};
+use crate::atlas_search::link::Link;
 use crate::atlas_store::slots::placing::Plan;
 use crate::atlas_store::slots::walks::slot_id;
-use crate::atlas_store::slots::{Link, Node};
+use crate::atlas_store::slots::Node;
 use crate::atlas_store::store::Store;
 use wollemigo_support::alloc::Allocator;
 
-/// The free slot that a request takes, the number of its list, and at most the `min.y` of each other slot of that
-/// list.
-#[derive(Clone, Copy)]
-pub struct Chosen {
-    pub at: Link,
-    pub list: u32,
-    pub low: u32,
-}
-
-/// The free slot that a request of this rounded size takes; None if it fits none.
-#[inline]
-pub fn choose<A: Allocator>(store: &Store<A>, size: Size) -> Option<Chosen> {
-    let found = pick(&store.slots, &store.lists, &store.options, size)?;
-    Some(Chosen {
-        at: found.at,
-        list: found.list as u32,
-        low: found.low,
-    })
-}
-
-/// Makes room for slots in addition to those in use. `Slots` if there would be more than the limit; `Memory`, if they
-/// are more than were ever used and more than there is room for, and memory for them is refused. The slots and their
-/// lists stay as they are.
-#[inline]
-pub fn make_room<A: Allocator>(
-    store: &mut Store<A>,
-    used: u32,
-    limit: u32,
-    needed: u32,
-) -> Result<(), AtlasError> {
-    if needed > limit - used {
-        return Err(AtlasError::Slots);
-    }
-    let all = (used + needed) as usize;
-    if all > store.slots.capacity() {
-        store.slots.reserve(all - store.slots.len())?;
-    }
-    Ok(())
-}
-
 /// Places a request in the slot that it takes, which gives way by this plan. The answer is its id and its rectangle.
 #[inline]
-pub fn grant<A: Allocator>(store: &mut Store<A>, chosen: Chosen, plan: Plan) -> Allocation {
+pub fn grant<A: Allocator>(store: &mut Store<A>, chosen: Found, plan: Plan) -> Allocation {
     store.unlist(chosen.at);
-    store.sharpen(chosen.list as usize, chosen.low);
+    store.sharpen(chosen.list, chosen.low);
     let slot = place(store, chosen.at, plan);
     let node = store.node(slot);
     Allocation {

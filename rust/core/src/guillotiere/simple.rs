@@ -7,12 +7,12 @@ mod changes;
 use crate::atlas_model::{
     AllocatorOptions, AtlasError, Rectangle, Size, SlotCount, DEFAULT_OPTIONS,
 };
-use crate::atlas_store::choice::rounded;
-use crate::atlas_store::cut::{granted, guillotine, Rest};
-use crate::atlas_store::search::bands::Scale;
-use crate::atlas_store::search::best::Found;
-use crate::atlas_store::search::pick;
-use crate::atlas_store::slots::NO_SLOT;
+use crate::atlas_search::bands::Scale;
+use crate::atlas_search::best::Found;
+use crate::atlas_search::choice::rounded;
+use crate::atlas_search::cut::{granted, guillotine, Rest};
+use crate::atlas_search::link::NO_SLOT;
+use crate::atlas_search::search::pick;
 use crate::guillotiere::simple::boxes::{FreeBox, FreeBoxes};
 use wollemigo_support::alloc::{Allocator, Global};
 

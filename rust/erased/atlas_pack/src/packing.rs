@@ -1,10 +1,11 @@
 // Erased from crates/atlas_pack/src/packing.rt by rust/erase: don't edit.
 //! What the library is asked, and what it answers.
 
-use pack_lines::{Frame, PackError, Settings, Sheets, Sprite};
+use pack_lines::{Frame, PackError, PageFrame, Settings, Sheets, Sprite};
 use wollemigo_core::atlas_model::Size;
 use wollemigo_core::atlas_sheet::{
-    fill, pack_dense, pack_telling, Allowed, Placed, SheetError, SheetOptions,
+    fill, pack_dense, pack_pages, pack_telling, Allowed, OnPage, Pages, Placed, Sheet, SheetError,
+    SheetOptions,
 };
 use wollemigo_support::alloc::{AllocError, Global};
 use wollemigo_support::io::Write;
@@ -33,7 +34,7 @@ pub fn sheet_options(settings: Settings) -> SheetOptions {
 }
 
 // A sprite in its place.
-fn frame_of<'a>(sprite: Sprite<'a>, placed: Placed) -> Frame<'a> {
+fn frame_of(sprite: Sprite, placed: Placed) -> Frame {
     Frame {
         sprite,
         corner: placed.area.min,
@@ -42,34 +43,33 @@ fn frame_of<'a>(sprite: Sprite<'a>, placed: Placed) -> Frame<'a> {
 }
 
 /// The sizes of the sprites, in order.
-pub fn sizes_of(alloc: Global, sprites: &[Sprite<'_>]) -> Result<Vec<Size>, AllocError> {
+pub fn sizes_of(alloc: Global, sprites: &[Sprite]) -> Result<Vec<Size>, AllocError> {
     sprites.iter().map(|sprite| sprite.size).collect_in(alloc)
 }
 
 /// Each sprite beside its place or none, in order.
-pub fn beside<'a>(
+pub fn beside(
     alloc: Global,
-    sprites: &[Sprite<'a>],
+    sprites: Vec<Sprite>,
     places: &[Option<Placed>],
-) -> Result<Vec<(Sprite<'a>, Option<Placed>)>, AllocError> {
+) -> Result<Vec<(Sprite, Option<Placed>)>, AllocError> {
     sprites
-        .iter()
-        .copied()
+        .into_iter()
         .zip(places.iter().copied())
         .collect_in(alloc)
 }
 
 /// The sprites that have places, in them, and those that have none, each in order.
-pub fn parted<'a>(
+pub fn parted(
     alloc: Global,
-    pairs: &[(Sprite<'a>, Option<Placed>)],
-) -> Result<(Vec<Frame<'a>>, Vec<Sprite<'a>>), AllocError> {
+    pairs: Vec<(Sprite, Option<Placed>)>,
+) -> Result<(Vec<Frame>, Vec<Sprite>), AllocError> {
     let mut frames = Vec::new(alloc);
     let mut left = Vec::new(alloc);
-    for pair in pairs {
-        match pair.1 {
-            Some(placed) => frames.push(frame_of(pair.0, placed))?,
-            None => left.push(pair.0)?,
+    for (sprite, place) in pairs {
+        match place {
+            Some(placed) => frames.push(frame_of(sprite, placed))?,
+            None => left.push(sprite)?,
         }
     }
     Ok((frames, left))
@@ -97,46 +97,25 @@ fn tell<P: Write>(progress: &mut P, size: Size) {
     let _ = writeln!(progress, "sheet {} {}", size.width, size.height);
 }
 
-// A sheet that takes all sprites, and their places. `NoSheet` where none is found. Where changes of the order are tried,
-// `progress` has a line for each sheet as soon as it is found.
-fn pack_all<P: Write>(
+// The sheet that the library packs all sprites into: with `dense` one with no whole cuts, where that is smaller. None
+// where none is found. Without `dense`, where changes of the order are tried, `progress` has a line for each sheet as
+// soon as it is found.
+fn packed<P: Write>(
     alloc: Global,
     sizes: &[Size],
     options: &SheetOptions,
-    before: usize,
+    dense: bool,
     progress: &mut P,
-) -> Result<(Size, Vec<Option<Placed>>), PackError> {
+) -> Result<Option<Sheet>, SheetError> {
+    if dense {
+        return pack_dense(alloc, sizes, options);
+    }
     let telling = options.effort > 0;
-    let packed = pack_telling(alloc, sizes, options, |size| {
+    pack_telling(alloc, sizes, options, |size| {
         if telling {
             tell(progress, size);
         }
-    });
-    match packed {
-        Ok(Some(sheet)) => {
-            let places = all_of(alloc, &sheet.places)?;
-            Ok((sheet.size, places))
-        }
-        Ok(None) => Err(PackError::NoSheet),
-        Err(error) => Err(fault_of(error, sizes, options, before)),
-    }
-}
-
-// The same, or a smaller sheet with no whole cuts.
-fn pack_all_dense(
-    alloc: Global,
-    sizes: &[Size],
-    options: &SheetOptions,
-    before: usize,
-) -> Result<(Size, Vec<Option<Placed>>), PackError> {
-    match pack_dense(alloc, sizes, options) {
-        Ok(Some(sheet)) => {
-            let places = all_of(alloc, &sheet.places)?;
-            Ok((sheet.size, places))
-        }
-        Ok(None) => Err(PackError::NoSheet),
-        Err(error) => Err(fault_of(error, sizes, options, before)),
-    }
+    })
 }
 
 /// A sheet that takes all sprites, and their places: with `dense` one with no whole cuts, where that is smaller. `NoSheet`
@@ -150,10 +129,65 @@ pub fn pack_whole<P: Write>(
     before: usize,
     progress: &mut P,
 ) -> Result<(Size, Vec<Option<Placed>>), PackError> {
-    if dense {
-        return pack_all_dense(alloc, sizes, options, before);
+    match packed(alloc, sizes, options, dense, progress) {
+        Ok(Some(sheet)) => {
+            let places = all_of(alloc, &sheet.places)?;
+            Ok((sheet.size, places))
+        }
+        Ok(None) => Err(PackError::NoSheet),
+        Err(error) => Err(fault_of(error, sizes, options, before)),
     }
-    pack_all(alloc, sizes, options, before, progress)
+}
+
+// A sprite in its place on one of several sheets.
+fn page_frame_of(sprite: Sprite, place: OnPage) -> PageFrame {
+    PageFrame {
+        page: place.page,
+        frame: frame_of(sprite, place.placed),
+    }
+}
+
+/// Each sprite beside its place on one of several sheets, in order.
+pub fn beside_pages(
+    alloc: Global,
+    sprites: Vec<Sprite>,
+    places: &[OnPage],
+) -> Result<Vec<(Sprite, OnPage)>, AllocError> {
+    let places = places.iter().copied();
+    sprites.into_iter().zip(places).collect_in(alloc)
+}
+
+/// Each sprite in its place on one of several sheets, in order.
+pub fn page_frames(
+    alloc: Global,
+    pairs: Vec<(Sprite, OnPage)>,
+) -> Result<Vec<PageFrame>, AllocError> {
+    let mut frames = Vec::new(alloc);
+    for (sprite, place) in pairs {
+        frames.push(page_frame_of(sprite, place))?;
+    }
+    Ok(frames)
+}
+
+/// Up to `most` sheets that take all sprites, and their places. `NoSheet` where a sprite fits no empty sheet, and
+/// `MorePages` where more sheets are needed.
+pub fn pack_several(
+    alloc: Global,
+    sizes: &[Size],
+    options: &SheetOptions,
+    most: u32,
+    before: usize,
+) -> Result<Pages, PackError> {
+    match pack_pages(alloc, sizes, options) {
+        Ok(Some(pages)) => {
+            if pages.sizes.len() > most as usize {
+                return Err(PackError::MorePages);
+            }
+            Ok(pages)
+        }
+        Ok(None) => Err(PackError::NoSheet),
+        Err(error) => Err(fault_of(error, sizes, options, before)),
+    }
 }
 
 /// The greatest sheet that is allowed, and a place or none for each sprite.

@@ -1,33 +1,33 @@
 // Erased from crates/atlas_pack/src/run.rt by rust/erase: don't edit.
 //! A run of the program, from the bytes of a reader to the bytes of a writer.
 
-use crate::packing::{beside, fill_one, pack_whole, parted, sheet_options, sizes_of};
-use pack_lines::{read_job, sheet_json, sheet_lines, Frame, Job, PackError, Sprite};
+use crate::packing::{
+    beside, beside_pages, fill_one, pack_several, pack_whole, page_frames, parted, sheet_options,
+    sizes_of,
+};
+use pack_lines::{
+    pages_lines, read_job, sheet_json, sheet_lines, Frame, Job, PackError, Settings, Sprite,
+};
 use wollemigo_core::atlas_model::Size;
 use wollemigo_core::atlas_sheet::Placed;
 use wollemigo_support::alloc::{AllocError, Global};
 use wollemigo_support::io::{Read, Write};
 use wollemigo_support::prelude::Vec;
 
-// The sheet that a job asks for, and a place or none for each of its sprites.
-fn answer<P: Write>(
+// The sheet that these settings ask for, and a place or none for each sprite.
+fn found<P: Write>(
     alloc: Global,
-    job: &Job<'_>,
+    settings: Settings,
+    sprites: &[Sprite],
+    before: usize,
     progress: &mut P,
 ) -> Result<(Size, Vec<Option<Placed>>), PackError> {
-    let sizes = sizes_of(alloc, &job.sprites)?;
-    let options = sheet_options(job.settings);
-    if job.settings.fill {
-        return fill_one(alloc, &sizes, &options, job.before);
+    let sizes = sizes_of(alloc, sprites)?;
+    let options = sheet_options(settings);
+    if settings.fill {
+        return fill_one(alloc, &sizes, &options, before);
     }
-    pack_whole(
-        alloc,
-        &sizes,
-        &options,
-        job.settings.dense,
-        job.before,
-        progress,
-    )
+    pack_whole(alloc, &sizes, &options, settings.dense, before, progress)
 }
 
 // The text of a sheet.
@@ -35,20 +35,67 @@ fn written(
     alloc: Global,
     json: bool,
     sheet: Size,
-    frames: &[Frame<'_>],
-    left: &[Sprite<'_>],
+    frames: &[Frame],
+    left: &[Sprite],
 ) -> Result<Vec<u8>, AllocError> {
     if json {
         return sheet_json(alloc, sheet, frames);
     }
-    let lines = sheet_lines(alloc, sheet, frames, left)?;
-    Vec::from_slice(alloc, lines.as_bytes())
+    sheet_lines(alloc, sheet, frames, left)
+}
+
+// The text of the sheet that these settings ask for, and the sprites that have no place.
+fn one_sheet<P: Write>(
+    alloc: Global,
+    settings: Settings,
+    sprites: Vec<Sprite>,
+    before: usize,
+    progress: &mut P,
+) -> Result<(Vec<u8>, Vec<Sprite>), PackError> {
+    let (sheet, places) = found(alloc, settings, &sprites, before, progress)?;
+    let pairs = beside(alloc, sprites, &places)?;
+    let (frames, left) = parted(alloc, pairs)?;
+    let text = written(alloc, settings.json, sheet, &frames, &left)?;
+    Ok((text, left))
 }
 
 // Tells a person which sprites have no place. A failure is passed over.
-fn tell_left<P: Write>(progress: &mut P, left: &[Sprite<'_>]) {
+fn tell_left<P: Write>(progress: &mut P, left: &[Sprite]) {
     for sprite in left {
         let _ = writeln!(progress, "no place: {}", sprite.name);
+    }
+}
+
+// The text of several sheets that these settings ask for. Each sprite has a place.
+fn several(
+    alloc: Global,
+    settings: Settings,
+    most: u32,
+    sprites: Vec<Sprite>,
+    before: usize,
+) -> Result<Vec<u8>, PackError> {
+    let sizes = sizes_of(alloc, &sprites)?;
+    let options = sheet_options(settings);
+    let pages = pack_several(alloc, &sizes, &options, most, before)?;
+    let pairs = beside_pages(alloc, sprites, &pages.places)?;
+    let frames = page_frames(alloc, pairs)?;
+    Ok(pages_lines(alloc, &pages.sizes, &frames)?)
+}
+
+// The text that these settings ask for, and the sprites that have no place.
+fn answer<P: Write>(
+    alloc: Global,
+    settings: Settings,
+    sprites: Vec<Sprite>,
+    before: usize,
+    progress: &mut P,
+) -> Result<(Vec<u8>, Vec<Sprite>), PackError> {
+    match settings.pages {
+        Some(most) => {
+            let text = several(alloc, settings, most, sprites, before)?;
+            Ok((text, Vec::new(alloc)))
+        }
+        None => one_sheet(alloc, settings, sprites, before, progress),
     }
 }
 
@@ -63,10 +110,12 @@ pub fn run<R: Read, W: Write, P: Write>(
     let mut text = Vec::new(alloc);
     input.read_to_end(&mut text)?;
     let job = read_job(alloc, &text)?;
-    let (sheet, places) = answer(alloc, &job, progress)?;
-    let pairs = beside(alloc, &job.sprites, &places)?;
-    let (frames, left) = parted(alloc, &pairs)?;
-    let told = written(alloc, job.settings.json, sheet, &frames, &left)?;
+    let Job {
+        settings,
+        sprites,
+        before,
+    } = job;
+    let (told, left) = answer(alloc, settings, sprites, before, progress)?;
     output.write_all(&told)?;
     tell_left(progress, &left);
     Ok(left.len())
@@ -81,7 +130,7 @@ mod tests {
     use wollemigo_support::process::Abort;
 
     // Each row: the lines in, and the lines out or what stops them.
-    const ROWS: [(&str, &str); 13] = [
+    const ROWS: [(&str, &str); 20] = [
         (
             "a 4 3\nb 4 3\n",
             "sheet 8 4\na 0 0 4 3\nb 4 0 4 3\nfull 750\n",
@@ -122,6 +171,29 @@ mod tests {
         (
             "sheet powers 0\n",
             "line 1: the greatest side is below the least",
+        ),
+        // Both sheets but the last are full; the last is as small as it can be.
+        (
+            "sheet one 4 4 pages 3\na 4 2\n\"b c\" 4 4\nd 4 2\n",
+            "sheet 4 4\nsheet 4 4\na 1 0 0 4 2\n\"b c\" 0 0 0 4 4\nd 1 0 2 4 2\nfull 1000\n",
+        ),
+        (
+            "sheet powers 8 pages 2\na 8 8\nb 2 1\n",
+            "sheet 8 8\nsheet 2 1\na 0 0 0 8 8\nb 1 0 0 2 1\nfull 1000\n",
+        ),
+        ("sheet pages 0\n", "full 0\n"),
+        (
+            "sheet one 4 4 pages 2\na 4 4\nb 4 4\nc 1 1\n",
+            "more sheets are needed than pages allows",
+        ),
+        (
+            "sheet one 4 4 pages 9\na 4 4\nb 5 1\n",
+            "no sheet that is allowed takes all sprites",
+        ),
+        ("sheet pages 2\na 1 1\nb 0 1\n", "line 3: a side is below 1"),
+        (
+            "sheet pages 2 fill\n",
+            "line 1: pages goes with neither fill nor dense nor json",
         ),
         (
             "sheet align 0 1\n",

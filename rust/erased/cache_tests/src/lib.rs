@@ -1,29 +1,15 @@
 // Erased from crates/cache_tests/src/lib.rt by rust/erase: don't edit.
-//! Tests of the cache's parts. Expected values are worked by hand, or come from a plain list that the test keeps.
+//! Tests of the cache that lines can't say: random calls beside a plain model, and memory that is refused.
 #![forbid(unsafe_code)]
 #![allow(dead_code, unused_imports, unused_labels, unused_variables)]
 
 #[cfg(test)]
 mod asking;
 #[cfg(test)]
-mod blank;
+mod frames;
 #[cfg(test)]
-mod cache;
-#[cfg(test)]
-mod calls;
-#[cfg(test)]
-mod entries;
-#[cfg(test)]
-mod options;
+mod memory;
 #[cfg(test)]
 mod plain;
-#[cfg(test)]
-mod recency;
-#[cfg(test)]
-mod repacking;
-#[cfg(test)]
-mod reserving;
-#[cfg(test)]
-mod rooms;
 #[cfg(test)]
 mod traces;

@@ -22,5 +22,6 @@ mod reserved;
 mod sheet;
 mod shown;
 mod textures;
+mod themes;
 mod tiled;
 mod total;

@@ -1,7 +1,10 @@
 // Erased from crates/calling/src/reserved.rt by rust/erase: don't edit.
 //! Memory that is taken first, so that later calls find it.
 
-use wollemigo_core::guillotiere::{AllocId, AtlasAllocator, AtlasError, Size};
+use wollemigo_core::atlas_cache::entries::{DefaultHasher, Entries, Entry};
+use wollemigo_core::atlas_cache::recency::Recency;
+use wollemigo_core::atlas_cache::{CacheError, Changes, TextureCache};
+use wollemigo_core::guillotiere::{size2, AllocId, AtlasAllocator, AtlasError, Size};
 use wollemigo_support::alloc::Allocator;
 use wollemigo_support::prelude::prove;
 
@@ -84,5 +87,53 @@ pub fn one_of<A: Allocator + Copy>(
     size: Size,
 ) -> Result<(), AtlasError> {
     let _granted = atlas.allocate(size)?;
+    Ok(())
+}
+
+/// Two entries of an order for which memory was taken first: neither finds that there is none.
+pub fn two_numbers<A: Allocator>(recency: &mut Recency<A>) -> Result<(), CacheError> {
+    recency.reserve(2)?;
+    let one = recency.push();
+    prove!(!matches!(&one, Err(CacheError::Memory)));
+    let two = recency.push();
+    prove!(!matches!(&two, Err(CacheError::Memory)));
+    Ok(())
+}
+
+/// An order that was cleared has memory for as many entries as it had.
+pub fn numbers_again<A: Allocator>(recency: &mut Recency<A>) -> Result<(), CacheError> {
+    let _number = recency.push()?;
+    recency.clear();
+    let again = recency.push();
+    prove!(!matches!(&again, Err(CacheError::Memory)));
+    Ok(())
+}
+
+/// A new key among entries for which memory was taken first.
+pub fn one_entry<A: Allocator + Copy>(
+    entries: &mut Entries<u64, DefaultHasher, A>,
+    entry: Entry<u64>,
+) -> Result<(), CacheError> {
+    if entries.find(&entry.key).is_some() {
+        return Ok(());
+    }
+    entries.reserve(1)?;
+    let number = entries.push(entry);
+    prove!(!matches!(&number, Err(CacheError::Memory)));
+    Ok(())
+}
+
+/// Two spaces of a text, for which memory was taken first, whether they are held or new.
+pub fn two_spaces<A: Allocator + Copy>(
+    cache: &mut TextureCache<u64, DefaultHasher, A>,
+    first: u64,
+    second: u64,
+    changes: &mut Changes<u64, A>,
+) -> Result<(), CacheError> {
+    cache.reserve(2)?;
+    let one = cache.insert(first, size2(0, 0), changes);
+    prove!(!matches!(&one, Err(CacheError::Memory)));
+    let two = cache.insert(second, size2(0, 0), changes);
+    prove!(!matches!(&two, Err(CacheError::Memory)));
     Ok(())
 }

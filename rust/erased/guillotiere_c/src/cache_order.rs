@@ -72,7 +72,7 @@ pub extern "C" fn guillotiere_cache_older(
     write_keyed(found, older, place)
 }
 
-/// Takes memory for so many more keys; nothing else changes. `DONE`; `MEMORY`.
+/// Takes memory for so many more keys; nothing else changes, and nothing at all with `MEMORY`. `DONE`; `MEMORY`.
 #[no_mangle]
 pub extern "C" fn guillotiere_cache_reserve(cache: &mut CacheHandle, additional: usize) -> u32 {
     let alloc = Global;

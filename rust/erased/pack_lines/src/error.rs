@@ -9,6 +9,8 @@ use wollemigo_support::io;
 pub enum PackError {
     /// The words after `sheet` on the first line are no settings.
     BadSettings,
+    /// `pages` stands with `fill`, `dense` or `json`.
+    NotTogether,
     /// This line is no sprite.
     BadLine(usize),
     /// The name on this line stands on an earlier one.
@@ -25,6 +27,8 @@ pub enum PackError {
     EmptyAlignment,
     /// No sheet that is allowed takes all sprites.
     NoSheet,
+    /// More sheets would be needed than `pages` allows.
+    MorePages,
     /// A request for memory was refused.
     Memory,
     /// A device failed.
@@ -35,6 +39,9 @@ impl core::fmt::Display for PackError {
     fn fmt(&self, f: &mut core::fmt::Formatter<'_>) -> core::fmt::Result {
         match self {
             PackError::BadSettings => f.write_str("line 1: not a setting, or not its numbers"),
+            PackError::NotTogether => {
+                f.write_str("line 1: pages goes with neither fill nor dense nor json")
+            }
             PackError::BadLine(value) => write!(
                 f,
                 "line {}: not a sprite, which is NAME WIDTH HEIGHT",
@@ -49,6 +56,7 @@ impl core::fmt::Display for PackError {
             PackError::EmptyRange => f.write_str("line 1: the greatest side is below the least"),
             PackError::EmptyAlignment => f.write_str("line 1: a side of the alignment is below 1"),
             PackError::NoSheet => f.write_str("no sheet that is allowed takes all sprites"),
+            PackError::MorePages => f.write_str("more sheets are needed than pages allows"),
             PackError::Memory => f.write_str("no memory"),
             PackError::Device(value) => write!(f, "{}", value),
         }

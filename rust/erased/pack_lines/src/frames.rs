@@ -5,10 +5,10 @@ use crate::sprites::Sprite;
 use wollemigo_core::atlas_model::{Point, Size};
 
 /// A sprite in its place.
-#[derive(Clone, Copy, Debug)]
-pub struct Frame<'a> {
+#[derive(Debug)]
+pub struct Frame {
     /// The sprite.
-    pub sprite: Sprite<'a>,
+    pub sprite: Sprite,
     /// The upper left corner of its place, in pixels.
     pub corner: Point,
     /// Whether it is turned by 90 degrees: the place is as wide as the sprite is high.
@@ -16,14 +16,14 @@ pub struct Frame<'a> {
 }
 
 // How many pixels a size has.
-fn pixel_count(size: Size) -> u64 {
+pub fn pixel_count(size: Size) -> u64 {
     let width = size.width.max(0) as u64;
     let height = size.height.max(0) as u64;
     width * height
 }
 
 // How many pixels the sprites have together.
-fn used_pixels(frames: &[Frame<'_>]) -> u128 {
+fn used_pixels(frames: &[Frame]) -> u128 {
     let mut used = 0;
     for frame in frames {
         used += u128::from(pixel_count(frame.sprite.size));
@@ -32,7 +32,7 @@ fn used_pixels(frames: &[Frame<'_>]) -> u128 {
 }
 
 /// How many thousandths of the sheet's pixels the sprites have, rounded down; 0 for an empty sheet.
-pub fn fullness(sheet: Size, frames: &[Frame<'_>]) -> u128 {
+pub fn fullness(sheet: Size, frames: &[Frame]) -> u128 {
     let all = u128::from(pixel_count(sheet));
     1000 * used_pixels(frames).min(all) / all.max(1)
 }

@@ -12,13 +12,18 @@ use wollemigo_support::prelude::Vec;
 
 /// What the lines of a text ask for.
 
-pub struct Job<'a> {
+pub struct Job {
     /// What the sheet keeps to, and how it is written.
     pub settings: Settings,
     /// The sprites, in the order of their lines.
-    pub sprites: Vec<Sprite<'a>>,
+    pub sprites: Vec<Sprite>,
     /// How many lines stand before those of the sprites: 1 where the first line sets something, else 0.
     pub before: usize,
+}
+
+// Whether `pages` stands with neither `fill` nor `dense` nor `json`.
+fn goes_together(settings: Settings) -> bool {
+    settings.pages.is_none() || (!settings.fill && (!settings.dense && !settings.json))
 }
 
 // What the first line sets, how many lines do, and the lines after it.
@@ -28,17 +33,24 @@ fn read_first(text: &[u8]) -> Result<(Settings, usize, &[u8]), PackError> {
     if word != b"sheet".as_slice() {
         return Ok((DEFAULT_SETTINGS, 0, text));
     }
-    match read_settings(words) {
-        Some(settings) => Ok((settings, 1, rest)),
-        None => Err(PackError::BadSettings),
+    let settings = match read_settings(words) {
+        Some(settings) => settings,
+        _ => {
+            return Err(PackError::BadSettings);
+        }
+    };
+    if !goes_together(settings) {
+        return Err(PackError::NotTogether);
     }
+    Ok((settings, 1, rest))
 }
 
 /// What the lines of a text ask for: settings, if the first line begins with the word `sheet`, and then a sprite each.
 ///
-/// `BadSettings` if the words after `sheet` are none; `BadLine` names the first line that is no sprite; `Twice` names
-/// the first line whose name stands on an earlier one; `Memory` if memory is refused.
-pub fn read_job(alloc: Global, text: &[u8]) -> Result<Job<'_>, PackError> {
+/// `BadSettings` if the words after `sheet` are none; `NotTogether` if `pages` stands with `fill`, `dense` or `json`;
+/// `BadLine` names the first line that is no sprite; `Twice` names the first line whose name stands on an earlier one;
+/// `Memory` if memory is refused.
+pub fn read_job(alloc: Global, text: &[u8]) -> Result<Job, PackError> {
     let (settings, before, rest) = read_first(text)?;
     let sprites = read_sprites(alloc, rest, before)?;
     check_names(alloc, &sprites, before)?;

@@ -7,7 +7,7 @@ use wollemigo_support::alloc::{AllocError, Global};
 use wollemigo_support::prelude::{format, String, Vec};
 
 // A name as a JSON string.
-fn quote(alloc: Global, name: &str) -> Result<Vec<u8>, AllocError> {
+pub fn quote(alloc: Global, name: &str) -> Result<Vec<u8>, AllocError> {
     let mut text = Vec::from_slice(alloc, b"\"")?;
     for byte in name.as_bytes() {
         if *byte == b'"' || *byte == b'\\' {
@@ -42,8 +42,8 @@ fn sides(alloc: Global, size: Size, turned: bool) -> Result<String, AllocError> 
 }
 
 // A sprite: its name and its frame.
-fn frame_json(alloc: Global, frame: Frame<'_>) -> Result<Vec<u8>, AllocError> {
-    let mut text = quote(alloc, frame.sprite.name)?;
+fn frame_json(alloc: Global, frame: &Frame) -> Result<Vec<u8>, AllocError> {
+    let mut text = quote(alloc, frame.sprite.name.as_str())?;
     let corner = corner(alloc, frame.corner)?;
     text.extend_from_slice(corner.as_bytes())?;
     let sides = sides(alloc, frame.sprite.size, frame.turned)?;
@@ -51,20 +51,35 @@ fn frame_json(alloc: Global, frame: Frame<'_>) -> Result<Vec<u8>, AllocError> {
     Ok(text)
 }
 
+// A frame after another.
+fn next_json(alloc: Global, frame: &Frame) -> Result<Vec<u8>, AllocError> {
+    let mut text = Vec::from_slice(alloc, b",\n")?;
+    let frame = frame_json(alloc, frame)?;
+    text.extend_from_slice(&frame)?;
+    Ok(text)
+}
+
+// Frames after another, in order.
+fn others_json(alloc: Global, others: &[Frame]) -> Result<Vec<u8>, AllocError> {
+    let mut text = Vec::new(alloc);
+    for next in others {
+        let line = next_json(alloc, next)?;
+        text.extend_from_slice(&line)?;
+    }
+    Ok(text)
+}
+
 // The frames in order, with a comma between two.
-fn frames_json(alloc: Global, frames: &[Frame<'_>]) -> Result<Vec<u8>, AllocError> {
+fn frames_json(alloc: Global, frames: &[Frame]) -> Result<Vec<u8>, AllocError> {
     let (first, others) = match frames.split_first() {
         Some((first, others)) => (first, others),
         _ => {
             return Ok(Vec::new(alloc));
         }
     };
-    let mut text = frame_json(alloc, *first)?;
-    for next in others {
-        text.extend_from_slice(b",\n")?;
-        let next = frame_json(alloc, *next)?;
-        text.extend_from_slice(&next)?;
-    }
+    let mut text = frame_json(alloc, first)?;
+    let others = others_json(alloc, others)?;
+    text.extend_from_slice(&others)?;
     Ok(text)
 }
 
@@ -76,7 +91,7 @@ fn meta(alloc: Global, sheet: Size) -> Result<String, AllocError> {
 
 /// A sheet as a JSON object: `frames` by the names of the sprites, in order, each with its `frame` (`x`, `y`, `w`, `h`)
 /// and `rotated`; and `meta` with the `size` of the sheet (`w`, `h`). It takes memory for the text.
-pub fn sheet_json(alloc: Global, sheet: Size, frames: &[Frame<'_>]) -> Result<Vec<u8>, AllocError> {
+pub fn sheet_json(alloc: Global, sheet: Size, frames: &[Frame]) -> Result<Vec<u8>, AllocError> {
     let mut text = Vec::from_slice(alloc, b"{\"frames\":{\n")?;
     let frames = frames_json(alloc, frames)?;
     text.extend_from_slice(&frames)?;

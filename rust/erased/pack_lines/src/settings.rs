@@ -38,6 +38,8 @@ pub enum Setting {
     Dense,
     /// `json`: the sheet is written as JSON.
     Json,
+    /// `pages N`: up to so many sheets take all sprites.
+    Pages(u32),
 }
 
 /// What a sheet keeps to, and how it is written.
@@ -61,6 +63,8 @@ pub struct Settings {
     pub dense: bool,
     /// Whether the sheet is written as JSON.
     pub json: bool,
+    /// Up to how many sheets take all sprites together; None for one sheet.
+    pub pages: Option<u32>,
 }
 
 /// Powers of two up to 4096, no padding, alignment 1 in both directions, no turning, no changes of the order; as lines.
@@ -77,6 +81,7 @@ pub const DEFAULT_SETTINGS: Settings = Settings {
     fill: false,
     dense: false,
     json: false,
+    pages: None,
 };
 
 // The settings with one changed.
@@ -91,6 +96,7 @@ fn change(settings: &mut Settings, setting: Setting) {
         Setting::Fill => settings.fill = true,
         Setting::Dense => settings.dense = true,
         Setting::Json => settings.json = true,
+        Setting::Pages(most) => settings.pages = Some(most),
     }
 }
 
@@ -130,6 +136,9 @@ fn with_number(word: &[u8], number: i32) -> Option<Setting> {
     }
     if word == b"seed".as_slice() {
         return from_zero(number).map(Setting::Seed);
+    }
+    if word == b"pages".as_slice() {
+        return from_zero(number).map(Setting::Pages);
     }
     None
 }

@@ -1,37 +1,75 @@
 // Erased from crates/pack_lines/src/sprites.rt by rust/erase: don't edit.
 //! Sprites, and the lines that name them.
 
+use crate::quoted::{after, read_quoted};
 use atlas_words::words::{first_word, size_arguments};
 use core::str;
 use wollemigo_core::atlas_model::Size;
+use wollemigo_support::alloc::{AllocError, Global};
+use wollemigo_support::prelude::{String, Vec};
 
 /// A sprite that a line names.
-#[derive(Clone, Copy, Debug)]
-pub struct Sprite<'a> {
-    /// Its name: one or more printable ASCII characters, none of them a space.
-    pub name: &'a str,
+#[derive(Debug)]
+pub struct Sprite {
+    /// Its name: one or more characters, none of them a control character.
+    pub name: String,
     /// Its size, in pixels.
     pub size: Size,
 }
 
-// Whether all bytes are printable, and none a space.
-fn are_printable(word: &[u8]) -> bool {
-    word.iter().all(|byte| byte.is_ascii_graphic())
+// What the front of a line spells, in quotation marks or as it is up to a space, and what follows that.
+fn read_spelled(alloc: Global, line: &[u8]) -> Result<Option<(Vec<u8>, &[u8])>, AllocError> {
+    if let Some(text) = after(b'"', line) {
+        return read_quoted(alloc, text);
+    }
+    let (word, rest) = first_word(line);
+    Ok(Some((Vec::from_slice(alloc, word)?, rest)))
 }
 
-// The name that a word is.
-fn read_name(word: &[u8]) -> Option<&str> {
-    if word.is_empty() || !are_printable(word) {
-        return None;
+// Whether a character of a text is a control character.
+fn has_control(text: &str) -> bool {
+    text.chars().any(|c| c.is_control())
+}
+
+// The name that these bytes are.
+fn name_of(alloc: Global, bytes: &[u8]) -> Result<Option<String>, AllocError> {
+    if bytes.is_empty() {
+        return Ok(None);
     }
-    str::from_utf8(word).ok()
+    let name = match str::from_utf8(bytes) {
+        Ok(name) => name,
+        _ => {
+            return Ok(None);
+        }
+    };
+    if has_control(name) {
+        return Ok(None);
+    }
+    Ok(Some(String::from_str(alloc, name)?))
 }
 
 /// The sprite that the bytes of a line, without its LF, name: NAME WIDTH HEIGHT, parted by single spaces. None for
-/// every other line.
-pub fn read_sprite(line: &[u8]) -> Option<Sprite<'_>> {
-    let (word, rest) = first_word(line);
-    let name = read_name(word)?;
-    let size = size_arguments(rest)?;
-    Some(Sprite { name, size })
+/// every other line. A name is one or more characters in UTF-8, none of them a control character. It stands as it is
+/// where it has no space and doesn't begin with a quotation mark; each name may stand in quotation marks, as a string
+/// of JSON. It takes memory for the name.
+pub fn read_sprite(alloc: Global, line: &[u8]) -> Result<Option<Sprite>, AllocError> {
+    let (bytes, rest) = match read_spelled(alloc, line)? {
+        Some((bytes, rest)) => (bytes, rest),
+        _ => {
+            return Ok(None);
+        }
+    };
+    let size = match size_arguments(rest) {
+        Some(size) => size,
+        _ => {
+            return Ok(None);
+        }
+    };
+    let name = match name_of(alloc, &bytes)? {
+        Some(name) => name,
+        _ => {
+            return Ok(None);
+        }
+    };
+    Ok(Some(Sprite { name, size }))
 }

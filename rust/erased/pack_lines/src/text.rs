@@ -2,77 +2,99 @@
 //! A sheet as lines.
 
 use crate::frames::{fullness, Frame};
+use crate::json::quote;
 use crate::sprites::Sprite;
 use wollemigo_core::atlas_model::Size;
 use wollemigo_support::alloc::{AllocError, Global};
-use wollemigo_support::prelude::{format, String};
+use wollemigo_support::prelude::{format, String, Vec};
 
 // The line of the sheet.
-fn sheet_line(alloc: Global, sheet: Size) -> Result<String, AllocError> {
+pub fn sheet_line(alloc: Global, sheet: Size) -> Result<String, AllocError> {
     let Size { width, height } = sheet;
     format!(in alloc; "sheet {width} {height}\n")
 }
 
-// The line of a sprite.
-fn sprite_line(alloc: Global, frame: Frame<'_>) -> Result<String, AllocError> {
-    let name = frame.sprite.name;
+// Whether a name has to stand in quotation marks.
+fn needs_quotes(name: &[u8]) -> bool {
+    match name.first() {
+        Some(first) => *first == b'"' || name.contains(&b' '),
+        None => false,
+    }
+}
+
+// A name in a line. It is read as this name.
+pub fn spelled(alloc: Global, name: &str) -> Result<Vec<u8>, AllocError> {
+    if needs_quotes(name.as_bytes()) {
+        return quote(alloc, name);
+    }
+    Vec::from_slice(alloc, name.as_bytes())
+}
+
+// What stands after the name in the line of a sprite.
+pub fn place(alloc: Global, frame: &Frame) -> Result<String, AllocError> {
     let at = frame.corner;
     let size = frame.sprite.size;
     let turned = if frame.turned { " turned" } else { "" };
     format!(in alloc;
-        "{name} {} {} {} {}{turned}\n",
+        " {} {} {} {}{turned}\n",
         at.x, at.y, size.width, size.height
     )
 }
 
+// The line of a sprite.
+fn sprite_line(alloc: Global, frame: &Frame) -> Result<Vec<u8>, AllocError> {
+    let mut text = spelled(alloc, frame.sprite.name.as_str())?;
+    let place = place(alloc, frame)?;
+    text.extend_from_slice(place.as_bytes())?;
+    Ok(text)
+}
+
 // The lines of the sprites.
-fn sprite_lines(alloc: Global, frames: &[Frame<'_>]) -> Result<String, AllocError> {
-    let mut text = String::new(alloc);
+fn sprite_lines(alloc: Global, frames: &[Frame]) -> Result<Vec<u8>, AllocError> {
+    let mut text = Vec::new(alloc);
     for frame in frames {
-        let line = sprite_line(alloc, *frame)?;
-        text.push_str(line.as_str())?;
+        let line = sprite_line(alloc, frame)?;
+        text.extend_from_slice(&line)?;
     }
     Ok(text)
 }
 
 // The line of a sprite without a place.
-fn left_line(alloc: Global, sprite: Sprite<'_>) -> Result<String, AllocError> {
-    let name = sprite.name;
-    format!(in alloc; "{name} none\n")
+fn left_line(alloc: Global, sprite: &Sprite) -> Result<Vec<u8>, AllocError> {
+    let mut text = spelled(alloc, sprite.name.as_str())?;
+    text.extend_from_slice(b" none\n")?;
+    Ok(text)
 }
 
 // The lines of the sprites without a place.
-fn left_lines(alloc: Global, left: &[Sprite<'_>]) -> Result<String, AllocError> {
-    let mut text = String::new(alloc);
+fn left_lines(alloc: Global, left: &[Sprite]) -> Result<Vec<u8>, AllocError> {
+    let mut text = Vec::new(alloc);
     for sprite in left {
-        let line = left_line(alloc, *sprite)?;
-        text.push_str(line.as_str())?;
+        let line = left_line(alloc, sprite)?;
+        text.extend_from_slice(&line)?;
     }
     Ok(text)
 }
 
 // The line that says how full the sheet is.
-fn full_line(alloc: Global, fullness: u128) -> Result<String, AllocError> {
+pub fn full_line(alloc: Global, fullness: u128) -> Result<String, AllocError> {
     format!(in alloc; "full {fullness}\n")
 }
 
 /// A sheet as lines: its size, each sprite with its place, those without one, each in order, and how full it is, in
-/// thousandths. It takes memory for the text.
+/// thousandths. A name that has a space or begins with a quotation mark stands in quotation marks, as a string of JSON.
+/// It takes memory for the text.
 pub fn sheet_lines(
     alloc: Global,
     sheet: Size,
-    frames: &[Frame<'_>],
-    left: &[Sprite<'_>],
-) -> Result<String, AllocError> {
+    frames: &[Frame],
+    left: &[Sprite],
+) -> Result<Vec<u8>, AllocError> {
     let first = sheet_line(alloc, sheet)?;
-    let placed = sprite_lines(alloc, frames)?;
-    let rest = left_lines(alloc, left)?;
+    let mut text = Vec::from_slice(alloc, first.as_bytes())?;
+    text.extend_from_slice(&sprite_lines(alloc, frames)?)?;
+    text.extend_from_slice(&left_lines(alloc, left)?)?;
     let last = full_line(alloc, fullness(sheet, frames))?;
-    let (first, placed, rest, last) = (
-        first.as_str(),
-        placed.as_str(),
-        rest.as_str(),
-        last.as_str(),
-    );
-    format!(in alloc; "{first}{placed}{rest}{last}")
+    text.extend_from_slice(last.as_bytes())?;
+    Ok(text)
 }

@@ -7,7 +7,7 @@ use wollemigo_support::prelude::{assert, assert_eq, format, ExpectIn, HostRuntim
 use wollemigo_support::process::Abort;
 
 // Each row: a text, and the line that says what is wrong with it.
-const BAD: [(&str, &str); 16] = [
+const BAD: [(&str, &str); 21] = [
     (
         "a 1 2\nb 1\n",
         "line 2: not a sprite, which is NAME WIDTH HEIGHT",
@@ -38,10 +38,6 @@ const BAD: [(&str, &str); 16] = [
         "line 1: not a sprite, which is NAME WIDTH HEIGHT",
     ),
     (
-        "b\u{e4}r 1 2\n",
-        "line 1: not a sprite, which is NAME WIDTH HEIGHT",
-    ),
-    (
         "sheet\nsheet turn\n",
         "line 2: not a sprite, which is NAME WIDTH HEIGHT",
     ),
@@ -53,7 +49,31 @@ const BAD: [(&str, &str); 16] = [
         "sheet turn\na 1 2\na 1 2\n",
         "line 3: this name stands on an earlier line",
     ),
+    (
+        "a 1 2\n\"a\" 1 2\n",
+        "line 2: this name stands on an earlier line",
+    ),
+    (
+        "\"\\u00e4 b\" 1 2\n\"\u{e4} b\" 3 4\n",
+        "line 2: this name stands on an earlier line",
+    ),
     ("sheet 10 10\n", "line 1: not a setting, or not its numbers"),
+    (
+        "sheet pages -1\n",
+        "line 1: not a setting, or not its numbers",
+    ),
+    (
+        "sheet pages 2 fill\n",
+        "line 1: pages goes with neither fill nor dense nor json",
+    ),
+    (
+        "sheet dense pages 2\n",
+        "line 1: pages goes with neither fill nor dense nor json",
+    ),
+    (
+        "sheet pages 1 turn json\na 1 2\na 1 2\n",
+        "line 1: pages goes with neither fill nor dense nor json",
+    ),
     (
         "sheet powers\n",
         "line 1: not a setting, or not its numbers",
@@ -100,14 +120,82 @@ fn good_lines() {
 #[test]
 fn sprites() {
     let rt = HostRuntime;
-    let sprite = read_sprite(b"a/b.png 007 -3").expect_in(&rt, "a sprite");
-    assert_eq!(&rt; sprite.name, "a/b.png");
+    let line = b"a/b.png 007 -3";
+    let sprite = read_sprite(rt.alloc(), line)
+        .expect_in(&rt, "memory")
+        .expect_in(&rt, "a sprite");
+    assert_eq!(&rt; sprite.name.as_str(), "a/b.png");
     assert!(&rt; sprite.size == size2(7, -3));
-    assert!(&rt; read_sprite(b"a/b.png 7").is_none());
+    let none = read_sprite(rt.alloc(), b"a/b.png 7").expect_in(&rt, "memory");
+    assert!(&rt; none.is_none());
+}
+
+// Each row: the bytes of a line that names no sprite.
+const NO_NAMES: [&[u8]; 22] = [
+    // Bytes that aren't UTF-8: one alone, one missing, a surrogate's, one between quotation marks.
+    b"\xff 1 2",
+    b"\xc3 1 2",
+    b"\xed\xa0\x80 1 2",
+    b"\"\xe4\" 1 2",
+    // A quotation mark that isn't closed, or is followed by no space.
+    b"\"a 1 2",
+    b"\"",
+    b"\"a\\\" 1 2",
+    b"\"a\"b 1 2",
+    b"\"\" 1 2",
+    // Control characters, as they are and by escapes.
+    b"a\tb 1 2",
+    b"a\x7f 1 2",
+    b"a\xc2\x85 1 2",
+    b"\"a\tb\" 1 2",
+    b"\"\\n\" 1 2",
+    b"\"\\u000a\" 1 2",
+    b"\"\\u0085\" 1 2",
+    // Escapes that are none, and halves of a character alone.
+    b"\"\\x\" 1 2",
+    b"\"\\u12g4\" 1 2",
+    b"\"\\u123\" 1 2",
+    b"\"\\ud83d\" 1 2",
+    b"\"\\ud83d\\u0041\" 1 2",
+    b"\"\\ude00\" 1 2",
+];
+
+#[test]
+fn no_names() {
+    let rt = HostRuntime;
+    for (row, line) in NO_NAMES.iter().enumerate() {
+        let read = read_sprite(rt.alloc(), line).expect_in(&rt, "memory");
+        assert!(&rt; read.is_none(), "row {row}");
+    }
+}
+
+// Each row: how a name is spelled, and the name.
+const NAMES: [(&str, &str); 11] = [
+    ("b\u{e4}r", "b\u{e4}r"),
+    ("q\"", "q\""),
+    ("a\\n", "a\\n"),
+    ("\"a b.png\"", "a b.png"),
+    ("\"a\"", "a"),
+    ("\"\\\"\\\\\\/\"", "\"\\/"),
+    ("\"\\u0041\\u00e4\\u20AC\"", "A\u{e4}\u{20ac}"),
+    ("\"x\\ud83d\\uDE00y\"", "x\u{1f600}y"),
+    ("\"\\ud800\\udc00\\udbff\\udfff\"", "\u{10000}\u{10ffff}"),
+    ("\"\\ue000\\ud7ff\"", "\u{e000}\u{d7ff}"),
+    ("\u{a0}", "\u{a0}"),
+];
+
+#[test]
+fn names() {
+    let rt = HostRuntime;
+    for (spelled, name) in NAMES {
+        let line = format!(in rt.alloc(); "{spelled} 1 2").expect_in(&rt, "memory");
+        let read = read_sprite(rt.alloc(), line.as_bytes()).expect_in(&rt, "memory");
+        assert_eq!(&rt; read.expect_in(&rt, "a sprite").name.as_str(), name);
+    }
 }
 
 // Each row: the words after `sheet`, and what they set.
-fn settings_rows() -> [(&'static str, Option<Settings>); 7] {
+fn settings_rows() -> [(&'static str, Option<Settings>); 8] {
     let usual = DEFAULT_SETTINGS;
     [
         ("", Some(usual)),
@@ -156,6 +244,14 @@ fn settings_rows() -> [(&'static str, Option<Settings>); 7] {
             " dense",
             Some(Settings {
                 dense: true,
+                ..usual
+            }),
+        ),
+        (
+            " pages 3 turn pages 2",
+            Some(Settings {
+                turn: true,
+                pages: Some(2),
                 ..usual
             }),
         ),

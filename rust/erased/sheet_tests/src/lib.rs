@@ -10,6 +10,8 @@ mod dense;
 #[cfg(test)]
 mod filling;
 #[cfg(test)]
+mod groups;
+#[cfg(test)]
 mod packing;
 #[cfg(test)]
 mod pages;

@@ -13,8 +13,6 @@ mod lists;
 #[cfg(test)]
 mod queries;
 #[cfg(test)]
-mod rows;
-#[cfg(test)]
 mod steps;
 #[cfg(test)]
 mod whole;

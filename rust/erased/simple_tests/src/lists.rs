@@ -1,5 +1,5 @@
 // Erased from crates/simple_tests/src/lists.rt by rust/erase: don't edit.
-//! The simple allocator whole: the steps as lists of calls, with each request for memory refused in turn.
+//! The steps of the simple allocator as lists of calls, also with each request for memory refused in turn.
 
 use crate::steps::{Row, Step, ROWS};
 use crate::whole::{begun, source_of, Atlas, Simple};
@@ -91,11 +91,7 @@ fn rows_as_lists_of_calls() -> Result<(), Fail> {
     for row in &ROWS {
         let calls = calls_of(rt.alloc(), row.steps)?;
         let replies = made(&rt, &heap, row, calls.as_slice())?;
-        assert!(rt;
-            are_replies(row.steps, replies.as_slice()),
-            "{:?}",
-            row.size
-        );
+        assert!(rt; are_replies(row.steps, replies.as_slice()));
     }
     Ok(())
 }
@@ -113,10 +109,7 @@ fn is_refused<'a>(
         Ok(()) => replies.as_slice() == [SimpleReply::Refused(AtlasError::Memory)].as_slice(),
         Err(error) => error == AtlasError::Memory && replies.is_empty(),
     };
-    assert!(rt;
-        !refused || (simple.size(), simple.is_empty()) == before,
-        "{call:?}"
-    );
+    assert!(rt; !refused || (simple.size(), simple.is_empty()) == before);
     refused
 }
 
@@ -131,12 +124,18 @@ fn run_or_again<'a>(
     let mut replies = Vec::new(heap);
     if is_refused(rt, simple, atlas, call, &mut replies) {
         replies.clear();
-        assert!(rt;
-            !is_refused(rt, simple, atlas, call, &mut replies),
-            "{call:?}"
-        );
+        assert!(rt; !is_refused(rt, simple, atlas, call, &mut replies));
     }
-    assert!(rt; replies.as_slice() == [want].as_slice(), "{call:?}");
+    assert!(rt; replies.as_slice() == [want].as_slice());
+}
+
+// Whether the allocator looks as a step says that is no call.
+fn looks_as(simple: &Simple<'_>, step: Step) -> bool {
+    match step {
+        Step::SizeIs(want) => simple.size() == size(want),
+        Step::EmptyIs(want) => simple.is_empty() == want,
+        _ => true,
+    }
 }
 
 // Makes a list of each call of a row.
@@ -147,6 +146,7 @@ fn run_steps(rt: &impl Abort, heap: &Refusing<Global>, row: &Row) -> Result<(), 
         if let Some(made) = call_and_reply(*step) {
             run_or_again(rt, heap, &mut simple, &atlas, made);
         }
+        assert!(rt; looks_as(&simple, *step));
     }
     Ok(())
 }
@@ -165,7 +165,7 @@ fn lists_of_one_call_with_each_request_for_memory_refused_in_turn() -> Result<()
             }
             refusals = number;
         }
-        assert!(rt; 0 < refusals && refusals < 99, "{:?}", row.size);
+        assert!(rt; 0 < refusals && refusals < 99);
     }
     Ok(())
 }

@@ -1,11 +1,11 @@
 // Erased from crates/simple_tests/src/steps.rt by rust/erase: don't edit.
 //! Steps of the simple allocator with their answers: worked rows of growths and starts.
 
-use test_tables::{Corners, Sides, ALIGNED_TO_8};
+use test_tables::{Corners, Sides, ALIGNED_TO_2, ALIGNED_TO_8};
 use wollemigo_core::guillotiere::{AllocatorOptions, Size, DEFAULT_OPTIONS};
 
 /// A call of the simple allocator with its answer.
-#[derive(Clone, Copy, Debug)]
+#[derive(Clone, Copy)]
 pub enum Step {
     Grant(Sides, Corners),
     NoRoom(Sides),
@@ -34,6 +34,7 @@ pub struct Source {
 /// An allocator of a size, the atlas that it may start from, and steps.
 pub struct Row {
     pub size: Sides,
+    pub options: AllocatorOptions,
     pub source: Source,
     pub steps: &'static [Step],
 }
@@ -56,9 +57,10 @@ const NO_HEIGHT: AllocatorOptions = AllocatorOptions {
     large_size_threshold: 256,
 };
 
-pub const ROWS: [Row; 9] = [
+pub static ROWS: [Row; 12] = [
     Row {
         size: (1, 1),
+        options: DEFAULT_OPTIONS,
         source: Source {
             size: (100, 300),
             options: DEFAULT_OPTIONS,
@@ -75,6 +77,7 @@ pub const ROWS: [Row; 9] = [
     },
     Row {
         size: (10, 10),
+        options: DEFAULT_OPTIONS,
         source: NO_SOURCE,
         steps: &[
             Step::EmptyIs(true),
@@ -89,6 +92,7 @@ pub const ROWS: [Row; 9] = [
     },
     Row {
         size: (10, 10),
+        options: DEFAULT_OPTIONS,
         source: NO_SOURCE,
         steps: &[
             Step::Grant((10, 10), (0, 0, 10, 10)),
@@ -100,6 +104,7 @@ pub const ROWS: [Row; 9] = [
     },
     Row {
         size: (1, 1),
+        options: DEFAULT_OPTIONS,
         source: Source {
             size: (20, 20),
             options: ALIGNED_TO_8,
@@ -115,6 +120,7 @@ pub const ROWS: [Row; 9] = [
     },
     Row {
         size: (1, 1),
+        options: DEFAULT_OPTIONS,
         source: Source {
             size: (30, 40),
             options: DEFAULT_OPTIONS,
@@ -125,6 +131,7 @@ pub const ROWS: [Row; 9] = [
     },
     Row {
         size: (10, 10),
+        options: DEFAULT_OPTIONS,
         source: Source {
             size: (100, 300),
             options: DEFAULT_OPTIONS,
@@ -145,6 +152,7 @@ pub const ROWS: [Row; 9] = [
     // Parts beside a request and beside a growth, with an alignment.
     Row {
         size: (1, 1),
+        options: DEFAULT_OPTIONS,
         source: NO_SOURCE,
         steps: &[
             Step::Reset((20, 20), ALIGNED_TO_8),
@@ -169,6 +177,7 @@ pub const ROWS: [Row; 9] = [
     // At an equal size nothing changes; an empty size is a bad reset.
     Row {
         size: (10, 10),
+        options: DEFAULT_OPTIONS,
         source: NO_SOURCE,
         steps: &[
             Step::Grow((10, 10)),
@@ -185,6 +194,7 @@ pub const ROWS: [Row; 9] = [
     // The greatest size.
     Row {
         size: (1, 1),
+        options: DEFAULT_OPTIONS,
         source: NO_SOURCE,
         steps: &[
             Step::Grow((2147483647, 2147483647)),
@@ -192,6 +202,40 @@ pub const ROWS: [Row; 9] = [
             Step::Grant((2147483646, 1), (1, 0, 2147483647, 1)),
             Step::Grant((1, 1), (0, 0, 1, 1)),
             Step::NoRoom((1, 1)),
+        ],
+    },
+    // With options of its own.
+    Row {
+        size: (20, 20),
+        options: ALIGNED_TO_8,
+        source: NO_SOURCE,
+        steps: &[
+            Step::EmptyIs(true),
+            Step::Grant((16, 16), (0, 0, 16, 16)),
+            Step::NoRoom((1, 1)),
+            Step::EmptyIs(false),
+            Step::SizeIs((20, 20)),
+        ],
+    },
+    Row {
+        size: (4, 4),
+        options: ALIGNED_TO_8,
+        source: NO_SOURCE,
+        steps: &[
+            Step::NoRoom((1, 1)),
+            Step::EmptyIs(true),
+            Step::SizeIs((4, 4)),
+        ],
+    },
+    Row {
+        size: (2147483647, 10),
+        options: ALIGNED_TO_2,
+        source: NO_SOURCE,
+        steps: &[
+            Step::NoRoom((2147483647, 1)),
+            Step::NoRoom((-2147483648, -2147483648)),
+            Step::EmptyIs(true),
+            Step::SizeIs((2147483647, 10)),
         ],
     },
 ];

@@ -1,14 +1,14 @@
 // Erased from crates/simple_tests/src/whole.rt by rust/erase: don't edit.
-//! The simple allocator whole: the steps call by call, with each request for memory refused in turn.
+//! Calls of the simple allocator by themselves, and those that need no memory.
 
 use crate::steps::{Row, Source, Step, ROWS};
 use test_memory::Refusing;
-use test_tables::{rectangle, size, Sides};
+use test_tables::{rectangle, size, Sides, ALIGNED_TO_8};
 use wollemigo_core::guillotiere::{
-    AllocId, AllocatorOptions, AtlasAllocator, AtlasError, Rectangle, SimpleAtlasAllocator, Size,
+    size2, AllocId, AtlasAllocator, AtlasError, Rectangle, SimpleAtlasAllocator, DEFAULT_OPTIONS,
 };
 use wollemigo_support::alloc::Global;
-use wollemigo_support::prelude::{assert, assert_eq, HostRuntime};
+use wollemigo_support::prelude::{assert, HostRuntime};
 use wollemigo_support::process::Abort;
 use wollemigo_support::test::Fail;
 
@@ -41,7 +41,7 @@ fn atlas_of<'a>(
     assert!(rt; source.options.is_valid());
     let mut atlas = AtlasAllocator::with_options(heap, whole, &source.options)?;
     for &request in source.granted {
-        assert!(rt; is_granted(&mut atlas, request)?, "{request:?}");
+        assert!(rt; is_granted(&mut atlas, request)?);
     }
     for &id in source.freed {
         free(&mut atlas, id)?;
@@ -56,7 +56,12 @@ fn simple_of<'a>(
 ) -> Result<Simple<'a>, AtlasError> {
     let whole = size(row.size);
     assert!(rt; !whole.is_empty());
-    SimpleAtlasAllocator::new(heap, whole)
+    assert!(rt; row.options.is_valid());
+    if row.options == DEFAULT_OPTIONS {
+        SimpleAtlasAllocator::new(heap, whole)
+    } else {
+        SimpleAtlasAllocator::with_options(heap, whole, &row.options)
+    }
 }
 
 /// The atlas of a row; where a request for memory is refused, it is made again.
@@ -83,101 +88,6 @@ pub fn begun<'a>(
     }
 }
 
-fn grow(rt: &impl Abort, simple: &mut Simple<'_>, to: Size) -> Result<(), AtlasError> {
-    let old = simple.size();
-    assert!(rt; old.width <= to.width && old.height <= to.height);
-    simple.grow(to)
-}
-
-fn reset(
-    rt: &impl Abort,
-    simple: &mut Simple<'_>,
-    to: Size,
-    options: &AllocatorOptions,
-) -> Result<(), AtlasError> {
-    assert!(rt; !to.is_empty());
-    assert!(rt; options.is_valid());
-    simple.reset(to, options)
-}
-
-// Takes a step by the allocator's own calls; a bad call is none of them. Returns whether it is answered as it must be.
-fn taken<'a>(
-    rt: &impl Abort,
-    simple: &mut Simple<'a>,
-    atlas: &Atlas<'a>,
-    step: Step,
-) -> Result<bool, AtlasError> {
-    match step {
-        Step::Grant(sides, want) => return Ok(request(simple, sides)? == Some(rectangle(want))),
-        Step::NoRoom(sides) => return Ok(request(simple, sides)?.is_none()),
-        Step::Grow(to) => grow(rt, simple, size(to))?,
-        Step::Clear => simple.clear()?,
-        Step::Reset(to, options) => reset(rt, simple, size(to), &options)?,
-        Step::Start => simple.init_from_allocator(atlas)?,
-        Step::SizeIs(want) => return Ok(simple.size() == size(want)),
-        Step::EmptyIs(want) => return Ok(simple.is_empty() == want),
-        Step::Shrink(_) | Step::BadReset(..) => {}
-    }
-    Ok(true)
-}
-
-fn take_step<'a>(
-    rt: &impl Abort,
-    simple: &mut Simple<'a>,
-    atlas: &Atlas<'a>,
-    step: Step,
-) -> Result<(), AtlasError> {
-    assert!(rt; taken(rt, simple, atlas, step)?, "{step:?}");
-    Ok(())
-}
-
-// Takes a step; where a request for memory is refused, nothing has changed, and the step is taken again.
-fn take_step_or_again<'a>(
-    rt: &impl Abort,
-    simple: &mut Simple<'a>,
-    atlas: &Atlas<'a>,
-    step: Step,
-) -> Result<(), AtlasError> {
-    let before = (simple.size(), simple.is_empty());
-    match take_step(rt, simple, atlas, step) {
-        Err(AtlasError::Memory) => {
-            assert_eq!(rt; (simple.size(), simple.is_empty()), before, "{step:?}");
-            take_step(rt, simple, atlas, step)
-        }
-        first => first,
-    }
-}
-
-// Takes a row's steps; one that is refused memory once is taken again.
-fn take_steps(rt: &impl Abort, heap: &Refusing<Global>, row: &Row) -> Result<(), AtlasError> {
-    let atlas = source_of(rt, heap, row)?;
-    let mut simple = begun(rt, heap, row)?;
-    for step in row.steps {
-        take_step_or_again(rt, &mut simple, &atlas, *step)?;
-    }
-    Ok(())
-}
-
-// The last time that a row is played no request for memory is refused.
-#[test]
-fn rows_with_each_request_for_memory_refused_in_turn() -> Result<(), Fail> {
-    let rt = HostRuntime;
-    let heap = Refusing::new(rt.alloc());
-    for row in &ROWS {
-        let mut refusals = 0;
-        for number in 1..100 {
-            heap.refuse_nth(number);
-            take_steps(&rt, &heap, row)?;
-            if !heap.is_done() {
-                break;
-            }
-            refusals = number;
-        }
-        assert!(rt; 0 < refusals && refusals < 99, "{:?}", row.size);
-    }
-    Ok(())
-}
-
 // Clears a row's allocator, of which a corner is taken, without memory.
 fn clears(rt: &impl Abort, heap: &Refusing<Global>, row: &Row) -> Result<(), AtlasError> {
     let mut simple = begun(rt, heap, row)?;
@@ -197,5 +107,67 @@ fn a_clearing_asks_for_no_memory_where_its_list_has_room() -> Result<(), Fail> {
     let rt = HostRuntime;
     let heap = Refusing::new(rt.alloc());
     clears(&rt, &heap, &ROWS[1])?;
+    Ok(())
+}
+
+// Makes the requests of a row; where there is no room, no memory is asked for.
+fn asks_where_there_is_room(
+    rt: &impl Abort,
+    heap: &Refusing<Global>,
+    row: &Row,
+) -> Result<(), AtlasError> {
+    let mut simple = begun(rt, heap, row)?;
+    for step in row.steps {
+        if let Step::Grant(sides, want) = step {
+            assert!(rt; request(&mut simple, *sides)? == Some(rectangle(*want)));
+        }
+        if let Step::NoRoom(sides) = step {
+            heap.refuse_every();
+            assert!(rt; request(&mut simple, *sides) == Ok(None));
+            heap.refuse_nth(0);
+        }
+    }
+    Ok(())
+}
+
+#[test]
+fn where_there_is_no_room_no_memory_is_asked_for() -> Result<(), Fail> {
+    let rt = HostRuntime;
+    let heap = Refusing::new(rt.alloc());
+    for row in &ROWS[9..] {
+        asks_where_there_is_room(&rt, &heap, row)?;
+    }
+    Ok(())
+}
+
+fn grown(heap: &Refusing<Global>) -> Result<Simple<'_>, AtlasError> {
+    let mut simple = SimpleAtlasAllocator::new(heap, size2(10, 10))?;
+    simple.grow(size2(20, 30))?;
+    Ok(simple)
+}
+
+#[test]
+fn a_growth_adds_free_boxes() -> Result<(), Fail> {
+    let rt = HostRuntime;
+    let heap = Refusing::new(rt.alloc());
+    let mut simple = grown(&heap)?;
+    assert!(rt; simple.size() == size2(20, 30) && !simple.is_empty());
+    assert!(rt; request(&mut simple, (20, 20)) == Ok(Some(rectangle((0, 10, 20, 30)))));
+    Ok(())
+}
+
+fn reset(heap: &Refusing<Global>) -> Result<Simple<'_>, AtlasError> {
+    let mut simple = SimpleAtlasAllocator::new(heap, size2(1, 1))?;
+    simple.reset(size2(20, 20), &ALIGNED_TO_8)?;
+    Ok(simple)
+}
+
+#[test]
+fn a_reset_takes_other_options() -> Result<(), Fail> {
+    let rt = HostRuntime;
+    let heap = Refusing::new(rt.alloc());
+    let mut simple = reset(&heap)?;
+    assert!(rt; simple.size() == size2(20, 20) && simple.is_empty());
+    assert!(rt; request(&mut simple, (9, 1)) == Ok(Some(rectangle((0, 0, 16, 8)))));
     Ok(())
 }

@@ -68,3 +68,6 @@ returns-clause-none g c = (
   λ all. absurd (not_all_largest c.args.options.now (page_sizes c.args.pages.now.items) c.in-Some.page
       c.in-Some.old (rw c.deref.ensures.value at c.in-Some.ensures.here) c.in-Some.ensures.smaller all),
 )
+
+pub returns-clause-others : goal.returns-clause-others
+returns-clause-others g c = rw c.number.ensures c.in_ok-grow_to.ensures.others

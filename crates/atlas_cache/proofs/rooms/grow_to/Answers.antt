@@ -2,7 +2,7 @@ use Rattle.std.proofs.Common.{◌∙◌, Some, ap, subst, sym}
 use Rattle.std.proofs.lemmas.Option.{slice_get-get_or}
 use Rattle.guillotiere.specs.Pixels.{sides_of, size_of}
 use Rattle.atlas_cache.specs.Rooms.{rooms_of, KeepsRooms}
-use Rattle.atlas_cache.proofs.RoomLemmas.Paging.{nothing_changes, page_grows, rectangles_stay, rooms_keep, sizes_set}
+use Rattle.atlas_cache.proofs.RoomLemmas.Paging.{nothing_changes, others_kept, page_grows, rectangles_stay, rooms_keep, sizes_set}
 use Rattle.atlas_cache.proofs.rooms.grow_to.Goals as goal
 
 pub grow-requires : goal.grow-requires
@@ -34,3 +34,11 @@ returns-in-Err-clause-kept g c = λ o small was.
     subst (λ ps. KeepsRooms (rooms_of o ps))
     (sym (nothing_changes _ _ c.index_mut.result.now _ c.index_mut.ensures.value c.requires.page
     c.in-Err.ensures.refused)) was
+
+pub returns-in-Ok-clause-others : goal.returns-in-Ok-clause-others
+returns-in-Ok-clause-others g c =
+    others_kept _ _ c.index_mut.result.now _ c.index_mut.ensures.value c.requires.page
+
+pub returns-in-Err-clause-others : goal.returns-in-Err-clause-others
+returns-in-Err-clause-others g c =
+    others_kept _ _ c.index_mut.result.now _ c.index_mut.ensures.value c.requires.page

@@ -1,14 +1,26 @@
+use Rattle.std.proofs.Common.{◌∙◌, ap, arith, refl, Ok}
+use Rattle.atlas_cache.proofs.RoomLemmas.Paging.{none_yet}
 use Rattle.atlas_cache.proofs.rooms.place_first.Goals as goal
 
-pub returns-in_default-clause-full : goal.returns-in_default-clause-full
-returns-in_default-clause-full g c = λ _. rw c.deref.ensures.value at c.in_default.ensures.none
+pub loop-page-init : goal.loop-page-init
+loop-page-init g c = record {
+  same = refl;
+  none = λ k s below is room. let among = c.requires.others k s is room in omega (arith, among.0, below);
+}
 
-pub take-requires-clause-room : goal.take-requires-clause-room
-take-requires-clause-room g c = rw c.deref.ensures.value at c.in-Some.ensures.room
+pub returns-in-Some-clause-first : goal.returns-in-Some-clause-first
+returns-in-Some-clause-first g c = rw c.number.ensures c.loop-page.invariant.none
 
-pub returns-clause-first : goal.returns-clause-first
-returns-clause-first g c =
-    rw c.number.ensures (rw c.deref.ensures.value at c.in-Some.ensures.first)
+pub loop-page-preserved : goal.loop-page-preserved
+loop-page-preserved g c =
+    let was = c.loop-page.invariant in
+    let none = ap Ok c.in_default.is in
+    record {
+      same = c.in_ok-granted.ensures.none none ∙ was.same;
+      none = none_yet c.args.asked _ c.loop-page.page (rw was.same at (c.in_ok-granted.ensures.full none)) was.none;
+    }
 
-pub returns-clause-sides : goal.returns-clause-sides
-returns-clause-sides g c = c.in_ok-granted.ensures.sides c.args.options.now c.requires
+pub returns-clause-full : goal.returns-clause-full
+returns-clause-full g c = λ _ k s below is room.
+    let among = c.requires.others k s is room in
+    c.loop-page.invariant.none k s (omega (arith, among.1, c.loop-page-test.false)) is room

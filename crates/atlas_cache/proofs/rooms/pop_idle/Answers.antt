@@ -1,6 +1,6 @@
-use Rattle.std.proofs.Common.{rules, refl, subst, arith}
+use Rattle.std.proofs.Common.{rules, subst}
 use Rattle.atlas_cache.specs.Rooms.{rooms_of, KeepsRooms}
-use Rattle.atlas_cache.proofs.ShrinkLemmas.{in_use, none_in_use, rooms_left, split_last}
+use Rattle.atlas_cache.proofs.ShrinkLemmas.{rooms_left, split_last}
 use Rattle.atlas_cache.proofs.rooms.pop_idle.Goals as goal
 
 pub returns-clause-drops : goal.returns-clause-drops

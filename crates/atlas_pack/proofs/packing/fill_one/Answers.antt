@@ -1,4 +1,4 @@
-use Rattle.std.proofs.Common.{ℕ, length, take, true, All, subst}
+use Rattle.std.proofs.Common.{ℕ, length, take, true, All, None, subst}
 use Rattle.atlas_model.specs.Pixels.{sides_of}
 use Rattle.atlas_sheet.specs.declared.ways.TheConstants.{WAYS}
 use Rattle.atlas_sheet.specs.Fillings.{IsNoBetter, ways_tried}
@@ -21,4 +21,4 @@ returns-in-Ok-clause-filled c =
     }
 
 pub returns-in-Err : goal.returns-in-Err
-returns-in-Err c = record { filled = tt; fault = c.fault_of.ensures true }
+returns-in-Err c = record { filled = tt; fault = c.fault_of.ensures true None }

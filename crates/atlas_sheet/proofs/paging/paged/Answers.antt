@@ -1,6 +1,6 @@
 use Rattle.std.proofs.Common.{arith, rules, ◌≡◌, ◌∙◌, length, replicate, All, IsNone, IsSome, None, ap, subst, sym}
 use Rattle.atlas_sheet.specs.declared.ways.TheConstants.{WAYS}
-use Rattle.atlas_sheet.specs.Paging.{holes, put_on, sprites_left}
+use Rattle.atlas_sheet.specs.Paging.{IsPage, holes, put_on, sprites_left}
 use Rattle.atlas_sheet.specs.Settings.{spacing_of}
 use Rattle.atlas_sheet.specs.Sheets.{IsPackable}
 use Rattle.atlas_sheet.proofs.PageFinds.{begun_with, count_as_given, empty_left, fewer_left, left_holes, left_packable, left_with, more_pages, none_as_given, none_left, page_as_given, put_as_long, some_left}
@@ -11,7 +11,7 @@ loop-left-init g c =
     let sprites = c.args.sprites.now in
     let bare : c.in_ok-places.places.items ≡ replicate (length sprites) None = c.in_ok-places.ensures.items_if_clones_equal (λ y is. search (rules, is)) in
     record {
-      are = begun_with sprites c.in_ok-left.left.items c.in_ok-places.places.items bare WAYS c.args.options.now c.new-sizes.result.items c.new-sizes.ensures.items;
+      are = begun_with sprites c.in_ok-left.left.items c.in_ok-places.places.items bare (IsPage WAYS c.args.options.now) c.new-sizes.result.items c.new-sizes.ensures.items;
       left = left_with sprites c.in_ok-left.left.items c.in_ok-places.places.items bare c.in_ok-left.ensures.items;
     }
 
@@ -113,7 +113,7 @@ loop-left-preserved g c =
     ∙ ap (put_on c.len.result places) c.deref-in-loop-left-4.ensures.value in
     record {
       are = more_pages c.args.sprites.now left places before.are.long before.left c.len.result p.places.items count c.in_ok-places-2.places.items
-          put WAYS c.args.options.now c.loop-left.sizes.items c.push.new.self.items p.size (c.len.ensures ∙ c.loop-left.sizes.ok.0)
+          put (IsPage WAYS c.args.options.now) c.loop-left.sizes.items c.push.new.self.items p.size (c.len.ensures ∙ c.loop-left.sizes.ok.0)
           c.in_ok-push.ensures.items before.are page;
       left = c.in_ok-left-2.ensures.left ∙ ap (sprites_left c.args.sprites.now) c.deref-in-loop-left-5.ensures.value;
     }

@@ -1,7 +1,8 @@
 use Rattle.std.proofs.Common.{◌<◌, ◌≡◌, ℕ, length, sym, ap, ◌∙◌, subst}
 use Rattle.std.proofs.lemmas.List.{length-map}
 use Rattle.atlas_store.specs.declared.slots.Node.{Node}
-use Rattle.atlas_store.specs.Slots.{no_slot, nodes, node_at}
+use Rattle.atlas_store.specs.Slots.{nodes, node_at}
+use Rattle.atlas_search.specs.Numbers.{no_slot}
 use Rattle.atlas_store.specs.Slots.SlotCalls.{IsNextJoined}
 use Rattle.atlas_store.proofs.SlotLemmas.Joining.{Stands-joined, joined-use}
 use Rattle.atlas_store.proofs.SlotLemmas.JoiningWrites.{join_next_is, IsSlot-after}

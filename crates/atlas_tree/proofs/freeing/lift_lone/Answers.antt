@@ -1,5 +1,5 @@
 use Rattle.std.proofs.Common.{◌≡◌, refl, arith}
-use Rattle.atlas_store.specs.Slots.{no_slot}
+use Rattle.atlas_search.specs.Numbers.{no_slot}
 use Rattle.atlas_store.specs.Store.Holdings.{shelf_of}
 use Rattle.atlas_store.proofs.StoreLemmas.Turning.{settling-lifted, settled-at}
 use Rattle.atlas_tree.proofs.freeing.lift_lone.Goals as goal

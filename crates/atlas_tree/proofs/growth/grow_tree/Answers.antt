@@ -1,7 +1,8 @@
-use Rattle.std.proofs.Common.{ℕ, ◌-◌, ◌≡◌, ◌∙◌, sym, subst, arith, vec_capacity}
+use Rattle.std.proofs.Common.{ℕ, ◌-◌, ◌≡◌, ◌∙◌, sym, subst, arith}
 use Rattle.atlas_model.specs.Boxes.{other, side}
 use Rattle.atlas_model.specs.Pixels.{sides_of}
 use Rattle.atlas_store.specs.Stored.{Holding}
+use Rattle.atlas_store.specs.Store.Holdings.{capacity_in, options_in, turns_in}
 use Rattle.atlas_tree.specs.Plans.Growths.{IsGrowable}
 use Rattle.atlas_tree.proofs.PlanLemmas.GrownStages.{IsMidwayIn, equal-yes, equal-no, unequal-yes, unequal-no, along-longer, along-same, across-longer, across-same, across_need, longer-ready, longer-midway, same-midway, midway-grown, midway-ready, widened-grown}
 use Rattle.atlas_tree.proofs.growth.grow_tree.Goals as goal
@@ -51,9 +52,9 @@ returns-then-eq g c =
           let same = along-same old new h p w.growth (unequal-no p.middle p.from c.ne.result c.ne.ensures b.if-ne.false) in
           subst (λ s. IsMidwayIn s old new i n h) (sym b.store-is) (same-midway w same)
     ]) in
-    let options : c.if-ne.store.options ≡ c.args.store.now.options = grind arith in
-    let capacity : vec_capacity c.if-ne.store.slots ≡ vec_capacity c.args.store.now.slots = grind arith in
-    let turns : c.if-ne.store.turns ≡ c.args.store.now.turns = grind arith in
+    let options : options_in c.if-ne.store ≡ options_in c.args.store.now = grind arith in
+    let capacity : capacity_in c.if-ne.store ≡ capacity_in c.args.store.now = grind arith in
+    let turns : turns_in c.if-ne.store ≡ turns_in c.args.store.now = grind arith in
     record {
       grown = λ h n w.
           let m = midway h n w in
@@ -78,9 +79,9 @@ returns g c =
           let same = along-same old new h p w.growth (unequal-no p.middle p.from c.ne.result c.ne.ensures b.if-ne.false) in
           subst (λ s. IsMidwayIn s old new i n h) (sym b.store-is) (same-midway w same)
     ]) in
-    let options : c.if-ne.store.options ≡ c.args.store.now.options = grind arith in
-    let capacity : vec_capacity c.if-ne.store.slots ≡ vec_capacity c.args.store.now.slots = grind arith in
-    let turns : c.if-ne.store.turns ≡ c.args.store.now.turns = grind arith in
+    let options : options_in c.if-ne.store ≡ options_in c.args.store.now = grind arith in
+    let capacity : capacity_in c.if-ne.store ≡ capacity_in c.args.store.now = grind arith in
+    let turns : turns_in c.if-ne.store ≡ turns_in c.args.store.now = grind arith in
     record {
       grown = λ h n w.
           let m = midway h n w in

@@ -3,7 +3,7 @@ use Rattle.atlas_model.specs.Boxes.{Box, Sides, box_at}
 use Rattle.guillotiere.specs.FreeBoxes.BoxShelves.{BoxShelf, box_shelf, free_item_boxes, stored_item}
 use Rattle.atlas_model.specs.Choice.{HasRoom, IsFitting, IsPick, rounded}
 use Rattle.guillotiere.specs.FreeBoxes.FreeLists.{state_of_items}
-use Rattle.atlas_store.specs.Search.Lookups.{AreFreeItems, IsStanding}
+use Rattle.atlas_search.specs.Lookups.{AreFreeItems, IsStanding}
 use Rattle.atlas_model.specs.Pixels.{box_of, options_of, sides_of}
 use Rattle.atlas_model.specs.Simple.{kept_rest}
 use Rattle.guillotiere.proofs.SimpleLemmas.CuttingBoxes.{at_error, picked-exact}

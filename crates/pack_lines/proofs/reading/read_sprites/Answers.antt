@@ -1,7 +1,8 @@
-use Rattle.std.proofs.Common.{◌≡◌, ◌≢◌, [], ◌∷◌, ◌++◌, length, rules, ap, subst, List, ℕ}
+use Rattle.std.proofs.Common.{◌≡◌, ◌≢◌, [], ◌∷◌, ◌++◌, length, rules, ap, subst, List, ℕ, Some, None}
 use Rattle.std.proofs.lemmas.List.{nil_from_length}
 use Rattle.pack_lines.specs.Sprites.{BeginsWithSprites}
 use Rattle.atlas_words.proofs.FirstLines.{rest_shorter}
+use Rattle.pack_lines.proofs.Quoting.{if_some_of, not_none}
 use Rattle.pack_lines.proofs.SpriteLines.{one_more_of}
 use Rattle.pack_lines.proofs.reading.read_sprites.Goals as goal
 
@@ -18,11 +19,13 @@ loop-rest-smaller c =
 pub loop-rest-preserved : goal.loop-rest-preserved
 loop-rest-preserved c =
     let pushed : c.push.new.self.items ≡ c.loop-rest.sprites.items ++ c.in-Some.sprite ∷ [] = search rules in
-    one_more_of _ _ _ _ _ _ _ pushed c.loop-rest.invariant c.first_line.ensures c.in-Some.ensures.found
+    let known : c.in_ok-sprite.field-0 ≡ Some c.in-Some.sprite = search rules in
+    one_more_of _ _ _ _ _ _ _ pushed c.loop-rest.invariant c.first_line.ensures (if_some_of _ _ _ _ c.in_ok-sprite.ensures.found known)
 
 pub returns-in_default-clause-fault : goal.returns-in_default-clause-fault
 returns-in_default-clause-fault c =
     let some : c.loop-rest.rest.now ≢ [] = (λ f. let none : length c.loop-rest.rest.now ≡ 0 = ap length f in absurd (search rules)) in
+    let none : c.in_ok-sprite.field-0 ≡ None = search rules in
     record {
       sprites = c.loop-rest.sprites.items;
       rest = c.loop-rest.rest.now;
@@ -31,6 +34,6 @@ returns-in_default-clause-fault c =
       line = _;
       after = _;
       next = c.first_line.ensures;
-      bad = λ name size spells. c.in_default.ensures.all name size spells;
+      bad = λ name size spells. not_none _ _ _ (c.in_ok-sprite.ensures.all name size spells) none;
       numbered = search rules;
     }

@@ -3,15 +3,13 @@
 
 use crate::atlas_allocator::atlas::AtlasAllocator;
 use crate::atlas_model::{AllocatorOptions, Size};
-use crate::atlas_store::choice::rounded;
-use crate::atlas_tree::requests::choose;
 use wollemigo_support::alloc::Allocator;
 
 impl<A: Allocator + Copy> AtlasAllocator<A> {
     /// The options of the atlas.
     #[inline]
     pub fn options(&self) -> AllocatorOptions {
-        self.store.options.plain()
+        self.store.options()
     }
 
     /// Whether `grow` may be called with this size: neither side is less than the atlas's.
@@ -24,8 +22,8 @@ impl<A: Allocator + Copy> AtlasAllocator<A> {
     /// it, slots and memory aside; else it answers None. Takes one search, and no memory.
     #[inline]
     pub fn can_fit(&self, requested_size: Size) -> bool {
-        match rounded(requested_size, &self.store.options) {
-            Some(size) => choose(&self.store, size).is_some(),
+        match self.store.rounded(requested_size) {
+            Some(size) => self.store.choose(size).is_some(),
             None => false,
         }
     }

@@ -3,8 +3,7 @@
 
 use crate::atlas_allocator::atlas::AtlasAllocator;
 use crate::atlas_model::{Allocation, AtlasError, Size};
-use crate::atlas_store::choice::rounded;
-use crate::atlas_tree::requests::{choose, grant, make_room, plan_for, slots_needed};
+use crate::atlas_tree::requests::{grant, plan_for, slots_needed};
 use wollemigo_support::alloc::Allocator;
 
 impl<A: Allocator + Copy> AtlasAllocator<A> {
@@ -14,13 +13,13 @@ impl<A: Allocator + Copy> AtlasAllocator<A> {
         &mut self,
         requested_size: Size,
     ) -> Result<Option<Allocation>, AtlasError> {
-        let size = match rounded(requested_size, &self.store.options) {
+        let size = match self.store.rounded(requested_size) {
             Some(size) => size,
             _ => {
                 return Ok(None);
             }
         };
-        let chosen = match choose(&self.store, size) {
+        let chosen = match self.store.choose(size) {
             Some(chosen) => chosen,
             _ => {
                 return Ok(None);
@@ -28,7 +27,7 @@ impl<A: Allocator + Copy> AtlasAllocator<A> {
         };
         let plan = plan_for(&self.store.node(chosen.at), size);
         let needed = slots_needed(plan);
-        make_room(&mut self.store, self.used, self.limit, needed)?;
+        self.store.make_room(self.used, self.limit, needed)?;
         self.used += needed;
         Ok(Some(grant(&mut self.store, chosen, plan)))
     }

@@ -3,7 +3,6 @@
 
 use crate::atlas_allocator::atlas::AtlasAllocator;
 use crate::atlas_model::AtlasError;
-use crate::atlas_tree::requests::make_room;
 use wollemigo_support::alloc::Allocator;
 
 impl<A: Allocator + Copy> AtlasAllocator<A> {
@@ -14,6 +13,6 @@ impl<A: Allocator + Copy> AtlasAllocator<A> {
     /// allows; `Memory` if memory for them is refused; then nothing changes at all.
     #[inline]
     pub fn reserve(&mut self, additional: u32) -> Result<(), AtlasError> {
-        make_room(&mut self.store, self.used, self.limit, additional)
+        self.store.make_room(self.used, self.limit, additional)
     }
 }

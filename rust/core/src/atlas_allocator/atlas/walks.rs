@@ -14,38 +14,38 @@ impl<A: Allocator + Copy> AtlasAllocator<A> {
     /// the atlas. One pass over the slots, and no memory.
     #[inline]
     pub fn allocated_area(&self) -> u64 {
-        live_sum(&self.store.slots)
+        live_sum(self.store.slots())
     }
 
     /// The area of all free rectangles together, in unit squares. One pass over the slots, and no memory.
     #[inline]
     pub fn free_area(&self) -> u64 {
-        free_sum(&self.store.slots)
+        free_sum(self.store.slots())
     }
 
     /// Calls `visit` on each free rectangle once, in an order that is left open. Requires that `visit` may be called along
     /// each list that may be shown, and no more: nothing else is called. No coordinate of these rectangles is negative.
     #[inline]
     pub fn for_each_free_rectangle<F: FnMut(&Rectangle)>(&self, visit: F) {
-        visit_free(&self.store.slots, visit);
+        visit_free(self.store.slots(), visit);
     }
 
     /// Calls `visit` on each live id and its rectangle once, by rising number of the slot, which is the low 24 bits of
     /// the id. Requires that `visit` may be called along that list, and no more: nothing else is called.
     #[inline]
     pub fn for_each_allocated_rectangle<F: FnMut(AllocId, &Rectangle)>(&self, visit: F) {
-        visit_allocated(&self.store.slots, visit);
+        visit_allocated(self.store.slots(), visit);
     }
 
     /// The live ids with their rectangles, by rising number of the slot. `Memory` is the only error.
     #[inline]
     pub fn allocations(&self) -> Result<Vec<Allocation, A>, AtlasError> {
-        gather_allocated(*self.store.slots.allocator(), &self.store.slots)
+        gather_allocated(self.store.allocator(), self.store.slots())
     }
 
     /// The free rectangles, in an order that is left open. `Memory` is the only error.
     #[inline]
     pub fn free_rectangles(&self) -> Result<Vec<Rectangle, A>, AtlasError> {
-        gather_free(*self.store.slots.allocator(), &self.store.slots)
+        gather_free(self.store.allocator(), self.store.slots())
     }
 }

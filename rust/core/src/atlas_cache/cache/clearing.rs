@@ -11,8 +11,8 @@ use wollemigo_support::hash::{BuildHasher, Hash};
 
 impl<K: Copy + Eq + Hash, S: BuildHasher, A: Allocator + Copy> TextureCache<K, S, A> {
     /// All keys go. The pages stay, with their sizes and with nothing on them, and so do the frame and the counts. No
-    /// change tells it: the caller forgets all places. Takes no memory. A `shrink` after it takes all pages away, and then
-    /// the cache begins with small ones again.
+    /// change tells it: the caller forgets all places. Takes no memory, and gives none back: what the keys had is in reserve.
+    /// A `shrink` after it takes all pages away, and then the cache begins with small ones again.
     #[inline]
     pub fn clear(&mut self) {
         self.entries.clear();
@@ -29,12 +29,13 @@ impl<K: Copy + Eq + Hash, S: BuildHasher, A: Allocator + Copy> TextureCache<K, S
         Ok(())
     }
 
-    /// Asks for room for so many more entries, so that the insertions that follow need to ask for memory only for pages
-    /// and for changes; that is tested, and no clause says it. Nothing that a caller sees changes. `Memory` if memory is
-    /// refused.
+    /// At least so many entries are in reserve from now on: the insertions that follow ask for memory only for pages, for
+    /// their slots, and for changes. Each key that is added takes one of them; one that goes gives none back, but `clear`
+    /// does. Nothing else changes, and nothing at all with `Memory`, if memory is refused.
     #[inline]
     pub fn reserve(&mut self, additional: usize) -> Result<(), CacheError> {
-        self.entries.reserve(additional)
+        self.entries.reserve(additional)?;
+        Ok(())
     }
 
     // The entries that weren't used for so many frames go.

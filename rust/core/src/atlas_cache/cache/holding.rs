@@ -70,7 +70,8 @@ pub fn place_of<K: Copy>(entry: Entry<K>, options: &CacheOptions) -> Place {
     )
 }
 
-/// A new entry on the first page that has room for it; None if none has. After an error no rectangle has moved.
+/// A new entry on the first page that has room for it, which is one of these, if any has; None if none has. After an error
+/// no rectangle has moved.
 #[inline]
 pub fn grant<K: Copy + Eq + Hash, S: BuildHasher, A: Allocator + Copy>(
     rooms: &mut Rooms<A>,
@@ -79,8 +80,10 @@ pub fn grant<K: Copy + Eq + Hash, S: BuildHasher, A: Allocator + Copy>(
     size: Size,
     asked: Size,
     frame: u64,
+    from: usize,
+    to: usize,
 ) -> Result<Option<Entry<K>>, CacheError> {
-    let (page, granted) = match rooms.place(asked)? {
+    let (page, granted) = match rooms.place_among(from, to, asked)? {
         Some((page, granted)) => (page, granted),
         _ => {
             return Ok(None);

@@ -21,6 +21,18 @@ pub fn read_link(links: &[Link], ends: Link, at: u32) -> Link {
     }
 }
 
+// The link of an entry.
+#[inline]
+fn own_link(links: &[Link], at: u32) -> Link {
+    links[at as usize]
+}
+
+// An entry has this link.
+#[inline]
+fn set_link(links: &mut [Link], at: u32, link: Link) {
+    links[at as usize] = link;
+}
+
 /// `next` comes after `at`.
 #[inline]
 pub fn set_next(links: &mut [Link], ends: &mut Link, at: u32, next: u32) {
@@ -46,7 +58,7 @@ fn set_previous(links: &mut [Link], ends: &mut Link, at: u32, previous: u32) {
 /// The neighbours of an entry let it go.
 #[inline]
 pub fn unlink(links: &mut [Link], ends: &mut Link, at: u32) {
-    let own = read_link(links, *ends, at);
+    let own = own_link(links, at);
     set_next(links, ends, own.previous, own.next);
     set_previous(links, ends, own.next, own.previous);
 }
@@ -55,8 +67,11 @@ pub fn unlink(links: &mut [Link], ends: &mut Link, at: u32) {
 #[inline]
 pub fn push_front(links: &mut [Link], ends: &mut Link, at: u32) {
     let first = ends.next;
-    set_next(links, ends, at, first);
-    set_previous(links, ends, at, NO_ENTRY);
+    let own = Link {
+        previous: NO_ENTRY,
+        next: first,
+    };
+    set_link(links, at, own);
     set_next(links, ends, NO_ENTRY, at);
     set_previous(links, ends, first, at);
 }

@@ -3,8 +3,9 @@
 //! hidden one after another, so that an id that is there twice names none the second time, and shown again.
 
 use crate::atlas_model::AllocId;
+use crate::atlas_search::link::Link;
 use crate::atlas_store::slots::walks::{named_slot, slot_number};
-use crate::atlas_store::slots::{set_kind, Link, NodeKind, Slot};
+use crate::atlas_store::slots::{set_kind, NodeKind, Slot};
 
 // Hides the slots of ids, up to the first id that names none. The answer is how many were hidden.
 #[inline]

@@ -3,9 +3,9 @@
 //! or the sequence is put into a new one along the other axis. They leave the lists alone.
 
 use crate::atlas_model::{point2, Rectangle, Size};
-use crate::atlas_store::cut::Orientation;
-use crate::atlas_store::slots::placing::across;
-use crate::atlas_store::slots::{read_node, write_node, Link, Node, NodeKind, Slot, NO_SLOT};
+use crate::atlas_search::cut::{across, Orientation};
+use crate::atlas_search::link::{Link, NO_SLOT};
+use crate::atlas_store::slots::{read_node, write_node, Node, NodeKind, Slot};
 
 /// The free leaf at `at` reaches to the far corner of a size.
 #[inline]

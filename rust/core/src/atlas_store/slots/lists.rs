@@ -1,13 +1,12 @@
 // Erased from crates/atlas_store/src/slots/lists.rt by rust/erase: don't edit.
 //! The lists of free slots, by the bands of both sides, and the list of unused slots: links inside the slots.
 
-use crate::atlas_model::{point2, Rectangle, Size};
-use crate::atlas_store::cut::Orientation;
-use crate::atlas_store::search::bands::{Place, Scale, BANDS};
-use crate::atlas_store::search::table::Table;
-use crate::atlas_store::slots::{
-    read_node, read_ring, write_node, Link, Node, NodeKind, Ring, Slot, NO_SLOT,
-};
+use crate::atlas_model::{point2, Rectangle};
+use crate::atlas_search::bands::{Place, Scale, BANDS};
+use crate::atlas_search::cut::{exact_size, top_in, Orientation};
+use crate::atlas_search::link::{Link, NO_SLOT};
+use crate::atlas_search::table::Table;
+use crate::atlas_store::slots::{read_node, read_ring, write_node, Node, NodeKind, Ring, Slot};
 use wollemigo_support::alloc::Allocator;
 use wollemigo_support::prelude::Vec;
 
@@ -55,18 +54,6 @@ fn push_front(slots: &mut [Slot], before: Link, first: Link, at: Link) {
     slot.ring.previous = before;
     slot.ring.next = first;
     set_ring_previous(slots, first, at);
-}
-
-/// The size of an exact rectangle.
-#[inline]
-pub fn exact_size(area: Rectangle) -> Size {
-    area.size()
-}
-
-// The `min.y` of a rectangle.
-#[inline]
-fn top_in(area: Rectangle) -> u32 {
-    area.min.y as u32
 }
 
 /// Takes a free slot out of its list; it is detached from then on.

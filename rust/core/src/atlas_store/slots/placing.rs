@@ -3,19 +3,11 @@
 //! its own, or is granted. They leave the lists alone.
 
 use crate::atlas_model::{point2, Rectangle};
-use crate::atlas_store::cut::Orientation;
+use crate::atlas_search::cut::{across, Orientation};
+use crate::atlas_search::link::{Link, NO_SLOT};
 use crate::atlas_store::slots::{
-    read_node, set_kind, set_previous, write_node, Link, Node, NodeKind, Slot, NO_SLOT,
+    read_node, set_kind, set_previous, write_node, Node, NodeKind, Slot,
 };
-
-/// The other axis.
-#[inline]
-pub fn across(axis: Orientation) -> Orientation {
-    match axis {
-        Orientation::Horizontal => Orientation::Vertical,
-        Orientation::Vertical => Orientation::Horizontal,
-    }
-}
 
 // The two parts of a leaf's rectangle that is cut after its first `extent` pixels along an axis.
 #[inline(always)]

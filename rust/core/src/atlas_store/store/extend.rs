@@ -2,8 +2,8 @@
 //! The calls of a store by which the top sequence of an atlas is extended.
 
 use crate::atlas_model::Size;
+use crate::atlas_search::link::Link;
 use crate::atlas_store::slots::extending::{append_leaf, stretch_leaf, wrap_top};
-use crate::atlas_store::slots::Link;
 use crate::atlas_store::store::Store;
 use wollemigo_support::alloc::Allocator;
 

@@ -2,12 +2,12 @@
 //! The free boxes of the simple allocator, in the lists of a table.
 
 use crate::atlas_model::{point2, AtlasError, Rectangle};
-use crate::atlas_store::search::bands::Scale;
-use crate::atlas_store::search::best::Found;
-use crate::atlas_store::search::table::{Table, LISTS};
-use crate::atlas_store::search::Entry;
-use crate::atlas_store::slots::lists::exact_size;
-use crate::atlas_store::slots::{Link, NO_SLOT};
+use crate::atlas_search::bands::Scale;
+use crate::atlas_search::best::Found;
+use crate::atlas_search::cut::{exact_size, top_in};
+use crate::atlas_search::link::{Link, NO_SLOT};
+use crate::atlas_search::search::Entry;
+use crate::atlas_search::table::{Table, LISTS};
 use wollemigo_support::alloc::Allocator;
 use wollemigo_support::prelude::Vec;
 
@@ -53,12 +53,6 @@ fn unused_box(after: Link) -> FreeBox {
         },
         after,
     }
-}
-
-// The `min.y` of a box.
-#[inline]
-fn top_in(area: Rectangle) -> u32 {
-    area.min.y as u32
 }
 
 impl<A: Allocator> FreeBoxes<A> {

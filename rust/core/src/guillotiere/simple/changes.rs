@@ -4,8 +4,8 @@
 use super::{keep, kept_count, SimpleAtlasAllocator};
 use crate::atlas_allocator::{store_of, AtlasAllocator};
 use crate::atlas_model::{AllocatorOptions, AtlasError, Rectangle, Size};
-use crate::atlas_store::cut::guillotine;
-use crate::atlas_store::search::bands::Scale;
+use crate::atlas_search::bands::Scale;
+use crate::atlas_search::cut::guillotine;
 use crate::atlas_store::slots::{NodeKind, Slot};
 use crate::guillotiere::simple::boxes::FreeBoxes;
 use wollemigo_support::alloc::Allocator;
@@ -49,11 +49,12 @@ impl<A: Allocator + Copy> SimpleAtlasAllocator<A> {
     pub fn init_from_allocator(&mut self, source: &AtlasAllocator<A>) -> Result<(), AtlasError> {
         let size = source.size();
         let store = store_of(source);
+        let options = store.scale();
         let mut boxes = FreeBoxes::new(*self.boxes.entries.allocator())?;
-        file_free(&mut boxes, store.slots.as_slice(), &store.options)?;
+        file_free(&mut boxes, store.slots(), &options)?;
         self.boxes = boxes;
         self.size = size;
-        self.options = store.options.copy();
+        self.options = options;
         Ok(())
     }
 }

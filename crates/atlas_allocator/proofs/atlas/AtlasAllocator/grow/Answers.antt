@@ -36,7 +36,7 @@ returns-in_err-make_room-clause-step g c =
     let same : c.from_residual.result ≡ Err c.in_err-make_room.field-0.0 = search rules in
     rw (← c.self.view_is)
     (refused-step _ c.self.invariant c.args.new_size larger c.growth_for-growth.result c.growth_for-growth.ensures some c.slots_for-added.result c.slots_for-added.ensures.need
-    c.make_room.new.store c.make_room.ensures.same.shelf c.from_residual.result c.in_err-make_room.field-0.0 same c.in_err-make_room.ensures.refused c.make_room.new.store.turns.count c.self.inside.store.turns.count)
+    c.make_room.new.self c.make_room.ensures.same.shelf c.from_residual.result c.in_err-make_room.field-0.0 same c.in_err-make_room.ensures.refused c.make_room.new.self.turns.count c.self.inside.store.turns.count)
 
 pub grow_tree-self-inside-requires : goal.grow_tree-self-inside-requires
 grow_tree-self-inside-requires g c =
@@ -44,7 +44,7 @@ grow_tree-self-inside-requires g c =
     let busy : live_in (state_of c.args.self.now) ≡ [] → ⊥ = λ none. false≢true (sym c.if-is_empty.false ∙ c.is_empty.ensures.empty.1 none) in
     let some = subst (λ w. live_in (state_of w) ≡ [] → ⊥) (sym c.self.view_is) busy in
     some-growable _ c.self.invariant c.args.new_size larger c.growth_for-growth.result c.growth_for-growth.ensures some c.slots_for-added.result c.slots_for-added.ensures.need
-    c.make_room.new.store c.make_room.ensures.same.shelf c.in_ok-make_room.ensures.ok
+    c.make_room.new.self c.make_room.ensures.same.shelf c.in_ok-make_room.ensures.ok
 
 pub invariant_of-self-2 : goal.invariant_of-self-2
 invariant_of-self-2 g c =
@@ -52,7 +52,7 @@ invariant_of-self-2 g c =
     let busy : live_in (state_of c.args.self.now) ≡ [] → ⊥ = λ none. false≢true (sym c.if-is_empty.false ∙ c.is_empty.ensures.empty.1 none) in
     let some = subst (λ w. live_in (state_of w) ≡ [] → ⊥) (sym c.self.view_is) busy in
     (grow-done _ c.self.invariant c.args.new_size larger c.growth_for-growth.result c.growth_for-growth.ensures some c.slots_for-added.result c.slots_for-added.ensures.need
-    c.make_room.new.store c.make_room.ensures.same.shelf c.in_ok-make_room.ensures.ok
+    c.make_room.new.self c.make_room.ensures.same.shelf c.in_ok-make_room.ensures.ok
     c.grow_tree-self-inside.new.store c.grow_tree-self-inside.result c.grow_tree-self-inside.ensures).atlas
 
 pub returns-clause-step : goal.returns-clause-step
@@ -61,7 +61,7 @@ returns-clause-step g c =
     let busy : live_in (state_of c.args.self.now) ≡ [] → ⊥ = λ none. false≢true (sym c.if-is_empty.false ∙ c.is_empty.ensures.empty.1 none) in
     let some = subst (λ w. live_in (state_of w) ≡ [] → ⊥) (sym c.self.view_is) busy in
     rw (← c.self.view_is) ((grow-done _ c.self.invariant c.args.new_size larger c.growth_for-growth.result c.growth_for-growth.ensures some c.slots_for-added.result c.slots_for-added.ensures.need
-    c.make_room.new.store c.make_room.ensures.same.shelf c.in_ok-make_room.ensures.ok
+    c.make_room.new.self c.make_room.ensures.same.shelf c.in_ok-make_room.ensures.ok
     c.grow_tree-self-inside.new.store c.grow_tree-self-inside.result c.grow_tree-self-inside.ensures).step c.grow_tree-self-inside.new.store.turns.count c.self.inside.store.turns.count)
 
 pub returns-clause-keeps : goal.returns-clause-keeps

@@ -52,30 +52,30 @@ returns-in_err-make_room-clause-step g c =
     let same : c.from_residual.result ≡ Err c.in_err-make_room.field-0.0 = search rules in
     rw (← c.self.view_is)
     (refused-step _ c.self.invariant (sides_of c.args.requested_size) c.in-Some.size c.in-Some.ensures c.in-Some-choose.chosen c.in-Some-choose.ensures.some
-    c.node.result c.node.ensures c.plan_for-plan.result c.plan_for-plan.ensures.line c.plan_for-plan.ensures.feasible c.make_room.new.store c.make_room.ensures.same.shelf c.slots_needed-needed.result c.slots_needed-needed.ensures c.from_residual.result c.in_err-make_room.field-0.0 same c.in_err-make_room.ensures.refused c.make_room.new.store.turns.count c.self.inside.store.turns.count)
+    c.node.result c.node.ensures c.plan_for-plan.result c.plan_for-plan.ensures.line c.plan_for-plan.ensures.feasible c.make_room.new.self c.make_room.ensures.same.shelf c.slots_needed-needed.result c.slots_needed-needed.ensures c.from_residual.result c.in_err-make_room.field-0.0 same c.in_err-make_room.ensures.refused c.make_room.new.self.turns.count c.self.inside.store.turns.count)
 
 pub grant-requires : goal.grant-requires
 grant-requires g c =
     some-grantable _ c.self.invariant (sides_of c.args.requested_size) c.in-Some.size c.in-Some.ensures c.in-Some-choose.chosen c.in-Some-choose.ensures.some
-    c.node.result c.node.ensures c.plan_for-plan.result c.plan_for-plan.ensures.line c.plan_for-plan.ensures.feasible c.make_room.new.store c.make_room.ensures.same.shelf c.slots_needed-needed.result c.slots_needed-needed.ensures c.in_ok-make_room.ensures.ok
+    c.node.result c.node.ensures c.plan_for-plan.result c.plan_for-plan.ensures.line c.plan_for-plan.ensures.feasible c.make_room.new.self c.make_room.ensures.same.shelf c.slots_needed-needed.result c.slots_needed-needed.ensures c.in_ok-make_room.ensures.ok
 
 pub invariant_of-self-2 : goal.invariant_of-self-2
 invariant_of-self-2 g c =
     (grant-done _ c.self.invariant (sides_of c.args.requested_size) c.in-Some.size c.in-Some.ensures c.in-Some-choose.chosen c.in-Some-choose.ensures.some
-    c.node.result c.node.ensures c.plan_for-plan.result c.plan_for-plan.ensures.line c.plan_for-plan.ensures.feasible c.make_room.new.store c.make_room.ensures.same.shelf c.slots_needed-needed.result c.slots_needed-needed.ensures c.in_ok-make_room.ensures.ok
+    c.node.result c.node.ensures c.plan_for-plan.result c.plan_for-plan.ensures.line c.plan_for-plan.ensures.feasible c.make_room.new.self c.make_room.ensures.same.shelf c.slots_needed-needed.result c.slots_needed-needed.ensures c.in_ok-make_room.ensures.ok
     c.grant.new.store c.grant.result c.grant.ensures).atlas
 
 pub returns-clause-step : goal.returns-clause-step
 returns-clause-step g c =
     let done = grant-done _ c.self.invariant (sides_of c.args.requested_size) c.in-Some.size c.in-Some.ensures c.in-Some-choose.chosen c.in-Some-choose.ensures.some
-    c.node.result c.node.ensures c.plan_for-plan.result c.plan_for-plan.ensures.line c.plan_for-plan.ensures.feasible c.make_room.new.store c.make_room.ensures.same.shelf c.slots_needed-needed.result c.slots_needed-needed.ensures c.in_ok-make_room.ensures.ok
+    c.node.result c.node.ensures c.plan_for-plan.result c.plan_for-plan.ensures.line c.plan_for-plan.ensures.feasible c.make_room.new.self c.make_room.ensures.same.shelf c.slots_needed-needed.result c.slots_needed-needed.ensures c.in_ok-make_room.ensures.ok
     c.grant.new.store c.grant.result c.grant.ensures in
     rw (← c.self.view_is) (done.granted c.grant.new.store.turns.count c.self.inside.store.turns.count)
 
 pub returns-clause-exact : goal.returns-clause-exact
 returns-clause-exact g c =
     (grant-done _ c.self.invariant (sides_of c.args.requested_size) c.in-Some.size c.in-Some.ensures c.in-Some-choose.chosen c.in-Some-choose.ensures.some
-    c.node.result c.node.ensures c.plan_for-plan.result c.plan_for-plan.ensures.line c.plan_for-plan.ensures.feasible c.make_room.new.store c.make_room.ensures.same.shelf c.slots_needed-needed.result c.slots_needed-needed.ensures c.in_ok-make_room.ensures.ok
+    c.node.result c.node.ensures c.plan_for-plan.result c.plan_for-plan.ensures.line c.plan_for-plan.ensures.feasible c.make_room.new.self c.make_room.ensures.same.shelf c.slots_needed-needed.result c.slots_needed-needed.ensures c.in_ok-make_room.ensures.ok
     c.grant.new.store c.grant.result c.grant.ensures).exact
 
 pub returns-clause-slots : goal.returns-clause-slots

@@ -8,7 +8,7 @@ make_room-requires-clause-used g c = omega (arith, used-IsAtlas _ c.self.invaria
 
 pub returns-clause-ready : goal.returns-clause-ready
 returns-clause-ready g c =
-    made-ready _ c.self.invariant c.make_room.new.store c.args.additional c.make_room.new.store.turns.count
+    made-ready _ c.self.invariant c.make_room.new.self c.args.additional c.make_room.new.self.turns.count
     c.make_room.ensures.same.shelf c.make_room.result c.make_room.ensures.ready
 
 pub returns-clause-slots : goal.returns-clause-slots

@@ -18,4 +18,4 @@ returns-clause-slots g c = record {
 }
 
 pub returns-clause-anew : goal.returns-clause-anew
-returns-clause-anew g c = once-first _ c.start.ensures.once
+returns-clause-anew g c = once-first _ c.start.ensures.begun.once

@@ -10,4 +10,4 @@ pub returns-clause-state : goal.returns-clause-state
 returns-clause-state g c = search (rules, whole_state)
 
 pub returns-clause-anew : goal.returns-clause-anew
-returns-clause-anew g c = once-first _ c.start.ensures.once
+returns-clause-anew g c = once-first _ c.in_ok-store.ensures.begun.once

@@ -8,6 +8,12 @@ grant-requires-clause-absent g c =
     let absent = rw (← c.self.view_is) at c.requires.absent in
     rw (not-numbered g.K.PartialEq.eq c.args.key c.self.inside.entries.entries absent) refl
 
+pub grant-requires-clause-inside : goal.grant-requires-clause-inside
+grant-requires-clause-inside g c = rw (← c.self.view_is) at c.requires.inside
+
+pub grant-requires-clause-others : goal.grant-requires-clause-others
+grant-requires-clause-others g c = rw (← c.self.view_is) at c.requires.others
+
 pub returns-in_default-clause-full : goal.returns-in_default-clause-full
 returns-in_default-clause-full g c = λ _.
     rw (← c.self.view_is) (c.in_ok-granted.ensures.full (ap Ok c.in_default.is))
@@ -38,6 +44,7 @@ returns-clause-adds g c =
     let it = c.self.inside in
     let next = rw c.in-Some.is at c.in_ok-granted.ensures.next in
     let made = rw c.in-Some.is at c.in_ok-granted.ensures.made in
+    let reserved = rw c.in-Some.is at c.in_ok-granted.ensures.reserved in
     let placed = rw c.in-Some.is at c.in_ok-granted.ensures.placed in
     let first = rw c.in-Some.is at c.in_ok-granted.ensures.first in
     rw (← c.self.view_is) (record {
@@ -48,6 +55,7 @@ returns-clause-adds g c =
       next = next.next;
       dense = λ same. length-listed it.entries.entries ∙ next.dense same;
       numbers = made;
+      reserved = reserved;
       shows = rw (c.place_of.ensures, c.options.ensures.options, c.in_ok-granted.ensures.options) refl;
       sizes = c.in_ok-granted.ensures.sizes;
       options = c.in_ok-granted.ensures.options;

@@ -26,8 +26,8 @@ invariant_of-self-2 g c =
       frames = rw (made.first, made.used) (omega arith, falls);
     }
 
-pub returns : goal.returns
-returns g c =
+pub returns-clause-inserts : goal.returns-clause-inserts
+returns-clause-inserts g c =
     let made = c.in_ok-entry.ensures in
     rw (← c.self.view_is) (record {
       entry = c.in_ok-entry.entry;
@@ -40,6 +40,7 @@ returns g c =
       next = made.next.next;
       dense = λ same. length-listed c.self.inside.entries.entries ∙ made.next.dense same;
       numbers = made.made;
+      reserved = made.reserved;
       pages = refl;
       options = refl;
       frame = refl;

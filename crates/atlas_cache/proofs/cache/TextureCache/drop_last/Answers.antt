@@ -68,6 +68,7 @@ returns-clause-drops g c = λ _.
       unused = omega arith;
       listed = rw (c.place_of-place.ensures, c.options.ensures.options, c.take_out.ensures.options) at c.push_reserved.ensures.items;
       numbers = c.take_out.ensures.made;
+      reserved = c.take_out.ensures.reserved;
       sizes = c.take_out.ensures.sizes;
       options = c.take_out.ensures.options;
       frame = refl;

@@ -1,4 +1,4 @@
-use Rattle.atlas_cache.proofs.ShrinkLemmas.{none_gone, one_gone, shrunk, shrunk_told}
+use Rattle.atlas_cache.proofs.ShrinkLemmas.{none_gone, one_gone, shrunk}
 use Rattle.atlas_cache.proofs.cache.TextureCache.drop_pages.Goals as goal
 
 pub each-init : goal.each-init

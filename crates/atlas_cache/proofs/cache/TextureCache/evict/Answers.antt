@@ -2,9 +2,10 @@ use Rattle.std.proofs.Common.{refl, arith}
 use Rattle.atlas_cache.specs.Caches.{entries_of}
 use Rattle.atlas_cache.specs.Entries.{without_number}
 use Rattle.atlas_cache.specs.declared.changes.CacheChange.TheVariants.{Evicted}
-use Rattle.atlas_cache.proofs.CacheLemmas.{bordered-at, rest_bordered, rest_falls}
+use Rattle.atlas_cache.proofs.CacheLemmas.{bordered-at, rectangle-live, rest_bordered, rest_falls}
 use Rattle.atlas_cache.proofs.BlankLemmas.{all-in-use, falls-here, length-less}
 use Rattle.atlas_cache.proofs.ListLemmas.{parts}
+use Rattle.atlas_cache.proofs.RoomLemmas.Paging.{as_many, page_of}
 use Rattle.atlas_cache.proofs.cache.TextureCache.evict.Goals as goal
 
 pub returns-in_default-clause-stops : goal.returns-in_default-clause-stops
@@ -70,6 +71,7 @@ returns-clause-does g c = λ _.
         unused = omega (arith, least, c.if-entry-self.false);
         leaves = c.take_out.ensures.leaves;
         numbers = c.take_out.ensures.made;
+        reserved = c.take_out.ensures.reserved;
         sizes = c.take_out.ensures.sizes;
         options = c.take_out.ensures.options;
         frame = refl;
@@ -82,3 +84,15 @@ returns-clause-less g c = λ _.
     let w = rw c.in-Some.is at c.oldest_lying.ensures.last in
     rw (← c.self.view_is, c.take_out.ensures.options, c.take_out.ensures.sizes, c.take_out.ensures.without, w.others, w.was)
     (omega (arith, length-less w.newer c.in-Some.entry w.older))
+
+pub returns-clause-there : goal.returns-clause-there
+returns-clause-there g c =
+    let it = c.self.inside in
+    let e = c.in-Some.entry in
+    let w = rw c.in-Some.is at c.oldest_lying.ensures.last in
+    let live = rectangle-live it.rooms.pages c.in-Some.number it.entries.entries e c.self.invariant.held w.at w.lies in
+    let within = page_of it.rooms.pages e.page e.id live in
+    omega (arith, as_many it.rooms.pages c.take_out.new.rooms.pages c.take_out.ensures.sizes, within)
+
+pub returns-clause-others : goal.returns-clause-others
+returns-clause-others g c = rw (← c.self.view_is) c.take_out.ensures.leaves.others

@@ -42,6 +42,7 @@ returns-clause-uses g c =
       is = ap (λ r. front ∷ r) p.rests;
       pages = refl;
       numbers = c.touch.ensures.made;
+      reserved = c.touch.ensures.reserved;
       options = refl;
       frame = refl;
     })
@@ -60,11 +61,12 @@ returns-clause-told g c =
       pages = it.rooms.pages;
       entries = entries_of it.entries.entries;
       numbers = it.entries.made;
+      reserved = it.entries.reserved;
       frame = it.frame;
       counts = it.counts;
     } in
     let t : CacheState g.row.K.Denot =
-    record s { entries = entries_of c.touch.new.self.entries; numbers = c.touch.new.self.made; counts = record it.counts { hits = c.count-self-inside-2.result } } in
+    record s { entries = entries_of c.touch.new.self.entries; numbers = c.touch.new.self.made; reserved = c.touch.new.self.reserved; counts = record it.counts { hits = c.count-self-inside-2.result } } in
     let uses : Uses e s t = record {
       newer = p.newer;
       older = p.older;
@@ -72,6 +74,7 @@ returns-clause-told g c =
       is = rw (c.touch.ensures.entries, touched-is n it.frame it.entries.entries e found.at) (ap (λ r. front ∷ r) p.rests);
       pages = refl;
       numbers = c.touch.ensures.made;
+      reserved = c.touch.ensures.reserved;
       options = refl;
       frame = refl;
     } in

@@ -4,7 +4,7 @@ use Rattle.atlas_cache.specs.Changes.{Uses}
 use Rattle.atlas_cache.specs.Entries.{without_number}
 use Rattle.atlas_cache.specs.declared.entries.Entry.{Entry}
 use Rattle.atlas_cache.proofs.CacheLemmas.{bordered-at, touched-is, used}
-use Rattle.atlas_cache.proofs.InsertLemmas.{inserts_stay, not_held, not_never}
+use Rattle.atlas_cache.proofs.InsertLemmas.{blank_takes, inserts_stay, inserts_take, not_held, not_never}
 use Rattle.atlas_cache.proofs.KeyLemmas.{found_named, own_keys}
 use Rattle.atlas_cache.proofs.ListLemmas.{append-none, parts}
 use Rattle.atlas_cache.proofs.PictureLemmas.{blanks_tell, inserts_tell, same_shown, uses_tell}
@@ -48,6 +48,7 @@ returns-in-Some-clause-known g c =
             is = ap (λ r. front ∷ r) p.rests;
             pages = refl;
             numbers = c.touch.ensures.made;
+            reserved = c.touch.ensures.reserved;
             options = refl;
             frame = refl;
           },
@@ -60,6 +61,21 @@ returns-in-Some-clause-known g c =
 
 pub returns-clause-blank : goal.returns-clause-blank
 returns-clause-blank g c = λ new. absurd (new.empty c.in-Some-asked.ensures.0.positive)
+
+pub returns-clause-memory : goal.returns-clause-memory
+returns-clause-memory g c = λ empty some is. absurd (empty c.in-Some-asked.ensures.0.positive)
+
+pub returns-in-Some-clause-takes : goal.returns-in-Some-clause-takes
+returns-in-Some-clause-takes g c = rw (← c.self.view_is) (omega (arith, c.touch.ensures.reserved))
+
+pub returns-then-not-is_positive-clause-takes : goal.returns-then-not-is_positive-clause-takes
+returns-then-not-is_positive-clause-takes g c =
+    blank_takes c.args.key c.args.size c.add_blank.result c.args.self.now c.add_blank.new.self c.add_blank.ensures.inserts
+
+pub returns-clause-takes : goal.returns-clause-takes
+returns-clause-takes g c =
+    inserts_take c.in-Some-asked.asked c.args.key c.args.size c.insert_new.result c.args.changes.now.items
+    c.insert_new.new.changes.items c.args.self.now c.insert_new.new.self c.insert_new.ensures.inserts
 
 pub returns-clause-never : goal.returns-clause-never
 returns-clause-never g c =
@@ -89,7 +105,7 @@ returns-then-ne-clause-told g c = record {
 pub returns-then-not-is_positive-clause-told : goal.returns-then-not-is_positive-clause-told
 returns-then-not-is_positive-clause-told g c =
     blanks_tell g.K.PartialEq.eq g.met.K.Eq.laws c.args.key c.args.size c.add_blank.result c.args.changes.now.items c.args.self.now
-    c.add_blank.new.self c.add_blank.ensures
+    c.add_blank.new.self c.add_blank.ensures.inserts
 
 pub returns-in_default-asked-clause-told : goal.returns-in_default-asked-clause-told
 returns-in_default-asked-clause-told g c = record {
@@ -113,10 +129,11 @@ returns-in-Some-clause-told g c =
       pages = it.rooms.pages;
       entries = entries_of it.entries.entries;
       numbers = it.entries.made;
+      reserved = it.entries.reserved;
       frame = it.frame;
       counts = it.counts;
     } in
-    let t : CacheState g.row.K.Denot = record s { entries = entries_of c.touch.new.self.entries; numbers = c.touch.new.self.made } in
+    let t : CacheState g.row.K.Denot = record s { entries = entries_of c.touch.new.self.entries; numbers = c.touch.new.self.made; reserved = c.touch.new.self.reserved } in
     let uses : Uses e s t = record {
       newer = p.newer;
       older = p.older;
@@ -124,6 +141,7 @@ returns-in-Some-clause-told g c =
       is = rw (c.touch.ensures.entries, touched-is n it.frame it.entries.entries e found.at) (ap (λ r. front ∷ r) p.rests);
       pages = refl;
       numbers = c.touch.ensures.made;
+      reserved = c.touch.ensures.reserved;
       options = refl;
       frame = refl;
     } in

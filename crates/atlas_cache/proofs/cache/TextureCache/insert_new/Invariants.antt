@@ -1,5 +1,6 @@
-use Rattle.std.proofs.Common.{◌≡◌, None}
+use Rattle.std.proofs.Common.{◌≡◌, ◌≤◌, length, None}
 use Rattle.atlas_cache.specs.Caches.{entry_for, steps_left}
+use Rattle.atlas_cache.specs.Rooms.{HasRoomOnlyAmong}
 use Rattle.atlas_cache.proofs.LoopLemmas.{Reached}
 use Rattle.atlas_cache.proofs.cache.TextureCache.insert_new.Given as goal
 
@@ -9,6 +10,8 @@ invariant-loop-place g l =
       reached : Reached l.asked l.fn.changes.items l.changes.items l.fn.self l.self;
       absent : entry_for g.K.PartialEq.eq l.key l.self.entries ≡ None;
       options : l.self.options ≡ l.fn.self.options;
+      inside : l.to ≤ length l.self.pages;
+      others : HasRoomOnlyAmong l.asked l.self.pages l.from l.to;
     }
 
 abbrev pub decreases-loop-place : goal.decreases-loop-place

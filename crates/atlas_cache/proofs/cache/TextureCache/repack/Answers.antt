@@ -77,6 +77,7 @@ returns-clause-repacks g c = λ _.
       listed = rw (c.deref.ensures.value, c.options-options.ensures.options, c.repack.ensures.options, c.reserve.ensures.items)
           at c.settle_all.ensures.told;
       numbers = c.settle_all.ensures.made;
+      reserved = c.settle_all.ensures.reserved;
       others = does.others;
       sizes = c.repack.ensures.sizes;
       options = c.repack.ensures.options;

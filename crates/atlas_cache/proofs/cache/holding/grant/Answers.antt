@@ -22,7 +22,7 @@ returns-in-Ok-clause-held g c =
     let numbered = rw c.in-Some.is at c.in_ok-page.ensures.numbered in
     let lies : is_blank entry ≡ false = ne_eqb c.in-Some.page no_page (λ q. omega (arith, q, numbered)) in
     rw (c.in-Ok.ensures.joined, lies)
-    (joined c.args.rooms.now.pages c.place.new.self.pages entry adds (lying (entries_of c.args.entries.now.entries)) c.requires.held)
+    (joined c.args.rooms.now.pages c.place_among.new.self.pages entry adds (lying (entries_of c.args.entries.now.entries)) c.requires.held)
 
 pub returns-in-Ok-clause-lies : goal.returns-in-Ok-clause-lies
 returns-in-Ok-clause-lies g c =

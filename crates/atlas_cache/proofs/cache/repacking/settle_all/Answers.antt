@@ -12,6 +12,7 @@ loop-init g c = record {
       c.args.changes.now.items (vec_capacity c.args.changes.now - vec_len c.args.changes.now) c.newest-next.ensures.first
       (omega (arith, c.requires.room));
   made = refl;
+  reserved = refl;
 }
 
 pub returns-in_default-clause-entries : goal.returns-in_default-clause-entries
@@ -71,10 +72,12 @@ loop-preserved g c =
                 (omega (arith, a.room, w.settle.ensures.longer, w.settle.ensures.room)) w.if-entry-page.true
                 (w.settle.ensures.settled (filter_map (settled padding page cs) a.done) a.rest a.is) w.settle.ensures.told;
             made = w.settle.ensures.made ∙ c.loop.invariant.made;
+            reserved = w.settle.ensures.reserved ∙ c.loop.invariant.reserved;
           })
       | else-entry-page w ↦
           rw (w.entries-is, w.changes-is) (record {
             walked = walked-past padding page cs _ _ _ _ _ _ _ _ _ _ _ _ a first (omega (arith, a.room)) w.if-entry-page.false refl refl;
             made = c.loop.invariant.made;
+            reserved = c.loop.invariant.reserved;
           })
     ]

@@ -8,4 +8,5 @@ invariant-loop g l =
       walked : Walked l.options.padding l.page l.moves l.fn.entries.entries l.entries.entries l.next l.counter l.fn.changes.items l.changes.items
           (vec_capacity l.changes - vec_len l.changes);
       made : l.entries.made ≡ l.fn.entries.made;
+      reserved : l.entries.reserved ≡ l.fn.entries.reserved;
     }

@@ -5,4 +5,4 @@ use Rattle.atlas_cache.proofs.entries.Entries.len.Goals as goal
 pub returns : goal.returns
 returns g c =
     let s = c.self.inside in
-    c.len.ensures ∙ sym (length-numbered s.items.items s.recency.entries c.self.invariant.inside) ∙ ap length (ap (λ t. t.entries) c.self.view_is)
+    c.len.ensures ∙ sym (length-numbered s.items.items s.recency.entries c.self.invariant.0.inside) ∙ ap length (ap (λ t. t.entries) c.self.view_is)

@@ -8,28 +8,31 @@ use Rattle.atlas_cache.proofs.entries.Entries.move_to.Goals as goal
 pub index_mut-entry-requires : goal.index_mut-entry-requires
 index_mut-entry-requires g c =
     let s = c.self.inside in
-    let l : IsEntry c.args.number s.recency = entry-is g.K.PartialEq.eq s.map s.recency s.items.items c.self.invariant c.args.self.now.entries (ap (λ t. t.entries) c.self.view_is) c.args.number c.requires in
-    omega (arith, c.self.invariant.inside c.args.number l, s.items.ok.0)
+    let l : IsEntry c.args.number s.recency = entry-is g.K.PartialEq.eq s.map s.recency s.items.items c.self.invariant.0 c.args.self.now.entries (ap (λ t. t.entries) c.self.view_is) c.args.number c.requires in
+    omega (arith, c.self.invariant.0.inside c.args.number l, s.items.ok.0)
 
 pub invariant_of-self : goal.invariant_of-self
 invariant_of-self g c =
     let s = c.self.inside in
     let n = c.args.number in
     let eq = g.K.PartialEq.eq in
-    let l : IsEntry n s.recency = entry-is eq s.map s.recency s.items.items c.self.invariant c.args.self.now.entries (ap (λ t. t.entries) c.self.view_is) n c.requires in
+    let l : IsEntry n s.recency = entry-is eq s.map s.recency s.items.items c.self.invariant.0 c.args.self.now.entries (ap (λ t. t.entries) c.self.view_is) n c.requires in
     let r = c.index_mut-entry.result.now in
-    let at : slice_get s.items.items n ≡ Some r = slice_get_read s.items.items _ n r s.items.ok.0 (omega (arith, c.self.invariant.inside n l, s.items.ok.0)) c.index_mut-entry.ensures.value in
-    kept-written eq s.map s.recency s.items.items c.self.invariant n r (record r { id = c.args.id; rectangle = c.args.rectangle }) l at refl refl
+    let at : slice_get s.items.items n ≡ Some r = slice_get_read s.items.items _ n r s.items.ok.0 (omega (arith, c.self.invariant.0.inside n l, s.items.ok.0)) c.index_mut-entry.ensures.value in
+    (kept-written eq s.map s.recency s.items.items c.self.invariant.0 n r (record r { id = c.args.id; rectangle = c.args.rectangle }) l at refl refl, c.self.invariant.1)
 
 pub returns-clause-entries : goal.returns-clause-entries
 returns-clause-entries g c =
     let s = c.self.inside in
     let n = c.args.number in
     let eq = g.K.PartialEq.eq in
-    let l : IsEntry n s.recency = entry-is eq s.map s.recency s.items.items c.self.invariant c.args.self.now.entries (ap (λ t. t.entries) c.self.view_is) n c.requires in
+    let l : IsEntry n s.recency = entry-is eq s.map s.recency s.items.items c.self.invariant.0 c.args.self.now.entries (ap (λ t. t.entries) c.self.view_is) n c.requires in
     let r = c.index_mut-entry.result.now in
-    let at : slice_get s.items.items n ≡ Some r = slice_get_read s.items.items _ n r s.items.ok.0 (omega (arith, c.self.invariant.inside n l, s.items.ok.0)) c.index_mut-entry.ensures.value in
-    moved-is eq s.map s.recency s.items.items c.self.invariant n c.args.id c.args.rectangle r l at ∙ ap (moved n c.args.id c.args.rectangle) (ap (λ t. t.entries) c.self.view_is)
+    let at : slice_get s.items.items n ≡ Some r = slice_get_read s.items.items _ n r s.items.ok.0 (omega (arith, c.self.invariant.0.inside n l, s.items.ok.0)) c.index_mut-entry.ensures.value in
+    moved-is eq s.map s.recency s.items.items c.self.invariant.0 n c.args.id c.args.rectangle r l at ∙ ap (moved n c.args.id c.args.rectangle) (ap (λ t. t.entries) c.self.view_is)
 
 pub returns-clause-made : goal.returns-clause-made
 returns-clause-made g c = ap (λ t. t.made) c.self.view_is
+
+pub returns-clause-reserved : goal.returns-clause-reserved
+returns-clause-reserved g c = ap (λ t. t.reserved) c.self.view_is

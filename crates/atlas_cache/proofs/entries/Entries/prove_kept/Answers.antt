@@ -8,24 +8,24 @@ use Rattle.atlas_cache.proofs.entries.Entries.prove_kept.Goals as goal
 pub returns-clause-numbers : goal.returns-clause-numbers
 returns-clause-numbers g c =
     let s = c.self.inside in
-    subst (IsDistinct eqb) (sym (numbers-are g.K.PartialEq.eq s.map s.recency s.items.items c.self.invariant c.args.self.now.entries (ap (λ t. t.entries) c.self.view_is)))
-    (IsDistinct-from_once s.recency.entries c.self.invariant.once)
+    subst (IsDistinct eqb) (sym (numbers-are g.K.PartialEq.eq s.map s.recency s.items.items c.self.invariant.0 c.args.self.now.entries (ap (λ t. t.entries) c.self.view_is)))
+    (IsDistinct-from_once s.recency.entries c.self.invariant.0.once)
 
 pub returns-clause-keys : goal.returns-clause-keys
 returns-clause-keys g c =
     let s = c.self.inside in
     subst (λ es. IsDistinct g.K.PartialEq.eq (keys es)) (ap (λ t. t.entries) c.self.view_is)
-    (IsDistinct-keys g.K.PartialEq.eq s.map s.recency s.items.items c.self.invariant g.met.K.Eq.laws)
+    (IsDistinct-keys g.K.PartialEq.eq s.map s.recency s.items.items c.self.invariant.0 g.met.K.Eq.laws)
 
 pub returns-clause-own : goal.returns-clause-own
 returns-clause-own g c =
     let s = c.self.inside in
     subst (λ es. AreNumbered es) (ap (λ t. t.entries) c.self.view_is)
-    (labels g.K.PartialEq.eq s.map s.recency s.items.items c.self.invariant s.recency.entries)
+    (labels g.K.PartialEq.eq s.map s.recency s.items.items c.self.invariant.0 s.recency.entries)
 
 pub returns-clause-made : goal.returns-clause-made
 returns-clause-made g c =
     let s = c.self.inside in
     rw (← c.self.view_is)
-    (labels-below g.K.PartialEq.eq s.map s.recency s.items.items c.self.invariant s.recency.made s.recency.entries
+    (labels-below g.K.PartialEq.eq s.map s.recency s.items.items c.self.invariant.0 s.recency.made s.recency.entries
     c.prove_kept.ensures.made)

@@ -1,29 +1,57 @@
-use Rattle.std.proofs.Common.{subst, sym}
-use Rattle.atlas_cache.specs.Tables.{AreKept}
-use Rattle.atlas_cache.proofs.EntryKeeping.{kept-alike}
+use Rattle.std.proofs.Common.{arith, subst, sym, vec_capacity}
+use Rattle.atlas_cache.specs.Tables.{AreKept, HasMemory}
+use Rattle.atlas_cache.proofs.EntryKeeping.{kept-alike, kept-reserved}
+use Rattle.atlas_cache.proofs.ReserveLemmas.{entries-fit, memory-kept, memory-reserved}
 use Rattle.atlas_cache.proofs.entries.Entries.reserve.Goals as goal
 
 pub invariant_of-self : goal.invariant_of-self
 invariant_of-self g c =
     let s = c.self.inside in
-    kept-alike g.K.PartialEq.eq s.map s.recency s.items.items c.self.invariant c.reserve.new.self c.in_err-reserve.ensures.entries.2
+    let new = c.reserve.new.self in
+    let same = c.in_err-reserve.ensures.entries in (
+      kept-alike g.K.PartialEq.eq s.map s.recency s.items.items c.self.invariant.0 new same.2,
+      memory-kept s.map s.recency (vec_capacity s.items) c.self.invariant.1 new (vec_capacity s.items) c.in_err-reserve.ensures.spare same.1
+          (omega arith),
+    )
 
 pub invariant_of-self-in_err-reserve-2 : goal.invariant_of-self-in_err-reserve-2
 invariant_of-self-in_err-reserve-2 g c =
     let s = c.self.inside in
-    subst (λ xs. AreKept g.K.PartialEq.eq c.reserve.new.self s.recency xs) (sym c.in_err-reserve-2.ensures.items)
-    (kept-alike g.K.PartialEq.eq s.map s.recency s.items.items c.self.invariant c.reserve.new.self c.in_ok-reserve.ensures.entries.2)
+    let new = c.reserve.new.self in
+    let same = c.in_ok-reserve.ensures.entries in (
+      subst (λ xs. AreKept g.K.PartialEq.eq new s.recency xs) (sym c.in_err-reserve-2.ensures.items)
+          (kept-alike g.K.PartialEq.eq s.map s.recency s.items.items c.self.invariant.0 new same.2),
+      memory-kept s.map s.recency (vec_capacity s.items) c.self.invariant.1 new (vec_capacity c.reserve-2.new.self)
+          c.in_ok-reserve.ensures.spare same.1 c.in_err-reserve-2.ensures.capacity,
+    )
 
 pub invariant_of-self-in_err-reserve-3 : goal.invariant_of-self-in_err-reserve-3
 invariant_of-self-in_err-reserve-3 g c =
     let s = c.self.inside in
     let eq = g.K.PartialEq.eq in
-    let kept : AreKept eq c.reserve.new.self s.recency c.reserve-2.new.self.items = subst (λ xs. AreKept eq c.reserve.new.self s.recency xs) (sym c.in_ok-reserve-2.ensures.items) (kept-alike eq s.map s.recency s.items.items c.self.invariant c.reserve.new.self c.in_ok-reserve.ensures.entries.2) in
-    subst (λ o. AreKept eq c.reserve.new.self o c.reserve-2.new.self.items) (sym c.reserve-3.ensures.same) kept
+    let new = c.reserve.new.self in
+    let items = c.reserve-2.new.self in
+    let same = c.in_ok-reserve.ensures.entries in
+    let kept : AreKept eq new s.recency items.items = subst (λ xs. AreKept eq new s.recency xs) (sym c.in_ok-reserve-2.ensures.items) (kept-alike eq s.map s.recency s.items.items c.self.invariant.0 new same.2) in (
+      subst (λ o. AreKept eq new o items.items) (sym c.in_err-reserve-3.ensures.refused) kept,
+      subst (λ o. HasMemory new o (vec_capacity items)) (sym c.in_err-reserve-3.ensures.refused)
+          (memory-kept s.map s.recency (vec_capacity s.items) c.self.invariant.1 new (vec_capacity items) c.in_ok-reserve.ensures.spare same.1
+          c.in_ok-reserve-2.ensures.capacity),
+    )
 
 pub invariant_of-self-2 : goal.invariant_of-self-2
 invariant_of-self-2 g c =
     let s = c.self.inside in
     let eq = g.K.PartialEq.eq in
-    let kept : AreKept eq c.reserve.new.self s.recency c.reserve-2.new.self.items = subst (λ xs. AreKept eq c.reserve.new.self s.recency xs) (sym c.in_ok-reserve-2.ensures.items) (kept-alike eq s.map s.recency s.items.items c.self.invariant c.reserve.new.self c.in_ok-reserve.ensures.entries.2) in
-    subst (λ o. AreKept eq c.reserve.new.self o c.reserve-2.new.self.items) (sym c.reserve-3.ensures.same) kept
+    let new = c.reserve.new.self in
+    let items = c.reserve-2.new.self in
+    let same = c.in_ok-reserve.ensures.entries in
+    let kept : AreKept eq new s.recency items.items = subst (λ xs. AreKept eq new s.recency xs) (sym c.in_ok-reserve-2.ensures.items) (kept-alike eq s.map s.recency s.items.items c.self.invariant.0 new same.2) in
+    let fit = entries-fit s.map s.recency (vec_capacity s.items) c.self.invariant.1 s.items.items c.self.invariant.0.made in (
+      subst (λ o. AreKept eq new o items.items) (sym c.in_ok-reserve-3.ensures.reserves)
+          (kept-reserved eq new s.recency items.items kept c.args.additional),
+      subst (λ o. HasMemory new o (vec_capacity items)) (sym c.in_ok-reserve-3.ensures.reserves)
+          (memory-reserved s.map s.recency (vec_capacity s.items) c.self.invariant.1 new (vec_capacity items) c.args.additional
+          c.in_ok-reserve.ensures.spare c.in_ok-reserve.ensures.ok same.1 c.in_ok-reserve-2.ensures.capacity
+          (omega (arith, fit, s.items.ok.0, c.in_ok-reserve-2.ensures.ok, c.in_ok-reserve-2.ensures.len))),
+    )

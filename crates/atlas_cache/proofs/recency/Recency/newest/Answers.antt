@@ -5,12 +5,12 @@ use Rattle.atlas_cache.proofs.recency.Recency.newest.Goals as goal
 
 pub returns-then-ends-clause-first : goal.returns-then-ends-clause-first
 returns-then-ends-clause-first g c =
-    first-none _ _ _ c.self.invariant.short c.self.invariant.ring c.if-ends.true ∙ ap (λ (o : Order). newest_of o.entries) c.self.view_is
+    first-none _ _ _ c.self.invariant.0.short c.self.invariant.0.ring c.if-ends.true ∙ ap (λ (o : Order). newest_of o.entries) c.self.view_is
 
 pub returns-clause-first : goal.returns-clause-first
 returns-clause-first g c =
-    first-some _ _ _ c.self.invariant.ring c.if-ends.false ∙ ap (λ (o : Order). newest_of o.entries) c.self.view_is
+    first-some _ _ _ c.self.invariant.0.ring c.if-ends.false ∙ ap (λ (o : Order). newest_of o.entries) c.self.view_is
 
 pub returns-clause-entry : goal.returns-clause-entry
 returns-clause-entry g c =
-    subst (λ (o : Order). 0 < times_in c.self.inside.ends.next o.entries) c.self.view_is (first-entry _ _ _ c.self.invariant.ring c.if-ends.false)
+    subst (λ (o : Order). 0 < times_in c.self.inside.ends.next o.entries) c.self.view_is (first-entry _ _ _ c.self.invariant.0.ring c.if-ends.false)

@@ -5,12 +5,12 @@ use Rattle.atlas_cache.proofs.recency.Recency.oldest.Goals as goal
 
 pub returns-then-ends-clause-last : goal.returns-then-ends-clause-last
 returns-then-ends-clause-last g c =
-    last-none _ _ _ c.self.invariant.short c.self.invariant.ring c.if-ends.true ∙ ap (λ (o : Order). oldest_of o.entries) c.self.view_is
+    last-none _ _ _ c.self.invariant.0.short c.self.invariant.0.ring c.if-ends.true ∙ ap (λ (o : Order). oldest_of o.entries) c.self.view_is
 
 pub returns-clause-last : goal.returns-clause-last
 returns-clause-last g c =
-    last-some _ _ _ c.self.invariant.ring c.if-ends.false ∙ ap (λ (o : Order). oldest_of o.entries) c.self.view_is
+    last-some _ _ _ c.self.invariant.0.ring c.if-ends.false ∙ ap (λ (o : Order). oldest_of o.entries) c.self.view_is
 
 pub returns-clause-entry : goal.returns-clause-entry
 returns-clause-entry g c =
-    subst (λ (o : Order). 0 < times_in c.self.inside.ends.previous o.entries) c.self.view_is (last-entry _ _ _ c.self.invariant.ring c.if-ends.false)
+    subst (λ (o : Order). 0 < times_in c.self.inside.ends.previous o.entries) c.self.view_is (last-entry _ _ _ c.self.invariant.0.ring c.if-ends.false)

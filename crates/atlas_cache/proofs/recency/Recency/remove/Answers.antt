@@ -1,4 +1,4 @@
-use Rattle.std.proofs.Common.{◌∙◌, ◌-◌, ◌<◌, ap, sym, subst}
+use Rattle.std.proofs.Common.{arith, ◌∙◌, ◌-◌, ◌<◌, ap, sym, subst}
 use Rattle.std.proofs.lemmas.List.{with_items_is}
 use Rattle.atlas_cache.specs.Orders.{Order, times_in, gone}
 use Rattle.atlas_cache.specs.Rings.{IsRecency, run}
@@ -13,8 +13,10 @@ invariant_of-self g c =
     let i = c.args.number in
     let w : IsGiven r.links.items r.ends new last i r.unused = subst (λ l. IsGiven l r.ends new last i r.unused) c.deref_mut.ensures.value (record { ring = c.give_back.ensures.ring; own = c.give_back.ensures.own; others = c.give_back.ensures.others; size = c.give_back.ensures.size }) in
     let l : 0 < times_in i (run r.links.items r.ends r.count) = subst (λ (o : Order). 0 < times_in i o.entries) (sym c.self.view_is) c.requires in
-    let e = with_items_is r.links new (w.size ∙ sym r.links.ok.0) in
-    subst (λ l. IsRecency l last i (r.count - 1)) (sym e) (IsRecency-given r.links.items new r.ends last r.unused r.count i c.self.invariant l w)
+    let e = with_items_is r.links new (w.size ∙ sym r.links.ok.0) in (
+      subst (λ l. IsRecency l last i (r.count - 1)) (sym e) (IsRecency-given r.links.items new r.ends last r.unused r.count i c.self.invariant.0 l w),
+      omega (arith, c.self.invariant.1),
+    )
 
 pub returns : goal.returns
 returns g c =
@@ -25,4 +27,4 @@ returns g c =
     let w : IsGiven r.links.items r.ends new last i r.unused = subst (λ l. IsGiven l r.ends new last i r.unused) c.deref_mut.ensures.value (record { ring = c.give_back.ensures.ring; own = c.give_back.ensures.own; others = c.give_back.ensures.others; size = c.give_back.ensures.size }) in
     let l : 0 < times_in i (run r.links.items r.ends r.count) = subst (λ (o : Order). 0 < times_in i o.entries) (sym c.self.view_is) c.requires in
     let e = with_items_is r.links new (w.size ∙ sym r.links.ok.0) in
-    ap (λ l. stored l last (r.count - 1)) e ∙ given-is r.links.items new r.ends last r.unused r.count i c.self.invariant l w ∙ ap (gone i) c.self.view_is
+    ap (λ l. stored l last (r.count - 1) r.reserved) e ∙ given-is r.links.items new r.ends last r.unused r.count i c.self.invariant.0 l r.reserved w ∙ ap (gone i) c.self.view_is

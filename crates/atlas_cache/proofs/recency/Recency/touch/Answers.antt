@@ -13,8 +13,10 @@ invariant_of-self g c =
     let i = c.args.number in
     let w : IsTouched r.links.items r.ends new last i = subst (λ l. IsTouched l r.ends new last i) c.deref_mut.ensures.value (record { ring = c.move_to_front.ensures.ring; others = c.move_to_front.ensures.others; size = c.move_to_front.ensures.size }) in
     let l : 0 < times_in i (run r.links.items r.ends r.count) = subst (λ (o : Order). 0 < times_in i o.entries) (sym c.self.view_is) c.requires in
-    let e = with_items_is r.links new (w.size ∙ sym r.links.ok.0) in
-    subst (λ l. IsRecency l last r.unused r.count) (sym e) (IsRecency-touched r.links.items new r.ends last r.unused r.count i c.self.invariant l w)
+    let e = with_items_is r.links new (w.size ∙ sym r.links.ok.0) in (
+      subst (λ l. IsRecency l last r.unused r.count) (sym e) (IsRecency-touched r.links.items new r.ends last r.unused r.count i c.self.invariant.0 l w),
+      c.self.invariant.1,
+    )
 
 pub returns : goal.returns
 returns g c =
@@ -25,4 +27,4 @@ returns g c =
     let w : IsTouched r.links.items r.ends new last i = subst (λ l. IsTouched l r.ends new last i) c.deref_mut.ensures.value (record { ring = c.move_to_front.ensures.ring; others = c.move_to_front.ensures.others; size = c.move_to_front.ensures.size }) in
     let l : 0 < times_in i (run r.links.items r.ends r.count) = subst (λ (o : Order). 0 < times_in i o.entries) (sym c.self.view_is) c.requires in
     let e = with_items_is r.links new (w.size ∙ sym r.links.ok.0) in
-    ap (λ l. stored l last r.count) e ∙ touched-is r.links.items new r.ends last r.unused r.count i c.self.invariant l w ∙ ap (used i) c.self.view_is
+    ap (λ l. stored l last r.count r.reserved) e ∙ touched-is r.links.items new r.ends last r.unused r.count i c.self.invariant.0 l r.reserved w ∙ ap (used i) c.self.view_is

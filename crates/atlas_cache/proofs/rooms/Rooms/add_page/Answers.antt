@@ -9,3 +9,6 @@ returns-clause-less g c =
 
 pub returns-clause-same : goal.returns-clause-same
 returns-clause-same g c = rw (← c.self.view_is) c.in_ok-push_page.ensures.same
+
+pub returns-clause-others : goal.returns-clause-others
+returns-clause-others g c = rw (c.len-number.ensures.pages, ← c.self.view_is) c.in_ok-push_page.ensures.others

@@ -25,3 +25,6 @@ returns-clause-nothing g c = λ is.
 pub returns-clause-refused : goal.returns-clause-refused
 returns-clause-refused g c =
     on_err_weaker c.grow_first.result (λ is. ap (rooms_of c.self.inside.options) is ∙ c.self.view_is) c.grow_first.ensures.refused
+
+pub returns-clause-others : goal.returns-clause-others
+returns-clause-others g c = rw (← c.self.view_is) c.grow_first.ensures.others

@@ -1,27 +1,8 @@
-use Rattle.std.proofs.Common.{◌∙◌, ap}
-use Rattle.std.proofs.lemmas.Result.{on_err_weaker}
-use Rattle.atlas_cache.specs.Rooms.{rooms_of}
+use Rattle.std.proofs.Common.{arith}
+use Rattle.std.proofs.lemmas.Option.{slice_get_within}
 use Rattle.atlas_cache.proofs.rooms.Rooms.place.Goals as goal
 
-pub returns-clause-adds : goal.returns-clause-adds
-returns-clause-adds g c = rw (← c.self.view_is) c.place_first.ensures.adds
-
-pub returns-clause-first : goal.returns-clause-first
-returns-clause-first g c = rw (← c.self.view_is) c.place_first.ensures.first
-
-pub returns-clause-page : goal.returns-clause-page
-returns-clause-page g c = rw (← c.self.view_is) c.place_first.ensures.page
-
-pub returns-clause-full : goal.returns-clause-full
-returns-clause-full g c = rw (← c.self.view_is) c.place_first.ensures.full
-
-pub returns-clause-none : goal.returns-clause-none
-returns-clause-none g c = λ is.
-    ap (rooms_of c.self.inside.options) (c.place_first.ensures.none is) ∙ c.self.view_is
-
-pub returns-clause-refused : goal.returns-clause-refused
-returns-clause-refused g c =
-    on_err_weaker c.place_first.result (λ is. ap (rooms_of c.self.inside.options) is ∙ c.self.view_is) c.place_first.ensures.refused
-
-pub returns-clause-sides : goal.returns-clause-sides
-returns-clause-sides g c = rw (← c.self.view_is) c.place_first.ensures.sides
+pub place_among-requires-clause-others : goal.place_among-requires-clause-others
+place_among-requires-clause-others g c =
+    rw (← c.self.view_is) (λ k s is room.
+    (omega arith, omega (arith, c.len-to.ensures, slice_get_within c.self.inside.pages.items k s is)))

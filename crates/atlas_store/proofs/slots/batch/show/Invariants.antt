@@ -7,7 +7,8 @@ use Rattle.atlas_store.proofs.slots.batch.show.Given as goal
 abbrev pub invariant-loop-left : goal.invariant-loop-left
 invariant-loop-left l =
     record {
-      shown : (ns : List Node) → nodes l.fn.slots ≡ hidden ns l.ids → AreHidable ns l.ids → nodes l.slots ≡ hidden ns (take l.left l.ids);
+      shown : (ns : List Node) → nodes l.fn.slots ≡ hidden ns l.ids → AreHidable ns l.ids
+          → nodes l.slots ≡ hidden ns (take l.left l.ids);
       same_rings : rings l.slots ≡ rings l.fn.slots;
       most : l.left ≤ length l.ids;
     }

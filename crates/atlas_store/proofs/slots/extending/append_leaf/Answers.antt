@@ -1,6 +1,7 @@
 use Rattle.std.proofs.Common.{rules, ◌<◌, ◌∙◌, ap, length, refl}
 use Rattle.std.proofs.lemmas.List.{length-map}
-use Rattle.atlas_store.specs.Slots.{nodes, no_slot}
+use Rattle.atlas_store.specs.Slots.{nodes}
+use Rattle.atlas_search.specs.Numbers.{no_slot}
 use Rattle.atlas_store.proofs.SlotLemmas.Stretching.{is-beyond, appended-by, keeps-appended, Stands-appended, last-inside}
 use Rattle.atlas_store.proofs.slots.extending.append_leaf.Goals as goal
 

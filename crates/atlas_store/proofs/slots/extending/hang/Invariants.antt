@@ -9,7 +9,8 @@ use Rattle.atlas_store.proofs.slots.extending.hang.Given as goal
 
 abbrev pub invariant-loop-at : goal.invariant-loop-at
 invariant-loop-at l = record {
-  hanging : (s : Sequence) (n : Numbered) → BeginsAt (nodes l.fn.slots) l.fn.first.number s n → IsHanging (nodes l.slots) l.container.number l.at.number s n;
+  hanging : (s : Sequence) (n : Numbered) → BeginsAt (nodes l.fn.slots) l.fn.first.number s n
+      → IsHanging (nodes l.slots) l.container.number l.at.number s n;
   uses : (k : ℕ) → KeepsUse (node_at (nodes l.fn.slots) k) (node_at (nodes l.slots) k);
   same_rings : rings l.slots ≡ rings l.fn.slots;
 }

@@ -2,7 +2,7 @@ use Rattle.std.proofs.Common.{◌<◌, ◌∙◌, ap, arith, length}
 use Rattle.std.proofs.lemmas.List.{length-map}
 use Rattle.atlas_store.specs.declared.slots.Node.{Node}
 use Rattle.atlas_store.specs.Slots.{nodes}
-use Rattle.atlas_store.specs.Slots.Parts.{flipped}
+use Rattle.atlas_search.specs.Rectangles.{flipped}
 use Rattle.atlas_store.proofs.SlotLemmas.Hanging.{Stands-topped, topped-by, uses-written}
 use Rattle.atlas_store.proofs.slots.extending.wrap_top.Goals as goal
 

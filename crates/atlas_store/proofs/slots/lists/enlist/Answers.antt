@@ -2,7 +2,7 @@ use Rattle.std.proofs.Common.{◌<◌, length, ap, subst, ◌∙◌, arith}
 use Rattle.std.proofs.lemmas.List.{length-map}
 use Rattle.atlas_store.specs.declared.slots.Slot.{Slot}
 use Rattle.atlas_store.specs.Slots.{nodes, rings}
-use Rattle.atlas_store.specs.Search.Bands.{number_of}
+use Rattle.atlas_search.specs.Bands.{number_of}
 use Rattle.atlas_store.specs.Slots.Lists.{node_top, tag_of}
 use Rattle.atlas_model.specs.Pixels.{options_of}
 use Rattle.atlas_store.proofs.StoreLemmas.Filing.{IsPutIn, is-unlisted, number-is, listed-by, length-rings}

@@ -1,8 +1,8 @@
 use Rattle.std.proofs.Common.{◌<◌, ◌^◌, FitsSigned, w32, rules, arith}
 use Rattle.std.proofs.lemmas.Int.{ints}
 use Rattle.atlas_model.specs.declared.geometry.Rectangle.{Rectangle}
-use Rattle.atlas_store.specs.declared.cut.Orientation.{Orientation}
-use Rattle.atlas_store.specs.declared.cut.Orientation.TheVariants.{Horizontal, Vertical}
+use Rattle.atlas_search.specs.declared.cut.Orientation.{Orientation}
+use Rattle.atlas_search.specs.declared.cut.Orientation.TheVariants.{Horizontal, Vertical}
 use Rattle.atlas_model.specs.Boxes.{box_sides, side}
 use Rattle.atlas_model.specs.Pixels.{box_of}
 use Rattle.atlas_store.specs.Slots.{axis_of}

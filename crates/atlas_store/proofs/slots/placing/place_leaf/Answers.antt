@@ -1,7 +1,7 @@
 use Rattle.std.proofs.Common.{◌<◌, ◌≡◌, ◌∙◌, ap, sym, refl, length, arith}
 use Rattle.std.proofs.lemmas.List.{length-map}
-use Rattle.atlas_store.specs.Slots.{nodes, no_slot}
-use Rattle.atlas_store.specs.Slots.Numbered.{same}
+use Rattle.atlas_store.specs.Slots.{nodes}
+use Rattle.atlas_search.specs.Numbers.{no_slot, same}
 use Rattle.atlas_store.proofs.SlotLemmas.Frames.{same-self}
 use Rattle.atlas_store.proofs.SlotLemmas.SlotAreas.{free-exact}
 use Rattle.atlas_store.proofs.SlotLemmas.PlacingWrites.{

@@ -1,9 +1,10 @@
 use Rattle.std.proofs.Common.{◌≡◌, false, refl}
 use Rattle.atlas_model.specs.Pixels.{options_of}
 use Rattle.atlas_store.specs.Slots.{nodes, node_at}
-use Rattle.atlas_store.specs.Search.Bands.{list_of}
+use Rattle.atlas_search.specs.Bands.{list_of}
 use Rattle.atlas_store.specs.Slots.Lists.{node_sides}
-use Rattle.atlas_store.specs.Slots.Links.{lists_with, with_mark}
+use Rattle.atlas_store.specs.Slots.Links.{with_mark}
+use Rattle.atlas_search.specs.Numbers.{lists_with}
 use Rattle.atlas_store.specs.Stored.{places_of}
 use Rattle.atlas_store.specs.Store.Holdings.{shelf_of}
 use Rattle.atlas_store.proofs.StoreLemmas.StoreFacts.{are-slots, across-call, slots-room}

@@ -1,6 +1,6 @@
 use Rattle.std.proofs.Common.{◌-◌, ◌≡◌, ◌∙◌, ap, sym, subst, length, arith}
 use Rattle.atlas_store.specs.Slots.{nodes, rings}
-use Rattle.atlas_store.specs.Slots.Lists.{occurs}
+use Rattle.atlas_search.specs.Numbers.{occurs}
 use Rattle.atlas_store.specs.Slots.Placing.{granted_by, taken_by, CanPlace, IsPlaced}
 use Rattle.std.specs.Vec.{with_items}
 use Rattle.atlas_store.specs.Stored.{Shelf, Holds}

@@ -19,13 +19,15 @@ returns g c =
     let wide : natural c.args.size.width < 2 ^ 31 = search rules in
     let high : natural c.args.size.height < 2 ^ 31 = search rules in
     record {
-      holds =
-          c.list.ensures.kept (detached_holding (sides_of c.args.size))
-          (whole_leaf _ c.args.size (record { slots = search rules; lists = c.clear-2.ensures; unused = refl; valid = subst (λ o. AreValid (options_of o)) (sym c.set.ensures) c.requires.options }) c.requires.size wide high);
-      slots = c.list.ensures.nodes ∙ search rules;
-      one = c.list.ensures.room.slots ∙ search rules;
-      once = c.list.ensures.once (once-whole c.args.size (search rules) refl);
-      options = c.list.ensures.room.options ∙ c.set.ensures;
+      begun = record {
+        holds =
+            c.list.ensures.kept (detached_holding (sides_of c.args.size))
+            (whole_leaf _ c.args.size (record { slots = search rules; lists = c.clear-2.ensures; unused = refl; valid = subst (λ o. AreValid (options_of o)) (sym c.set.ensures) c.requires.options }) c.requires.size wide high);
+        slots = c.list.ensures.nodes ∙ search rules;
+        one = c.list.ensures.room.slots ∙ search rules;
+        once = c.list.ensures.once (once-whole c.args.size (search rules) refl);
+        options = c.list.ensures.room.options ∙ c.set.ensures;
+      };
       capacity = c.list.ensures.room.capacity ∙ search rules;
       turns = c.list.ensures.turns;
     }

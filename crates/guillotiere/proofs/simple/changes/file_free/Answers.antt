@@ -3,7 +3,7 @@ use Rattle.std.specs.List.{All}
 use Rattle.atlas_model.specs.Boxes.{AreSameBoxes, IsNonempty}
 use Rattle.guillotiere.specs.FreeBoxes.BoxShelves.{box_shelf, free_item_boxes}
 use Rattle.atlas_model.specs.Pixels.{box_of}
-use Rattle.atlas_store.specs.Rectangles.{IsUnsigned}
+use Rattle.atlas_search.specs.Rectangles.{IsUnsigned}
 use Rattle.atlas_store.specs.Slots.{nodes}
 use Rattle.atlas_store.specs.Visits.{free_areas}
 use Rattle.guillotiere.proofs.SimpleLemmas.SimpleLists.{next-all, next-filed, passed-free}

@@ -1,11 +1,11 @@
 use Rattle.std.proofs.Common.{◌<◌, ◌≤◌, ◌∙◌, List, map, subst, sym, ap, arith}
 use Rattle.std.proofs.lemmas.List.{map-set}
-use Rattle.atlas_store.specs.declared.slots.Link.{Link}
-use Rattle.atlas_store.specs.Search.Bands.{list_of, number_of}
+use Rattle.atlas_search.specs.declared.link.Link.{Link}
+use Rattle.atlas_search.specs.Bands.{list_of, number_of}
 use Rattle.guillotiere.specs.FreeBoxes.BoxShelves.{AreKept, stored_item}
-use Rattle.atlas_store.specs.Search.Items.{Item}
+use Rattle.atlas_search.specs.Items.{Item}
 use Rattle.atlas_model.specs.Pixels.{options_of}
-use Rattle.atlas_store.specs.Search.Tables.{low_of}
+use Rattle.atlas_search.specs.Tables.{low_of}
 use Rattle.guillotiere.proofs.SimpleLemmas.BoxStoring.{put-kept, boxes-with, exact-width}
 use Rattle.guillotiere.proofs.simple.boxes.FreeBoxes.put.Goals as goal
 

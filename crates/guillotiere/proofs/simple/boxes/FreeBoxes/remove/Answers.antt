@@ -2,18 +2,19 @@ use Rattle.std.proofs.Common.{ℕ, ◌≡◌, ◌≢◌, ◌+◌, ◌-◌, ◌<�
 use Rattle.std.proofs.lemmas.Bool.{ne_eqb}
 use Rattle.std.proofs.lemmas.List.{map-set, length-map}
 use Rattle.guillotiere.specs.declared.simple.boxes.FreeBox.{FreeBox}
-use Rattle.atlas_store.specs.declared.slots.Link.{Link}
+use Rattle.atlas_search.specs.declared.link.Link.{Link}
 use Rattle.atlas_model.specs.Boxes.{AreSameBoxes}
 use Rattle.guillotiere.specs.FreeBoxes.BoxShelves.{AreKept, box_shelf, free_item_boxes, idle_item, stored_item, with_after}
-use Rattle.atlas_store.specs.Search.Items.{Item}
+use Rattle.atlas_search.specs.Items.{Item}
 use Rattle.atlas_model.specs.Pixels.{box_of, options_of}
-use Rattle.atlas_store.specs.Search.Tables.{head_of, low_of}
+use Rattle.atlas_search.specs.Tables.{head_of, low_of}
 use Rattle.guillotiere.proofs.SimpleLemmas.BoxStoring.{first-removed, next-removed, free-inside, read-item, IsSameButLinks, same-links, linked-after, boxes-left}
 use Rattle.guillotiere.proofs.SimpleLemmas.EntryCounts.{used-some}
 use Rattle.guillotiere.proofs.simple.boxes.FreeBoxes.remove.Goals as goal
 
 -- The entries once the one that was found is unused.
-entries-are : (bs : List FreeBox) (x : ℕ) (b : FreeBox) (link unused : Link) → stored_item b ≡ idle_item link.number → link ≡ unused
+entries-are : (bs : List FreeBox) (x : ℕ) (b : FreeBox) (link unused : Link) → stored_item b ≡ idle_item link.number
+    → link ≡ unused
     → map stored_item (slice_set bs x b) ≡ slice_set (map stored_item bs) x (idle_item unused.number)
 entries-are bs x b link unused e f =
     map-set stored_item bs x b ∙ ap (λ (t : Item). slice_set (map stored_item bs) x t) (e ∙ ap (λ (l : Link). idle_item l.number) f)

@@ -2,8 +2,8 @@ use Rattle.std.proofs.Common.{◌≡◌, ℕ, ◌+◌, ◌<◌, List, [], ◌∷
 use Rattle.std.proofs.Math.Nat.{max-eq_left, max-eq_right}
 use Rattle.std.proofs.lemmas.List.{map-append, length-map}
 use Rattle.guillotiere.specs.FreeBoxes.BoxShelves.{IsClaimed, box_shelf, stored_item}
-use Rattle.atlas_store.specs.Search.Items.{Item, no_item}
-use Rattle.atlas_store.specs.Slots.{no_slot}
+use Rattle.atlas_search.specs.Items.{Item, no_item}
+use Rattle.atlas_search.specs.Numbers.{no_slot}
 use Rattle.guillotiere.proofs.SimpleLemmas.BoxStoring.{taken-new, taken-again, unused-inside, boxes-more, read-item}
 use Rattle.guillotiere.proofs.SimpleLemmas.EntryCounts.{used-all, used-less}
 use Rattle.guillotiere.proofs.simple.boxes.FreeBoxes.take.Goals as goal

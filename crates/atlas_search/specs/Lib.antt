@@ -1,0 +1,11 @@
+pub mod Numbers
+pub mod Rectangles
+pub mod Requests
+pub mod Searches
+pub mod Bands
+pub mod Masks
+pub mod Tables
+pub mod Items
+pub mod Lookups
+pub mod Ranks
+pub mod Bests

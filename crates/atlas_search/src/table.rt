@@ -1,0 +1,171 @@
+//! The table of the lists of free slots: the first slot of each, a bound of its slots' `min.y`, and marks of those that
+//! have a slot.
+ghost use Rattle.std.specs.Prelude.{◌≡◌, ◌≢◌, ◌+◌, ◌*◌, ◌<◌, ℕ, true, false, IfOk};
+ghost use Rattle.atlas_search.specs.Bands.{number_of};
+ghost use Rattle.atlas_search.specs.Masks.{IsMarked, has};
+ghost use Rattle.atlas_search.specs.Numbers.{no_slot};
+ghost use Rattle.atlas_search.specs.Tables.{IsPushed, head_of, is_used_at, low_of};
+
+use crate::bands::{BANDS, Place};
+use crate::link::{Link, NO_SLOT};
+use crate::marks::Marks;
+use crate::masks::Mask;
+use std::alloc::{AllocError, Allocator};
+use std::marker::Model;
+
+/// How many lists of free slots there are.
+pub const LISTS: usize = 2704;
+
+/// The first slot of a list, or none, and a bound: at most the `min.y` of each of the list's slots.
+#[derive(Clone, Copy, Debug, PartialEq, Eq)]
+pub struct ListHead {
+    pub first: Link,
+    pub low: u32,
+}
+
+// The head of a list with no slot.
+const BLANK: ListHead = ListHead {
+    first: Link::NONE,
+    low: 0,
+};
+
+/// The heads of all lists: one block of memory, which takes 21632 bytes. Contracts see the heads alone.
+#[derive(Drop)]
+pub struct Table<A: Allocator> {
+    heads: Vec<ListHead, A>,
+    marks: Marks,
+}
+
+impl<A: Allocator> Model for Table<A> {
+    ghost use Rattle.std.specs.Prelude.{List};
+    ghost use Rattle.atlas_search.specs.declared.table.ListHead.{ListHead};
+    ghost use Rattle.atlas_search.specs.Tables.{IsTable};
+
+    ghost Value = { List ListHead };
+
+    ghost view = { λ t. t.heads.items };
+
+    ghost invariant = { λ t. IsTable t.heads.items t.marks };
+}
+
+impl<A: Allocator> Table<A> {
+    /// A table of empty lists.
+    pub fn new(alloc: A) -> Result<Table<A>, AllocError>
+        ensures { IfOk result (λ it. (k : ℕ) → is_used_at it k ≡ false) }
+    {
+        Ok(Table {
+            heads: Vec::from_elem(alloc, BLANK, LISTS)?,
+            marks: Marks::none(),
+        })
+    }
+
+    /// A copy, in new memory of the same allocator.
+    pub fn copy(&self) -> Result<Table<A>, AllocError>
+    where
+        A: Copy,
+        ensures { IfOk result (λ it. it ≡ self.now) }
+    {
+        Ok(Table {
+            heads: Vec::from_slice(*self.heads.allocator(), &self.heads)?,
+            marks: self.marks.copy(),
+        })
+    }
+
+    /// Each list is empty from now on.
+    pub fn clear(&mut self)
+        ensures { (k : ℕ) → is_used_at self.new k ≡ false }
+    {
+        self.heads.fill(BLANK);
+        self.marks = Marks::none();
+    }
+
+    /// The first slot of a list, or none.
+    pub fn head(&self, at: Place) -> Link
+        requires row { at.row < BANDS }
+        requires column { at.column < BANDS }
+        ensures { result ≡ head_of self.now (number_of at) }
+    {
+        self.heads[BANDS * at.row + at.column].first
+    }
+
+    /// At most the `min.y` of each of the list's slots.
+    pub fn low(&self, at: Place) -> u32
+        requires row { at.row < BANDS }
+        requires column { at.column < BANDS }
+        ensures { result ≡ low_of self.now (number_of at) }
+    {
+        self.heads[BANDS * at.row + at.column].low
+    }
+
+    /// A slot with this `min.y` comes first in a list.
+    pub fn push(&mut self, at: Place, first: Link, top: u32)
+        requires row { at.row < BANDS }
+        requires column { at.column < BANDS }
+        requires slot { first.number ≢ no_slot }
+        ensures { IsPushed self.old self.new (number_of at) first top }
+    {
+        let head = &mut self.heads[BANDS * at.row + at.column];
+        if head.first.number == NO_SLOT {
+            head.first = first;
+            head.low = top;
+            self.marks.mark(at);
+        } else {
+            head.first = first;
+            head.low = head.low.min(top);
+        }
+    }
+
+    /// Another slot, or none, comes first in the list of this number, which has a slot.
+    pub fn set_first(&mut self, number: usize, first: Link)
+        requires number { number < LISTS }
+        requires used { is_used_at self.old number ≡ true }
+        ensures head { head_of self.new number ≡ first }
+        ensures heads { (k : ℕ) → k ≢ number → head_of self.new k ≡ head_of self.old k }
+        ensures lows { (k : ℕ) → low_of self.new k ≡ low_of self.old k }
+    {
+        self.heads[number].first = first;
+        if first.number == NO_SLOT {
+            self.marks.unmark(Place {
+                row: number / BANDS,
+                column: number % BANDS,
+            });
+        }
+    }
+
+    /// Another bound is kept of the list of this number.
+    pub fn set_low(&mut self, number: usize, low: u32)
+        requires { number < LISTS }
+        ensures heads { (k : ℕ) → head_of self.new k ≡ head_of self.old k }
+        ensures low { low_of self.new number ≡ low }
+        ensures lows { (k : ℕ) → k ≢ number → low_of self.new k ≡ low_of self.old k }
+    {
+        self.heads[number].low = low;
+    }
+
+    /// The columns of a row with lists that aren't empty.
+    pub fn row(&self, i: usize) -> Mask
+        requires { i < BANDS }
+        ensures used { (j : ℕ) → j < BANDS → has result j ≡ is_used_at self.now (52 * i + j) }
+        ensures inside { (j : ℕ) → IsMarked result j → j < BANDS }
+    {
+        self.marks.row(i)
+    }
+
+    /// The rows of a column with lists that aren't empty.
+    pub fn column(&self, j: usize) -> Mask
+        requires { j < BANDS }
+        ensures used { (i : ℕ) → i < BANDS → has result i ≡ is_used_at self.now (52 * i + j) }
+        ensures inside { (i : ℕ) → IsMarked result i → i < BANDS }
+    {
+        self.marks.column(j)
+    }
+
+    /// The rows with a list that isn't empty.
+    pub fn used(&self) -> Mask
+        ensures each { (i j : ℕ) → i < BANDS → j < BANDS → is_used_at self.now (52 * i + j) ≡ true → IsMarked result i }
+        ensures only { (i : ℕ) → IsMarked result i → (j : ℕ) × (j < BANDS) × (is_used_at self.now (52 * i + j) ≡ true) }
+        ensures inside { (i : ℕ) → IsMarked result i → i < BANDS }
+    {
+        self.marks.used()
+    }
+}

@@ -1,0 +1,68 @@
+-- A sheet for chosen sprites, as it is found.
+use Rattle.std.proofs.Common.{◌≡◌, ◌<◌, ◌⊎◌, ℕ, Bool, inl, inr, List, length, map, All, Option, Some, None, IfNone, IsNone, IsSome, is_some, refl, ap, sym, subst, ◌∙◌, arith}
+use Rattle.std.proofs.lemmas.List.Elements.{All-weaker}
+use Rattle.guillotiere.specs.declared.Size.{Size}
+use Rattle.guillotiere.specs.declared.Rectangle.{Rectangle}
+use Rattle.guillotiere.specs.Boxes.{Sides}
+use Rattle.atlas_sheet.specs.declared.options.SheetOptions.{SheetOptions}
+use Rattle.atlas_sheet.specs.declared.placed.Placed.{Placed}
+use Rattle.atlas_sheet.specs.declared.ways.Choice.{Choice}
+use Rattle.atlas_sheet.specs.declared.ways.TheConstants.{WAYS}
+use Rattle.atlas_sheet.specs.Allowances.{IsAllowed}
+use Rattle.atlas_sheet.specs.Dense.{IsNoLargerThanWays, NoWayFinds}
+use Rattle.atlas_sheet.specs.Grouping.{AreChosen, IsClosed, IsGroupPage, picked, spread, with_place}
+use Rattle.atlas_sheet.specs.Lying.{IsArrangement, IsShown, areas_of}
+use Rattle.atlas_sheet.specs.Packings.{NoneIsFound}
+use Rattle.atlas_sheet.specs.Paging.{IsPage}
+use Rattle.atlas_sheet.specs.Settings.{spacing_of}
+use Rattle.atlas_sheet.specs.Turnings.{AreLaid, turnings}
+use Rattle.atlas_sheet.proofs.GroupRows.{closed_some, picked_long, spread_long, spread_row, spread_sprites, spread_there}
+use Rattle.atlas_sheet.proofs.PageFinds.{areas_whole, not_both, page_found, shown_long}
+
+-- Whether the ways find a sheet doesn't hang on the effort.
+pub plain_none : (o : SheetOptions) (sprites : List Size) → NoWayFinds (record o { effort = 0 }) sprites → NoWayFinds o sprites
+plain_none o sprites none =
+    All-weaker (λ how. (lying : List Size) × AreLaid (record o { effort = 0 }) how sprites lying × NoneIsFound WAYS o.allowed (spacing_of o) lying)
+    (λ how. (lying : List Size) × AreLaid o how sprites lying × NoneIsFound WAYS o.allowed (spacing_of o) lying)
+    (λ how l. (l.0, record { sheet = l.1.sheet; greatest = l.1.greatest; lie = l.1.lie }, l.2)) (turnings o.turn) none
+
+pub none_plainly : {T : Type 0} (found : Option T) (o : SheetOptions) (sprites : List Size) → IfNone found (NoWayFinds (record o { effort = 0 }) sprites)
+    → IfNone found (NoWayFinds o sprites)
+none_plainly None o sprites none = plain_none o sprites none
+none_plainly (Some t) o sprites none = tt
+
+pub are_chosen : (o : SheetOptions) (sprites some : List Size) (groups : List (Option ℕ)) (row : List Bool) (sheet : Sides) (choice : Choice)
+    (lying : List Size) (order : List (ℕ × Size)) (places : List (Option Rectangle)) → some ≡ picked row sprites → length row ≡ length sprites
+    → IsClosed groups row → IsArrangement sheet (spacing_of o) o.turn some choice lying order places → IsAllowed o.allowed sheet → All IsSome places
+    → AreChosen o sprites groups row sheet choice lying order places
+are_chosen o sprites some groups row sheet choice lying order places some_is long closed arranged allowed whole = record {
+  long = long;
+  closed = closed;
+  arranged = subst (λ ss. IsArrangement sheet (spacing_of o) o.turn ss choice lying order places) some_is arranged;
+  allowed = allowed;
+  whole = whole;
+}
+
+module _ (o : SheetOptions) (sprites some : List Size) (groups : List (Option ℕ)) (row : List Bool) (sheet : Sides) (order : List ℕ)
+    (found placed : List (Option Placed)) (some_is : some ≡ picked row sprites) (long : length row ≡ length sprites)
+    (closed : IsClosed groups row) (placed_is : placed ≡ spread row found) (shown : IsShown sheet (spacing_of o) o.turn some order found)
+    (whole : All IsSome found) where
+  pub found_long : length found ≡ length (picked row row)
+  found_long = shown_long sheet o some order found shown ∙ ap length some_is ∙ picked_long row sprites long
+
+  pub chosen_long : length placed ≡ length sprites
+  chosen_long = ap length placed_is ∙ spread_long row found ∙ long
+
+  pub chosen_closed : IsClosed groups (map is_some placed)
+  chosen_closed = subst (IsClosed groups) (sym (ap (map is_some) placed_is ∙ spread_row row found found_long whole)) closed
+
+  pub chosen_page : IsAllowed o.allowed sheet → IsNoLargerThanWays o some sheet → IsGroupPage WAYS o sprites sheet placed
+  chosen_page allowed larger =
+      let few : 0 < length (picked row row) = closed_some groups row closed in
+      let page : IsPage WAYS o some sheet found =
+      page_found WAYS o some sheet order found (areas_of found) shown refl (inl (areas_whole found whole, larger)) allowed (λ none. not_both found (omega (arith, few, found_long)) whole none) in
+      let sprites_are : some ≡ with_place placed sprites =
+      some_is ∙ sym (spread_sprites row found found_long whole sprites) ∙ ap (λ ps. with_place ps sprites) (sym placed_is) in
+      let places_are : found ≡ with_place placed placed =
+      sym (spread_there row found found_long whole) ∙ ap (λ ps. with_place ps ps) (sym placed_is) in
+      inr (chosen_long, subst (λ fs. IsPage WAYS o (with_place placed sprites) sheet fs) places_are (subst (λ ss. IsPage WAYS o ss sheet found) sprites_are page))

@@ -1,0 +1,104 @@
+-- From one sheet with groups to the next.
+use Rattle.std.proofs.Common.{◌≡◌, IsTrue, ◌<◌, ◌⊎◌, ◌+◌, ◌++◌, ℕ, replicate, Bool, List, [], ◌∷◌, length, map, All, Option, Some, None, IsNone, IsSome, is_some, inr, refl, ap, sym, subst, ◌∙◌, arith}
+use Rattle.std.specs.List.{AllZip, count_by}
+use Rattle.std.proofs.lemmas.Slice.Zip.{AllZip-long}
+use Rattle.guillotiere.specs.declared.Size.{Size}
+use Rattle.guillotiere.specs.Pixels.{sides_of}
+use Rattle.atlas_sheet.specs.declared.options.SheetOptions.{SheetOptions}
+use Rattle.atlas_sheet.specs.declared.paging.OnPage.{OnPage}
+use Rattle.atlas_sheet.specs.declared.placed.Placed.{Placed}
+use Rattle.atlas_sheet.specs.declared.ways.TheConstants.{WAYS}
+use Rattle.atlas_sheet.specs.Dense.{NoWayFinds}
+use Rattle.atlas_sheet.specs.Lying.{MayLie}
+use Rattle.atlas_sheet.specs.Settings.{spacing_of}
+use Rattle.atlas_sheet.specs.Turnings.{has_room}
+use Rattle.atlas_sheet.specs.Grouping.{AreGroupPages, AreSoFar, HasMember, IsGroupPage, LieTogether, LiesAs, SaysOf, members, to_do, waiting, without}
+use Rattle.atlas_sheet.specs.Paging.{OneIsTooLarge, holes, put_on, sprites_left}
+use Rattle.atlas_sheet.proofs.GroupSteps.{all_together, as_next, begun_same, fewer_kept, group_good, groups_without, together_put, waiting_long, without_same}
+use Rattle.atlas_sheet.proofs.PageFinds.{begun_with, fewer_left, left_holes, left_packable, left_with, more_pages}
+
+module _ (o : SheetOptions) (sprites : List Size) (groups : List (Option ℕ)) (sizes : List Size) (places : List (Option OnPage))
+    (left : List Size) (kept : List (Option ℕ)) (so : AreSoFar o sprites groups sizes places left kept) where
+  pub so_holes : length left ≡ holes places
+  so_holes = left_holes sprites left places so.are.long so.rest
+
+  pub so_packable : (P : Size → Type 0) → All P sprites → All P left
+  so_packable = left_packable sprites left places so.are.long so.rest
+
+  pub kept_long : length places ≡ length kept
+  kept_long = AllZip-long (LiesAs so.page_of) kept places so.same
+
+  pub numbers_long : length (waiting kept places) ≡ length left
+  numbers_long = waiting_long kept places kept_long ∙ sym so_holes
+
+  -- What is too large of those that are left.
+  pub left_large : OneIsTooLarge o left → OneIsTooLarge o sprites
+  left_large one = record {
+    sheet = one.sheet;
+    greatest = one.greatest;
+    large = λ fit.
+        one.large (so_packable (λ s. (lying : Size) × MayLie o.turn s lying × IsTrue (has_room one.sheet (spacing_of o) lying)) fit);
+  }
+
+  -- Once none is left.
+  module _ (all : List OnPage) (all_is : map Some all ≡ places) where
+    pub so_pages : AreGroupPages WAYS o sprites sizes (map Some all)
+    so_pages = subst (AreGroupPages WAYS o sprites sizes) (sym all_is) so.are
+
+    pub so_together : (g : ℕ) → LieTogether g groups all ⊎ NoWayFinds o (members g groups sprites)
+    so_together = all_together o sprites groups kept all so.page_of (subst (AllZip (LiesAs so.page_of) kept) (sym all_is) so.same) so.each
+
+  -- One sheet more.
+  module _ (size : Size) (found : List (Option Placed)) (count : length found ≡ length left) (page : IsGroupPage WAYS o left (sides_of size) found)
+      (whether : ℕ → Bool) (says : AllZip (SaysOf whether) (waiting kept places) (map is_some found))
+      (more_sizes : List Size) (sizes_are : more_sizes ≡ sizes ++ size ∷ []) (more_places : List (Option OnPage))
+      (places_are : more_places ≡ put_on (length sizes) places found) (less_left : List Size) (left_is : less_left ≡ sprites_left sprites more_places)
+      (same_kept : List (Option ℕ)) (kept_is : same_kept ≡ kept) where
+    pub so_more : AreSoFar o sprites groups more_sizes more_places less_left same_kept
+    so_more = subst (AreSoFar o sprites groups more_sizes more_places less_left) (sym kept_is) (record {
+      are = more_pages sprites left places so.are.long so.rest (length sizes) found count more_places places_are (IsGroupPage WAYS o) sizes more_sizes
+          size refl sizes_are so.are page;
+      rest = left_is;
+      page_of = as_next whether (length sizes) so.page_of;
+      same = subst (AllZip (LiesAs (as_next whether (length sizes) so.page_of)) kept) (sym places_are)
+          (together_put whether (length sizes) so.page_of kept places found (count ∙ so_holes) so.same says);
+      each = so.each;
+    })
+
+    pub less_more : to_do less_left same_kept < to_do left kept
+    less_more =
+        let fewer : length less_left < length left =
+        fewer_left sprites left places so.are.long so.rest (length sizes) found count more_places places_are less_left left_is
+        (group_good WAYS o left (sides_of size) found page).used in
+        let same : count_by is_some same_kept ≡ count_by is_some kept = ap (count_by is_some) kept_is in
+        omega (arith, fewer, same)
+
+  -- A group that no way packs.
+  module _ (group : ℕ) (there : HasMember group (waiting kept places)) (none : NoWayFinds o (members group (waiting kept places) left))
+      (less_kept : List (Option ℕ)) (kept_is : less_kept ≡ without group kept) where
+    pub so_without : AreSoFar o sprites groups sizes places left less_kept
+    so_without = subst (AreSoFar o sprites groups sizes places left) (sym kept_is) (record {
+      are = so.are;
+      rest = so.rest;
+      page_of = so.page_of;
+      same = without_same group so.page_of kept places so.same;
+      each = groups_without o sprites groups kept group places left so.page_of so.rest so.are.long so.same there none so.each;
+    })
+
+    pub less_without : to_do left less_kept < to_do left kept
+    less_without =
+        let fewer = fewer_kept group kept places there in
+        let same : count_by is_some less_kept ≡ count_by is_some (without group kept) = ap (count_by is_some) kept_is in
+        omega (arith, fewer, same)
+
+-- Before the first sheet.
+pub so_begun : (o : SheetOptions) (sprites : List Size) (groups : List (Option ℕ)) (sizes : List Size) (places : List (Option OnPage)) (left : List Size)
+    (kept : List (Option ℕ)) → length groups ≡ length sprites → sizes ≡ [] → places ≡ replicate (length sprites) None → left ≡ sprites → kept ≡ groups
+    → AreSoFar o sprites groups sizes places left kept
+so_begun o sprites groups sizes places left kept long none bare all same = subst (AreSoFar o sprites groups sizes places left) (sym same) (record {
+  are = begun_with sprites left places bare (IsGroupPage WAYS o) sizes none;
+  rest = left_with sprites left places bare all;
+  page_of = λ g. None;
+  same = subst (AllZip (LiesAs (λ g. None)) groups) (sym bare) (begun_same groups (length sprites) long);
+  each = λ g. inr refl;
+})

@@ -1,0 +1,27 @@
+use Rattle.std.proofs.Common.{◌≡◌, ◌∙◌, [], ◌∷◌, ◌<◌, ◌+◌, length, get_or, false, None, arith, ap, take_all}
+use Rattle.std.proofs.lemmas.List.{get_or_default, length-append}
+use Rattle.atlas_sheet.proofs.GroupRows.{as_before, closed_before, rows_more, says_before}
+use Rattle.atlas_sheet.proofs.choosing.row_with_single.Goals as goal
+
+pub loop-number-preserved : goal.loop-number-preserved
+loop-number-preserved g c =
+    let k = c.loop-number.number in
+    let row = c.args.row.now in
+    let groups = c.args.groups.now in
+    let n = get_or groups k None in
+    let b = get_or row k false in
+    let inside : k < length groups = omega (arith, c.loop-number-test.true, c.requires) in
+    let longer = ap length c.in_ok-push.ensures.items ∙ length-append c.loop-number.all.items (c.or_single-is_chosen.result ∷ []) in
+    record {
+      rows = rows_more groups row as_before k c.loop-number.all.items c.push.new.self.items n b c.or_single-is_chosen.result inside
+          (get_or_default groups k None n inside) (get_or_default row k false b c.loop-number-test.true)
+          (says_before n b c.or_single-is_chosen.result c.or_single-is_chosen.ensures) c.in_ok-push.ensures.items c.loop-number.invariant.rows;
+      long = omega (arith, longer, c.loop-number.invariant.long);
+    }
+
+pub returns-clause-closed : goal.returns-clause-closed
+returns-clause-closed g c closed =
+    let k = c.loop-number.number in
+    let groups = c.args.groups.now in
+    closed_before groups c.args.row.now c.loop-number.all.items k c.loop-number.invariant.rows
+    (take_all k groups (omega (arith, c.loop-number-test.false, c.requires))) closed

@@ -1,0 +1,78 @@
+use Rattle.std.proofs.Common.{◌≡◌, ◌∙◌, All, ap, length, subst, sym}
+use Rattle.guillotiere.specs.Pixels.{sides_of}
+use Rattle.atlas_sheet.specs.Grouping.{picked, spread}
+use Rattle.atlas_sheet.specs.Lying.{IsArrangement, IsShown}
+use Rattle.atlas_sheet.specs.Dense.{IsNoLargerThanWays}
+use Rattle.atlas_sheet.specs.Settings.{spacing_of}
+use Rattle.atlas_sheet.specs.Sheets.{IsPackable}
+use Rattle.atlas_sheet.proofs.GroupFinds.{chosen_closed, chosen_long, chosen_page, found_long}
+use Rattle.atlas_sheet.proofs.GroupRows.{all_picked}
+use Rattle.atlas_sheet.proofs.choosing.sheet_of_chosen.Goals as goal
+
+pub picked-requires : goal.picked-requires
+picked-requires g c = ap length c.deref.ensures.value ∙ c.requires.chosen.long
+
+pub shown_smallest-requires-clause-packable : goal.shown_smallest-requires-clause-packable
+shown_smallest-requires-clause-packable g c =
+    let row = c.args.chosen.row.items in
+    let some_is : c.deref-2.result.now ≡ picked row c.args.sprites.now =
+    c.deref-2.ensures.value ∙ c.in_ok-some.ensures.picked ∙ ap (λ r. picked r c.args.sprites.now) c.deref.ensures.value in
+    subst (All (IsPackable (spacing_of c.args.options.now))) (sym some_is)
+    (all_picked (IsPackable (spacing_of c.args.options.now)) row c.args.sprites.now c.requires.packable)
+
+pub shown_smallest-requires-clause-arranged : goal.shown_smallest-requires-clause-arranged
+shown_smallest-requires-clause-arranged g c =
+    let p = c.args.chosen.page in
+    let some_is : c.deref-2.result.now ≡ picked c.args.chosen.row.items c.args.sprites.now =
+    c.deref-2.ensures.value ∙ c.in_ok-some.ensures.picked ∙ ap (λ r. picked r c.args.sprites.now) c.deref.ensures.value in
+    subst (λ ss. IsArrangement (sides_of p.size) (spacing_of c.args.options.now) c.args.options.now.turn ss p.choice p.lying.items p.order.items p.places.items)
+    (sym some_is) c.requires.chosen.arranged
+
+pub spread-requires : goal.spread-requires
+spread-requires g c =
+    let f = c.in_ok-filled.filled in
+    let row = c.args.chosen.row.items in
+    let some_is : c.deref-2.result.now ≡ picked row c.args.sprites.now =
+    c.deref-2.ensures.value ∙ c.in_ok-some.ensures.picked ∙ ap (λ r. picked r c.args.sprites.now) c.deref.ensures.value in
+    ap length c.deref-4.ensures.value
+    ∙ found_long c.args.options.now c.args.sprites.now c.deref-2.result.now c.args.groups.now row (sides_of f.size) f.order.items f.places.items
+    (spread row f.places.items) some_is c.requires.chosen.long c.requires.chosen.closed (λ i. spread row f.places.items) c.in_ok-filled.ensures.shown
+    c.in_ok-filled.ensures.whole
+    ∙ ap (λ r. length (picked r r)) (sym c.deref-3.ensures.value)
+
+pub returns-clause-page : goal.returns-clause-page
+returns-clause-page g c =
+    let f = c.in_ok-filled.filled in
+    let row = c.args.chosen.row.items in
+    let places = c.in_ok-places.places.items in
+    let some_is : c.deref-2.result.now ≡ picked row c.args.sprites.now =
+    c.deref-2.ensures.value ∙ c.in_ok-some.ensures.picked ∙ ap (λ r. picked r c.args.sprites.now) c.deref.ensures.value in
+    let placed : places ≡ spread row f.places.items =
+    c.in_ok-places.ensures.spread ∙ ap (λ r. spread r c.deref-4.result.now) c.deref-3.ensures.value ∙ ap (spread row) c.deref-4.ensures.value in
+    chosen_page c.args.options.now c.args.sprites.now c.deref-2.result.now c.args.groups.now row (sides_of f.size) f.order.items f.places.items places
+    some_is c.requires.chosen.long c.requires.chosen.closed placed c.in_ok-filled.ensures.shown c.in_ok-filled.ensures.whole
+    c.in_ok-filled.ensures.allowed c.in_ok-filled.ensures.larger
+
+pub returns-clause-count : goal.returns-clause-count
+returns-clause-count g c =
+    let f = c.in_ok-filled.filled in
+    let row = c.args.chosen.row.items in
+    let places = c.in_ok-places.places.items in
+    let some_is : c.deref-2.result.now ≡ picked row c.args.sprites.now =
+    c.deref-2.ensures.value ∙ c.in_ok-some.ensures.picked ∙ ap (λ r. picked r c.args.sprites.now) c.deref.ensures.value in
+    let placed : places ≡ spread row f.places.items =
+    c.in_ok-places.ensures.spread ∙ ap (λ r. spread r c.deref-4.result.now) c.deref-3.ensures.value ∙ ap (spread row) c.deref-4.ensures.value in
+    chosen_long c.args.options.now c.args.sprites.now c.deref-2.result.now c.args.groups.now row (sides_of f.size) f.order.items f.places.items places
+    some_is c.requires.chosen.long c.requires.chosen.closed placed c.in_ok-filled.ensures.shown c.in_ok-filled.ensures.whole
+
+pub returns-clause-closed : goal.returns-clause-closed
+returns-clause-closed g c =
+    let f = c.in_ok-filled.filled in
+    let row = c.args.chosen.row.items in
+    let places = c.in_ok-places.places.items in
+    let some_is : c.deref-2.result.now ≡ picked row c.args.sprites.now =
+    c.deref-2.ensures.value ∙ c.in_ok-some.ensures.picked ∙ ap (λ r. picked r c.args.sprites.now) c.deref.ensures.value in
+    let placed : places ≡ spread row f.places.items =
+    c.in_ok-places.ensures.spread ∙ ap (λ r. spread r c.deref-4.result.now) c.deref-3.ensures.value ∙ ap (spread row) c.deref-4.ensures.value in
+    chosen_closed c.args.options.now c.args.sprites.now c.deref-2.result.now c.args.groups.now row (sides_of f.size) f.order.items f.places.items places
+    some_is c.requires.chosen.long c.requires.chosen.closed placed c.in_ok-filled.ensures.shown c.in_ok-filled.ensures.whole

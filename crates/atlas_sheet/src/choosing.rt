@@ -1,0 +1,477 @@
+//! Sprites that are chosen for one sheet: whole groups, and sprites in no group.
+ghost use Rattle.std.specs.Prelude.{◌≡◌, ◌||◌, ℕ, List, Option, is_some, length, map, All, IfNone, IfOk, IfSome, IsNone, IsOkUnless};
+ghost use Rattle.std.specs.Prelude.{IsSome, Some};
+ghost use Rattle.guillotiere.specs.Boxes.{IsPositive};
+ghost use Rattle.guillotiere.specs.Pixels.{sides_of};
+ghost use Rattle.atlas_sheet.specs.declared.error.SheetError.TheVariants.{Memory};
+ghost use Rattle.atlas_sheet.specs.declared.ways.TheConstants.{WAYS};
+ghost use Rattle.atlas_sheet.specs.Allowances.{IsAllowed, IsUsable};
+ghost use Rattle.atlas_sheet.specs.Dense.{IsNoLargerThanWays, NoWayFinds};
+ghost use Rattle.atlas_sheet.specs.Grouping.{AreChosen, HasMember, IsClosed, IsGroupPage, is_in, members, picked, spread};
+ghost use Rattle.atlas_sheet.specs.Lying.{IsArrangement, IsShown};
+ghost use Rattle.atlas_sheet.specs.Settings.{spacing_of};
+ghost use Rattle.atlas_sheet.specs.Sheets.{IsPackable};
+
+use crate::arrangement::Arrangement;
+use crate::climbing::is_whole;
+use crate::dense::{pixels_of, sprite_pixels};
+use crate::error::SheetError;
+use crate::options::SheetOptions;
+use crate::packing::packed;
+use crate::placed::Placed;
+use crate::search::greatest_sheet;
+use crate::sheets::{Filled, best_filled, filled_of};
+use guillotiere::Size;
+use std::alloc::{Allocator, Global};
+
+/// A sheet, and a place or none on it for each of the sprites that have none yet.
+#[derive(Drop)]
+pub struct OneSheet<A: Allocator = Global> {
+    /// The size of the sheet.
+    pub size: Size,
+    /// A place or none for each of these sprites.
+    pub places: Vec<Option<Placed>, A>,
+}
+
+/// Some of the sprites, and how all of them lie on one sheet.
+#[derive(Drop)]
+pub struct Chosen<A: Allocator> {
+    /// Which of the sprites are chosen.
+    pub row: Vec<bool, A>,
+    /// How they lie.
+    pub page: Arrangement<A>,
+}
+
+/// Whether this is the number of the group.
+pub fn is_in(group: usize, number: Option<usize>) -> bool
+    ensures { result ≡ is_in group number }
+{
+    match number {
+        Some(number) => number == group,
+        None => false,
+    }
+}
+
+// Which sprites are in the group.
+fn row_of<A: Allocator>(
+    alloc: A,
+    group: usize,
+    groups: &[Option<usize>],
+) -> Result<Vec<bool, A>, SheetError>
+    ensures row { IfOk result (λ all. all.items ≡ map (is_in group) groups.now) }
+    ensures unless { IsOkUnless result Memory }
+{
+    let mut all = Vec::with_capacity(alloc, groups.len())?;
+    all.extend(groups.iter().map(|number| is_in(group, *number)))?;
+    Ok(all)
+}
+
+// Whether a sprite is chosen, or in the group.
+fn or_in(chosen: bool, group: usize, number: Option<usize>) -> bool
+    ensures { result ≡ (chosen || is_in group number) }
+{
+    chosen || is_in(group, number)
+}
+
+// A row with those that are in the group as well.
+fn row_with<A: Allocator>(
+    alloc: A,
+    row: &[bool],
+    group: usize,
+    groups: &[Option<usize>],
+) -> Result<Vec<bool, A>, SheetError>
+    requires { length row.now ≡ length groups.now }
+    ensures long { IfOk result (λ all. length all.items ≡ length row.now) }
+    ensures closed { IsClosed groups.now row.now → IfOk result (λ all. IsClosed groups.now all.items) }
+    ensures unless { IsOkUnless result Memory }
+{
+    let mut all = Vec::new(alloc);
+    for (number, chosen) in row.iter().enumerate() {
+        let is_chosen = or_in(*chosen, group, groups[number]);
+        all.push(is_chosen)?;
+    }
+    Ok(all)
+}
+
+// Whether a sprite is chosen, or in no group where there is room for one.
+fn or_single(chosen: bool, has_room: bool, number: Option<usize>) -> bool
+    ensures { IfSome number (λ n. result ≡ chosen) }
+{
+    chosen || (has_room && number.is_none())
+}
+
+// A row with so many more of those that are in no group, the first ones.
+fn row_with_single<A: Allocator>(
+    alloc: A,
+    row: &[bool],
+    many: usize,
+    groups: &[Option<usize>],
+) -> Result<Vec<bool, A>, SheetError>
+    requires { length row.now ≡ length groups.now }
+    ensures long { IfOk result (λ all. length all.items ≡ length row.now) }
+    ensures closed { IsClosed groups.now row.now → IfOk result (λ all. IsClosed groups.now all.items) }
+    ensures unless { IsOkUnless result Memory }
+{
+    let mut all = Vec::new(alloc);
+    let mut room = many;
+    for (number, chosen) in row.iter().enumerate() {
+        let is_chosen = or_single(*chosen, room > 0, groups[number]);
+        all.push(is_chosen)?;
+        if is_chosen != *chosen {
+            room = room.saturating_sub(1);
+        }
+    }
+    Ok(all)
+}
+
+// The sprites where the row says so.
+fn picked<A: Allocator>(
+    alloc: A,
+    row: &[bool],
+    sprites: &[Size],
+) -> Result<Vec<Size, A>, SheetError>
+    requires { length row.now ≡ length sprites.now }
+    ensures picked { IfOk result (λ all. all.items ≡ picked row.now sprites.now) }
+    ensures unless { IsOkUnless result Memory }
+{
+    let mut all = Vec::new(alloc);
+    for (number, chosen) in row.iter().enumerate() {
+        if *chosen {
+            all.push(sprites[number])?;
+        }
+    }
+    Ok(all)
+}
+
+// What was found, where the row says so.
+fn spread<A: Allocator>(
+    alloc: A,
+    row: &[bool],
+    found: &[Option<Placed>],
+) -> Result<Vec<Option<Placed>, A>, SheetError>
+    requires { length found.now ≡ length (picked row.now row.now) }
+    ensures spread { IfOk result (λ all. all.items ≡ spread row.now found.now) }
+    ensures unless { IsOkUnless result Memory }
+{
+    let mut all = Vec::new(alloc);
+    let mut next = 0;
+    for chosen in row {
+        if *chosen {
+            all.push(found[next])?;
+            next += 1;
+        } else {
+            all.push(None)?;
+        }
+    }
+    Ok(all)
+}
+
+/// The first group of a sprite.
+pub fn first_group(groups: &[Option<usize>]) -> Option<usize>
+    ensures some { IfSome result (λ group. HasMember group groups.now) }
+    ensures none { IfNone result (All IsNone groups.now) }
+{
+    for number in groups {
+        if let Some(group) = number {
+            return Some(*group);
+        }
+    }
+    None
+}
+
+// What the best of the first ways finds, without changes of the order.
+fn plainly_filled<A: Allocator + Copy>(
+    alloc: A,
+    sprites: &[Size],
+    options: &SheetOptions,
+) -> Result<Arrangement<A>, SheetError>
+    requires usable { IsUsable options.now.allowed }
+    requires aligned { IsPositive (sides_of options.now.alignment) }
+    requires packable { All (IsPackable (spacing_of options.now)) sprites.now }
+    ensures arranged { IfOk result (λ a. IsArrangement (sides_of a.size) (spacing_of options.now) options.now.turn
+        sprites.now a.choice a.lying.items a.order.items a.places.items) }
+    ensures allowed { IfOk result (λ a. IsAllowed options.now.allowed (sides_of a.size)) }
+    ensures unless { IsOkUnless result Memory }
+{
+    let plain = SheetOptions {
+        effort: 0,
+        ..*options
+    };
+    let page = best_filled(alloc, sprites, &plain)?;
+    Ok(page)
+}
+
+// The smallest sheet that one of the ways finds, without changes of the order.
+fn plainly_packed<A: Allocator + Copy>(
+    alloc: A,
+    sprites: &[Size],
+    options: &SheetOptions,
+) -> Result<Option<Arrangement<A>>, SheetError>
+    requires usable { IsUsable options.now.allowed }
+    requires aligned { IsPositive (sides_of options.now.alignment) }
+    requires packable { All (IsPackable (spacing_of options.now)) sprites.now }
+    ensures arranged { IfOk result (λ found. IfSome found (λ a. IsArrangement (sides_of a.size) (spacing_of options.now)
+        options.now.turn sprites.now a.choice a.lying.items a.order.items a.places.items)) }
+    ensures allowed { IfOk result (λ found. IfSome found (λ a. IsAllowed options.now.allowed (sides_of a.size))) }
+    ensures whole { IfOk result (λ found. IfSome found (λ a. All IsSome a.places.items)) }
+    ensures none { IfOk result (λ found. IfNone found (NoWayFinds options.now sprites.now)) }
+    ensures unless { IsOkUnless result Memory }
+{
+    let plain = SheetOptions {
+        effort: 0,
+        ..*options
+    };
+    let found = packed(alloc, sprites, &plain, |_| {})?;
+    Ok(found)
+}
+
+// The chosen sprites on the greatest sheet, if the best of the first ways finds places for all of them.
+fn all_of<A: Allocator + Copy>(
+    alloc: A,
+    row: Vec<bool, A>,
+    sprites: &[Size],
+    options: &SheetOptions,
+) -> Result<Option<Chosen<A>>, SheetError>
+    requires usable { IsUsable options.now.allowed }
+    requires aligned { IsPositive (sides_of options.now.alignment) }
+    requires packable { All (IsPackable (spacing_of options.now)) sprites.now }
+    requires long { length row.items ≡ length sprites.now }
+    ensures chosen { IfOk result (λ found. IfSome found (λ c. (groups : List (Option ℕ)) → IsClosed groups row.items
+        → AreChosen options.now sprites.now groups c.row.items (sides_of c.page.size) c.page.choice c.page.lying.items
+        c.page.order.items c.page.places.items)) }
+    ensures unless { IsOkUnless result Memory }
+{
+    let some = picked(alloc, &row, sprites)?;
+    if pixels_of(greatest_sheet(options.allowed)) < sprite_pixels(&some) {
+        return Ok(None);
+    }
+    let page = plainly_filled(alloc, &some, options)?;
+    if is_whole(&page) {
+        Ok(Some(Chosen { row, page }))
+    } else {
+        Ok(None)
+    }
+}
+
+// With the group as well, if the sheet takes it.
+fn with_group<A: Allocator + Copy>(
+    alloc: A,
+    sprites: &[Size],
+    groups: &[Option<usize>],
+    options: &SheetOptions,
+    group: usize,
+    chosen: Chosen<A>,
+) -> Result<Chosen<A>, SheetError>
+    requires usable { IsUsable options.now.allowed }
+    requires aligned { IsPositive (sides_of options.now.alignment) }
+    requires packable { All (IsPackable (spacing_of options.now)) sprites.now }
+    requires long { length groups.now ≡ length sprites.now }
+    requires chosen { AreChosen options.now sprites.now groups.now chosen.row.items (sides_of chosen.page.size)
+        chosen.page.choice chosen.page.lying.items chosen.page.order.items chosen.page.places.items }
+    ensures chosen { IfOk result (λ c. AreChosen options.now sprites.now groups.now c.row.items (sides_of c.page.size)
+        c.page.choice c.page.lying.items c.page.order.items c.page.places.items) }
+    ensures unless { IsOkUnless result Memory }
+{
+    let row = row_with(alloc, &chosen.row, group, groups)?;
+    match all_of(alloc, row, sprites, options)? {
+        Some(more) => Ok(more),
+        None => Ok(chosen),
+    }
+}
+
+// With each other group that the sheet takes, in the order of their first sprites.
+fn with_groups<A: Allocator + Copy>(
+    alloc: A,
+    sprites: &[Size],
+    groups: &[Option<usize>],
+    options: &SheetOptions,
+    first: Chosen<A>,
+) -> Result<Chosen<A>, SheetError>
+    requires usable { IsUsable options.now.allowed }
+    requires aligned { IsPositive (sides_of options.now.alignment) }
+    requires packable { All (IsPackable (spacing_of options.now)) sprites.now }
+    requires long { length groups.now ≡ length sprites.now }
+    requires chosen { AreChosen options.now sprites.now groups.now first.row.items (sides_of first.page.size)
+        first.page.choice first.page.lying.items first.page.order.items first.page.places.items }
+    ensures chosen { IfOk result (λ c. AreChosen options.now sprites.now groups.now c.row.items (sides_of c.page.size)
+        c.page.choice c.page.lying.items c.page.order.items c.page.places.items) }
+    ensures unless { IsOkUnless result Memory }
+{
+    let mut chosen = first;
+    for (number, place) in groups.iter().enumerate() {
+        if let Some(group) = place {
+            let is_new = !groups[..number].contains(place);
+            if is_new && !chosen.row[number] {
+                chosen = with_group(alloc, sprites, groups, options, *group, chosen)?;
+            }
+        }
+    }
+    Ok(chosen)
+}
+
+// With as many sprites in no group as the sheet takes, by halving.
+fn with_singles<A: Allocator + Copy>(
+    alloc: A,
+    sprites: &[Size],
+    groups: &[Option<usize>],
+    options: &SheetOptions,
+    first: Chosen<A>,
+) -> Result<Chosen<A>, SheetError>
+    requires usable { IsUsable options.now.allowed }
+    requires aligned { IsPositive (sides_of options.now.alignment) }
+    requires packable { All (IsPackable (spacing_of options.now)) sprites.now }
+    requires long { length groups.now ≡ length sprites.now }
+    requires chosen { AreChosen options.now sprites.now groups.now first.row.items (sides_of first.page.size)
+        first.page.choice first.page.lying.items first.page.order.items first.page.places.items }
+    ensures chosen { IfOk result (λ c. AreChosen options.now sprites.now groups.now c.row.items (sides_of c.page.size)
+        c.page.choice c.page.lying.items c.page.order.items c.page.places.items) }
+    ensures unless { IsOkUnless result Memory }
+{
+    let mut chosen = first;
+    let mut many = groups.iter().filter(|number| number.is_none()).count();
+    while many > 0 {
+        let row = row_with_single(alloc, &chosen.row, many, groups)?;
+        if let Some(more) = all_of(alloc, row, sprites, options)? {
+            chosen = more;
+        }
+        many /= 2;
+    }
+    Ok(chosen)
+}
+
+// The chosen sprites in the smallest sheet that is found for them, or else as they lie.
+fn smallest<A: Allocator + Copy>(
+    alloc: A,
+    sprites: &[Size],
+    options: &SheetOptions,
+    page: Arrangement<A>,
+) -> Result<Arrangement<A>, SheetError>
+    requires usable { IsUsable options.now.allowed }
+    requires aligned { IsPositive (sides_of options.now.alignment) }
+    requires packable { All (IsPackable (spacing_of options.now)) sprites.now }
+    requires arranged { IsArrangement (sides_of page.size) (spacing_of options.now) options.now.turn
+        sprites.now page.choice page.lying.items page.order.items page.places.items }
+    requires allowed { IsAllowed options.now.allowed (sides_of page.size) }
+    requires whole { All IsSome page.places.items }
+    ensures arranged { IfOk result (λ a. IsArrangement (sides_of a.size) (spacing_of options.now) options.now.turn
+        sprites.now a.choice a.lying.items a.order.items a.places.items) }
+    ensures allowed { IfOk result (λ a. IsAllowed options.now.allowed (sides_of a.size)) }
+    ensures whole { IfOk result (λ a. All IsSome a.places.items) }
+    ensures larger { IfOk result (λ a. IsNoLargerThanWays options.now sprites.now (sides_of a.size)) }
+    ensures unless { IsOkUnless result Memory }
+{
+    let found = packed(alloc, sprites, options, |_| {})?;
+    match found {
+        Some(smaller) => Ok(smaller),
+        None => Ok(page),
+    }
+}
+
+// The smallest sheet for these sprites, as it is shown.
+fn shown_smallest<A: Allocator + Copy>(
+    alloc: A,
+    sprites: &[Size],
+    options: &SheetOptions,
+    page: Arrangement<A>,
+) -> Result<Filled<A>, SheetError>
+    requires usable { IsUsable options.now.allowed }
+    requires aligned { IsPositive (sides_of options.now.alignment) }
+    requires packable { All (IsPackable (spacing_of options.now)) sprites.now }
+    requires arranged { IsArrangement (sides_of page.size) (spacing_of options.now) options.now.turn
+        sprites.now page.choice page.lying.items page.order.items page.places.items }
+    requires allowed { IsAllowed options.now.allowed (sides_of page.size) }
+    requires whole { All IsSome page.places.items }
+    ensures shown { IfOk result (λ f. IsShown (sides_of f.size) (spacing_of options.now) options.now.turn sprites.now
+        f.order.items f.places.items) }
+    ensures allowed { IfOk result (λ f. IsAllowed options.now.allowed (sides_of f.size)) }
+    ensures whole { IfOk result (λ f. All IsSome f.places.items) }
+    ensures larger { IfOk result (λ f. IsNoLargerThanWays options.now sprites.now (sides_of f.size)) }
+    ensures unless { IsOkUnless result Memory }
+{
+    let smaller = smallest(alloc, sprites, options, page)?;
+    let filled = filled_of(alloc, sprites, options, &smaller)?;
+    Ok(filled)
+}
+
+// The sheet of the chosen sprites.
+fn sheet_of_chosen<A: Allocator + Copy>(
+    alloc: A,
+    sprites: &[Size],
+    groups: &[Option<usize>],
+    options: &SheetOptions,
+    chosen: Chosen<A>,
+) -> Result<OneSheet<A>, SheetError>
+    requires usable { IsUsable options.now.allowed }
+    requires aligned { IsPositive (sides_of options.now.alignment) }
+    requires packable { All (IsPackable (spacing_of options.now)) sprites.now }
+    requires chosen { AreChosen options.now sprites.now groups.now chosen.row.items (sides_of chosen.page.size)
+        chosen.page.choice chosen.page.lying.items chosen.page.order.items chosen.page.places.items }
+    ensures page { IfOk result (λ s. IsGroupPage WAYS options.now sprites.now (sides_of s.size) s.places.items) }
+    ensures count { IfOk result (λ s. length s.places.items ≡ length sprites.now) }
+    ensures closed { IfOk result (λ s. IsClosed groups.now (map is_some s.places.items)) }
+    ensures unless { IsOkUnless result Memory }
+{
+    let some = picked(alloc, &chosen.row, sprites)?;
+    let filled = shown_smallest(alloc, &some, options, chosen.page)?;
+    let places = spread(alloc, &chosen.row, &filled.places)?;
+    Ok(OneSheet {
+        size: filled.size,
+        places,
+    })
+}
+
+// The sprites of a group in the smallest sheet that one of the ways finds for them.
+fn opened<A: Allocator + Copy>(
+    alloc: A,
+    sprites: &[Size],
+    groups: &[Option<usize>],
+    options: &SheetOptions,
+    group: usize,
+) -> Result<Option<Chosen<A>>, SheetError>
+    requires usable { IsUsable options.now.allowed }
+    requires aligned { IsPositive (sides_of options.now.alignment) }
+    requires packable { All (IsPackable (spacing_of options.now)) sprites.now }
+    requires long { length groups.now ≡ length sprites.now }
+    requires there { HasMember group groups.now }
+    ensures chosen { IfOk result (λ found. IfSome found (λ c. AreChosen options.now sprites.now groups.now c.row.items
+        (sides_of c.page.size) c.page.choice c.page.lying.items c.page.order.items c.page.places.items)) }
+    ensures none { IfOk result (λ found. IfNone found (NoWayFinds options.now (members group groups.now sprites.now))) }
+    ensures unless { IsOkUnless result Memory }
+{
+    let row = row_of(alloc, group, groups)?;
+    let some = picked(alloc, &row, sprites)?;
+    let found = plainly_packed(alloc, &some, options)?;
+    match found {
+        Some(page) => Ok(Some(Chosen { row, page })),
+        None => Ok(None),
+    }
+}
+
+/// A sheet with a group on it, with other groups and with sprites in no group; none where no way packs the group into one.
+pub fn group_sheet<A: Allocator + Copy>(
+    alloc: A,
+    sprites: &[Size],
+    groups: &[Option<usize>],
+    options: &SheetOptions,
+    group: usize,
+) -> Result<Option<OneSheet<A>>, SheetError>
+    requires usable { IsUsable options.now.allowed }
+    requires aligned { IsPositive (sides_of options.now.alignment) }
+    requires packable { All (IsPackable (spacing_of options.now)) sprites.now }
+    requires long { length groups.now ≡ length sprites.now }
+    requires there { HasMember group groups.now }
+    ensures page { IfOk result (λ found. IfSome found (λ s.
+        IsGroupPage WAYS options.now sprites.now (sides_of s.size) s.places.items)) }
+    ensures count { IfOk result (λ found. IfSome found (λ s. length s.places.items ≡ length sprites.now)) }
+    ensures closed { IfOk result (λ found. IfSome found (λ s. IsClosed groups.now (map is_some s.places.items))) }
+    ensures none { IfOk result (λ found. IfNone found (NoWayFinds options.now (members group groups.now sprites.now))) }
+    ensures unless { IsOkUnless result Memory }
+{
+    let Some(one) = opened(alloc, sprites, groups, options, group)? else {
+        return Ok(None);
+    };
+    let whole = with_groups(alloc, sprites, groups, options, one)?;
+    let more = with_singles(alloc, sprites, groups, options, whole)?;
+    let sheet = sheet_of_chosen(alloc, sprites, groups, options, more)?;
+    Ok(Some(sheet))
+}

@@ -1,3 +1,0 @@
--- Lemmas of lists.
-pub mod Occurrences
-pub mod AlongLists

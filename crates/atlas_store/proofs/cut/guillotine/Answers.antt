@@ -1,5 +1,0 @@
-use Rattle.atlas_store.proofs.Cutting.{tiling}
-use Rattle.atlas_store.proofs.cut.guillotine.Goals as goal
-
-pub returns-clause-tiling : goal.returns-clause-tiling
-returns-clause-tiling c = tiling _ c.args.chosen c.args.size c.rest_along.result c.rest_along.ensures c.requires.fits

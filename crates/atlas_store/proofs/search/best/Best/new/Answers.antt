@@ -1,4 +1,0 @@
-use Rattle.atlas_store.proofs.search.best.Best.new.Goals as goal
-
-pub invariant_of-result-clause-positive : goal.invariant_of-result-clause-positive
-invariant_of-result-clause-positive c = c.requires

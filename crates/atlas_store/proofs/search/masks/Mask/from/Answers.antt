@@ -1,6 +1,0 @@
-use Rattle.std.proofs.Common.{arith}
-use Rattle.atlas_store.proofs.SearchLemmas.MaskBits.{from_has}
-use Rattle.atlas_store.proofs.search.masks.Mask.from.Goals as goal
-
-pub returns : goal.returns
-returns c = λ j. from_has c.args.self.bits c.args.k j (omega arith)

@@ -1,0 +1,13 @@
+//! Frames at the end of their counter.
+ghost use Rattle.std.specs.Prelude.{◌≡◌};
+
+use atlas_cache::TextureCache;
+
+// Where frames have come to the end of their counter, a new one is the last one again. It is proved and not run, since
+// no test gets there.
+fn after_the_last_frame(cache: &mut TextureCache<u32>)
+    requires { cache.old.frame ≡ 18446744073709551615 }
+    ensures { cache.new ≡ cache.old }
+{
+    cache.begin_frame();
+}

@@ -1,0 +1,224 @@
+//! A cache whose calls come one after another.
+ghost use Rattle.std.specs.Prelude.{◌≡◌, None, slice_get};
+ghost use Rattle.atlas_cache.specs.declared.error.CacheError.{CacheError};
+ghost use Rattle.atlas_cache.specs.Relocating.{Repacks};
+ghost use Rattle.atlas_cache.specs.Rooms.{page_sizes};
+ghost use Rattle.atlas_cache.specs.Usable.{unusable_by_page};
+ghost use Rattle.cache_tool.specs.Answers.{AnswersAsked, AnswersInsert, AnswersKeyed, AnswersSized, at_reply};
+ghost use Rattle.cache_tool.specs.Answers.{done_reply, keyed_reply, number_reply, size_reply};
+ghost use Rattle.cache_tool.specs.Transcripts.{AnswersCall, AnswersStart, IsMadeBy};
+ghost use Rattle.cache_tool.specs.declared.replies.Reply.TheVariants.{Done, Refused};
+
+use crate::replies::Reply;
+use atlas_cache::{CacheChange, CacheError, CacheOptions, Changes, Place, TextureCache};
+use cache_lines::{Asked, Call, Keyed, Sized, Start};
+use guillotiere::Size;
+use std::alloc::Global;
+
+/// A cache, once there is one, and what the last call changed.
+#[derive(Drop)]
+pub struct Session {
+    cache: Option<TextureCache<u32>>,
+    changes: Changes<u32>,
+}
+
+// The options that a line has. A number of pages below 0 is none.
+fn options_of(start: Start) -> CacheOptions
+    ensures { IsMadeBy start result }
+{
+    CacheOptions {
+        page: start.page,
+        largest_page: start.largest_page,
+        pages: u32::try_from(start.pages).unwrap_or(0),
+        padding: start.padding,
+        atlas: start.atlas,
+    }
+}
+
+fn reply_of(done: Result<(), CacheError>) -> Reply
+    ensures { result ≡ done_reply done }
+{
+    match done {
+        Ok(()) => Reply::Done,
+        Err(error) => Reply::Refused(error),
+    }
+}
+
+fn reply_at(place: Option<Place>) -> Reply
+    ensures { result ≡ at_reply place }
+{
+    match place {
+        Some(place) => Reply::At(place),
+        None => Reply::Nothing,
+    }
+}
+
+fn reply_keyed(found: Option<(u32, Place)>) -> Reply
+    ensures { result ≡ keyed_reply found }
+{
+    match found {
+        Some((key, place)) => Reply::Keyed(key, place),
+        None => Reply::Nothing,
+    }
+}
+
+fn reply_number(number: Option<u64>) -> Reply
+    ensures { result ≡ number_reply number }
+{
+    match number {
+        Some(number) => Reply::Number(number),
+        None => Reply::Nothing,
+    }
+}
+
+fn ask(cache: &mut TextureCache<u32>, asked: Asked, changes: &mut Changes<u32>) -> Reply
+    ensures { AnswersAsked asked result changes.old.items changes.new.items cache.old cache.new }
+{
+    match asked {
+        Asked::Frame => {
+            cache.begin_frame();
+            Reply::Done
+        }
+        Asked::Clear => {
+            cache.clear();
+            Reply::Done
+        }
+        Asked::Shrink => reply_of(cache.shrink(changes)),
+        Asked::Options => Reply::Options(cache.options()),
+        Asked::Len => Reply::Number(cache.len() as u64),
+        Asked::Empty => Reply::Flag(cache.is_empty()),
+        Asked::Numbers => Reply::Number(u64::from(cache.numbers())),
+        Asked::Pages => Reply::Number(u64::from(cache.pages())),
+        Asked::Newest => reply_keyed(cache.newest()),
+        Asked::Oldest => reply_keyed(cache.oldest()),
+        Asked::Statistics => Reply::Counts(cache.statistics()),
+    }
+}
+
+fn repack(cache: &mut TextureCache<u32>, page: u32, changes: &mut Changes<u32>) -> Reply
+    ensures { result ≡ Done → Repacks page changes.old.items changes.new.items cache.old cache.new }
+{
+    match cache.repack(page, changes) {
+        Ok(true) => Reply::Done,
+        Ok(false) => Reply::Nothing,
+        Err(error) => Reply::Refused(error),
+    }
+}
+
+fn page_size(cache: &TextureCache<u32>, page: u32) -> Reply
+    ensures { result ≡ size_reply (slice_get (page_sizes cache.now.pages) page) }
+{
+    match cache.page_size(page) {
+        Some(size) => Reply::Size(size),
+        None => Reply::Nothing,
+    }
+}
+
+fn use_number(
+    cache: &mut TextureCache<u32>,
+    keyed: Keyed,
+    number: u32,
+    changes: &mut Changes<u32>,
+) -> Reply
+    ensures { AnswersKeyed keyed number result changes.old.items changes.new.items cache.old cache.new }
+{
+    match keyed {
+        Keyed::Get => reply_at(cache.get(&number)),
+        Keyed::Peek => reply_at(cache.peek(&number)),
+        Keyed::Remove => reply_at(cache.remove(&number)),
+        Keyed::Older => reply_keyed(cache.older(&number)),
+        Keyed::Trim => reply_of(cache.trim(u64::from(number), changes)),
+        Keyed::Reserve => reply_of(cache.reserve(number as usize)),
+        Keyed::Repack => repack(cache, number, changes),
+        Keyed::Size => page_size(cache, number),
+        Keyed::Live => reply_number(cache.live_area(number)),
+        Keyed::Free => reply_number(cache.free_area(number)),
+    }
+}
+
+fn insert(cache: &mut TextureCache<u32>, key: u32, size: Size, changes: &mut Changes<u32>) -> Reply
+    ensures { AnswersInsert key size result changes.old.items changes.new.items cache.old cache.new }
+{
+    match cache.insert(key, size, changes) {
+        Ok(inserted) => Reply::Inserted(inserted),
+        Err(error) => Reply::Refused(error),
+    }
+}
+
+fn unusable(cache: &TextureCache<u32>, page: u32, size: Size) -> Reply
+    ensures { ((error : CacheError) → result ≡ Refused error → ⊥)
+        → result ≡ number_reply (slice_get (unusable_by_page cache.now.options size cache.now.pages) page) }
+{
+    match cache.unusable_area(page, size) {
+        Ok(area) => reply_number(area),
+        Err(error) => Reply::Refused(error),
+    }
+}
+
+fn use_size(
+    cache: &mut TextureCache<u32>,
+    sized: Sized,
+    number: u32,
+    size: Size,
+    changes: &mut Changes<u32>,
+) -> Reply
+    ensures { AnswersSized sized number size result changes.old.items changes.new.items cache.old cache.new }
+{
+    match sized {
+        Sized::Insert => insert(cache, number, size, changes),
+        Sized::Unusable => unusable(cache, number, size),
+    }
+}
+
+impl Session {
+    /// With no cache.
+    pub fn new(alloc: Global) -> Session
+        ensures { result.cache ≡ None }
+    {
+        Session {
+            cache: None,
+            changes: Vec::new(alloc),
+        }
+    }
+
+    /// What the last call changed, in order.
+    pub fn changes(&self) -> &[CacheChange<u32>]
+        ensures { result.now ≡ self.now.changes.items }
+    {
+        self.changes.as_slice()
+    }
+
+    // Makes a cache, in place of an earlier one.
+    fn begin(&mut self, alloc: Global, start: Start) -> Reply
+        ensures { AnswersStart start result self.old.cache self.new.cache }
+    {
+        match TextureCache::new(alloc, options_of(start)) {
+            Ok(cache) => {
+                self.cache = Some(cache);
+                Reply::Done
+            }
+            Err(error) => Reply::Unusable(error),
+        }
+    }
+
+    /// Carries out a call.
+    pub fn answer(&mut self, alloc: Global, call: Call) -> Reply
+        ensures { AnswersCall call result self.new.changes.items self.old.cache self.new.cache }
+    {
+        self.changes.clear();
+        if let Call::Cache(start) = call {
+            return self.begin(alloc, start);
+        }
+        let Some(cache) = &mut self.cache else {
+            return Reply::NoCache;
+        };
+        match call {
+            Call::Cache(_) => Reply::BadLine,
+            Call::Asked(asked) => ask(cache, asked, &mut self.changes),
+            Call::Keyed(keyed, number) => use_number(cache, keyed, number, &mut self.changes),
+            Call::Sized(sized, number, size) => {
+                use_size(cache, sized, number, size, &mut self.changes)
+            }
+        }
+    }
+}

@@ -1,0 +1,28 @@
+-- What a packing with no whole cuts answers, and what it writes.
+use Rattle.std.specs.Prelude.{◌≡◌, ◌≤◌, List, length, map, Some}
+use Rattle.guillotiere.specs.declared.Size.{Size}
+use Rattle.guillotiere.specs.Pixels.{sides_of}
+use Rattle.atlas_sheet.specs.declared.options.SheetOptions.{SheetOptions}
+use Rattle.atlas_sheet.specs.declared.placed.Placed.{Placed}
+use Rattle.atlas_sheet.specs.Allowances.{IsAllowed}
+use Rattle.atlas_sheet.specs.Dense.{AreAllPlaced, ArePaddedApart, IsNoLargerThanWays}
+use Rattle.atlas_sheet.specs.Settings.{spacing_of}
+use Rattle.guillotiere_c.specs.declared.plain_sheet.PlainPlaced.{PlainPlaced}
+use Rattle.guillotiere_c.specs.SheetNumbers.{placed_in}
+use Rattle.guillotiere_c.specs.Writing.{IsWritten}
+
+-- A sheet that takes all sprites, as `atlas_sheet::pack_dense` finds it, with their places in the order of the sprites: they
+-- lie apart with their padding, and the sheet has no more pixels than the first one that a way of `pack` finds.
+pub record IsDenseSheet (o : SheetOptions) (sprites : List Size) (sheet : Size) (placed : List Placed) : Type 0 where
+  pub allowed : IsAllowed o.allowed (sides_of sheet)
+  pub each : AreAllPlaced o (sides_of sheet) sprites (map Some placed)
+  pub padded : ArePaddedApart (spacing_of o) (map Some placed)
+  pub larger : IsNoLargerThanWays o sprites (sides_of sheet)
+
+-- The places of such a sheet stand at the start of an array, which has room for them.
+pub record IsDenseSheetWritten (o : SheetOptions) (sprites : List Size) (sheet : Size) (old new : List PlainPlaced)
+    : Type 0 where
+  pub placed : List Placed
+  pub room : length sprites ≤ length old
+  pub packed : IsDenseSheet o sprites sheet placed
+  pub written : IsWritten placed_in placed old new

@@ -1,0 +1,172 @@
+// Erased from crates/atlas_search/src/bands.rt by rust/erase: don't edit.
+//! The lists of free slots by the bands of both sides.
+
+use crate::atlas_model::{AllocatorOptions, Size};
+
+/// How many bands a side may have: the lists have as many rows, and as many columns.
+pub const BANDS: usize = 52;
+
+/// The row and the column of a list.
+#[derive(Clone, Copy, Debug, PartialEq, Eq)]
+pub struct Place {
+    pub row: usize,
+    pub column: usize,
+}
+
+// The step of each side up to 256.
+static STEPS: [u8; 257] = [
+    0, 0, 1, 2, 3, 4, 5, 6, 7, 8, 9, 10, 11, 12, 13, 14, 15, 15, 16, 16, 17, 17, 18, 18, 19, 19,
+    20, 20, 21, 21, 22, 22, 23, 23, 24, 24, 25, 25, 26, 26, 27, 27, 28, 28, 29, 29, 30, 30, 31, 31,
+    32, 32, 33, 33, 34, 34, 35, 35, 36, 36, 37, 37, 38, 38, 39, 39, 39, 39, 39, 39, 39, 39, 40, 40,
+    40, 40, 40, 40, 40, 40, 41, 41, 41, 41, 41, 41, 41, 41, 42, 42, 42, 42, 42, 42, 42, 42, 43, 43,
+    43, 43, 43, 43, 43, 43, 44, 44, 44, 44, 44, 44, 44, 44, 45, 45, 45, 45, 45, 45, 45, 45, 46, 46,
+    46, 46, 46, 46, 46, 46, 47, 47, 47, 47, 47, 47, 47, 47, 47, 47, 47, 47, 47, 47, 47, 47, 47, 47,
+    47, 47, 47, 47, 47, 47, 47, 47, 47, 47, 47, 47, 47, 47, 47, 47, 47, 47, 47, 47, 47, 47, 47, 47,
+    47, 47, 47, 47, 47, 47, 47, 47, 47, 47, 47, 47, 47, 47, 47, 47, 47, 47, 47, 47, 47, 47, 48, 48,
+    48, 48, 48, 48, 48, 48, 48, 48, 48, 48, 48, 48, 48, 48, 48, 48, 48, 48, 48, 48, 48, 48, 48, 48,
+    48, 48, 48, 48, 48, 48, 48, 48, 48, 48, 48, 48, 48, 48, 48, 48, 48, 48, 48, 48, 48, 48, 48, 48,
+    48, 48, 48, 48, 48, 48, 48, 48, 48, 48, 48, 48, 48, 48, 49,
+];
+
+// The step of a side.
+#[inline]
+fn step(side: u32) -> usize {
+    STEPS[side.min(256) as usize] as usize
+}
+
+// 1 if a side is at least a threshold.
+#[inline]
+fn passed(side: i32, threshold: i32) -> usize {
+    if side >= threshold {
+        1
+    } else {
+        0
+    }
+}
+
+#[inline]
+fn band(side: i32, options: &AllocatorOptions) -> usize {
+    step(side as u32)
+        + passed(side, options.small_size_threshold)
+        + passed(side, options.large_size_threshold)
+}
+
+// The first band of the sides from a threshold on.
+#[inline]
+fn border(threshold: i32, options: &AllocatorOptions) -> usize {
+    if threshold <= 1 {
+        0
+    } else {
+        band(threshold, options)
+    }
+}
+
+// The first band of the sides that reach the small threshold, and that of those that reach the large one.
+#[derive(Clone, Copy)]
+struct Borders {
+    small: usize,
+    large: usize,
+}
+
+// The borders of the classes.
+#[inline]
+fn borders_for(options: &AllocatorOptions) -> Borders {
+    Borders {
+        small: border(options.small_size_threshold, options),
+        large: border(options.large_size_threshold, options),
+    }
+}
+
+/// Options, with what the lists take of them: the borders of the classes, and the band of each side up to 256.
+/// Contracts see the options alone.
+
+pub struct Scale {
+    options: AllocatorOptions,
+    borders: Borders,
+    // The greater threshold.
+    top: i32,
+    bands: [u8; 257],
+}
+
+impl Scale {
+    /// That of these options.
+    #[inline]
+    pub fn new(options: &AllocatorOptions) -> Scale {
+        let mut bands = [0; 257];
+        for side in 1..257 {
+            bands[side] = band(side as i32, options) as u8;
+        }
+        Scale {
+            options: *options,
+            borders: borders_for(options),
+            top: options
+                .small_size_threshold
+                .max(options.large_size_threshold),
+            bands,
+        }
+    }
+
+    /// That of these options from now on.
+    #[inline]
+    pub fn set(&mut self, options: &AllocatorOptions) {
+        if self.options != *options {
+            *self = Scale::new(options);
+        }
+    }
+
+    /// The same again.
+    #[inline]
+    pub fn copy(&self) -> Scale {
+        Scale {
+            options: self.options,
+            borders: self.borders,
+            top: self.top,
+            bands: self.bands,
+        }
+    }
+
+    /// The options.
+    #[inline]
+    pub fn plain(&self) -> AllocatorOptions {
+        self.options
+    }
+
+    /// The first row and column of large sizes.
+    #[inline]
+    pub fn large(&self) -> usize {
+        self.borders.large
+    }
+
+    /// The border of a class after a row or a column.
+    #[inline]
+    pub fn end_after(&self, first: usize) -> usize {
+        if first < self.borders.small {
+            self.borders.small
+        } else if first < self.borders.large {
+            self.borders.large
+        } else {
+            BANDS
+        }
+    }
+
+    // The band of a side.
+    #[inline]
+    fn band(&self, side: i32) -> usize {
+        if side <= 256 {
+            self.bands[side as usize] as usize
+        } else if side >= self.top {
+            BANDS - 1
+        } else {
+            band(side, &self.options)
+        }
+    }
+
+    /// The list of a size.
+    #[inline]
+    pub fn place_for(&self, size: Size) -> Place {
+        Place {
+            row: self.band(size.width),
+            column: self.band(size.height),
+        }
+    }
+}

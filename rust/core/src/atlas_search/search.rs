@@ -1,0 +1,169 @@
+// Erased from crates/atlas_search/src/search.rt by rust/erase: don't edit.
+//! The search for the free box that a request takes, through the lists of a table.
+
+use crate::atlas_model::{Rectangle, Size};
+use crate::atlas_search::bands::{Place, Scale, BANDS};
+use crate::atlas_search::best::{Best, Found};
+use crate::atlas_search::link::{Link, NO_SLOT};
+use crate::atlas_search::masks::Mask;
+use crate::atlas_search::table::Table;
+use wollemigo_support::alloc::Allocator;
+
+/// What a search reads of an entry of a list of free boxes.
+pub trait Entry {
+    /// The entry's rectangle.
+    fn rectangle(&self) -> Rectangle;
+
+    /// The entry after it in its list.
+    fn after(&self) -> Link;
+}
+
+// Shows the boxes of a list to a search.
+#[inline(always)]
+fn show_list<E: Entry>(entries: &[E], head: Link, list: usize, best: &mut Best) {
+    let mut least = 4294967295;
+    let mut at = head;
+    let mut before = Link::NONE;
+    while at.number != NO_SLOT {
+        let entry = &entries[at.number as usize];
+        least = best.look(entry.rectangle(), at, before, list, least);
+        before = at;
+        at = entry.after();
+    }
+    best.end_list(list, least);
+}
+
+// Shows the list at a place to a search, unless nothing in it can be the best.
+#[inline(always)]
+fn search_list<A: Allocator, E: Entry>(
+    entries: &[E],
+    table: &Table<A>,
+    place: Place,
+    best: &mut Best,
+) {
+    if !best.settles(table.low(place)) {
+        let list = BANDS * place.row + place.column;
+        show_list(entries, table.head(place), list, best);
+    }
+}
+
+// Shows lists of a row to a search.
+#[inline(always)]
+fn search_row<A: Allocator, E: Entry>(
+    entries: &[E],
+    table: &Table<A>,
+    row: usize,
+    columns: Mask,
+    best: &mut Best,
+) {
+    let mut left = columns;
+    while let Some(column) = left.take_first() {
+        search_list(entries, table, Place { row, column }, best);
+    }
+}
+
+// Shows lists of a column to a search.
+#[inline(always)]
+fn search_column<A: Allocator, E: Entry>(
+    entries: &[E],
+    table: &Table<A>,
+    column: usize,
+    rows: Mask,
+    best: &mut Best,
+) {
+    let mut left = rows;
+    while let Some(row) = left.take_first() {
+        search_list(entries, table, Place { row, column }, best);
+    }
+}
+
+// The rows with a list that isn't empty in these columns.
+#[inline(never)]
+fn rows_with<A: Allocator>(table: &Table<A>, first: usize, end: usize) -> Mask {
+    let mut rows = Mask::none();
+    for column in first..end {
+        rows = rows.or(table.column(column));
+    }
+    rows
+}
+
+// Shows lists of these rows to a search, from a column on and before another.
+#[inline(always)]
+fn search_rows<A: Allocator, E: Entry>(
+    entries: &[E],
+    table: &Table<A>,
+    rows: Mask,
+    first: usize,
+    end: usize,
+    best: &mut Best,
+) {
+    let mut left = rows;
+    while let Some(row) = left.take_first() {
+        let columns = table.row(row).from(first).below(end);
+        search_row(entries, table, row, columns, best);
+    }
+}
+
+// A row or column that each list with a slot reaches, of those from a place on, where these are the columns of its row;
+// not less than the place's own, the greater of which is `far`.
+#[inline(always)]
+fn least_from<A: Allocator>(table: &Table<A>, own: Place, far: usize, columns: Mask) -> usize {
+    let rows = table.used().from(own.row + 1);
+    columns.or(rows).first().max(far)
+}
+
+// Shows the free entries before a row and a column to a search that knows of none: those with an equal side first, which
+// stand in these columns of the request's own row and these rows of its column, and the others only if none of those is
+// free. Answers whether it saw that no list to the right and below has a slot.
+#[inline(always)]
+fn search_before<A: Allocator, E: Entry>(
+    entries: &[E],
+    table: &Table<A>,
+    own: Place,
+    columns: Mask,
+    rows: Mask,
+    end: usize,
+    best: &mut Best,
+) -> bool {
+    search_row(entries, table, own.row, columns.below(end), best);
+    search_column(entries, table, own.column, rows.below(end), best);
+    if best.has_equal_side() {
+        return false;
+    }
+    let first = own.column + 1;
+    let others = rows_with(table, first, BANDS).from(own.row + 1);
+    search_rows(entries, table, others.below(end), first, end, best);
+    others.is_empty()
+}
+
+/// The free entry that a request of this rounded size takes.
+#[inline]
+pub fn pick<A: Allocator, E: Entry>(
+    entries: &[E],
+    table: &Table<A>,
+    options: &Scale,
+    size: Size,
+) -> Option<Found> {
+    let own = options.place_for(size);
+    let far = own.row.max(own.column);
+    let is_large = far >= options.large();
+    let mut columns = table.row(own.row).from(own.column);
+    let mut rows = table.column(own.column).from(own.row + 1);
+    let mut least = least_from(table, own, far, columns);
+    let mut best = Best::new(size, is_large);
+    while least < BANDS {
+        let end = options.end_after(least);
+        let is_last = search_before(entries, table, own, columns, rows, end, &mut best);
+        if let Some(spot) = best.spot() {
+            let entry = &entries[spot.at.number as usize];
+            return Some(spot.found(entry.rectangle()));
+        }
+        columns = columns.from(end);
+        rows = rows.from(end);
+        if is_last && columns.or(rows).is_empty() {
+            return None;
+        }
+        least = end;
+    }
+    None
+}

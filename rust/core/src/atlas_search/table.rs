@@ -1,0 +1,125 @@
+// Erased from crates/atlas_search/src/table.rt by rust/erase: don't edit.
+//! The table of the lists of free slots: the first slot of each, a bound of its slots' `min.y`, and marks of those that
+//! have a slot.
+
+use crate::atlas_search::bands::{Place, BANDS};
+use crate::atlas_search::link::{Link, NO_SLOT};
+use crate::atlas_search::marks::Marks;
+use crate::atlas_search::masks::Mask;
+use wollemigo_support::alloc::{AllocError, Allocator};
+use wollemigo_support::prelude::Vec;
+
+/// How many lists of free slots there are.
+pub const LISTS: usize = 2704;
+
+/// The first slot of a list, or none, and a bound: at most the `min.y` of each of the list's slots.
+#[derive(Clone, Copy, Debug, PartialEq, Eq)]
+pub struct ListHead {
+    pub first: Link,
+    pub low: u32,
+}
+
+// The head of a list with no slot.
+const BLANK: ListHead = ListHead {
+    first: Link::NONE,
+    low: 0,
+};
+
+/// The heads of all lists: one block of memory, which takes 21632 bytes. Contracts see the heads alone.
+
+pub struct Table<A: Allocator> {
+    heads: Vec<ListHead, A>,
+    marks: Marks,
+}
+
+impl<A: Allocator> Table<A> {
+    /// A table of empty lists.
+    #[inline]
+    pub fn new(alloc: A) -> Result<Table<A>, AllocError> {
+        Ok(Table {
+            heads: Vec::from_elem(alloc, BLANK, LISTS)?,
+            marks: Marks::none(),
+        })
+    }
+
+    /// A copy, in new memory of the same allocator.
+    #[inline]
+    pub fn copy(&self) -> Result<Table<A>, AllocError>
+    where
+        A: Copy,
+    {
+        Ok(Table {
+            heads: Vec::from_slice(*self.heads.allocator(), &self.heads)?,
+            marks: self.marks.copy(),
+        })
+    }
+
+    /// Each list is empty from now on.
+    #[inline]
+    pub fn clear(&mut self) {
+        self.heads.fill(BLANK);
+        self.marks = Marks::none();
+    }
+
+    /// The first slot of a list, or none.
+    #[inline]
+    pub fn head(&self, at: Place) -> Link {
+        self.heads[BANDS * at.row + at.column].first
+    }
+
+    /// At most the `min.y` of each of the list's slots.
+    #[inline]
+    pub fn low(&self, at: Place) -> u32 {
+        self.heads[BANDS * at.row + at.column].low
+    }
+
+    /// A slot with this `min.y` comes first in a list.
+    #[inline]
+    pub fn push(&mut self, at: Place, first: Link, top: u32) {
+        let head = &mut self.heads[BANDS * at.row + at.column];
+        if head.first.number == NO_SLOT {
+            head.first = first;
+            head.low = top;
+            self.marks.mark(at);
+        } else {
+            head.first = first;
+            head.low = head.low.min(top);
+        }
+    }
+
+    /// Another slot, or none, comes first in the list of this number, which has a slot.
+    #[inline]
+    pub fn set_first(&mut self, number: usize, first: Link) {
+        self.heads[number].first = first;
+        if first.number == NO_SLOT {
+            self.marks.unmark(Place {
+                row: number / BANDS,
+                column: number % BANDS,
+            });
+        }
+    }
+
+    /// Another bound is kept of the list of this number.
+    #[inline]
+    pub fn set_low(&mut self, number: usize, low: u32) {
+        self.heads[number].low = low;
+    }
+
+    /// The columns of a row with lists that aren't empty.
+    #[inline]
+    pub fn row(&self, i: usize) -> Mask {
+        self.marks.row(i)
+    }
+
+    /// The rows of a column with lists that aren't empty.
+    #[inline]
+    pub fn column(&self, j: usize) -> Mask {
+        self.marks.column(j)
+    }
+
+    /// The rows with a list that isn't empty.
+    #[inline]
+    pub fn used(&self) -> Mask {
+        self.marks.used()
+    }
+}
