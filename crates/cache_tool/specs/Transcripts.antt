@@ -1,8 +1,9 @@
 -- Lines, each with its reply.
-use Rattle.std.specs.Prelude.{◌≡◌, ◌⊎◌, ℕ, pos, List, [], ◌∷◌, ◌++◌, codes, flat_map, Option, None, Some, ⊤}
+use Rattle.std.specs.Prelude.{◌≡◌, ◌<ℤ◌, ◌⊎◌, ℕ, pos, List, [], ◌∷◌, ◌++◌, codes, flat_map, Option, None, Some, ⊤}
 use Rattle.std.specs.Io.KnownBytes.{Appends}
 use Rattle.atlas_cache.specs.declared.changes.CacheChange.{CacheChange}
 use Rattle.atlas_cache.specs.declared.options.CacheOptions.{CacheOptions}
+use Rattle.atlas_cache.specs.Asking.{AreUsable, IsFaultIn}
 use Rattle.atlas_cache.specs.Caches.{CacheState, nothing_held}
 use Rattle.atlas_words.specs.Devices.{HoldsBytes}
 use Rattle.atlas_words.specs.Lines.{BeginsWithLine}
@@ -15,18 +16,26 @@ use Rattle.cache_tool.specs.declared.replies.Reply.TheVariants as reply
 use Rattle.cache_tool.specs.Answers.{AnswersAsked, AnswersKeyed, AnswersSized}
 use Rattle.cache_tool.specs.Texts.{lines_text}
 
--- These are the options that a line has.
+-- These are the options that a line has. A number of pages below 0 is none.
 pub record IsMadeBy (start : Start) (o : CacheOptions) : Type 0 where
   pub page : o.page ≡ start.page
   pub largest : o.largest_page ≡ start.largest_page
   pub pages : (n : ℕ) → start.pages ≡ pos n → o.pages ≡ n
+  pub none : start.pages <ℤ pos 0 → o.pages ≡ 0
   pub padding : o.padding ≡ start.padding
   pub atlas : o.atlas ≡ start.atlas
+
+-- Done where the options are usable, and else what is wrong with them.
+abbrev pub SaysMade : CacheOptions → Reply → Type 0
+SaysMade o reply.Done = AreUsable o
+SaysMade o (reply.Unusable error) = IsFaultIn o error
+SaysMade o r = ⊥
 
 -- A new cache in place of what was there, or the one that was there.
 pub record AnswersStart (start : Start) (r : Reply) (s t : Option (CacheState ℕ)) : Type 0 where
   pub options : CacheOptions
   pub made : IsMadeBy start options
+  pub says : SaysMade options r
   pub done : r ≡ reply.Done → t ≡ Some (nothing_held options)
   pub refused : (r ≡ reply.Done → ⊥) → t ≡ s
 
@@ -60,7 +69,8 @@ pub record AnswersLine (line text : List ℕ) (s t : Option (CacheState ℕ)) : 
 abbrev pub TellsLine : (line text : List ℕ) (s t : Option (CacheState ℕ)) → Type 0
 TellsLine line text s t =
     (IsNote line × (text ≡ line ++ codes "\n") × (t ≡ s))
-    ⊎ ((replies : List ℕ) × (text ≡ codes "> " ++ (line ++ (codes "\n" ++ replies))) × AnswersLine line replies s t)
+    ⊎ ((IsNote line → ⊥) × (replies : List ℕ) × (text ≡ codes "> " ++ (line ++ (codes "\n" ++ replies)))
+    × AnswersLine line replies s t)
 
 -- Lines that a text begins with are told one after another, from a cache to the next one.
 abbrev pub TellsLines : List (List ℕ × List ℕ) → (input rest : List ℕ) (s t : Option (CacheState ℕ)) → Type 0

@@ -1,13 +1,10 @@
 //! A cache whose calls come one after another.
 ghost use Rattle.std.specs.Prelude.{◌≡◌, None, slice_get};
-ghost use Rattle.atlas_cache.specs.declared.error.CacheError.{CacheError};
-ghost use Rattle.atlas_cache.specs.Relocating.{Repacks};
 ghost use Rattle.atlas_cache.specs.Rooms.{page_sizes};
 ghost use Rattle.atlas_cache.specs.Usable.{unusable_by_page};
-ghost use Rattle.cache_tool.specs.Answers.{AnswersAsked, AnswersInsert, AnswersKeyed, AnswersSized, at_reply};
-ghost use Rattle.cache_tool.specs.Answers.{done_reply, keyed_reply, number_reply, size_reply};
+ghost use Rattle.cache_tool.specs.Answers.{AnswersArea, AnswersAsked, AnswersInsert, AnswersKeyed, AnswersRepack, AnswersSized};
+ghost use Rattle.cache_tool.specs.Answers.{at_reply, done_reply, keyed_reply, number_reply, size_reply};
 ghost use Rattle.cache_tool.specs.Transcripts.{AnswersCall, AnswersStart, IsMadeBy};
-ghost use Rattle.cache_tool.specs.declared.replies.Reply.TheVariants.{Done, Refused};
 
 use crate::replies::Reply;
 use atlas_cache::{CacheChange, CacheError, CacheOptions, Changes, Place, TextureCache};
@@ -96,7 +93,7 @@ fn ask(cache: &mut TextureCache<u32>, asked: Asked, changes: &mut Changes<u32>) 
 }
 
 fn repack(cache: &mut TextureCache<u32>, page: u32, changes: &mut Changes<u32>) -> Reply
-    ensures { result ≡ Done → Repacks page changes.old.items changes.new.items cache.old cache.new }
+    ensures { AnswersRepack page result changes.old.items changes.new.items cache.old cache.new }
 {
     match cache.repack(page, changes) {
         Ok(true) => Reply::Done,
@@ -146,8 +143,7 @@ fn insert(cache: &mut TextureCache<u32>, key: u32, size: Size, changes: &mut Cha
 }
 
 fn unusable(cache: &TextureCache<u32>, page: u32, size: Size) -> Reply
-    ensures { ((error : CacheError) → result ≡ Refused error → ⊥)
-        → result ≡ number_reply (slice_get (unusable_by_page cache.now.options size cache.now.pages) page) }
+    ensures { AnswersArea (unusable_by_page cache.now.options size cache.now.pages) page result }
 {
     match cache.unusable_area(page, size) {
         Ok(area) => reply_number(area),

@@ -5,7 +5,7 @@ use std::alloc::Global;
 use std::process::Abort;
 
 // Each row: a text, and the line that says what is wrong with it.
-const BAD: [(&str, &str); 21] = [
+static BAD: [(&str, &str); 21] = [
     (
         "a 1 2\nb 1\n",
         "line 2: not a sprite, which is NAME WIDTH HEIGHT",
@@ -96,7 +96,7 @@ fn told(alloc: Global, text: &str, rt: &impl Abort) -> String {
 
 #[test]
 fn bad_lines(rt: HostRuntime) {
-    for (text, wrong) in BAD {
+    for &(text, wrong) in &BAD {
         assert_eq!(&rt; told(rt.alloc(), text, &rt).as_str(), wrong);
     }
 }
@@ -126,7 +126,7 @@ fn sprites(rt: HostRuntime) {
 }
 
 // Each row: the bytes of a line that names no sprite.
-const NO_NAMES: [&[u8]; 22] = [
+static NO_NAMES: [&[u8]; 22] = [
     // Bytes that aren't UTF-8: one alone, one missing, a surrogate's, one between quotation marks.
     b"\xff 1 2",
     b"\xc3 1 2",
@@ -164,7 +164,7 @@ fn no_names(rt: HostRuntime) {
 }
 
 // Each row: how a name is spelled, and the name.
-const NAMES: [(&str, &str); 11] = [
+static NAMES: [(&str, &str); 11] = [
     ("b\u{e4}r", "b\u{e4}r"),
     ("q\"", "q\""),
     ("a\\n", "a\\n"),
@@ -180,7 +180,7 @@ const NAMES: [(&str, &str); 11] = [
 
 #[test]
 fn names(rt: HostRuntime) {
-    for (spelled, name) in NAMES {
+    for &(spelled, name) in &NAMES {
         let line = format!(in rt.alloc(); "{spelled} 1 2").expect(&rt, "memory");
         let read = read_sprite(rt.alloc(), line.as_bytes()).expect(&rt, "memory");
         assert_eq!(&rt; read.expect(&rt, "a sprite").name.as_str(), name);

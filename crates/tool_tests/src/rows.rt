@@ -4,7 +4,7 @@ use crate::playing::{Row, answers, play};
 use atlas_lines::{Command, ToolEnd, parse_line};
 use guillotiere::size2;
 
-const ROWS: [Row; 14] = [
+static ROWS: [Row; 14] = [
     (b"", b"", ToolEnd::Done),
     (
         b"simple 100 300\ntake 100 100\ntake 100 100\ntake 100 100\ntake 1 1\n",
@@ -70,7 +70,7 @@ const ROWS: [Row; 14] = [
 ];
 
 // Each of these alone spells no command.
-const BAD_LINES: [&[u8]; 34] = [
+static BAD_LINES: [&[u8]; 34] = [
     b" take 1 1",
     b"take 1 1 ",
     b"take +1 1",
@@ -109,7 +109,7 @@ const BAD_LINES: [&[u8]; 34] = [
 
 #[test]
 fn rows(rt: HostRuntime) {
-    for row in ROWS {
+    for &row in &ROWS {
         assert!(rt; answers(rt.alloc(), row), "{:?}", row.0);
         play(&rt, rt.alloc(), row, &[1, 2, 3, 7, 64, 5000]);
     }
@@ -117,7 +117,7 @@ fn rows(rt: HostRuntime) {
 
 #[test]
 fn bad_lines(rt: HostRuntime) {
-    for line in BAD_LINES {
+    for &line in &BAD_LINES {
         let row: Row = (line, b"bad line 1\n", ToolEnd::BadLine(1));
         assert!(rt;
             parse_line(line).is_none() && answers(rt.alloc(), row),

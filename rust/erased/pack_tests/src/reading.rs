@@ -7,7 +7,7 @@ use wollemigo_support::prelude::{assert, assert_eq, format, ExpectIn, HostRuntim
 use wollemigo_support::process::Abort;
 
 // Each row: a text, and the line that says what is wrong with it.
-const BAD: [(&str, &str); 21] = [
+static BAD: [(&str, &str); 21] = [
     (
         "a 1 2\nb 1\n",
         "line 2: not a sprite, which is NAME WIDTH HEIGHT",
@@ -99,7 +99,7 @@ fn told(alloc: Global, text: &str, rt: &impl Abort) -> String {
 #[test]
 fn bad_lines() {
     let rt = HostRuntime;
-    for (text, wrong) in BAD {
+    for &(text, wrong) in &BAD {
         assert_eq!(&rt; told(rt.alloc(), text, &rt).as_str(), wrong);
     }
 }
@@ -131,7 +131,7 @@ fn sprites() {
 }
 
 // Each row: the bytes of a line that names no sprite.
-const NO_NAMES: [&[u8]; 22] = [
+static NO_NAMES: [&[u8]; 22] = [
     // Bytes that aren't UTF-8: one alone, one missing, a surrogate's, one between quotation marks.
     b"\xff 1 2",
     b"\xc3 1 2",
@@ -170,7 +170,7 @@ fn no_names() {
 }
 
 // Each row: how a name is spelled, and the name.
-const NAMES: [(&str, &str); 11] = [
+static NAMES: [(&str, &str); 11] = [
     ("b\u{e4}r", "b\u{e4}r"),
     ("q\"", "q\""),
     ("a\\n", "a\\n"),
@@ -187,7 +187,7 @@ const NAMES: [(&str, &str); 11] = [
 #[test]
 fn names() {
     let rt = HostRuntime;
-    for (spelled, name) in NAMES {
+    for &(spelled, name) in &NAMES {
         let line = format!(in rt.alloc(); "{spelled} 1 2").expect_in(&rt, "memory");
         let read = read_sprite(rt.alloc(), line.as_bytes()).expect_in(&rt, "memory");
         assert_eq!(&rt; read.expect_in(&rt, "a sprite").name.as_str(), name);

@@ -128,7 +128,7 @@ fn how_full_together() {
 }
 
 // Each row: a name, and how it stands in a line.
-const NAMES: [(&str, &str); 6] = [
+static NAMES: [(&str, &str); 6] = [
     ("a.png", "a.png"),
     ("a b.png", "\"a b.png\""),
     ("\"", "\"\\\"\""),
@@ -142,7 +142,7 @@ const NAMES: [(&str, &str); 6] = [
 fn names() {
     let rt = HostRuntime;
     let alloc = rt.alloc();
-    for (name, spelled) in NAMES {
+    for &(name, spelled) in &NAMES {
         let mut left = Vec::new(alloc);
         left.push(sprite(alloc, name, 1, 2, &rt))
             .expect_in(&rt, "memory");

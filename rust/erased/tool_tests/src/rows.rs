@@ -6,7 +6,7 @@ use atlas_lines::{parse_line, Command, ToolEnd};
 use wollemigo_core::guillotiere::size2;
 use wollemigo_support::prelude::{assert, assert_eq, HostRuntime};
 
-const ROWS: [Row; 14] = [
+static ROWS: [Row; 14] = [
     (b"", b"", ToolEnd::Done),
     (
         b"simple 100 300\ntake 100 100\ntake 100 100\ntake 100 100\ntake 1 1\n",
@@ -72,7 +72,7 @@ const ROWS: [Row; 14] = [
 ];
 
 // Each of these alone spells no command.
-const BAD_LINES: [&[u8]; 34] = [
+static BAD_LINES: [&[u8]; 34] = [
     b" take 1 1",
     b"take 1 1 ",
     b"take +1 1",
@@ -112,7 +112,7 @@ const BAD_LINES: [&[u8]; 34] = [
 #[test]
 fn rows() {
     let rt = HostRuntime;
-    for row in ROWS {
+    for &row in &ROWS {
         assert!(rt; answers(rt.alloc(), row), "{:?}", row.0);
         play(&rt, rt.alloc(), row, &[1, 2, 3, 7, 64, 5000]);
     }
@@ -121,7 +121,7 @@ fn rows() {
 #[test]
 fn bad_lines() {
     let rt = HostRuntime;
-    for line in BAD_LINES {
+    for &line in &BAD_LINES {
         let row: Row = (line, b"bad line 1\n", ToolEnd::BadLine(1));
         assert!(rt;
             parse_line(line).is_none() && answers(rt.alloc(), row),
