@@ -118,7 +118,7 @@ pub struct OnPage {
 /// Sheets that take all sprites together.
 #[derive(Clone, Debug, PartialEq)]
 pub struct Pages {
-    /// The size of each sheet, in pixels. Each but the last is the greatest that is allowed.
+    /// The size of each sheet, in pixels. By `pack_pages` each but the last is the greatest that is allowed.
     pub sizes: Vec<Size>,
     /// A place for each sprite, in the order of the sprites.
     pub places: Vec<OnPage>,
@@ -261,8 +261,43 @@ pub fn fill(sprites: &[Size], options: &SheetOptions) -> Result<Filled, SheetErr
 /// last of them in as small a sheet as `pack` finds. No sheet is empty, and no sprites have no sheets. None only where a sprite
 /// is too large for an empty sheet.
 pub fn pack_pages(sprites: &[Size], options: &SheetOptions) -> Result<Option<Pages>, SheetError> {
-    let sprites = library_sizes(sprites)?;
-    let pages = match library::pack_pages(Global, &sprites, &library_options(options))? {
+    let (sprites, options) = (library_sizes(sprites)?, library_options(options));
+    converted_pages(library::pack_pages(Global, &sprites, &options)?)
+}
+
+/// `pack_pages`, with all sprites of a group on one sheet: `groups` has the number of each sprite's group, in the order of the
+/// sprites. A sprite is in no group where that is None, or where `groups` ends before; numbers past the last sprite count for
+/// nothing. A group that no way packs alone into the greatest sheet that is allowed is placed as sprites in no group.
+///
+/// Groups are taken in the order of their first sprites. The first opens a sheet; then each other group comes onto it that the
+/// greatest sheet takes as well, and as many sprites in no group as it takes; and the sheet becomes as small as `pack` finds it.
+/// The sprites that are left then are packed as `pack_pages` does. None only where a sprite is too large for an empty sheet.
+///
+/// ```
+/// use guillotiere::sheet::{pack_groups, Allowed, SheetOptions};
+/// use guillotiere::size2;
+///
+/// // A square of 8 takes four of these sprites, so the group of two has no room beside the group of three.
+/// let options = SheetOptions::new(Allowed::Squares { least: 1, greatest: 8 });
+/// let groups = [Some(0), Some(1), Some(0), Some(1), Some(0), None];
+/// let pages = pack_groups(&[size2(4, 4); 6], &groups, &options)?.unwrap();
+/// let sheets: Vec<usize> = pages.places.iter().map(|place| place.page).collect();
+/// assert_eq!(sheets, [0, 1, 0, 1, 0, 0]);
+/// # Ok::<(), guillotiere::sheet::SheetError>(())
+/// ```
+pub fn pack_groups(
+    sprites: &[Size],
+    groups: &[Option<usize>],
+    options: &SheetOptions,
+) -> Result<Option<Pages>, SheetError> {
+    let (sprites, options) = (library_sizes(sprites)?, library_options(options));
+    let found = library::pack_groups(Global, &sprites, groups, &options)?;
+    converted_pages(found)
+}
+
+// Sheets, where some were found.
+fn converted_pages(found: Option<library::Pages>) -> Result<Option<Pages>, SheetError> {
+    let pages = match found {
         Some(pages) => pages,
         None => return Ok(None),
     };

@@ -181,6 +181,36 @@ fn several_sheets_and_a_filled_one() {
 }
 
 #[test]
+fn groups_on_several_sheets() {
+    // Six squares of 4, of which a square of 8 takes four: the group of each, 9 for none, and then its sheet.
+    let rows = [
+        ([0, 1, 0, 1, 0, 1], [0, 1, 0, 1, 0, 1]),
+        ([7, 7, 0, 0, 3, 3], [0, 0, 0, 0, 1, 1]),
+        ([9, 1, 1, 1, 9, 9], [0, 0, 0, 0, 1, 1]),
+        ([9, 9, 9, 9, 1, 1], [0, 0, 1, 1, 0, 0]),
+        ([1, 1, 1, 1, 1, 9], [0, 0, 0, 0, 1, 1]),
+    ];
+    let sprites = [size2(4, 4); 6];
+    for (numbers, wanted) in rows {
+        let groups = numbers.map(|number| Some(number).filter(|number| *number != 9));
+        let found = pack_groups(&sprites, &groups, &squares(8));
+        let pages = found.unwrap().unwrap();
+        assert_eq!(pages.sizes.len(), 2);
+        let sheets: Vec<usize> = pages.places.iter().map(|place| place.page).collect();
+        assert_eq!(sheets, wanted, "{:?}", numbers);
+    }
+    let none = pack_groups(&sprites, &[], &squares(8));
+    assert_eq!(none, pack_pages(&sprites, &squares(8)));
+    let wide = [size2(4, 4), size2(9, 1)];
+    assert_eq!(pack_groups(&wide, &[Some(0); 2], &squares(8)), Ok(None));
+    let empty = [size2(4, 4), size2(1, 0)];
+    assert_eq!(
+        pack_groups(&empty, &[Some(0); 3], &squares(8)),
+        Err(SheetError::EmptySprite(1))
+    );
+}
+
+#[test]
 fn no_sprites() {
     let sheet = pack(
         &[],

@@ -142,6 +142,43 @@ def dense(folder, originals, room):
         assert more or last[0] < plain[0], both
 
 
+def grouped(folder, room):
+    """Six folders of icons, of which one lies in another and two have an equal icon: each lies on one sheet, with an icon of its own.
+    Those in no folder lie anywhere. In one sheet each different icon lies once."""
+    to = os.path.join(room, 'grouped')
+    for place, name in enumerate(sorted(icons.originals(folder))[:120]):
+        with Image.open(os.path.join(folder, name)) as picture:
+            for inside in ['%d/' % (place % 6)] if place % 6 else ['', '2/deeper/']:
+                icons.save(to, '%s%02d.png' % (inside, place), picture.convert('RGBA'))
+    shutil.copyfile(os.path.join(to, '1', '01.png'), os.path.join(to, '4', 'again.png'))
+    originals = icons.originals(to)
+    for more in ([], ['--dense'], ['--turn', '--trim', '--padding', '3'], ['--form', 'phaser']):
+        for words, is_group in (([], False), (['--group'], True)):
+            out = os.path.join(room, ' '.join(['grouped sheets', *more, *words]))
+            done = run(to, out, '--size', '210', '210', '--pages', '20', *more, *words)
+            assert len(done.stdout.splitlines()) > 2, done.stdout
+            form = 'phaser' if more[:1] == ['--form'] else 'json-hash'
+            compare(readers.read(form, out), originals, '--trim' in more)
+            if form == 'json-hash':
+                sheets = sheets_of_folders(out)
+                assert all(len(each) == 1 for inside, each in sheets.items() if inside) == is_group, sheets
+                assert len(sheets) == 7
+    together = run(to, os.path.join(room, 'one sheet'), '--group')
+    assert len(together.stdout.splitlines()) == 1
+    whole = {tuple(told['frame'].values()) for told in frames(os.path.join(room, 'one sheet')).values()}
+    assert len(whole) == len({picture.tobytes() + bytes(str(picture.size), 'ascii') for picture in originals.values()})
+
+
+def sheets_of_folders(out):
+    """The numbers of the sheets on which the sprites of each folder lie."""
+    found, number = {}, 0
+    while os.path.exists('%s-%d.json' % (out, number)):
+        for name in frames('%s-%d' % (out, number)):
+            found.setdefault(os.path.dirname(name), set()).add(number)
+        number += 1
+    return found
+
+
 def premultiplied(folder, originals, room):
     out = os.path.join(room, 'premultiplied')
     run(folder, out, '--premultiply', '--form', 'libgdx')
@@ -322,6 +359,7 @@ def all_tests(room):
     test('equal pictures', equal_once, folder, room)
     test('extruded', extruded, folder, room)
     test('dense', dense, folder, originals, room)
+    test('grouped', grouped, folder, room)
     test('premultiplied', premultiplied, folder, originals, room)
     test('scaled', scaled, folder, originals, room)
     test('other kinds', others, room)

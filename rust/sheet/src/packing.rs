@@ -1,7 +1,8 @@
 //! Sprites in as few sheets as are found.
 pub use guillotiere::sheet::OnPage as Place;
 use guillotiere::sheet::{
-    self, pack_dense, pack_pages, pack_telling, Allowed, Sheet, SheetError, SheetOptions,
+    self, pack_dense, pack_groups, pack_pages, pack_telling, Allowed, Sheet, SheetError,
+    SheetOptions,
 };
 use guillotiere::Size;
 
@@ -46,9 +47,15 @@ pub fn fits(sprite: Size, options: &SheetOptions) -> bool {
 }
 
 /// All sprites in the smallest sheet that takes them, or one sheet of the greatest size after the other, the last as small as is
-/// found, and of these the first `limit`. A sprite that fits no empty sheet, or lies on a later one, has no place. `told` is
-/// called with the size of each sheet that takes all sprites, as soon as it is found.
-pub fn pages(sprites: &[Size], ways: &Ways, told: impl FnMut(Size)) -> Result<Pages, SheetError> {
+/// found, and of these the first `limit`. A sprite that fits no empty sheet, or lies on a later one, has no place. `groups` has
+/// the number of each sprite's group, if it is in one: those of a group lie on one sheet, where one of the greatest size takes
+/// them all. `told` is called with the size of each sheet that takes all sprites, as soon as it is found.
+pub fn pages(
+    sprites: &[Size],
+    groups: &[Option<usize>],
+    ways: &Ways,
+    told: impl FnMut(Size),
+) -> Result<Pages, SheetError> {
     let mut found = Pages {
         sizes: Vec::new(),
         places: vec![None; sprites.len()],
@@ -66,7 +73,8 @@ pub fn pages(sprites: &[Size], ways: &Ways, told: impl FnMut(Size)) -> Result<Pa
         .filter(|number| fits(sprites[*number], &ways.options))
         .collect();
     let fitting: Vec<Size> = numbers.iter().map(|number| sprites[*number]).collect();
-    if let Some(mut packed) = pack_pages(&fitting, &ways.options)? {
+    let theirs: Vec<Option<usize>> = numbers.iter().map(|number| groups[*number]).collect();
+    if let Some(mut packed) = several_sheets(&fitting, &theirs, &ways.options)? {
         if ways.is_dense {
             end_densely(&fitting, &ways.options, &mut packed)?;
         }
@@ -110,6 +118,17 @@ fn one_sheet(
         }
         None => Ok(found),
     }
+}
+
+fn several_sheets(
+    sprites: &[Size],
+    groups: &[Option<usize>],
+    options: &SheetOptions,
+) -> Result<Option<sheet::Pages>, SheetError> {
+    if groups.iter().all(Option::is_none) {
+        return pack_pages(sprites, options);
+    }
+    pack_groups(sprites, groups, options)
 }
 
 // `pack_dense` begins with the sheet of `pack`, for which all changes of the order were tried before.
@@ -170,7 +189,7 @@ fn put_densely(
 
 #[cfg(test)]
 mod tests {
-    use super::{fits, greatest, pages, Pages, Ways};
+    use super::{fits, greatest, pages, Pages, Place, Ways};
     use guillotiere::sheet::{Allowed, SheetOptions};
     use guillotiere::{size2, Size};
 
@@ -187,7 +206,7 @@ mod tests {
             is_dense: false,
             limit,
         };
-        pages(sprites, &ways, |_| {}).unwrap()
+        pages(sprites, &vec![None; sprites.len()], &ways, |_| {}).unwrap()
     }
 
     fn dense(sprites: &[Size], greatest: i32, limit: usize) -> Pages {
@@ -197,7 +216,8 @@ mod tests {
             limit,
         };
         let mut sizes = Vec::new();
-        let found = pages(sprites, &ways, |size| sizes.push(size)).unwrap();
+        let none = vec![None; sprites.len()];
+        let found = pages(sprites, &none, &ways, |size| sizes.push(size)).unwrap();
         if found.sizes.len() == 1 && found.places.iter().all(Option::is_some) {
             assert!(sizes.is_empty() || sizes.last() == found.sizes.first());
         }
@@ -232,6 +252,36 @@ mod tests {
         assert_eq!(packed(&[size2(70, 2)], 3).sizes, []);
     }
 
+    // The sheet of each sprite, in squares up to 8; 9 where it has none.
+    fn grouped(sprites: &[Size], groups: &[Option<usize>], is_dense: bool) -> Vec<usize> {
+        let ways = Ways {
+            options: SheetOptions::new(Allowed::Squares {
+                least: 1,
+                greatest: 8,
+            }),
+            is_dense,
+            limit: 3,
+        };
+        let found = pages(sprites, groups, &ways, |_| {}).unwrap();
+        let sheet = |place: &Option<Place>| place.map_or(9, |place| place.page);
+        found.places.iter().map(sheet).collect()
+    }
+
+    #[test]
+    fn keeps_groups_together() {
+        // A sheet takes four squares of 4: a group of two has no room beside one of three. What fits no sheet is passed over.
+        let mut sprites = [size2(4, 4); 7];
+        sprites[1] = size2(9, 1);
+        let three_and_two = [None, None, Some(3), Some(1), Some(3), Some(1), Some(3)];
+        for is_dense in [false, true] {
+            let found = grouped(&sprites, &three_and_two, is_dense);
+            assert_eq!(found, [0, 9, 0, 1, 0, 1, 0]);
+            // No sheet takes five.
+            let five = [Some(5), None, Some(5), Some(5), Some(5), Some(5), None];
+            assert_eq!(grouped(&sprites, &five, is_dense), [0, 9, 0, 0, 0, 1, 1]);
+        }
+    }
+
     #[test]
     fn tells_each_smaller_sheet() {
         let ways = Ways {
@@ -240,7 +290,7 @@ mod tests {
             limit: 3,
         };
         let mut sizes = Vec::new();
-        let alone = pages(&[size2(14, 14)], &ways, |size| sizes.push(size)).unwrap();
+        let alone = pages(&[size2(14, 14)], &[None], &ways, |size| sizes.push(size)).unwrap();
         assert_eq!(alone.sizes, [size2(16, 16)]);
         assert_eq!(sizes.last(), Some(&size2(16, 16)));
     }

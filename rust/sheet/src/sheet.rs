@@ -65,6 +65,12 @@ pub struct Built {
     pub left_out: Vec<String>,
 }
 
+/// A part of a picture that has one place, for all names that lead to it, and the folder with which it lies on one sheet.
+struct Stored {
+    picture: Picture,
+    group: Option<usize>,
+}
+
 /// What is known of a picture before it has a place: the number of what is stored of it.
 struct Known {
     stored: usize,
@@ -72,11 +78,25 @@ struct Known {
     whole: (u32, u32),
 }
 
-// What is kept of each picture, each different one once.
-fn kept(found: &[(String, Picture)], scale: Scale, is_trimmed: bool) -> (Vec<Known>, Vec<Picture>) {
+// The number of the folder in which each picture lies, where those of a folder keep together; none of those in FOLDER itself.
+fn groups(found: &[(String, Picture)], words: &Words) -> Vec<Option<usize>> {
+    if !words.group || words.pages == 1 {
+        return vec![None; found.len()];
+    }
+    let mut numbers: HashMap<&str, usize> = HashMap::new();
+    let number = found.iter().map(|(name, _)| {
+        let (folder, _) = name.rsplit_once('/')?;
+        let next = numbers.len();
+        Some(*numbers.entry(folder).or_insert(next))
+    });
+    number.collect()
+}
+
+// What is kept of each picture, each different one of a group once.
+fn kept(found: &[(String, Picture)], scale: Scale, words: &Words) -> (Vec<Known>, Vec<Stored>) {
     let mut known = Vec::new();
-    let mut numbers: HashMap<Picture, usize> = HashMap::new();
-    for (_, picture) in found {
+    let mut numbers: HashMap<(Option<usize>, Picture), usize> = HashMap::new();
+    for ((_, picture), group) in found.iter().zip(groups(found, words)) {
         let smaller;
         let picture = if scale.is_one() {
             picture
@@ -85,29 +105,26 @@ fn kept(found: &[(String, Picture)], scale: Scale, is_trimmed: bool) -> (Vec<Kno
             &smaller
         };
         let whole = (picture.width, picture.height);
-        let kept = if is_trimmed {
+        let kept = if words.trim {
             picture.visible()
         } else {
             picture.whole()
         };
         let part = picture.part(kept);
         let next = numbers.len();
-        let stored = *numbers.entry(part).or_insert(next);
+        let stored = *numbers.entry((group, part)).or_insert(next);
         known.push(Known {
             stored,
             kept,
             whole,
         });
     }
-    let mut stored: Vec<(usize, Picture)> = numbers
+    let mut stored: Vec<(usize, Stored)> = numbers
         .into_iter()
-        .map(|(picture, number)| (number, picture))
+        .map(|((group, picture), number)| (number, Stored { picture, group }))
         .collect();
     stored.sort_by_key(|(number, _)| *number);
-    (
-        known,
-        stored.into_iter().map(|(_, picture)| picture).collect(),
-    )
+    (known, stored.into_iter().map(|(_, one)| one).collect())
 }
 
 fn size(picture: &Picture, extrude: u16) -> Size {
@@ -157,12 +174,13 @@ fn named(names: &[&str]) -> String {
 fn packed(
     names: &[&str],
     known: &[Known],
-    stored: &[Picture],
+    stored: &[Stored],
     words: &Words,
 ) -> Result<Pages, Fault> {
     let options = words.options();
-    let size = |picture| size(picture, words.extrude);
+    let size = |one: &Stored| size(&one.picture, words.extrude);
     let sizes: Vec<Size> = stored.iter().map(size).collect();
+    let groups: Vec<Option<usize>> = stored.iter().map(|one| one.group).collect();
     check_sizes(names, known, &sizes, &options)?;
     let refused = |error: SheetError| Fault::new(ROOM, error.to_string());
     // With an effort it may take long.
@@ -176,7 +194,7 @@ fn packed(
         is_dense: words.dense,
         limit: words.pages as usize,
     };
-    let pages = pages(&sizes, &ways, progress).map_err(refused)?;
+    let pages = pages(&sizes, &groups, &ways, progress).map_err(refused)?;
     let is_homeless = |one: &Known| pages.places[one.stored].is_none();
     let homeless = names.iter().zip(known).filter(|(_, one)| is_homeless(one));
     let homeless: Vec<&str> = homeless.map(|(name, _)| *name).collect();
@@ -228,10 +246,10 @@ fn corner(place: &Place, words: &Words) -> (u32, u32) {
     (corner.x as u32 + extrude, corner.y as u32 + extrude)
 }
 
-fn drawn(pages: &[Page], stored: &[Picture], packed: &Pages, words: &Words) -> Vec<Picture> {
+fn drawn(pages: &[Page], stored: &[Stored], packed: &Pages, words: &Words) -> Vec<Picture> {
     let empty = |page: &Page| Picture::empty(page.width, page.height);
     let mut pictures: Vec<Picture> = pages.iter().map(empty).collect();
-    for (picture, place) in stored.iter().zip(&packed.places) {
+    for (one, place) in stored.iter().zip(&packed.places) {
         if let Some(place) = place {
             let lie = if place.placed.turned {
                 forms::turned(words.form)
@@ -239,7 +257,7 @@ fn drawn(pages: &[Page], stored: &[Picture], packed: &Pages, words: &Words) -> V
                 Lie::Upright
             };
             let (x, y) = corner(place, words);
-            pictures[place.page].draw(picture, x, y, lie, u32::from(words.extrude));
+            pictures[place.page].draw(&one.picture, x, y, lie, u32::from(words.extrude));
         }
     }
     if words.premultiply {
@@ -251,7 +269,7 @@ fn drawn(pages: &[Page], stored: &[Picture], packed: &Pages, words: &Words) -> V
 /// The sheets of one scale.
 pub fn built(found: &[(String, Picture)], scale: Scale, words: &Words) -> Result<Built, Fault> {
     let names: Vec<&str> = found.iter().map(|(name, _)| name.as_str()).collect();
-    let (known, stored) = kept(found, scale, words.trim);
+    let (known, stored) = kept(found, scale, words);
     let packed = packed(&names, &known, &stored, words)?;
     let mut pages = empty_pages(&packed, scale, words);
     let mut left_out = Vec::new();

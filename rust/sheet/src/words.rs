@@ -42,6 +42,9 @@ pub struct Words {
     /// At most so many sheets
     #[arg(long, value_name = "N", default_value_t = 1, value_parser = clap::value_parser!(u32).range(1..))]
     pub pages: u32,
+    /// Of several sheets one has all pictures of a folder, where one of the greatest size takes them; those in FOLDER itself lie anywhere
+    #[arg(long)]
+    pub group: bool,
     /// Tries smaller sheets too, in which no whole cuts part the sprites and none is turned; of several sheets for the last
     #[arg(long)]
     pub dense: bool,
