@@ -15,7 +15,7 @@ const REARRANGED: Row = (
     ToolEnd::Done,
 );
 
-const ROWS: [Row; 5] = [
+static ROWS: [Row; 5] = [
     NAMED,
     REARRANGED,
     // An atlas stays where a session isn't begun; a session takes its place, and then another session.
@@ -39,7 +39,7 @@ const ROWS: [Row; 5] = [
 ];
 
 // None of these spells a command.
-const BAD_LINES: [&[u8]; 8] = [
+static BAD_LINES: [&[u8]; 8] = [
     b"record",
     b"record ",
     b"record 1",
@@ -52,14 +52,14 @@ const BAD_LINES: [&[u8]; 8] = [
 
 #[test]
 fn rows(rt: HostRuntime) {
-    for row in ROWS {
+    for &row in &ROWS {
         play(&rt, rt.alloc(), row, &[1, 7, 100000]);
     }
 }
 
 #[test]
 fn bad_lines(rt: HostRuntime) {
-    for line in BAD_LINES {
+    for &line in &BAD_LINES {
         assert_eq!(rt; parse_line(line), None, "{line:?}");
     }
 }

@@ -17,7 +17,7 @@ const REARRANGED: Row = (
     ToolEnd::Done,
 );
 
-const ROWS: [Row; 5] = [
+static ROWS: [Row; 5] = [
     NAMED,
     REARRANGED,
     // An atlas stays where a session isn't begun; a session takes its place, and then another session.
@@ -41,7 +41,7 @@ const ROWS: [Row; 5] = [
 ];
 
 // None of these spells a command.
-const BAD_LINES: [&[u8]; 8] = [
+static BAD_LINES: [&[u8]; 8] = [
     b"record",
     b"record ",
     b"record 1",
@@ -55,7 +55,7 @@ const BAD_LINES: [&[u8]; 8] = [
 #[test]
 fn rows() {
     let rt = HostRuntime;
-    for row in ROWS {
+    for &row in &ROWS {
         play(&rt, rt.alloc(), row, &[1, 7, 100000]);
     }
 }
@@ -63,7 +63,7 @@ fn rows() {
 #[test]
 fn bad_lines() {
     let rt = HostRuntime;
-    for line in BAD_LINES {
+    for &line in &BAD_LINES {
         assert_eq!(rt; parse_line(line), None, "{line:?}");
     }
 }

@@ -19,7 +19,7 @@ const STARTED: Row = (
     ToolEnd::Done,
 );
 
-const ROWS: [Row; 9] = [
+static ROWS: [Row; 9] = [
     REARRANGED,
     STARTED,
     (
@@ -63,7 +63,7 @@ const ROWS: [Row; 9] = [
 ];
 
 // Each of these is bad, alone and as the second line.
-const BAD_LINES: [&[u8]; 26] = [
+static BAD_LINES: [&[u8]; 26] = [
     b" take 1 1",
     b"take 1 1 ",
     b"take +1 1",
@@ -95,7 +95,7 @@ const BAD_LINES: [&[u8]; 26] = [
 #[test]
 fn rows() {
     let rt = HostRuntime;
-    for row in ROWS {
+    for &row in &ROWS {
         play(&rt, rt.alloc(), row, &[1, 7, 100000]);
     }
 }
@@ -112,7 +112,7 @@ fn between(alloc: Global, line: &[u8]) -> Result<Vec<u8>, AllocError> {
 #[test]
 fn bad_second_lines() -> Result<(), Fail> {
     let rt = HostRuntime;
-    for line in BAD_LINES {
+    for &line in &BAD_LINES {
         assert!(rt; parse_line(line).is_none(), "{line:?}");
         let text = between(rt.alloc(), line)?;
         let mut held = Vec::new(rt.alloc());
