@@ -463,6 +463,15 @@ export interface Pages {
  */
 export function packPages(sprites: Iterable<Size>, options?: SheetOptions): Pages | null;
 
+/**
+ * Packs as `packPages`, with all sprites of a group on one sheet. `groups` has the number of each sprite's group, a whole number from 0 to
+ * 4294967294, in the order of the sprites; null, or no number where the list ends before, says that a sprite is in none, and what comes
+ * after the last sprite counts for nothing. A group that no way packs alone into the greatest of the sheets allowed is no group: each of
+ * its sprites is placed as one in none. Groups come in the order of their first sprites; the sheets of groups are as small as `pack` finds
+ * them. null if a sprite is too large for an empty sheet. Throws as `pack`.
+ */
+export function packGroups(sprites: Iterable<Size>, groups: Iterable<number | null>, options?: SheetOptions): Pages | null;
+
 /** A sheet, a place or null for each sprite, in the order of the sprites, and how many have none. */
 export interface Filled extends Size {
   places: (Placed | null)[];

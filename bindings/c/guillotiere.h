@@ -3,9 +3,9 @@
  * An atlas is one large rectangle, often a texture, that hands out boxes and takes them back. A simple allocator hands
  * out boxes and takes none back. A cache keeps rectangles under keys in the pages of a texture array, and tells what its
  * caller has to do to the textures. guillotiere_pack takes sprites that all are known beforehand and packs them into one
- * small sheet, guillotiere_pack_dense into one that is as a rule smaller, guillotiere_pack_pages into several, and
- * guillotiere_fill as many of them as one sheet takes; these need no handle. Lengths and coordinates are in pixels, areas in
- * unit squares; y grows downwards.
+ * small sheet, guillotiere_pack_dense into one that is as a rule smaller, guillotiere_pack_pages into several,
+ * guillotiere_pack_groups into several with each group of sprites on one of them, and guillotiere_fill as many of them as one
+ * sheet takes; these need no handle. Lengths and coordinates are in pixels, areas in unit squares; y grows downwards.
  *
  * Handles. A handle is a place for an allocator, which its owner keeps:
  *
@@ -138,6 +138,9 @@ enum {
 
 /* The greatest limit on the slots of an atlas, and that of an atlas without a limit of its own. */
 #define GUILLOTIERE_MOST_SLOTS 16777216
+
+/* In place of the number of a group: a sprite is in none. Each smaller number, 0 as well, is that of a group. */
+#define GUILLOTIERE_NO_GROUP 4294967295u
 
 /* A handle that holds nothing, and the default options: initializers. */
 #define GUILLOTIERE_NONE {NULL}
@@ -584,6 +587,17 @@ uint32_t guillotiere_pack_dense(const guillotiere_size *sprites, size_t sprites_
 uint32_t guillotiere_pack_pages(const guillotiere_size *sprites, size_t sprites_len, const guillotiere_sheet_options *options,
                                 guillotiere_on_page *places, size_t places_len, guillotiere_size *sizes, size_t sizes_len,
                                 size_t *count, size_t *sprite);
+
+/* Packs as guillotiere_pack_pages, with all sprites of a group on one sheet. `groups` has the number of each sprite's group, in
+ * the order of the sprites; GUILLOTIERE_NO_GROUP, or no number where groups_len is below sprites_len, says that a sprite is in
+ * none, and numbers past the last sprite count for nothing. A group that none of the ten ways packs alone into the greatest of
+ * the sheets allowed is no group: each of its sprites is placed as one in none.
+ * Groups come in the order of their first sprites. The first opens a sheet; then each other group that this sheet takes as well
+ * comes onto it, and of the sprites in none as many as it takes; and the sheet becomes as small as guillotiere_pack finds it.
+ * Once no group is left, the sprites without a place are packed as by guillotiere_pack_pages. All else as guillotiere_pack_pages. */
+uint32_t guillotiere_pack_groups(const guillotiere_size *sprites, size_t sprites_len, const uint32_t *groups, size_t groups_len,
+                                 const guillotiere_sheet_options *options, guillotiere_on_page *places, size_t places_len,
+                                 guillotiere_size *sizes, size_t sizes_len, size_t *count, size_t *sprite);
 
 /* Places sprites in the greatest sheet that is allowed, as many pixels of them as are found room for. DONE, also where not all
  * of them have a place: `places` has a place or none for each, in the order of the sprites, `left` how many have none, and

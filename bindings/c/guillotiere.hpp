@@ -168,6 +168,9 @@ struct sheet_options {
 
 inline constexpr std::uint32_t most_slots = GUILLOTIERE_MOST_SLOTS;
 
+// In place of the number of a group: a sprite is in none.
+inline constexpr std::uint32_t no_group = GUILLOTIERE_NO_GROUP;
+
 // A value, or the status that says why there is none, which is never status::done; without either, status::empty.
 template <class T>
 class [[nodiscard]] result {
@@ -638,27 +641,59 @@ inline result<std::optional<sheet>> pack_dense(const std::vector<size> &sprites,
     return pack_dense(sprites.data(), sprites.size(), with, bad);
 }
 
-// Packs all sprites into as few sheets as are found, each but the last the greatest that is allowed; nothing where a sprite is
-// too large for an empty sheet.
-inline result<std::optional<pages>> pack_pages(const size *sprites, std::size_t count, const sheet_options &with,
-                                               std::size_t *bad = nullptr) {
-    const size none{};
+namespace detail {
+
+// The sheets that one of the two calls for several sheets finds.
+template <class Call>
+inline result<std::optional<pages>> pages_by(Call call, std::size_t count, const sheet_options &with, std::size_t *bad) {
     std::size_t number = 0, sheets = 0;
     pages made{std::vector<size>(count + 1), std::vector<on_page>(count + 1)};
-    const auto asked = detail::asked(with);
-    const auto answer = guillotiere_pack_pages(count == 0 ? &none : sprites, count, &asked, made.places.data(), count,
-                                               made.sizes.data(), count, &sheets, &number);
+    const auto options = asked(with);
+    const auto answer = call(options, made, &sheets, &number);
     if (answer == GUILLOTIERE_DONE) {
         made.sizes.resize(sheets);
         made.places.resize(count);
         return std::optional<pages>(std::move(made));
     }
     if (answer == GUILLOTIERE_NO_ROOM) return std::optional<pages>();
-    return detail::refused(answer, number, bad);
+    return refused(answer, number, bad);
+}
+
+} // namespace detail
+
+// Packs all sprites into as few sheets as are found, each but the last the greatest that is allowed; nothing where a sprite is
+// too large for an empty sheet.
+inline result<std::optional<pages>> pack_pages(const size *sprites, std::size_t count, const sheet_options &with,
+                                               std::size_t *bad = nullptr) {
+    const size none{};
+    const auto call = [&](const auto &of, pages &made, std::size_t *sheets, std::size_t *number) {
+        return guillotiere_pack_pages(count == 0 ? &none : sprites, count, &of, made.places.data(), count, made.sizes.data(),
+                                      count, sheets, number);
+    };
+    return detail::pages_by(call, count, with, bad);
 }
 inline result<std::optional<pages>> pack_pages(const std::vector<size> &sprites, const sheet_options &with,
                                                std::size_t *bad = nullptr) {
     return pack_pages(sprites.data(), sprites.size(), with, bad);
+}
+
+// Packs as `pack_pages`, with all sprites of a group on one sheet, unless no way packs them alone into the greatest that is
+// allowed. `groups` has the number of each sprite's group, in the order of the sprites; `no_group`, or no number where it ends
+// before, says that a sprite is in none.
+inline result<std::optional<pages>> pack_groups(const size *sprites, std::size_t count, const std::uint32_t *groups,
+                                                std::size_t groups_count, const sheet_options &with,
+                                                std::size_t *bad = nullptr) {
+    const size none{};
+    const auto *const numbers = groups_count == 0 ? &no_group : groups;
+    const auto call = [&](const auto &of, pages &made, std::size_t *sheets, std::size_t *number) {
+        return guillotiere_pack_groups(count == 0 ? &none : sprites, count, numbers, groups_count, &of, made.places.data(),
+                                       count, made.sizes.data(), count, sheets, number);
+    };
+    return detail::pages_by(call, count, with, bad);
+}
+inline result<std::optional<pages>> pack_groups(const std::vector<size> &sprites, const std::vector<std::uint32_t> &groups,
+                                                const sheet_options &with, std::size_t *bad = nullptr) {
+    return pack_groups(sprites.data(), sprites.size(), groups.data(), groups.size(), with, bad);
 }
 
 // Places sprites in the greatest sheet that is allowed, as many pixels of them as are found room for.

@@ -475,18 +475,52 @@ static void pack_dense(void) {
     pack_by(guillotiere_pack_dense);
 }
 
+typedef struct {
+    guillotiere_size sizes[SPRITES];
+    guillotiere_on_page places[SPRITES];
+    size_t count, sprite;
+} several;
+
+static several no_sheets(void) {
+    several into = {.count = 7, .sprite = 7};
+    for (uint32_t i = 0; i < SPRITES; i++) {
+        into.places[i] = (guillotiere_on_page){7, unplaced};
+        into.sizes[i] = (guillotiere_size){7, 7};
+    }
+    return into;
+}
+
+static void add_several(const several *it) {
+    add_wide(it->count);
+    add_wide(it->sprite);
+    for (uint32_t i = 0; i < SPRITES; i++) {
+        add_size(&it->sizes[i]);
+        add_wide(it->places[i].page);
+        add_placed(&it->places[i].placed);
+    }
+}
+
 /* Greatest sides so small that many sprites need several sheets. */
 static void pack_pages(void) {
     asked it = some_sprites();
-    guillotiere_size sizes[SPRITES];
-    guillotiere_on_page places[SPRITES];
-    size_t sprite = 7, count = 7;
-    for (uint32_t i = 0; i < SPRITES; i++) places[i] = (guillotiere_on_page){7, unplaced}, sizes[i] = (guillotiere_size){7, 7};
+    several into = no_sheets();
     it.options.greatest = it.options.width = it.options.height = 40 + (int32_t)below(40);
-    add(guillotiere_pack_pages(it.sprites, it.count, &it.options, places, it.room, sizes, SPRITES, &count, &sprite));
-    add_wide(count);
-    add_wide(sprite);
-    for (uint32_t i = 0; i < SPRITES; i++) add_size(&sizes[i]), add_wide(places[i].page), add_placed(&places[i].placed);
+    add(guillotiere_pack_pages(it.sprites, it.count, &it.options, into.places, it.room, into.sizes, SPRITES, &into.count,
+                               &into.sprite));
+    add_several(&into);
+}
+
+/* A number for each sprite; at times for fewer of them, or for more. */
+static void pack_groups(void) {
+    asked it = some_sprites();
+    several into = no_sheets();
+    uint32_t groups[SPRITES];
+    it.options.greatest = it.options.width = it.options.height = 40 + (int32_t)below(40);
+    for (uint32_t i = 0; i < SPRITES; i++) groups[i] = one_in(4) ? GUILLOTIERE_NO_GROUP : below(one_in(10) ? 4294967295u : 5);
+    const size_t numbers = one_in(5) ? below(SPRITES + 1) : it.count;
+    add(guillotiere_pack_groups(it.sprites, it.count, groups, numbers, &it.options, into.places, it.room, into.sizes, SPRITES,
+                                &into.count, &into.sprite));
+    add_several(&into);
 }
 
 static void fill(void) {
@@ -518,7 +552,7 @@ static const struct {
     {10, make_simple},    {20, start_simple_again}, {40, grow_simple},  {100, describe_simple}, {900, insert},
     {700, ask_cache},     {80, let_go},           {100, next_frame},    {80, describe_cache}, {6, make_cache},
     {8, pack},           {30, know_cache},        {4, pack_pages},      {4, fill},
-    {4, pack_dense},
+    {4, pack_dense},      {4, pack_groups},
 };
 
 static void any_call(void) {

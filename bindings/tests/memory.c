@@ -182,23 +182,29 @@ static void pack(uint32_t (*packing)(const guillotiere_size *, size_t, const gui
     CHECK(counted > 100);
 }
 
-/* The same of several sheets, and of one that is filled: all the sprites of the packing into 64 by 64. */
+/* The same of several sheets, without and with groups, and of one that is filled: all the sprites of the packing into 64 by 64. */
 static void pages_and_fill(void) {
     guillotiere_size sprites[40], sizes[40], size;
     guillotiere_sheet_options options = GUILLOTIERE_DEFAULT_SHEET_OPTIONS;
     guillotiere_on_page places[40];
     guillotiere_maybe_placed filled[40];
+    uint32_t groups[40];
     long counted = 0;
-    for (int32_t i = 0; i < 40; i++) sprites[i] = (guillotiere_size){5 + 7 * i % 31, 4 + 11 * i % 23};
+    for (int32_t i = 0; i < 40; i++) {
+        sprites[i] = (guillotiere_size){5 + 7 * i % 31, 4 + 11 * i % 23};
+        groups[i] = i % 3 == 0 ? GUILLOTIERE_NO_GROUP : (uint32_t)i % 5;
+    }
     options.greatest = 64;
     options.effort = 10;
-    for (int which = 0; which < 2; which++) {
+    for (int which = 0; which < 3; which++) {
         for (long nth = 0;; nth++) {
             const long before = blocks, refused = refusals;
             size_t sprite = 99, told = 77;
+            uint32_t status;
             left = nth;
-            const uint32_t status = which == 0 ? guillotiere_pack_pages(sprites, 40, &options, places, 40, sizes, 40, &told, &sprite)
-                                               : guillotiere_fill(sprites, 40, &options, filled, 40, &told, &size, &sprite);
+            if (which == 0) status = guillotiere_pack_pages(sprites, 40, &options, places, 40, sizes, 40, &told, &sprite);
+            else if (which == 1) status = guillotiere_fill(sprites, 40, &options, filled, 40, &told, &size, &sprite);
+            else status = guillotiere_pack_groups(sprites, 40, groups, 40, &options, places, 40, sizes, 40, &told, &sprite);
             left = -1;
             CHECK(blocks == before && sprite == 99);
             CHECK(status == GUILLOTIERE_DONE || status == GUILLOTIERE_MEMORY);
@@ -207,7 +213,7 @@ static void pages_and_fill(void) {
             counted += status == GUILLOTIERE_MEMORY;
         }
     }
-    CHECK(counted > 40);
+    CHECK(counted > 60);
 }
 
 static size_t keys_of(guillotiere_cache *cache) {

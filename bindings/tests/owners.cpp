@@ -153,6 +153,25 @@ static void several_sheets() {
     CHECK(fill(sprites, sheet_options::of_squares(9, 8)).error() == status::empty_range);
 }
 
+// Squares of 4, of which one of 8 takes four: a group of three, one of two that has no room beside it, and a sprite in none.
+static void sheets_with_groups() {
+    const std::vector<size> sprites(6, size{4, 4});
+    const auto with = sheet_options::of_squares(1, 8);
+    auto made = pack_groups(sprites, {0, 9, 0, 9, 0, no_group}, with);
+    CHECK(made && *made && (*made)->sizes.size() == 2 && (*made)->sizes[1].width == 8 && (*made)->places.size() == 6);
+    for (std::size_t i = 0; i < 6; i++) CHECK((*made)->places[i].page == (i % 2 == 1 && i < 5));
+    made = pack_groups(sprites, {}, with);
+    const auto plain = pack_pages(sprites, with);
+    CHECK(made && *made && plain && *plain && (*made)->sizes.size() == (*plain)->sizes.size());
+    for (std::size_t i = 0; i < 6; i++) CHECK((*made)->places[i].page == (*plain)->places[i].page);
+    made = pack_groups({{4, 4}, {9, 1}}, {1, 1}, with);
+    CHECK(made && !*made);
+    made = pack_groups(nullptr, 0, nullptr, 0, with);
+    CHECK(made && *made && (*made)->sizes.empty() && (*made)->places.empty());
+    std::size_t bad = 77;
+    CHECK(pack_groups({{3, 5}, {0, 5}}, {1}, with, &bad).error() == status::empty_sprite && bad == 1);
+}
+
 static std::uint64_t evicted(cache &of) {
     const auto change = of.next_change();
     CHECK(change && change->kind == change_kind::evicted);
@@ -213,6 +232,7 @@ int main() {
     sheets_of_sprites();
     sheets_without_whole_cuts();
     several_sheets();
+    sheets_with_groups();
     makes();
     moves();
     calls();

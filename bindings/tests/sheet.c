@@ -300,6 +300,12 @@ static uint32_t pack_pages(const guillotiere_size *sprites, size_t count, const 
     return guillotiere_pack_pages(sprites, count, options, into->places, room, into->sizes, sizes, &into->count, &into->sprite);
 }
 
+static uint32_t pack_groups(const guillotiere_size *sprites, size_t count, const uint32_t *groups, size_t numbers,
+                            const guillotiere_sheet_options *options, size_t room, size_t sizes, written_pages *into) {
+    return guillotiere_pack_groups(sprites, count, groups, numbers, options, into->places, room, into->sizes, sizes, &into->count,
+                                   &into->sprite);
+}
+
 static uint32_t fill(const guillotiere_size *sprites, size_t count, const guillotiere_sheet_options *options, size_t room,
                      written_fill *into) {
     return guillotiere_fill(sprites, count, options, into->places, room, &into->left, &into->size, &into->sprite);
@@ -337,6 +343,56 @@ static void five_sprites(void) {
     CHECK(placed == 4);
 }
 
+#define NO_GROUP GUILLOTIERE_NO_GROUP
+
+/* Six sprites of 4 x 4, of which a square of 8 takes four, with the group of each and then its sheet. */
+static const struct {
+    uint32_t groups[6], pages[6];
+} rows[] = {
+    /* A second group of three has no room beside the first; a second group of two has, and a third hasn't. */
+    {{0, 1, 0, 1, 0, 1}, {0, 1, 0, 1, 0, 1}},
+    {{7, 7, 0, 0, NO_GROUP - 1, NO_GROUP - 1}, {0, 0, 0, 0, 1, 1}},
+    /* The first of three sprites in no group fills the sheet; a group comes before sprites in none. */
+    {{NO_GROUP, 1, 1, 1, NO_GROUP, NO_GROUP}, {0, 0, 0, 0, 1, 1}},
+    {{NO_GROUP, NO_GROUP, NO_GROUP, NO_GROUP, 1, 1}, {0, 0, 1, 1, 0, 0}},
+    /* No square of 8 takes five, nor six: they are placed as sprites in no group. */
+    {{1, 1, 1, 1, 1, NO_GROUP}, {0, 0, 0, 0, 1, 1}},
+    {{0, 0, 0, 0, 0, 0}, {0, 0, 0, 0, 1, 1}},
+};
+
+static void sprites_in_groups(void) {
+    const guillotiere_size sprites[] = {{4, 4}, {4, 4}, {4, 4}, {4, 4}, {4, 4}, {4, 4}};
+    guillotiere_sheet_options options = options_of(GUILLOTIERE_SQUARES);
+    written_pages into, before;
+    options.greatest = 8;
+    for (size_t row = 0; row < sizeof rows / sizeof *rows; row++) {
+        memset(&into, 0x55, sizeof into);
+        before = into;
+        CHECK(pack_groups(sprites, 6, rows[row].groups, 6, &options, ROOM, 1, &into) == GUILLOTIERE_DONE && into.count == 2);
+        for (size_t i = 0; i < 6; i++) CHECK(into.places[i].page == rows[row].pages[i] && into.places[i].placed.turned == 0);
+        CHECK(into.sizes[0].width == 8 && into.sizes[0].height == 8 && into.sprite == before.sprite);
+        CHECK(memcmp(&before.places[6], &into.places[6], (ROOM - 6) * sizeof *into.places) == 0);
+        CHECK(memcmp(&before.sizes[1], &into.sizes[1], (ROOM - 1) * sizeof *into.sizes) == 0);
+    }
+}
+
+/* A list of numbers that is shorter than that of the sprites, and a longer one: sprites of 8, 4 and 2 in squares up to 10, where a 4
+ * has no room beside an 8. */
+static void numbers_of_groups(void) {
+    const guillotiere_size sprites[] = {{8, 8}, {4, 4}, {2, 2}};
+    const uint32_t one[] = {1}, four[] = {NO_GROUP, 0, 0, 0};
+    guillotiere_sheet_options options = options_of(GUILLOTIERE_SQUARES);
+    written_pages into;
+    options.greatest = 10;
+    CHECK(pack_groups(sprites, 3, one, 1, &options, 3, 3, &into) == GUILLOTIERE_DONE && into.count == 2);
+    CHECK(into.places[0].page == 0 && into.places[1].page == 1 && into.places[2].page == 1);
+    CHECK(into.sizes[0].width == 8 && into.sizes[1].width == 6);
+    CHECK(pack_groups(sprites, 3, four, 4, &options, 3, 3, &into) == GUILLOTIERE_DONE && into.count == 2);
+    CHECK(into.places[0].page == 1 && into.places[1].page == 0 && into.places[2].page == 0);
+    CHECK(into.sizes[0].width == 6 && into.sizes[1].width == 8);
+    CHECK(pack_groups(sprites, 0, four, 4, &options, 0, 0, &into) == GUILLOTIERE_DONE && into.count == 0);
+}
+
 /* A sprite that is larger than the greatest sheet: no sheets, or left out. */
 static void too_large_sprite(void) {
     const guillotiere_size sprites[] = {{4, 4}, {9, 1}};
@@ -348,19 +404,71 @@ static void too_large_sprite(void) {
     before = pages;
     CHECK(pack_pages(sprites, 2, &options, 2, 2, &pages) == GUILLOTIERE_NO_ROOM);
     CHECK(memcmp(&before, &pages, sizeof pages) == 0);
+    CHECK(pack_groups(sprites, 2, (uint32_t[]){0, 0}, 2, &options, 2, 2, &pages) == GUILLOTIERE_NO_ROOM);
+    CHECK(memcmp(&before, &pages, sizeof pages) == 0);
     CHECK(fill(sprites, 2, &options, 2, &into) == GUILLOTIERE_DONE && into.left == 1 && into.size.width == 8);
     CHECK(into.places[0].is_placed == 1 && is_at(&into.places[0].placed, 0, 0, 4, 4) && into.places[1].is_placed == 0);
     CHECK(pack_pages(sprites, 0, &options, 0, 0, &pages) == GUILLOTIERE_DONE && pages.count == 0);
     CHECK(fill(sprites, 0, &options, 0, &into) == GUILLOTIERE_DONE && into.left == 0 && into.size.height == 8);
 }
 
-/* The places of random sprites on several sheets: each sheet by itself is one that `check_places` knows. */
+/* Each sheet by itself is one that `check_places` knows, and on each lies a sprite. */
+static void check_pages(const guillotiere_size *sprites, size_t count, const guillotiere_sheet_options *options,
+                        const written_pages *into) {
+    guillotiere_size there[ROOM];
+    CHECK(into->count >= 1 && into->count <= count);
+    for (size_t page = 0; page < into->count; page++) {
+        written sheet = {.size = into->sizes[page]};
+        size_t many = 0;
+        for (size_t i = 0; i < count; i++)
+            if (into->places[i].page == page) there[many] = sprites[i], sheet.places[many++] = into->places[i].placed;
+        CHECK(many > 0);
+        check_size(options, sheet.size);
+        check_places(there, many, options, &sheet);
+    }
+}
+
+static bool are_same_pages(const written_pages *one, const written_pages *other, size_t count) {
+    bool are_same = one->count == other->count && memcmp(one->sizes, other->sizes, one->count * sizeof *one->sizes) == 0;
+    for (size_t i = 0; i < count && are_same; i++)
+        are_same = one->places[i].page == other->places[i].page
+                   && memcmp(&one->places[i].placed, &other->places[i].placed, sizeof(guillotiere_placed)) == 0;
+    return are_same;
+}
+
+/* Those of a group lie on one sheet, or no way packs them into one of 128 x 128. Gives how many groups lie on one. */
+static uint32_t check_groups(const guillotiere_size *sprites, const uint32_t *groups, size_t count,
+                             const guillotiere_sheet_options *options, const written_pages *into) {
+    guillotiere_sheet_options greatest = *options;
+    uint32_t together = 0;
+    greatest.allowed = GUILLOTIERE_ONE_SIZE;
+    greatest.effort = 0;
+    for (uint32_t group = 0; group < 4; group++) {
+        guillotiere_size members[ROOM];
+        written alone;
+        size_t many = 0, page = SIZE_MAX;
+        bool is_parted = false;
+        for (size_t i = 0; i < count; i++) {
+            if (groups[i] != group) continue;
+            is_parted |= many > 0 && into->places[i].page != page;
+            page = into->places[i].page, members[many++] = sprites[i];
+        }
+        together += many > 1 && !is_parted;
+        if (is_parted) CHECK(guillotiere_pack(members, many, &greatest, alone.places, ROOM, &alone.size, &alone.sprite)
+                             == GUILLOTIERE_NO_ROOM);
+    }
+    return together;
+}
+
+/* Random sprites on several sheets. With no group they are those of guillotiere_pack_pages. */
 static void random_pages(void) {
+    uint32_t together = 0;
     uint32_t state = 11;
     for (uint32_t round = 0; round < 12; round++) {
         guillotiere_size sprites[ROOM], there[ROOM];
         guillotiere_sheet_options options = options_of(round % 4);
-        written_pages into;
+        uint32_t groups[ROOM];
+        written_pages into, grouped;
         written_fill filled;
         const size_t count = 20 + next(&state) % (ROOM - 21);
         for (size_t i = 0; i < count; i++)
@@ -369,17 +477,15 @@ static void random_pages(void) {
         options.padding = round / 4;
         options.turn = round % 2;
         options.effort = round % 3 * 10;
-        CHECK(pack_pages(sprites, count, &options, count, ROOM, &into) == GUILLOTIERE_DONE && into.count >= 1);
-        CHECK(into.count <= count);
-        for (size_t page = 0; page < into.count; page++) {
-            written sheet = {.size = into.sizes[page]};
-            size_t many = 0;
-            for (size_t i = 0; i < count; i++)
-                if (into.places[i].page == page) there[many] = sprites[i], sheet.places[many++] = into.places[i].placed;
-            CHECK(many > 0);
-            check_size(&options, sheet.size);
-            check_places(there, many, &options, &sheet);
-        }
+        for (size_t i = 0; i < count; i++) groups[i] = NO_GROUP;
+        CHECK(pack_pages(sprites, count, &options, count, ROOM, &into) == GUILLOTIERE_DONE);
+        check_pages(sprites, count, &options, &into);
+        CHECK(pack_groups(sprites, count, groups, round % 2 * count, &options, count, ROOM, &grouped) == GUILLOTIERE_DONE);
+        CHECK(are_same_pages(&into, &grouped, count));
+        for (size_t i = 0; i < count; i++) groups[i] = next(&state) % (3 + round) < 4 ? next(&state) % 4 : NO_GROUP;
+        CHECK(pack_groups(sprites, count, groups, count, &options, count, ROOM, &grouped) == GUILLOTIERE_DONE);
+        check_pages(sprites, count, &options, &grouped);
+        together += check_groups(sprites, groups, count, &options, &grouped);
         CHECK(fill(sprites, count, &options, count, &filled) == GUILLOTIERE_DONE);
         written sheet = {.size = filled.size};
         size_t many = 0;
@@ -388,10 +494,11 @@ static void random_pages(void) {
         CHECK(many + filled.left == count && (filled.left == 0) == (into.count == 1));
         check_places(there, many, &options, &sheet);
     }
+    CHECK(together >= 5);
 }
 
-/* Bad calls of both: this status, and nothing written but the number of a sprite. */
-static void both_refuse(uint32_t wanted, const guillotiere_size *sprites, size_t count, const guillotiere_sheet_options *options,
+/* Bad calls of all three: this status, and nothing written but the number of a sprite. */
+static void all_refuse(uint32_t wanted, const guillotiere_size *sprites, size_t count, const guillotiere_sheet_options *options,
                         size_t room, size_t sprite) {
     written_pages pages, pages_before;
     written_fill into, before;
@@ -401,29 +508,31 @@ static void both_refuse(uint32_t wanted, const guillotiere_size *sprites, size_t
     if (sprite != SIZE_MAX) pages_before.sprite = before.sprite = sprite;
     CHECK(pack_pages(sprites, count, options, room, ROOM, &pages) == wanted);
     CHECK(memcmp(&pages_before, &pages, sizeof pages) == 0);
+    CHECK(pack_groups(sprites, count, (uint32_t[]){1, 1}, 2, options, room, ROOM, &pages) == wanted);
+    CHECK(memcmp(&pages_before, &pages, sizeof pages) == 0);
     CHECK(fill(sprites, count, options, room, &into) == wanted);
     CHECK(memcmp(&before, &into, sizeof into) == 0);
 }
 
-static void bad_calls_of_both(void) {
+static void bad_calls_of_all(void) {
     const guillotiere_size sprites[] = {{3, 5}, {4, 6}, {0, 1}}, great[] = {{1, 1}, {INT32_MAX, 1}};
     guillotiere_sheet_options options = options_of(4);
-    both_refuse(GUILLOTIERE_BAD_CALL, sprites, 2, &options, 2, SIZE_MAX);
+    all_refuse(GUILLOTIERE_BAD_CALL, sprites, 2, &options, 2, SIZE_MAX);
     options = options_of(GUILLOTIERE_SQUARES);
-    both_refuse(GUILLOTIERE_SHORT, sprites, 2, &options, 1, SIZE_MAX);
-    both_refuse(GUILLOTIERE_EMPTY_SPRITE, sprites, 3, &options, 3, 2);
+    all_refuse(GUILLOTIERE_SHORT, sprites, 2, &options, 1, SIZE_MAX);
+    all_refuse(GUILLOTIERE_EMPTY_SPRITE, sprites, 3, &options, 3, 2);
     options.padding = 1;
-    both_refuse(GUILLOTIERE_GREAT_SPRITE, great, 2, &options, 2, 1);
+    all_refuse(GUILLOTIERE_GREAT_SPRITE, great, 2, &options, 2, 1);
     options.padding = 65536;
-    both_refuse(GUILLOTIERE_BAD_CALL, sprites, 2, &options, 2, SIZE_MAX);
+    all_refuse(GUILLOTIERE_BAD_CALL, sprites, 2, &options, 2, SIZE_MAX);
     options = options_of(GUILLOTIERE_SQUARES);
     options.least = 0;
-    both_refuse(GUILLOTIERE_EMPTY_SHEET, sprites, 2, &options, 2, SIZE_MAX);
+    all_refuse(GUILLOTIERE_EMPTY_SHEET, sprites, 2, &options, 2, SIZE_MAX);
     options.least = 5000;
-    both_refuse(GUILLOTIERE_EMPTY_RANGE, sprites, 2, &options, 2, SIZE_MAX);
+    all_refuse(GUILLOTIERE_EMPTY_RANGE, sprites, 2, &options, 2, SIZE_MAX);
     options = options_of(GUILLOTIERE_SQUARES);
     options.alignment_width = 0;
-    both_refuse(GUILLOTIERE_EMPTY_ALIGNMENT, sprites, 2, &options, 2, SIZE_MAX);
+    all_refuse(GUILLOTIERE_EMPTY_ALIGNMENT, sprites, 2, &options, 2, SIZE_MAX);
 }
 
 /* What both calls for one sheet keep to. */
@@ -446,8 +555,10 @@ int main(void) {
     by_height();
     never_larger();
     five_sprites();
+    sprites_in_groups();
+    numbers_of_groups();
     too_large_sprite();
     random_pages();
-    bad_calls_of_both();
+    bad_calls_of_all();
     return 0;
 }

@@ -3,10 +3,8 @@ import { DONE, NO_ROOM } from './errors.js';
 import * as reading from './reading.js';
 import { placed, refused, written } from './sheet.js';
 
-export function packPages(sprites, given) {
-  const { runtime, many, at, places, told, bad } = written(sprites, given, 8);
-  const sizes = places + 24 * many;
-  const status = runtime.calls.pack_pages(at, many, runtime.at, places, many, sizes, many, told, bad);
+/** The sheets that a call found, whose sizes begin at an address; null where a sprite is too large. */
+export function sheetsRead(status, { runtime, many, places, told, bad }, sizes) {
   const words = runtime.words();
   if (status === NO_ROOM) return null;
   if (status !== DONE) throw refused(status, words, bad);
@@ -14,6 +12,13 @@ export function packPages(sprites, given) {
     sizes: reading.list(words, sizes >>> 2, words[told >>> 2], 2, reading.size),
     places: reading.list(words, places >>> 2, many, 6, (_, each) => ({ page: words[each] >>> 0, ...placed(words, each + 1) })),
   };
+}
+
+export function packPages(sprites, given) {
+  const room = written(sprites, given, 8);
+  const { runtime, many, at, places, told, bad } = room;
+  const sizes = places + 24 * many;
+  return sheetsRead(runtime.calls.pack_pages(at, many, runtime.at, places, many, sizes, many, told, bad), room, sizes);
 }
 
 export function fill(sprites, given) {

@@ -11,7 +11,7 @@ const NAMES = [
   ...['new', 'free', 'begin_frame', 'get_halves', 'peek', 'insert', 'remove', 'next_change', 'clear', 'trim', 'shrink', 'repack', 'len',
     'page_count', 'page_size', 'numbers', 'statistics', 'areas', 'options_of', 'newest', 'oldest', 'older', 'reserve', 'unusable_area',
   ].map((name) => `cache_${name}`),
-  'pack', 'pack_dense', 'pack_pages', 'fill',
+  'pack', 'pack_dense', 'pack_pages', 'pack_groups', 'fill',
 ];
 
 /** The call of an export, of so many arguments; what it throws is a trap. */

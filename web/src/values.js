@@ -9,7 +9,7 @@ function shown(value) {
   return text.length > 40 ? text.slice(0, 37) + '...' : text;
 }
 
-function badNumber(value, name, least, most) {
+export function badNumber(value, name, least, most) {
   return new WollemigoError('BAD_NUMBER', `${name} is ${shown(value)}, and not a whole number from ${least} to ${most}`);
 }
 

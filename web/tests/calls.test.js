@@ -5,7 +5,7 @@ import { test } from 'node:test';
 import * as wollemigo from '../node.js';
 import { refused, simpleState, stateOf } from './support.js';
 
-const { Atlas, MOST_SLOTS, SimpleAtlas, TextureCache, fill, pack, packDense, packPages } = wollemigo;
+const { Atlas, MOST_SLOTS, SimpleAtlas, TextureCache, fill, pack, packDense, packGroups, packPages } = wollemigo;
 await wollemigo.load();
 
 function box(x, y, width, height) {
@@ -161,6 +161,26 @@ test('several sheets, and one that is filled', () => {
   }
 });
 
+test('groups on several sheets', () => {
+  // Squares of 4, of which one of 8 takes four: the group of each, and its sheet.
+  const four = { width: 4, height: 4 };
+  const [six, sheets] = [Array(6).fill(four), { kind: 'squares', greatest: 8 }];
+  const cases = [
+    [[0, 1, 0, 1, 0, 1], '010101'], [[7, 7, 0, 0, 4294967294, 4294967294], '000011'], [[null, 1, 1, 1, null, null], '000011'],
+    [[null, null, null, null, 1, 1], '001100'], [[1, 1, 1, 1, 1, null], '000011'], [new Set([null, 5]), '000011'],
+  ];
+  for (const [groups, wanted] of cases) {
+    const { sizes, places } = packGroups(six, groups, { sheets });
+    assert.equal(places.map(({ page }) => page).join(''), wanted);
+    assert.equal(sizes.length, 2);
+    for (const { width, height, turned } of places) assert.deepEqual([width, height, turned], [4, 4, false]);
+  }
+  assert.deepEqual(packGroups(six, [], { sheets }), packPages(six, { sheets }));
+  assert.deepEqual(packGroups([four], [0, 0, 0]), { sizes: [four], places: [{ page: 0, ...box(0, 0, 4, 4), turned: false }] });
+  assert.equal(packGroups([four, { width: 9, height: 1 }], [1, 1], { sheets }), null);
+  assert.deepEqual(packGroups([], [0]), { sizes: [], places: [] });
+});
+
 test('bad sheets', () => {
   const sprites = [{ width: 1, height: 1 }, { width: 2, height: 0 }];
   assert.equal(refused(() => pack(sprites), 'EMPTY_SPRITE', 'empty').sprite, 1);
@@ -172,8 +192,10 @@ test('bad sheets', () => {
   ];
   for (const [options, code] of cases) {
     for (const call of [pack, packDense, packPages, fill]) refused(() => call(sprites.slice(0, 1), options), code, code);
+    refused(() => packGroups(sprites.slice(0, 1), [0], options), code, code);
   }
-  for (const call of [packDense, packPages, fill]) assert.equal(refused(() => call(sprites), 'EMPTY_SPRITE', 'empty').sprite, 1);
+  const grouped = (of) => packGroups(of, [0, 0]);
+  for (const call of [packDense, packPages, grouped, fill]) assert.equal(refused(() => call(sprites), 'EMPTY_SPRITE', 'empty').sprite, 1);
 });
 
 test('the seed and the effort of a sheet', () => {

@@ -1,7 +1,7 @@
 // Each call of the package once, as TypeScript sees it. It is compiled, and not run.
 import {
   Allocation, Atlas, CacheChange, Container, ErrorCode, Filled, Key, MOST_SLOTS, Pages, Sheet, SimpleAtlas, TextureCache, WollemigoError, fill,
-  load, pack, packDense, packPages,
+  load, pack, packDense, packGroups, packPages,
 } from '../index.js';
 
 function follow(change: CacheChange): Key | number {
@@ -51,10 +51,12 @@ function useCache(): void {
 
 function useSheets(): number {
   const pages: Pages | null = packPages([{ width: 1, height: 1 }], { sheets: { kind: 'squares', greatest: 64 }, effort: 5 });
+  const grouped: Pages | null = packGroups([{ width: 1, height: 1 }], new Set([0, null]), { turn: true });
   const filled: Filled = fill([{ width: 1, height: 1 }]);
   const dense: Sheet | null = packDense([{ width: 1, height: 1 }], { padding: 1 });
   const corner: number | undefined = filled.places[0]?.x;
-  return filled.left + filled.width + (corner ?? 0) + (dense?.places[0].x ?? 0) + (pages === null ? 0 : pages.sizes[pages.places[0].page].height);
+  const sum = filled.left + filled.width + (grouped?.sizes.length ?? 0) + (corner ?? 0) + (dense?.places[0].x ?? 0);
+  return sum + (pages === null ? 0 : pages.sizes[pages.places[0].page].height);
 }
 
 export async function use(): Promise<ErrorCode | Sheet | null> {

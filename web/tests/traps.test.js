@@ -7,14 +7,14 @@ import * as wollemigo from '../node.js';
 import { stub } from './stub.js';
 import { refused } from './support.js';
 
-const { Atlas, SimpleAtlas, TextureCache, load, pack, packDense } = wollemigo;
+const { Atlas, SimpleAtlas, TextureCache, load, pack, packDense, packGroups } = wollemigo;
 const bytes = readFileSync(new URL('../wollemigo.wasm', import.meta.url));
 const names = WebAssembly.Module.exports(new WebAssembly.Module(bytes)).filter(({ kind }) => kind === 'function').map(({ name }) => name);
 const page = { width: 64, height: 64 };
 
 test('nothing goes before the module is there', async () => {
   for (const call of [() => new Atlas(5, 5), () => new SimpleAtlas(5, 5), () => new TextureCache({ page }), () => pack([]),
-    () => packDense([])]) {
+    () => packDense([]), () => packGroups([], [])]) {
     refused(call, 'NOT_LOADED', 'call');
   }
   const exports = names.filter((name) => name !== 'guillotiere_pack');
@@ -33,8 +33,8 @@ async function trapIn(name, call) {
   assert.ok(error.cause instanceof WebAssembly.RuntimeError);
   const calls = [
     () => atlas.allocate(1, 1), () => atlas.isEmpty, () => simple.allocate(1, 1), () => cache.beginFrame(), () => cache.changes(),
-    () => new Atlas(5, 5), () => pack([]), () => packDense([]), () => SimpleAtlas.from(atlas), () => atlas.clone(),
-    () => simple.initFrom(atlas),
+    () => new Atlas(5, 5), () => pack([]), () => packDense([]), () => packGroups([], []), () => SimpleAtlas.from(atlas),
+    () => atlas.clone(), () => simple.initFrom(atlas),
   ];
   for (const each of calls) refused(each, 'TRAPPED', `after ${name}: ${each}`);
   return [atlas, simple, cache];
@@ -44,7 +44,7 @@ test('a trap in a call, after which a new module is started', async () => {
   const cases = {
     atlas_allocate: ({ atlas }) => atlas.allocate(1, 1), atlas_deallocate: ({ atlas }) => atlas.deallocate(3),
     cache_get_halves: ({ cache }) => cache.get('a'), cache_next_change: ({ cache }) => cache.insert('a', 1, 1), pack: () => pack([]),
-    pack_dense: () => packDense([]),
+    pack_dense: () => packDense([]), pack_groups: () => packGroups([], []),
     atlas_live: ({ atlas }) => atlas.allocated(), atlas_clone: ({ atlas }) => atlas.clone(), simple_free: ({ simple }) => simple.dispose(),
     atlas_resize_and_rearrange: ({ atlas }) => atlas.resizeAndRearrange(5, 5), cache_new: null,
   };

@@ -5,7 +5,7 @@ import { test } from 'node:test';
 import * as wollemigo from '../node.js';
 import { NO_GIVEN_NUMBERS, NO_NUMBERS, cacheState, named, refused, simpleState, stateOf } from './support.js';
 
-const { Atlas, SimpleAtlas, TextureCache, fill, pack, packDense, packPages } = wollemigo;
+const { Atlas, SimpleAtlas, TextureCache, fill, pack, packDense, packGroups, packPages } = wollemigo;
 await wollemigo.load();
 const NO_LENGTHS = [...NO_NUMBERS, 2 ** 31];
 const NO_COUNTS = [...NO_NUMBERS, -1];
@@ -92,7 +92,11 @@ test('numbers of a sheet', () => {
   }
   for (const value of [null, undefined, 5, {}, { length: 1, 0: sprites[0] }]) {
     for (const call of [pack, packDense, packPages, fill]) refused(() => call(value), 'BAD_OPTION', named(value));
+    refused(() => packGroups(value, []), 'BAD_OPTION', named(value));
+    refused(() => packGroups(sprites, value), 'BAD_OPTION', named(value));
   }
+  const noGroups = NO_COUNTS.filter((value) => value !== null).concat([2 ** 32 - 1]);
+  tryAll('group', nothing, (value) => packGroups(sprites, [null, value]), noGroups, 'BAD_NUMBER', false);
 });
 
 test('options of the wrong kind, and with names that are not known', () => {
@@ -131,6 +135,9 @@ test('a value that meddles while it is read', () => {
   assert.throws(() => atlas.reset(5, 5, { get smallSizeThreshold() { throw thrown; } }), thrown);
   assert.deepEqual(atlas.size, { width: 100, height: 100 });
   refused(() => atlas.reset(5, 5, { get smallSizeThreshold() { atlas.dispose(); return 1; } }), 'DISPOSED', 'disposed');
+  const sprites = [{ width: 3, height: 5 }, { width: 4, height: 4 }];
+  const meddling = { * [Symbol.iterator]() { yield 1; pack(Array(50).fill({ width: 9, height: 9 })); yield 1; } };
+  assert.deepEqual(packGroups(sprites, meddling), packGroups(sprites, [1, 1]));
   let reads = 0;
   const once = { get alignment() { reads += 1; return { width: 4, height: 4 }; } };
   assert.deepEqual(new Atlas(64, 64, once).options.alignment, { width: 4, height: 4 });

@@ -1,5 +1,5 @@
 -- What a packing answered, put together.
-use Rattle.std.proofs.Common.{◌≡◌, ℕ, List, length, map, take, All, Option, Some, None, IfSome, subst}
+use Rattle.std.proofs.Common.{◌≡◌, ◌⊎◌, ℕ, List, length, map, take, All, Option, Some, None, IfSome, subst}
 use Rattle.std.specs.List.{AllZip}
 use Rattle.guillotiere.specs.declared.Size.{Size}
 use Rattle.guillotiere.specs.Pixels.{sides_of}
@@ -8,8 +8,9 @@ use Rattle.atlas_sheet.specs.declared.paging.OnPage.{OnPage}
 use Rattle.atlas_sheet.specs.declared.placed.Placed.{Placed}
 use Rattle.atlas_sheet.specs.declared.ways.TheConstants.{WAYS}
 use Rattle.atlas_sheet.specs.Allowances.{IsAllowed, IsGreatest}
-use Rattle.atlas_sheet.specs.Dense.{AreAllPlaced, ArePaddedApart, IsNoLargerThanWays}
+use Rattle.atlas_sheet.specs.Dense.{AreAllPlaced, ArePaddedApart, IsNoLargerThanWays, NoWayFinds}
 use Rattle.atlas_sheet.specs.Fillings.{IsBestFound, IsNoBetter, ways_tried}
+use Rattle.atlas_sheet.specs.Grouping.{AreGroupPages, LieTogether, members}
 use Rattle.atlas_sheet.specs.Lying.{IsShown, areas_of}
 use Rattle.atlas_sheet.specs.Packings.{IsFirstFound, IsNoLarger}
 use Rattle.atlas_sheet.specs.Paging.{AreApart, AreGreatest, ArePages, AreUsed, IsOnPage}
@@ -19,6 +20,7 @@ use Rattle.atlas_sheet.specs.Turnings.{InEach, InOne}
 use Rattle.guillotiere_c.specs.DensePacking.{IsDenseSheet}
 use Rattle.guillotiere_c.specs.Filling.{IsFilledSheet}
 use Rattle.guillotiere_c.specs.Packing.{IsPackedSheet}
+use Rattle.guillotiere_c.specs.SheetGroups.{AreGroupedPages}
 use Rattle.guillotiere_c.specs.SheetPages.{ArePackedPages}
 
 -- The facts of a sheet that was found, if one was.
@@ -66,6 +68,32 @@ packed_pages o asked sprites sizes placed None same each apart used greatest pag
 packed_pages o asked sprites sizes placed (Some p) same each apart used greatest pages =
     let P : List Size → Type 0 = λ l. ArePackedPages o l (sizes p) (placed p) in
     subst P same (record { each = each; apart = apart; used = used; greatest = greatest; pages = pages })
+
+-- The facts of several sheets with groups that were found, if they were.
+pub packed_groups :
+    {S : Type 0} (o : SheetOptions) (asked sprites : List Size) (given groups : List (Option ℕ))
+    (sizes : S → List Size) (placed : S → List OnPage) (found : Option S)
+    → asked ≡ sprites
+    → given ≡ groups
+    → IfSome found (λ p. AllZip (IsOnPage o (sizes p)) asked (placed p))
+    → IfSome found (λ p. AreApart (sizes p) (placed p))
+    → IfSome found (λ p. AreUsed (sizes p) (placed p))
+    → IfSome found (λ p. All (λ size. IsAllowed o.allowed (sides_of size)) (sizes p))
+    → IfSome found (λ p. (group : ℕ) → LieTogether group given (placed p) ⊎ NoWayFinds o (members group given asked))
+    → IfSome found (λ p. AreGroupPages WAYS o asked (sizes p) (map Some (placed p)))
+    → IfSome found (λ p. AreGroupedPages o sprites groups (sizes p) (placed p))
+packed_groups o asked sprites given groups sizes placed None same alike each apart used allowed together pages = each
+packed_groups o asked sprites given groups sizes placed (Some p) same alike each apart used allowed together pages =
+    let P : List Size → Type 0 = λ l. AreGroupedPages o l groups (sizes p) (placed p) in
+    let Q : List (Option ℕ) → Type 0 = λ g. AreGroupedPages o asked g (sizes p) (placed p) in
+    subst P same (subst Q alike (record {
+      each = each;
+      apart = apart;
+      used = used;
+      allowed = allowed;
+      together = together;
+      pages = pages;
+    }))
 
 -- The facts of a sheet that was filled.
 pub filled_sheet :

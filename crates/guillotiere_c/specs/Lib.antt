@@ -8,6 +8,7 @@ pub mod Keeping
 pub mod Numbers
 pub mod Packing
 pub mod Rearrangings
+pub mod SheetGroups
 pub mod SheetNumbers
 pub mod SheetPages
 pub mod SimpleCalls

@@ -16,6 +16,7 @@ mod cache_order;
 mod dense;
 mod filled;
 mod followed;
+mod groups;
 mod held;
 mod lifetimes;
 mod pages;

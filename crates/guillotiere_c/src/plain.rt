@@ -110,6 +110,9 @@ pub const POWERS: u32 = 2;
 /// A kind of sheets: one width, and heights from 1 on.
 pub const HEIGHTS: u32 = 3;
 
+/// In place of the number of a group: a sprite is in none. Each smaller number is that of a group.
+pub const NO_GROUP: u32 = 4_294_967_295;
+
 /// A kind of changes: there is a new page.
 pub const PAGE_ADDED: u32 = 0;
 

@@ -46,10 +46,7 @@ function pack(call, draw, sum) {
   for (let i = 0; i < SPRITES; i++) addPlaced(sum, value?.places[i] ?? null);
 }
 
-function packPages(api, draw, sum) {
-  const it = drawn(draw);
-  it.side = 40 + draw.below(40);
-  const { value, status, sprite } = asked(it, it.side, api.packPages);
+function addSeveral({ value, status, sprite }, sum) {
   sum.add(status === 0 && value === null ? numberOf('NO_ROOM') : status);
   sum.wide(value?.sizes.length ?? 7);
   sum.wide(sprite ?? 7);
@@ -58,6 +55,28 @@ function packPages(api, draw, sum) {
     sum.wide(value?.places[i]?.page ?? 7);
     addPlaced(sum, value?.places[i] ?? null);
   }
+}
+
+function packPages(api, draw, sum) {
+  const it = drawn(draw);
+  it.side = 40 + draw.below(40);
+  addSeveral(asked(it, it.side, api.packPages), sum);
+}
+
+const NO_GROUP = 4294967295;
+
+/** The number of a group that C draws; null where that is no group. */
+function drawnGroup(draw) {
+  const number = draw.oneIn(4) ? NO_GROUP : draw.below(draw.oneIn(10) ? NO_GROUP : 5);
+  return number === NO_GROUP ? null : number;
+}
+
+function packGroups(api, draw, sum) {
+  const it = drawn(draw);
+  it.side = 40 + draw.below(40);
+  const groups = Array.from({ length: SPRITES }, () => drawnGroup(draw));
+  const numbers = draw.oneIn(5) ? draw.below(SPRITES + 1) : it.sprites.length;
+  addSeveral(asked(it, it.side, (sprites, options) => api.packGroups(sprites, groups.slice(0, numbers), options)), sum);
 }
 
 function fill(api, draw, sum) {
@@ -89,7 +108,7 @@ function kinds(api, draw, sum, hasNames) {
     [900, () => cache.insert()], [700, () => cache.ask()], [80, () => cache.letGo()], [100, () => cache.nextFrame()],
     [80, () => cache.describe()], [6, () => cache.make()], [8, () => pack(api.pack, draw, sum)],
     [30, () => cache.know()], [4, () => packPages(api, draw, sum)], [4, () => fill(api, draw, sum)],
-    [4, () => pack(api.packDense, draw, sum)],
+    [4, () => pack(api.packDense, draw, sum)], [4, () => packGroups(api, draw, sum)],
   ];
 }
 

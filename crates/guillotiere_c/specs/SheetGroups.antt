@@ -1,0 +1,44 @@
+-- What a packing into several sheets with groups answers, and what it writes.
+use Rattle.std.specs.Prelude.{◌≡◌, ◌≤◌, ◌⊎◌, ◌==◌, ℕ, List, length, map, All, Option, Some, None, if◌then◌else◌}
+use Rattle.std.specs.List.{AllZip}
+use Rattle.guillotiere.specs.declared.Size.{Size}
+use Rattle.guillotiere.specs.Pixels.{sides_of}
+use Rattle.atlas_sheet.specs.declared.options.SheetOptions.{SheetOptions}
+use Rattle.atlas_sheet.specs.declared.paging.OnPage.{OnPage}
+use Rattle.atlas_sheet.specs.declared.ways.TheConstants.{WAYS}
+use Rattle.atlas_sheet.specs.Allowances.{IsAllowed}
+use Rattle.atlas_sheet.specs.Dense.{NoWayFinds}
+use Rattle.atlas_sheet.specs.Grouping.{AreGroupPages, LieTogether, members}
+use Rattle.atlas_sheet.specs.Paging.{AreApart, AreUsed, IsOnPage}
+use Rattle.guillotiere_c.specs.declared.plain.TheConstants.{NO_GROUP}
+use Rattle.guillotiere_c.specs.Numbers.{size_in}
+use Rattle.guillotiere_c.specs.SheetNumbers.{on_page_in}
+use Rattle.guillotiere_c.specs.SheetPages.{PageArrays}
+use Rattle.guillotiere_c.specs.Writing.{IsWritten}
+
+-- The group of a sprite, by its number: every number but `NO_GROUP` is that of a group.
+abbrev pub group_in : ℕ → Option ℕ
+group_in n = if n == NO_GROUP then None else Some n
+
+-- Sheets that take all sprites together, as `atlas_sheet::pack_groups` finds them, with the places in the order of the
+-- sprites: a group lies on one sheet, or no way packs it alone into one.
+pub record AreGroupedPages (o : SheetOptions) (sprites : List Size) (groups : List (Option ℕ)) (sizes : List Size)
+    (placed : List OnPage) : Type 0 where
+  pub each : AllZip (IsOnPage o sizes) sprites placed
+  pub apart : AreApart sizes placed
+  pub used : AreUsed sizes placed
+  pub allowed : All (λ size. IsAllowed o.allowed (sides_of size)) sizes
+  pub together : (group : ℕ) → LieTogether group groups placed ⊎ NoWayFinds o (members group groups sprites)
+  pub pages : AreGroupPages WAYS o sprites sizes (map Some placed)
+
+-- The places stand at the start of their array, which has room for them; the sizes in theirs, as far as there is room;
+-- and the sheets are counted.
+pub record AreGroupsWritten (o : SheetOptions) (sprites : List Size) (groups : List (Option ℕ)) (count : ℕ)
+    (old new : PageArrays) : Type 0 where
+  pub sizes : List Size
+  pub placed : List OnPage
+  pub room : length sprites ≤ length old.places
+  pub packed : AreGroupedPages o sprites groups sizes placed
+  pub places_written : IsWritten on_page_in placed old.places new.places
+  pub sizes_written : IsWritten size_in sizes old.sizes new.sizes
+  pub counted : count ≡ length sizes

@@ -1,0 +1,24 @@
+/** Sprites in groups on several sheets. */
+import { sheetsRead } from './pages.js';
+import { written } from './sheet.js';
+import { badNumber, list } from './values.js';
+
+const NO_GROUP = 4294967295;
+
+/** The number of a group, as the library has it; null is none. */
+function group(value, name) {
+  if (value === null) return NO_GROUP;
+  if (typeof value !== 'number' || value !== value >>> 0 || value === NO_GROUP) throw badNumber(value, name, 0, NO_GROUP - 1);
+  return value >>> 0;
+}
+
+export function packGroups(sprites, groups, given) {
+  const all = list(groups, 'groups', group);
+  const room = written(sprites, given, 9);
+  const { runtime, many, at, places, told, bad } = room;
+  const sizes = places + 24 * many;
+  const [from, numbers] = [sizes + 8 * many, all.slice(0, many)];
+  runtime.write(from, numbers);
+  const status = runtime.calls.pack_groups(at, many, from, numbers.length, runtime.at, places, many, sizes, many, told, bad);
+  return sheetsRead(status, room, sizes);
+}
