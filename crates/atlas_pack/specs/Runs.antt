@@ -1,5 +1,6 @@
 -- From the lines that are read to the text that is written.
 use Rattle.std.specs.Prelude.{◌≡◌, ℕ, ◌+◌, ◌<◌, ◌≤◌, ◌⊎◌, ⊤, Bool, true, false, if◌then◌else◌, Option, Some, None, List, [], ◌∷◌}
+use Rattle.std.specs.Prelude.{option_map}
 use Rattle.std.specs.Prelude.{map, flat_map, length, take, All}
 use Rattle.std.specs.List.{zip}
 use Rattle.std.specs.Io.KnownBytes.{Appends}
@@ -13,8 +14,9 @@ use Rattle.atlas_sheet.specs.declared.paging.OnPage.{OnPage}
 use Rattle.atlas_sheet.specs.declared.placed.Placed.{Placed}
 use Rattle.atlas_sheet.specs.declared.ways.TheConstants.{WAYS}
 use Rattle.atlas_sheet.specs.Allowances.{IsAllowed, IsGreatest}
-use Rattle.atlas_sheet.specs.Dense.{AreAllPlaced, ArePaddedApart, IsNoLargerThanWays}
+use Rattle.atlas_sheet.specs.Dense.{AreAllPlaced, ArePaddedApart, IsNoLargerThanWays, NoWayFinds}
 use Rattle.atlas_sheet.specs.Fillings.{IsBestFound, IsNoBetter, ways_tried}
+use Rattle.atlas_sheet.specs.Grouping.{AreGroupPages, LieTogether, members}
 use Rattle.atlas_sheet.specs.Lying.{IsShown, areas_of}
 use Rattle.atlas_sheet.specs.Packings.{IsFirstFound, IsNoLarger, NoneIsFound}
 use Rattle.atlas_sheet.specs.Paging.{ArePages, OneIsTooLarge}
@@ -30,6 +32,7 @@ use Rattle.pack_lines.specs.declared.settings.Settings.{Settings}
 use Rattle.pack_lines.specs.declared.settings.Sheets.{Sheets}
 use Rattle.pack_lines.specs.declared.settings.Sheets.TheVariants as sheets
 use Rattle.pack_lines.specs.declared.sprites.Sprite.{Sprite}
+use Rattle.pack_lines.specs.Folders.{folder_groups}
 use Rattle.pack_lines.specs.Jobs.{AsksFor, IsJobFault}
 use Rattle.pack_lines.specs.Json.{json_of}
 use Rattle.pack_lines.specs.Pages.{pages_text_of}
@@ -135,11 +138,26 @@ page_frame_of (sprite, place) = record { page = place.page; frame = frame_of spr
 abbrev pub page_frames_of : List Sprite → List OnPage → List PageFrame
 page_frames_of sprites places = map page_frame_of (zip sprites places)
 
+-- The numbers of the sprites' folders, where these are to stay together.
+abbrev pub groups_of : (group : Bool) → List Sprite → Option (List (Option ℕ))
+groups_of true sprites = Some (folder_groups sprites)
+groups_of false sprites = None
+
+-- What `pack_groups` answers: one sheet after another, those of a group on one of them, unless no way packs them alone into one.
+pub record AreGrouped (o : SheetOptions) (groups : List (Option ℕ)) (sizes sheets : List Size) (places : List OnPage) : Type 0 where
+  pub are : AreGroupPages WAYS o sizes sheets (map Some places)
+  pub together : (group : ℕ) → LieTogether group groups places ⊎ NoWayFinds o (members group groups sizes)
+
+-- What the library answers where several sheets are to take all sprites, in groups or not.
+abbrev pub AreSheets : (groups : Option (List (Option ℕ))) → SheetOptions → (sizes sheets : List Size) → List OnPage → Type 0
+AreSheets None o sizes sheets places = ArePages WAYS o sizes sheets (map Some places)
+AreSheets (Some groups) o sizes sheets places = AreGrouped o groups sizes sheets places
+
 -- The library answered with no more sheets than these, on which each sprite has a place, and this is their text.
 pub record AreSeveral (most : ℕ) (settings : Settings) (sprites : List Sprite) (many : ℕ) (text : List ℕ) : Type 0 where
   pub sheets : List Size
   pub places : List OnPage
-  pub answered : ArePages WAYS (sheet_options settings) (map (λ sprite. sprite.size) sprites) sheets (map Some places)
+  pub answered : AreSheets (groups_of settings.group sprites) (sheet_options settings) (map (λ sprite. sprite.size) sprites) sheets places
   pub few : length sheets ≤ most
   pub left : many ≡ 0
   pub told : text ≡ pages_text_of sheets (page_frames_of sprites places)
@@ -161,30 +179,39 @@ pub record Packs (many : ℕ) (in_old out_old out_new : Option (List ℕ)) : Typ
   pub answered : IsAnswer settings.pages settings sprites many text
   pub told : Appends out_old out_new text
 
+-- Several sheets: at most how many, and the groups whose sprites are to stay together, if any.
+pub record Several : Type 0 where
+  pub most : ℕ
+  pub groups : Option (List (Option ℕ))
+
+-- What is asked for where several sheets are; none where one is.
+abbrev pub several_of : Settings → List Sprite → Option Several
+several_of settings sprites = option_map (λ most. record { most = most; groups = groups_of settings.group sprites }) settings.pages
+
 -- No sheet that is allowed takes all sprites; of several, where not each sprite has room in the greatest.
-abbrev pub IsNoSheet : (fill : Bool) → (pages : Option ℕ) → SheetOptions → List Size → Type 0
+abbrev pub IsNoSheet : (fill : Bool) → Option Several → SheetOptions → List Size → Type 0
 IsNoSheet fill None o sizes = (fill ≡ false) × InEach o sizes (λ lying. NoneIsFound WAYS o.allowed (spacing_of o) lying)
-IsNoSheet fill (Some most) o sizes = OneIsTooLarge o sizes
+IsNoSheet fill (Some several) o sizes = OneIsTooLarge o sizes
 
 -- The library answered with more sheets than these.
-abbrev pub AreMore : (pages : Option ℕ) → SheetOptions → List Size → Type 0
+abbrev pub AreMore : Option Several → SheetOptions → List Size → Type 0
 AreMore None o sizes = ⊥
-AreMore (Some most) o sizes =
-    (sheets : List Size) × (places : List OnPage) × ArePages WAYS o sizes sheets (map Some places) × (most < length sheets)
+AreMore (Some several) o sizes =
+    (sheets : List Size) × (places : List OnPage) × AreSheets several.groups o sizes sheets places × (several.most < length sheets)
 
 -- What an error says of what the library was asked. The sprites' lines stand after `before` others.
-abbrev pub IsPackFault : (fill : Bool) → (pages : Option ℕ) → (before : ℕ) → SheetOptions → List Size → PackError → Type 0
-IsPackFault fill pages before o sizes error.EmptySheet = IsSheetFault o sizes sheet_error.EmptySheet
-IsPackFault fill pages before o sizes error.EmptyRange = IsSheetFault o sizes sheet_error.EmptyRange
-IsPackFault fill pages before o sizes error.EmptyAlignment = IsSheetFault o sizes sheet_error.EmptyAlignment
-IsPackFault fill pages before o sizes (error.EmptySprite line) =
+abbrev pub IsPackFault : (fill : Bool) → (several : Option Several) → (before : ℕ) → SheetOptions → List Size → PackError → Type 0
+IsPackFault fill several before o sizes error.EmptySheet = IsSheetFault o sizes sheet_error.EmptySheet
+IsPackFault fill several before o sizes error.EmptyRange = IsSheetFault o sizes sheet_error.EmptyRange
+IsPackFault fill several before o sizes error.EmptyAlignment = IsSheetFault o sizes sheet_error.EmptyAlignment
+IsPackFault fill several before o sizes (error.EmptySprite line) =
     (k : ℕ) × (line ≡ before + k + 1) × IsSheetFault o sizes (sheet_error.EmptySprite k)
-IsPackFault fill pages before o sizes (error.GreatSprite line) =
+IsPackFault fill several before o sizes (error.GreatSprite line) =
     (k : ℕ) × (line ≡ before + k + 1) × IsSheetFault o sizes (sheet_error.GreatSprite k)
-IsPackFault fill pages before o sizes error.NoSheet = IsNoSheet fill pages o sizes
-IsPackFault fill pages before o sizes error.MorePages = AreMore pages o sizes
-IsPackFault fill pages before o sizes error.Memory = ⊤
-IsPackFault fill pages before o sizes e = ⊥
+IsPackFault fill several before o sizes error.NoSheet = IsNoSheet fill several o sizes
+IsPackFault fill several before o sizes error.MorePages = AreMore several o sizes
+IsPackFault fill several before o sizes error.Memory = ⊤
+IsPackFault fill several before o sizes e = ⊥
 
 -- The lines ask for a sheet, and the library has none.
 pub record HasPackFault (input : List ℕ) (e : PackError) : Type 0 where
@@ -192,7 +219,8 @@ pub record HasPackFault (input : List ℕ) (e : PackError) : Type 0 where
   pub settings : Settings
   pub sprites : List Sprite
   pub asked : AsksFor input before settings sprites
-  pub fault : IsPackFault settings.fill settings.pages before (sheet_options settings) (map (λ sprite. sprite.size) sprites) e
+  pub fault : IsPackFault settings.fill (several_of settings sprites) before (sheet_options settings)
+      (map (λ sprite. sprite.size) sprites) e
 
 -- A device failed.
 abbrev pub IsDeviceFault : PackError → Type 0

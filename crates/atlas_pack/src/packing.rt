@@ -1,19 +1,18 @@
 //! What the library is asked, and what it answers.
-ghost use Rattle.std.specs.Prelude.{◌≡◌, ◌≤◌, ℕ, false, length, map, true, flat_map, Bool, IfErr, IfNone, IfOk, IfSome, None, Option, Some};
+ghost use Rattle.std.specs.Prelude.{◌≡◌, ◌≤◌, false, length, map, true, flat_map, Bool, IfErr, IfNone, IfOk, IfSome, None, Option, Some};
 ghost use Rattle.std.specs.List.{zip};
-ghost use Rattle.atlas_pack.specs.Runs.{IsFilled, IsPackFault, IsWhole, allowed_of, frame_in};
-ghost use Rattle.atlas_pack.specs.Runs.{frame_of, left_in, page_frame_of, sheet_options};
-ghost use Rattle.atlas_sheet.specs.declared.ways.TheConstants.{WAYS};
+ghost use Rattle.atlas_pack.specs.Runs.{AreSheets, IsFilled, IsPackFault, IsWhole, Several, allowed_of, frame_in};
+ghost use Rattle.atlas_pack.specs.Runs.{frame_of, groups_of, left_in, page_frame_of, sheet_options};
 ghost use Rattle.atlas_sheet.specs.Dense.{NoWayFinds};
-ghost use Rattle.atlas_sheet.specs.Paging.{ArePages};
+ghost use Rattle.atlas_sheet.specs.Paging.{OneIsTooLarge};
 ghost use Rattle.atlas_sheet.specs.Settings.{IsSheetFault};
 
 use atlas_model::Size;
 use atlas_sheet::{
-    Allowed, OnPage, Pages, Placed, Sheet, SheetError, SheetOptions, fill, pack_dense, pack_pages,
-    pack_telling,
+    Allowed, OnPage, Pages, Placed, Sheet, SheetError, SheetOptions, fill, pack_dense, pack_groups,
+    pack_pages, pack_telling,
 };
-use pack_lines::{Frame, PackError, PageFrame, Settings, Sheets, Sprite};
+use pack_lines::{Frame, PackError, PageFrame, Settings, Sheets, Sprite, folder_groups};
 use std::alloc::{AllocError, Global};
 use std::io::Write;
 
@@ -105,7 +104,7 @@ fn all_of(alloc: Global, places: &[Placed]) -> Result<Vec<Option<Placed>>, Alloc
 fn fault_of(error: SheetError, sizes: &[Size], options: &SheetOptions, before: usize) -> PackError
     requires few { before ≤ 1 }
     requires fault { IsSheetFault options.now sizes.now error }
-    ensures { (fill : Bool) (pages : Option ℕ) → IsPackFault fill pages before options.now sizes.now result }
+    ensures { (fill : Bool) (several : Option Several) → IsPackFault fill several before options.now sizes.now result }
 {
     match error {
         SheetError::Memory => PackError::Memory,
@@ -209,22 +208,46 @@ pub fn page_frames(
     Ok(frames)
 }
 
-/// Up to `most` sheets that take all sprites, and their places. `NoSheet` where a sprite fits no empty sheet, and
-/// `MorePages` where more sheets are needed.
-pub fn pack_several(
+// The sheets that the library packs all sprites into: with `group` those of a folder into one of them, where one takes
+// them all. None where a sprite fits no empty sheet.
+fn paged(
     alloc: Global,
+    sprites: &[Sprite],
     sizes: &[Size],
     options: &SheetOptions,
+    group: bool,
+) -> Result<Option<Pages>, SheetError>
+    ensures pages { IfOk result (λ found. IfSome found (λ p.
+        AreSheets (groups_of group sprites.now) options.now sizes.now p.sizes.items p.places.items)) }
+    ensures none { IfOk result (λ found. IfNone found (OneIsTooLarge options.now sizes.now)) }
+    ensures fault { IfErr result (λ e. IsSheetFault options.now sizes.now e) }
+{
+    if group {
+        let groups = folder_groups(alloc, sprites)?;
+        return pack_groups(alloc, sizes, &groups, options);
+    }
+    pack_pages(alloc, sizes, options)
+}
+
+/// Up to `most` sheets that take all sprites, and their places; with `group` those of a folder on one sheet, where one
+/// takes them all. `NoSheet` where a sprite fits no empty sheet, and `MorePages` where more sheets are needed.
+pub fn pack_several(
+    alloc: Global,
+    sprites: &[Sprite],
+    sizes: &[Size],
+    options: &SheetOptions,
+    group: bool,
     most: u32,
     before: usize,
 ) -> Result<Pages, PackError>
     requires { before ≤ 1 }
-    ensures pages { IfOk result (λ p. ArePages WAYS options.now sizes.now p.sizes.items (map Some p.places.items)) }
+    ensures pages { IfOk result (λ p.
+        AreSheets (groups_of group sprites.now) options.now sizes.now p.sizes.items p.places.items) }
     ensures few { IfOk result (λ p. length p.sizes.items ≤ most) }
-    ensures fault { (fill : Bool) → IfErr result (λ e.
-        IsPackFault fill (Some most) before options.now sizes.now e) }
+    ensures fault { (fill : Bool) → IfErr result (λ e. IsPackFault fill
+        (Some (record { most = most; groups = groups_of group sprites.now })) before options.now sizes.now e) }
 {
-    match pack_pages(alloc, sizes, options) {
+    match paged(alloc, sprites, sizes, options, group) {
         Ok(Some(pages)) => {
             if pages.sizes.len() > most as usize {
                 return Err(PackError::MorePages);

@@ -1,6 +1,7 @@
 //! A run of the program, from the bytes of a reader to the bytes of a writer.
 ghost use Rattle.std.specs.Prelude.{◌≡◌, ◌≤◌, length, map, IfErr, IfOk, None, Some};
-ghost use Rattle.atlas_pack.specs.Runs.{Answers, AreSeveral, IsAnswer, IsOneSheet, IsPackFault, IsRunFault, Packs, sheet_options, written};
+ghost use Rattle.atlas_pack.specs.Runs.{Answers, AreSeveral, IsAnswer, IsOneSheet, IsPackFault, IsRunFault, Packs, groups_of};
+ghost use Rattle.atlas_pack.specs.Runs.{several_of, sheet_options, written};
 
 use crate::packing::{
     beside, beside_pages, fill_one, pack_several, pack_whole, page_frames, parted, sheet_options,
@@ -89,12 +90,14 @@ fn several(
 ) -> Result<Vec<u8>, PackError>
     requires { before ≤ 1 }
     ensures packs { IfOk result (λ text. AreSeveral most settings sprites.items 0 text.items) }
-    ensures fault { IfErr result (λ e. IsPackFault settings.fill (Some most) before (sheet_options settings)
+    ensures fault { IfErr result (λ e. IsPackFault settings.fill
+        (Some (record { most = most; groups = groups_of settings.group sprites.items })) before (sheet_options settings)
         (map (λ sprite. sprite.size) sprites.items) e) }
 {
     let sizes = sizes_of(alloc, &sprites)?;
     let options = sheet_options(settings);
-    let pages = pack_several(alloc, &sizes, &options, most, before)?;
+    let group = settings.group;
+    let pages = pack_several(alloc, &sprites, &sizes, &options, group, most, before)?;
     let pairs = beside_pages(alloc, sprites, &pages.places)?;
     let frames = page_frames(alloc, pairs)?;
     Ok(pages_lines(alloc, &pages.sizes, &frames)?)
@@ -110,8 +113,8 @@ fn answer<P: Write>(
 ) -> Result<(Vec<u8>, Vec<Sprite>), PackError>
     requires { before ≤ 1 }
     ensures packs { IfOk result (λ f. IsAnswer settings.pages settings sprites.items (length f.1.items) f.0.items) }
-    ensures fault { IfErr result (λ e. IsPackFault settings.fill settings.pages before (sheet_options settings)
-        (map (λ sprite. sprite.size) sprites.items) e) }
+    ensures fault { IfErr result (λ e. IsPackFault settings.fill (several_of settings sprites.items) before
+        (sheet_options settings) (map (λ sprite. sprite.size) sprites.items) e) }
 {
     match settings.pages {
         Some(most) => {
@@ -156,7 +159,7 @@ mod tests {
     use std::process::Abort;
 
     // Each row: the lines in, and the lines out or what stops them.
-    const ROWS: [(&str, &str); 20] = [
+    const ROWS: [(&str, &str); 26] = [
         (
             "a 4 3\nb 4 3\n",
             "sheet 8 4\na 0 0 4 3\nb 4 0 4 3\nfull 750\n",
@@ -216,6 +219,30 @@ mod tests {
             "sheet one 4 4 pages 9\na 4 4\nb 5 1\n",
             "no sheet that is allowed takes all sprites",
         ),
+        // The first folder opens a sheet, and the second has no room there.
+        (
+            "sheet one 4 4 pages 2 group\na/x 4 2\nb/y 4 2\nb/z 4 2\na/w 4 2\n",
+            "sheet 4 4\nsheet 4 4\na/x 0 0 0 4 2\nb/y 1 0 0 4 2\nb/z 1 0 2 4 2\na/w 0 0 2 4 2\nfull 1000\n",
+        ),
+        // A folder ends at the last `/`.
+        (
+            "sheet one 4 4 pages 2 group\na/b/x 4 2\na/y 4 4\na/b/z 4 2\n",
+            "sheet 4 4\nsheet 4 4\na/b/x 0 0 0 4 2\na/y 1 0 0 4 4\na/b/z 0 0 2 4 2\nfull 1000\n",
+        ),
+        // No sheet takes this folder.
+        (
+            "sheet one 4 4 pages 2 group\na/x 4 4\na/y 4 2\n",
+            "sheet 4 4\nsheet 4 4\na/x 0 0 0 4 4\na/y 1 0 0 4 2\nfull 750\n",
+        ),
+        (
+            "sheet one 4 4 pages 1 group\na/x 4 2\nb/y 4 4\n",
+            "more sheets are needed than pages allows",
+        ),
+        (
+            "sheet one 4 4 pages 9 group\na/x 5 1\n",
+            "no sheet that is allowed takes all sprites",
+        ),
+        ("sheet group\n", "line 1: group goes only with pages"),
         ("sheet pages 2\na 1 1\nb 0 1\n", "line 3: a side is below 1"),
         (
             "sheet pages 2 fill\n",

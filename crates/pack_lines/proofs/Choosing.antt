@@ -5,7 +5,7 @@ use Rattle.atlas_words.specs.Words.{IsEmptyOrSpaced, BeginsWithWord, BeginsWithN
 use Rattle.atlas_words.proofs.Keywords.{has_no_space, no_space_by_test}
 use Rattle.atlas_words.proofs.Parting.{one_word}
 use Rattle.pack_lines.specs.declared.settings.Setting.{Setting}
-use Rattle.pack_lines.specs.declared.settings.Setting.TheVariants.{Allowed, Padding, Align, Turn, Effort, Seed, Fill, Dense, Json, Pages}
+use Rattle.pack_lines.specs.declared.settings.Setting.TheVariants.{Allowed, Padding, Align, Turn, Effort, Seed, Fill, Dense, Json, Pages, Group}
 use Rattle.pack_lines.specs.declared.settings.Sheets.TheVariants.{One, Squares, Powers, Heights}
 use Rattle.pack_lines.specs.Settings.{setting_name, arguments, BeginsWithNumbers, BeginsWithSetting, IsSmall, padding_of, setting_alone, setting_with_number, setting_with_numbers}
 
@@ -24,6 +24,7 @@ keyword_test Fill = refl
 keyword_test Dense = refl
 keyword_test Json = refl
 keyword_test (Pages n) = refl
+keyword_test Group = refl
 
 numbers_spaced : (zs : List ℤ) (text rest : List ℕ) → BeginsWithNumbers zs text rest → IsEmptyOrSpaced text
 numbers_spaced [] text rest h = subst IsEmptyOrSpaced (sym h.0) h.1
@@ -53,6 +54,7 @@ by_count Fill = omega arith
 by_count Dense = omega arith
 by_count Json = omega arith
 by_count (Pages n) = omega arith
+by_count Group = omega arith
 
 none_alone : (s : Setting) (z : ℤ) (zs : List ℤ) → arguments s ≡ z ∷ zs → setting_alone (setting_name s) ≡ None
 none_alone (Allowed (One size)) z zs e = refl
@@ -68,6 +70,7 @@ none_alone Fill z zs e = absurd (cc)
 none_alone Dense z zs e = absurd (cc)
 none_alone Json z zs e = absurd (cc)
 none_alone (Pages n) z zs e = refl
+none_alone Group z zs e = absurd (cc)
 
 some_alone : (s : Setting) → arguments s ≡ [] → setting_alone (setting_name s) ≡ Some s
 some_alone (Allowed (One size)) e = absurd (cc)
@@ -83,6 +86,7 @@ some_alone Fill e = refl
 some_alone Dense e = refl
 some_alone Json e = refl
 some_alone (Pages n) e = absurd (cc)
+some_alone Group e = refl
 
 small_padding : (n : ℕ) → n < 65536 → padding_of (Some n) ≡ Some (Padding n)
 small_padding n h = ap (λ (b : Bool). cond b (Some (Padding n)) None) (lt-ltb n 65536 h)
@@ -101,6 +105,7 @@ some_with_number Fill z h e = absurd (cc)
 some_with_number Dense z h e = absurd (cc)
 some_with_number Json z h e = absurd (cc)
 some_with_number (Pages n) z h e = let same : pos n ≡ z = cc in subst (λ (y : ℤ). setting_with_number (codes "pages") y ≡ Some (Pages n)) same refl
+some_with_number Group z h e = absurd (cc)
 
 none_with_number : (s : Setting) (z y : ℤ) (zs : List ℤ) → arguments s ≡ z ∷ y ∷ zs → setting_with_number (setting_name s) z ≡ None
 none_with_number (Allowed (One size)) z y zs e = refl
@@ -116,6 +121,7 @@ none_with_number Fill z y zs e = absurd (cc)
 none_with_number Dense z y zs e = absurd (cc)
 none_with_number Json z y zs e = absurd (cc)
 none_with_number (Pages n) z y zs e = absurd (cc)
+none_with_number Group z y zs e = absurd (cc)
 
 some_with_numbers : (s : Setting) (z y : ℤ) → arguments s ≡ z ∷ y ∷ [] → setting_with_numbers (setting_name s) z y ≡ Some s
 some_with_numbers (Allowed (One size)) z y e = let a : size.width ≡ z = cc in let b : size.height ≡ y = cc in sym (λ k. Some (Allowed (One (record { width = a k; height = b k }))))
@@ -131,6 +137,7 @@ some_with_numbers Fill z y e = absurd (cc)
 some_with_numbers Dense z y e = absurd (cc)
 some_with_numbers Json z y e = absurd (cc)
 some_with_numbers (Pages n) z y e = absurd (cc)
+some_with_numbers Group z y e = absurd (cc)
 
 -- How a word and the numbers after it are a setting.
 abbrev pub IsAlone : (s : Setting) (word tail rest : List ℕ) → Type 0

@@ -1,7 +1,7 @@
 -- What stops a text from being read.
 use Rattle.std.proofs.Common.{ℕ, List}
 use Rattle.pack_lines.specs.declared.error.PackError.{PackError}
-use Rattle.pack_lines.specs.declared.error.PackError.TheVariants.{BadSettings, NotTogether, BadLine, Twice, EmptySprite, GreatSprite, EmptySheet, EmptyRange, EmptyAlignment, NoSheet, MorePages, Memory, Device}
+use Rattle.pack_lines.specs.declared.error.PackError.TheVariants.{BadSettings, NotTogether, NoPages, BadLine, Twice, EmptySprite, GreatSprite, EmptySheet, EmptyRange, EmptyAlignment, NoSheet, MorePages, Memory, Device}
 use Rattle.pack_lines.specs.declared.settings.Settings.{Settings}
 use Rattle.pack_lines.specs.declared.sprites.Sprite.{Sprite}
 use Rattle.pack_lines.specs.Jobs.{IsJobFault, Sets}
@@ -12,6 +12,7 @@ pub name_fault : (e : PackError) (text rest : List ℕ) (before : ℕ) (settings
     → AreNamed sprites rest → IsNameFault before sprites e → IsJobFault text e
 name_fault BadSettings text rest before settings sprites set named fault = absurd fault
 name_fault NotTogether text rest before settings sprites set named fault = absurd fault
+name_fault NoPages text rest before settings sprites set named fault = absurd fault
 name_fault (BadLine number) text rest before settings sprites set named fault = absurd fault
 name_fault (Twice number) text rest before settings sprites set named fault =
     record { before = before; settings = settings; rest = rest; sprites = sprites; set = set; named = named; fault = fault }

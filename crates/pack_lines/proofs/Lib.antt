@@ -1,5 +1,6 @@
 pub mod Choosing
 pub mod Faults
+pub mod Foldering
 pub mod Joining
 pub mod NameSets
 pub mod Quoting

@@ -9,7 +9,7 @@ use Rattle.pack_lines.specs.declared.settings.Settings.{Settings}
 use Rattle.pack_lines.specs.declared.settings.TheConstants.{DEFAULT_SETTINGS}
 use Rattle.pack_lines.specs.declared.sprites.Sprite.{Sprite}
 use Rattle.pack_lines.specs.Names.{AreDistinct, IsNameFault}
-use Rattle.pack_lines.specs.Settings.{SpellsSettings, changed_by, goes_together}
+use Rattle.pack_lines.specs.Settings.{SpellsSettings, changed_by, goes_together, has_pages}
 use Rattle.pack_lines.specs.Sprites.{AreNamed, IsReadingFault}
 
 -- The first word of the first line, what follows that word, and the lines after it.
@@ -38,6 +38,7 @@ pub record SetsAll (text : List ℕ) (before : ℕ) (settings : Settings) (rest 
   pub one : before ≡ 1
   pub set : settings ≡ changed_by DEFAULT_SETTINGS all
   pub together : goes_together settings ≡ true
+  pub paged : has_pages settings ≡ true
 
 -- What a text sets, how many lines do, and the lines of the sprites.
 abbrev pub Sets : (text : List ℕ) → (before : ℕ) → Settings → (rest : List ℕ) → Type 0
@@ -68,6 +69,17 @@ pub record SetsTooMuch (text : List ℕ) : Type 0 where
   pub set : settings ≡ changed_by DEFAULT_SETTINGS all
   pub apart : goes_together settings ≡ false
 
+-- The first line sets groups, and no pages.
+pub record SetsNoPages (text : List ℕ) : Type 0 where
+  pub words : List ℕ
+  pub rest : List ℕ
+  pub all : List Setting
+  pub settings : Settings
+  pub first : BeginsWithWords text (codes "sheet") words rest
+  pub spelled : SpellsSettings all words
+  pub set : settings ≡ changed_by DEFAULT_SETTINGS all
+  pub bare : has_pages settings ≡ false
+
 -- A line of a sprite is bad.
 pub record HasReadingFault (text : List ℕ) (e : PackError) : Type 0 where
   pub before : ℕ
@@ -90,6 +102,7 @@ pub record HasNameFault (text : List ℕ) (e : PackError) : Type 0 where
 abbrev pub IsJobFault : (text : List ℕ) → PackError → Type 0
 IsJobFault text error.BadSettings = SetsBadly text
 IsJobFault text error.NotTogether = SetsTooMuch text
+IsJobFault text error.NoPages = SetsNoPages text
 IsJobFault text (error.BadLine number) = HasReadingFault text (error.BadLine number)
 IsJobFault text (error.Twice number) = HasNameFault text (error.Twice number)
 IsJobFault text error.Memory = ⊤
@@ -99,4 +112,5 @@ IsJobFault text e = ⊥
 abbrev pub IsSetFault : (text : List ℕ) → PackError → Type 0
 IsSetFault text error.BadSettings = SetsBadly text
 IsSetFault text error.NotTogether = SetsTooMuch text
+IsSetFault text error.NoPages = SetsNoPages text
 IsSetFault text e = ⊥

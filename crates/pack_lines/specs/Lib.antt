@@ -1,3 +1,4 @@
+pub mod Folders
 pub mod Frames
 pub mod Jobs
 pub mod Json

@@ -1,6 +1,6 @@
 -- The first line may set what a sheet keeps to.
 use Rattle.std.specs.Prelude.{◌≡◌, ℕ, ◌<◌, nat_lt, ⊤, option_map, ℤ, pos, negsuc, true, if◌then◌else◌, List, [], ◌∷◌}
-use Rattle.std.specs.Prelude.{◌++◌, codes, Option, Some, None, Bool, is_none, not, ◌||◌, ◌&&◌}
+use Rattle.std.specs.Prelude.{◌++◌, codes, Option, Some, None, Bool, is_none, is_some, not, ◌||◌, ◌&&◌}
 use Rattle.std.specs.Str.{bytes_eq}
 use Rattle.atlas_words.specs.Words.{BeginsWithNumber, IsEmptyOrSpaced}
 use Rattle.pack_lines.specs.declared.settings.Setting.{Setting}
@@ -23,6 +23,7 @@ setting_name setting.Fill = codes "fill"
 setting_name setting.Dense = codes "dense"
 setting_name setting.Json = codes "json"
 setting_name (setting.Pages most) = codes "pages"
+setting_name setting.Group = codes "group"
 
 -- The numbers after that word.
 abbrev pub arguments : Setting → List ℤ
@@ -39,6 +40,7 @@ arguments setting.Fill = []
 arguments setting.Dense = []
 arguments setting.Json = []
 arguments (setting.Pages most) = pos most ∷ []
+arguments setting.Group = []
 
 -- Numbers, each after one space, and what follows them.
 abbrev pub BeginsWithNumbers : List ℤ → (text rest : List ℕ) → Type 0
@@ -75,6 +77,7 @@ changed old setting.Fill = record old { fill = true }
 changed old setting.Dense = record old { dense = true }
 changed old setting.Json = record old { json = true }
 changed old (setting.Pages most) = record old { pages = Some most }
+changed old setting.Group = record old { group = true }
 
 -- Settings with several changed, one after another.
 abbrev pub changed_by : Settings → List Setting → Settings
@@ -87,7 +90,8 @@ setting_alone word =
     if bytes_eq word (codes "turn") then Some setting.Turn
     else (if bytes_eq word (codes "fill") then Some setting.Fill
     else (if bytes_eq word (codes "dense") then Some setting.Dense
-    else (if bytes_eq word (codes "json") then Some setting.Json else None)))
+    else (if bytes_eq word (codes "json") then Some setting.Json
+    else (if bytes_eq word (codes "group") then Some setting.Group else None))))
 
 abbrev pub from_zero : ℤ → Option ℕ
 from_zero (pos n) = Some n
@@ -116,3 +120,7 @@ setting_with_numbers word first second =
 -- Whether `pages` stands with neither `fill` nor `dense` nor `json`.
 abbrev pub goes_together : Settings → Bool
 goes_together settings = is_none settings.pages || (not settings.fill && (not settings.dense && not settings.json))
+
+-- Whether `group` stands with `pages`, where it stands.
+abbrev pub has_pages : Settings → Bool
+has_pages settings = not settings.group || is_some settings.pages

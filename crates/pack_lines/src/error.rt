@@ -15,6 +15,9 @@ pub enum PackError {
     /// `pages` stands with `fill`, `dense` or `json`.
     #[error("line 1: pages goes with neither fill nor dense nor json")]
     NotTogether,
+    /// `group` stands without `pages`.
+    #[error("line 1: group goes only with pages")]
+    NoPages,
     /// This line is no sprite.
     #[error("line {0}: not a sprite, which is NAME WIDTH HEIGHT")]
     BadLine(usize),

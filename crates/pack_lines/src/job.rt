@@ -1,6 +1,6 @@
 //! What the lines of a text ask for.
 ghost use Rattle.std.specs.Prelude.{◌≡◌, IfErr, IfOk};
-ghost use Rattle.pack_lines.specs.Settings.{goes_together};
+ghost use Rattle.pack_lines.specs.Settings.{goes_together, has_pages};
 ghost use Rattle.pack_lines.specs.Jobs.{AsksFor, IsJobFault, Sets, IsSetFault};
 ghost use Rattle.std.specs.Prelude.{◌≤◌};
 
@@ -30,6 +30,13 @@ fn goes_together(settings: Settings) -> bool
     settings.pages.is_none() || (!settings.fill && (!settings.dense && !settings.json))
 }
 
+// Whether `group` stands with `pages`, where it stands.
+fn has_pages(settings: Settings) -> bool
+    ensures { result ≡ has_pages settings }
+{
+    !settings.group || settings.pages.is_some()
+}
+
 // What the first line sets, how many lines do, and the lines after it.
 fn read_first(text: &[u8]) -> Result<(Settings, usize, &[u8]), PackError>
     ensures set { IfOk result (λ first. Sets text.now first.1 first.0 first.2.now) }
@@ -47,12 +54,16 @@ fn read_first(text: &[u8]) -> Result<(Settings, usize, &[u8]), PackError>
     if !goes_together(settings) {
         return Err(PackError::NotTogether);
     }
+    if !has_pages(settings) {
+        return Err(PackError::NoPages);
+    }
     Ok((settings, 1, rest))
 }
 
 /// What the lines of a text ask for: settings, if the first line begins with the word `sheet`, and then a sprite each.
 ///
 /// `BadSettings` if the words after `sheet` are none; `NotTogether` if `pages` stands with `fill`, `dense` or `json`;
+/// `NoPages` if `group` stands without `pages`;
 /// `BadLine` names the first line that is no sprite; `Twice` names the first line whose name stands on an earlier one;
 /// `Memory` if memory is refused.
 pub fn read_job(alloc: Global, text: &[u8]) -> Result<Job, PackError>

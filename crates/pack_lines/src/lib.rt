@@ -3,6 +3,7 @@
 #![tactic(auto)]
 
 mod error;
+mod folders;
 mod frames;
 mod job;
 mod json;
@@ -15,6 +16,7 @@ mod sprites;
 mod text;
 
 pub use error::PackError;
+pub use folders::folder_groups;
 pub use frames::{Frame, fullness};
 pub use job::{Job, read_job};
 pub use json::sheet_json;

@@ -44,6 +44,8 @@ pub enum Setting {
     Json,
     /// `pages N`: up to so many sheets take all sprites.
     Pages(u32),
+    /// `group`: the sprites of a folder lie on one of these sheets.
+    Group,
 }
 
 /// What a sheet keeps to, and how it is written.
@@ -69,6 +71,8 @@ pub struct Settings {
     pub json: bool,
     /// Up to how many sheets take all sprites together; None for one sheet.
     pub pages: Option<u32>,
+    /// Whether the sprites of a folder stay together on one of these sheets, where one takes them all.
+    pub group: bool,
 }
 
 /// Powers of two up to 4096, no padding, alignment 1 in both directions, no turning, no changes of the order; as lines.
@@ -86,6 +90,7 @@ pub const DEFAULT_SETTINGS: Settings = Settings {
     dense: false,
     json: false,
     pages: None,
+    group: false,
 };
 
 // The settings with one changed.
@@ -103,6 +108,7 @@ fn change(settings: &mut Settings, setting: Setting)
         Setting::Dense => settings.dense = true,
         Setting::Json => settings.json = true,
         Setting::Pages(most) => settings.pages = Some(most),
+        Setting::Group => settings.group = true,
     }
 }
 
@@ -129,6 +135,9 @@ fn alone(word: &[u8]) -> Option<Setting>
     }
     if word == b"json".as_slice() {
         return Some(Setting::Json);
+    }
+    if word == b"group".as_slice() {
+        return Some(Setting::Group);
     }
     None
 }

@@ -1,11 +1,13 @@
 //! Lines that are read.
 use atlas_model::size2;
-use pack_lines::{DEFAULT_SETTINGS, Settings, Sheets, read_job, read_settings, read_sprite};
+use pack_lines::{
+    DEFAULT_SETTINGS, Settings, Sheets, Sprite, folder_groups, read_job, read_settings, read_sprite,
+};
 use std::alloc::Global;
 use std::process::Abort;
 
 // Each row: a text, and the line that says what is wrong with it.
-static BAD: [(&str, &str); 21] = [
+static BAD: [(&str, &str); 22] = [
     (
         "a 1 2\nb 1\n",
         "line 2: not a sprite, which is NAME WIDTH HEIGHT",
@@ -71,6 +73,10 @@ static BAD: [(&str, &str); 21] = [
     (
         "sheet pages 1 turn json\na 1 2\na 1 2\n",
         "line 1: pages goes with neither fill nor dense nor json",
+    ),
+    (
+        "sheet group turn\na 1 2\na 1 2\n",
+        "line 1: group goes only with pages",
     ),
     (
         "sheet powers\n",
@@ -188,7 +194,7 @@ fn names(rt: HostRuntime) {
 }
 
 // Each row: the words after `sheet`, and what they set.
-fn settings_rows() -> [(&'static str, Option<Settings>); 8] {
+fn settings_rows() -> [(&'static str, Option<Settings>); 9] {
     let usual = DEFAULT_SETTINGS;
     [
         ("", Some(usual)),
@@ -248,6 +254,14 @@ fn settings_rows() -> [(&'static str, Option<Settings>); 8] {
                 ..usual
             }),
         ),
+        (
+            " group pages 2",
+            Some(Settings {
+                pages: Some(2),
+                group: true,
+                ..usual
+            }),
+        ),
         (" turn 1", None),
     ]
 }
@@ -256,5 +270,39 @@ fn settings_rows() -> [(&'static str, Option<Settings>); 8] {
 fn settings(rt: HostRuntime) {
     for (row, (words, wanted)) in settings_rows().iter().enumerate() {
         assert!(&rt; read_settings(words.as_bytes()) == *wanted, "row {row}");
+    }
+}
+
+// Each row: a name, and the number of its folder, which is that of the first row with the same before its last `/`.
+const FOLDERS: [(&str, Option<usize>); 10] = [
+    ("a", None),
+    ("a/b", Some(1)),
+    ("c/a/b", Some(2)),
+    ("a/x", Some(1)),
+    ("/x", Some(4)),
+    ("c/a/y", Some(2)),
+    ("a\\b", None),
+    ("/", Some(4)),
+    ("a//z", Some(8)),
+    ("a/b/", Some(9)),
+];
+
+// Sprites with these names.
+fn named(alloc: Global, rt: &impl Abort) -> Vec<Sprite> {
+    let mut sprites = Vec::new(alloc);
+    for (text, _number) in FOLDERS {
+        let name = String::from_str(alloc, text).expect(rt, "memory");
+        let size = size2(1, 2);
+        sprites.push(Sprite { name, size }).expect(rt, "memory");
+    }
+    sprites
+}
+
+#[test]
+fn folders(rt: HostRuntime) {
+    let groups = folder_groups(rt.alloc(), &named(rt.alloc(), &rt)).expect(&rt, "memory");
+    assert!(&rt; groups.len() == FOLDERS.len());
+    for (row, (_name, number)) in FOLDERS.iter().enumerate() {
+        assert!(&rt; groups.get(row) == Some(number), "row {row}");
     }
 }

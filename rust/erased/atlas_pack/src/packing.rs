@@ -1,11 +1,11 @@
 // Erased from crates/atlas_pack/src/packing.rt by rust/erase: don't edit.
 //! What the library is asked, and what it answers.
 
-use pack_lines::{Frame, PackError, PageFrame, Settings, Sheets, Sprite};
+use pack_lines::{folder_groups, Frame, PackError, PageFrame, Settings, Sheets, Sprite};
 use wollemigo_core::atlas_model::Size;
 use wollemigo_core::atlas_sheet::{
-    fill, pack_dense, pack_pages, pack_telling, Allowed, OnPage, Pages, Placed, Sheet, SheetError,
-    SheetOptions,
+    fill, pack_dense, pack_groups, pack_pages, pack_telling, Allowed, OnPage, Pages, Placed, Sheet,
+    SheetError, SheetOptions,
 };
 use wollemigo_support::alloc::{AllocError, Global};
 use wollemigo_support::io::Write;
@@ -169,16 +169,34 @@ pub fn page_frames(
     Ok(frames)
 }
 
-/// Up to `most` sheets that take all sprites, and their places. `NoSheet` where a sprite fits no empty sheet, and
-/// `MorePages` where more sheets are needed.
-pub fn pack_several(
+// The sheets that the library packs all sprites into: with `group` those of a folder into one of them, where one takes
+// them all. None where a sprite fits no empty sheet.
+fn paged(
     alloc: Global,
+    sprites: &[Sprite],
     sizes: &[Size],
     options: &SheetOptions,
+    group: bool,
+) -> Result<Option<Pages>, SheetError> {
+    if group {
+        let groups = folder_groups(alloc, sprites)?;
+        return pack_groups(alloc, sizes, &groups, options);
+    }
+    pack_pages(alloc, sizes, options)
+}
+
+/// Up to `most` sheets that take all sprites, and their places; with `group` those of a folder on one sheet, where one
+/// takes them all. `NoSheet` where a sprite fits no empty sheet, and `MorePages` where more sheets are needed.
+pub fn pack_several(
+    alloc: Global,
+    sprites: &[Sprite],
+    sizes: &[Size],
+    options: &SheetOptions,
+    group: bool,
     most: u32,
     before: usize,
 ) -> Result<Pages, PackError> {
-    match pack_pages(alloc, sizes, options) {
+    match paged(alloc, sprites, sizes, options, group) {
         Ok(Some(pages)) => {
             if pages.sizes.len() > most as usize {
                 return Err(PackError::MorePages);

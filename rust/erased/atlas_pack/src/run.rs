@@ -76,7 +76,8 @@ fn several(
 ) -> Result<Vec<u8>, PackError> {
     let sizes = sizes_of(alloc, &sprites)?;
     let options = sheet_options(settings);
-    let pages = pack_several(alloc, &sizes, &options, most, before)?;
+    let group = settings.group;
+    let pages = pack_several(alloc, &sprites, &sizes, &options, group, most, before)?;
     let pairs = beside_pages(alloc, sprites, &pages.places)?;
     let frames = page_frames(alloc, pairs)?;
     Ok(pages_lines(alloc, &pages.sizes, &frames)?)
@@ -130,7 +131,7 @@ mod tests {
     use wollemigo_support::process::Abort;
 
     // Each row: the lines in, and the lines out or what stops them.
-    const ROWS: [(&str, &str); 20] = [
+    const ROWS: [(&str, &str); 26] = [
         (
             "a 4 3\nb 4 3\n",
             "sheet 8 4\na 0 0 4 3\nb 4 0 4 3\nfull 750\n",
@@ -190,6 +191,30 @@ mod tests {
             "sheet one 4 4 pages 9\na 4 4\nb 5 1\n",
             "no sheet that is allowed takes all sprites",
         ),
+        // The first folder opens a sheet, and the second has no room there.
+        (
+            "sheet one 4 4 pages 2 group\na/x 4 2\nb/y 4 2\nb/z 4 2\na/w 4 2\n",
+            "sheet 4 4\nsheet 4 4\na/x 0 0 0 4 2\nb/y 1 0 0 4 2\nb/z 1 0 2 4 2\na/w 0 0 2 4 2\nfull 1000\n",
+        ),
+        // A folder ends at the last `/`.
+        (
+            "sheet one 4 4 pages 2 group\na/b/x 4 2\na/y 4 4\na/b/z 4 2\n",
+            "sheet 4 4\nsheet 4 4\na/b/x 0 0 0 4 2\na/y 1 0 0 4 4\na/b/z 0 0 2 4 2\nfull 1000\n",
+        ),
+        // No sheet takes this folder.
+        (
+            "sheet one 4 4 pages 2 group\na/x 4 4\na/y 4 2\n",
+            "sheet 4 4\nsheet 4 4\na/x 0 0 0 4 4\na/y 1 0 0 4 2\nfull 750\n",
+        ),
+        (
+            "sheet one 4 4 pages 1 group\na/x 4 2\nb/y 4 4\n",
+            "more sheets are needed than pages allows",
+        ),
+        (
+            "sheet one 4 4 pages 9 group\na/x 5 1\n",
+            "no sheet that is allowed takes all sprites",
+        ),
+        ("sheet group\n", "line 1: group goes only with pages"),
         ("sheet pages 2\na 1 1\nb 0 1\n", "line 3: a side is below 1"),
         (
             "sheet pages 2 fill\n",

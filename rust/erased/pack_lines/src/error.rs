@@ -11,6 +11,8 @@ pub enum PackError {
     BadSettings,
     /// `pages` stands with `fill`, `dense` or `json`.
     NotTogether,
+    /// `group` stands without `pages`.
+    NoPages,
     /// This line is no sprite.
     BadLine(usize),
     /// The name on this line stands on an earlier one.
@@ -42,6 +44,7 @@ impl core::fmt::Display for PackError {
             PackError::NotTogether => {
                 f.write_str("line 1: pages goes with neither fill nor dense nor json")
             }
+            PackError::NoPages => f.write_str("line 1: group goes only with pages"),
             PackError::BadLine(value) => write!(
                 f,
                 "line {}: not a sprite, which is NAME WIDTH HEIGHT",

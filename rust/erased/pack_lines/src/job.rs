@@ -26,6 +26,11 @@ fn goes_together(settings: Settings) -> bool {
     settings.pages.is_none() || (!settings.fill && (!settings.dense && !settings.json))
 }
 
+// Whether `group` stands with `pages`, where it stands.
+fn has_pages(settings: Settings) -> bool {
+    !settings.group || settings.pages.is_some()
+}
+
 // What the first line sets, how many lines do, and the lines after it.
 fn read_first(text: &[u8]) -> Result<(Settings, usize, &[u8]), PackError> {
     let (line, rest) = first_line(text);
@@ -42,12 +47,16 @@ fn read_first(text: &[u8]) -> Result<(Settings, usize, &[u8]), PackError> {
     if !goes_together(settings) {
         return Err(PackError::NotTogether);
     }
+    if !has_pages(settings) {
+        return Err(PackError::NoPages);
+    }
     Ok((settings, 1, rest))
 }
 
 /// What the lines of a text ask for: settings, if the first line begins with the word `sheet`, and then a sprite each.
 ///
 /// `BadSettings` if the words after `sheet` are none; `NotTogether` if `pages` stands with `fill`, `dense` or `json`;
+/// `NoPages` if `group` stands without `pages`;
 /// `BadLine` names the first line that is no sprite; `Twice` names the first line whose name stands on an earlier one;
 /// `Memory` if memory is refused.
 pub fn read_job(alloc: Global, text: &[u8]) -> Result<Job, PackError> {

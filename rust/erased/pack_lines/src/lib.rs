@@ -5,6 +5,7 @@
 #![allow(dead_code, unused_imports, unused_labels, unused_variables)]
 
 mod error;
+mod folders;
 mod frames;
 mod job;
 mod json;
@@ -17,6 +18,7 @@ mod sprites;
 mod text;
 
 pub use error::PackError;
+pub use folders::folder_groups;
 pub use frames::{fullness, Frame};
 pub use job::{read_job, Job};
 pub use json::sheet_json;

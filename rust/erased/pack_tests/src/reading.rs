@@ -1,13 +1,15 @@
 // Erased from crates/pack_tests/src/reading.rt by rust/erase: don't edit.
 //! Lines that are read.
-use pack_lines::{read_job, read_settings, read_sprite, Settings, Sheets, DEFAULT_SETTINGS};
+use pack_lines::{
+    folder_groups, read_job, read_settings, read_sprite, Settings, Sheets, Sprite, DEFAULT_SETTINGS,
+};
 use wollemigo_core::atlas_model::size2;
 use wollemigo_support::alloc::Global;
-use wollemigo_support::prelude::{assert, assert_eq, format, ExpectIn, HostRuntime, String};
+use wollemigo_support::prelude::{assert, assert_eq, format, ExpectIn, HostRuntime, String, Vec};
 use wollemigo_support::process::Abort;
 
 // Each row: a text, and the line that says what is wrong with it.
-static BAD: [(&str, &str); 21] = [
+static BAD: [(&str, &str); 22] = [
     (
         "a 1 2\nb 1\n",
         "line 2: not a sprite, which is NAME WIDTH HEIGHT",
@@ -73,6 +75,10 @@ static BAD: [(&str, &str); 21] = [
     (
         "sheet pages 1 turn json\na 1 2\na 1 2\n",
         "line 1: pages goes with neither fill nor dense nor json",
+    ),
+    (
+        "sheet group turn\na 1 2\na 1 2\n",
+        "line 1: group goes only with pages",
     ),
     (
         "sheet powers\n",
@@ -195,7 +201,7 @@ fn names() {
 }
 
 // Each row: the words after `sheet`, and what they set.
-fn settings_rows() -> [(&'static str, Option<Settings>); 8] {
+fn settings_rows() -> [(&'static str, Option<Settings>); 9] {
     let usual = DEFAULT_SETTINGS;
     [
         ("", Some(usual)),
@@ -255,6 +261,14 @@ fn settings_rows() -> [(&'static str, Option<Settings>); 8] {
                 ..usual
             }),
         ),
+        (
+            " group pages 2",
+            Some(Settings {
+                pages: Some(2),
+                group: true,
+                ..usual
+            }),
+        ),
         (" turn 1", None),
     ]
 }
@@ -264,5 +278,40 @@ fn settings() {
     let rt = HostRuntime;
     for (row, (words, wanted)) in settings_rows().iter().enumerate() {
         assert!(&rt; read_settings(words.as_bytes()) == *wanted, "row {row}");
+    }
+}
+
+// Each row: a name, and the number of its folder, which is that of the first row with the same before its last `/`.
+const FOLDERS: [(&str, Option<usize>); 10] = [
+    ("a", None),
+    ("a/b", Some(1)),
+    ("c/a/b", Some(2)),
+    ("a/x", Some(1)),
+    ("/x", Some(4)),
+    ("c/a/y", Some(2)),
+    ("a\\b", None),
+    ("/", Some(4)),
+    ("a//z", Some(8)),
+    ("a/b/", Some(9)),
+];
+
+// Sprites with these names.
+fn named(alloc: Global, rt: &impl Abort) -> Vec<Sprite> {
+    let mut sprites = Vec::new(alloc);
+    for (text, _number) in FOLDERS {
+        let name = String::from_str(alloc, text).expect_in(rt, "memory");
+        let size = size2(1, 2);
+        sprites.push(Sprite { name, size }).expect_in(rt, "memory");
+    }
+    sprites
+}
+
+#[test]
+fn folders() {
+    let rt = HostRuntime;
+    let groups = folder_groups(rt.alloc(), &named(rt.alloc(), &rt)).expect_in(&rt, "memory");
+    assert!(&rt; groups.len() == FOLDERS.len());
+    for (row, (_name, number)) in FOLDERS.iter().enumerate() {
+        assert!(&rt; groups.get(row) == Some(number), "row {row}");
     }
 }
