@@ -1,11 +1,11 @@
 //! Caches of boxes, which are evicted at random.
-ghost use Rattle.std.specs.Prelude.{◌≡◌, ◌<◌, ◌≤◌, ◌+◌, ◌^◌, IfOk, OnOk};
+ghost use Rattle.std.specs.Prelude.{◌≡◌, ◌<◌, ◌≤◌, ◌+◌, ◌^◌, true, IfOk, OnOk};
 
 use crate::answers::Answers;
 use crate::error::BenchError;
 use crate::random::Random;
 use crate::sizes::{Kind, next_size};
-use guillotiere::{AllocId, AtlasAllocator, Size, size2};
+use guillotiere::{AllocId, AtlasAllocator, AtlasError, Size, size2};
 use std::alloc::Global;
 
 #[derive(Drop)]
@@ -31,7 +31,7 @@ impl BoxCache {
     }
 
     // Requests a box. Whether it was granted.
-    fn request(&mut self, size: Size) -> Result<bool, BenchError>
+    fn request(&mut self, size: Size) -> Result<bool, AtlasError>
         requires { self.old.answers.calls + 1 < 2 ^ 64 }
         ensures { OnOk result (self.new.answers.calls ≡ self.old.answers.calls + 1) }
     {
@@ -45,30 +45,27 @@ impl BoxCache {
         Ok(true)
     }
 
-    // Requests a tile of 16x16 pixels. `WrongAnswer` where it isn't granted.
-    fn request_tile(&mut self) -> Result<(), BenchError>
+    // Requests a tile of 16x16 pixels. Whether it was granted.
+    fn request_tile(&mut self) -> Result<bool, AtlasError>
         requires { self.old.answers.calls + 1 < 2 ^ 64 }
         ensures { OnOk result (self.new.answers.calls ≡ self.old.answers.calls + 1) }
     {
-        if !self.request(size2(16, 16))? {
-            return Err(BenchError::WrongAnswer);
-        }
-        Ok(())
+        self.request(size2(16, 16))
     }
 
-    // Frees one of the live boxes, at random. `WrongAnswer` where none is live.
-    fn evict(&mut self) -> Result<(), BenchError>
+    // Frees one of the live boxes, at random. Whether one was live.
+    fn evict(&mut self) -> Result<bool, AtlasError>
         requires { self.old.answers.calls + 1 < 2 ^ 64 }
-        ensures { OnOk result (self.new.answers.calls ≡ self.old.answers.calls + 1) }
+        ensures { IfOk result (λ is_freed. is_freed ≡ true → self.new.answers.calls ≡ self.old.answers.calls + 1) }
     {
         if self.live.is_empty() {
-            return Err(BenchError::WrongAnswer);
+            return Ok(false);
         }
         let place = self.random.below(self.live.len() as u64) as usize;
         let id = self.live.swap_remove(place);
         self.atlas.deallocate(id)?;
         self.answers.freed();
-        Ok(())
+        Ok(true)
     }
 }
 
@@ -83,7 +80,9 @@ pub fn cache(alloc: Global, kind: Kind, side: u16, calls: u32) -> Result<Answers
     let mut is_full = false;
     for _ in 0..calls {
         if is_full {
-            cache.evict()?;
+            if !cache.evict()? {
+                return Err(BenchError::WrongAnswer);
+            }
             is_full = false;
         } else if cache.request(size)? {
             size = next_size(kind, &mut cache.random);
@@ -103,10 +102,14 @@ fn half_tiled(alloc: Global) -> Result<BoxCache, BenchError>
 {
     let mut cache = BoxCache::new(alloc, 2048, 7)?;
     for _ in 0..TILES {
-        cache.request_tile()?;
+        if !cache.request_tile()? {
+            return Err(BenchError::WrongAnswer);
+        }
     }
     for _ in 0..TILES / 2 {
-        cache.evict()?;
+        if !cache.evict()? {
+            return Err(BenchError::WrongAnswer);
+        }
     }
     Ok(cache)
 }
@@ -118,10 +121,13 @@ pub fn tiles(alloc: Global, calls: u32) -> Result<Answers, BenchError>
 {
     let mut cache = half_tiled(alloc)?;
     for turn in 0..calls {
-        if turn % 2 == 0 {
-            cache.request_tile()?;
+        let is_done = if turn % 2 == 0 {
+            cache.request_tile()?
         } else {
-            cache.evict()?;
+            cache.evict()?
+        };
+        if !is_done {
+            return Err(BenchError::WrongAnswer);
         }
     }
     Ok(cache.answers)

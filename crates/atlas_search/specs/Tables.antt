@@ -1,5 +1,5 @@
 -- The heads of the lists of free slots. No public clause cites this module.
-use Rattle.std.specs.Prelude.{ℕ, ◌≡◌, ◌≢◌, ◌+◌, ◌*◌, ◌<◌, ◌≤◌, ◌==◌, Bool, true, not, List, length, slice_index_or}
+use Rattle.std.specs.Prelude.{ℕ, ◌≡◌, ◌≢◌, ◌+◌, ◌*◌, ◌<◌, ◌≤◌, ◌==◌, ◌||◌, Bool, true, not, List, length, slice_index_or}
 use Rattle.atlas_search.specs.declared.link.Link.{Link}
 use Rattle.atlas_search.specs.declared.table.ListHead.{ListHead}
 use Rattle.atlas_search.specs.declared.masks.Mask.{Mask}
@@ -25,10 +25,11 @@ low_of heads k = (entry_at heads k).low
 abbrev pub is_used_at : List ListHead → ℕ → Bool
 is_used_at heads k = not ((head_of heads k).number == no_slot)
 
--- There is a head for each list, and the marks are the lists with a slot.
-pub record IsTable (heads : List ListHead) (rows : List Mask) : Type 0 where
+-- There is a head for each list; marked are the lists with a slot, and the one that was emptied last.
+pub record IsTable (heads : List ListHead) (rows : List Mask) (emptied : ℕ) : Type 0 where
   pub count : length heads ≡ 2704
-  pub marked : (i j : ℕ) → i < 52 → j < 52 → is_marked_at rows i j ≡ is_used_at heads (52 * i + j)
+  pub marked : (i j : ℕ) → i < 52 → j < 52
+      → is_marked_at rows i j ≡ (is_used_at heads (52 * i + j) || (52 * i + j == emptied))
 
 -- A slot with this `min.y` comes first in list k; no other list changes.
 pub record IsPushed (old new : List ListHead) (k : ℕ) (first : Link) (top : ℕ) : Type 0 where

@@ -1,4 +1,4 @@
-//! Which lists have a slot: marks in rows and columns.
+//! Marks of lists, in rows and columns.
 ghost use Rattle.std.specs.Prelude.{◌≡◌, ◌≢◌, ◌<◌, ◌⊎◌, ℕ, true, false};
 ghost use Rattle.atlas_search.specs.Masks.{IsMarked, has, is_marked_at};
 

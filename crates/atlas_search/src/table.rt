@@ -1,8 +1,8 @@
 //! The table of the lists of free slots: the first slot of each, a bound of its slots' `min.y`, and marks of those that
-//! have a slot.
+//! have a slot and of the one that was emptied last.
 ghost use Rattle.std.specs.Prelude.{◌≡◌, ◌≢◌, ◌+◌, ◌*◌, ◌<◌, ℕ, true, false, IfOk};
 ghost use Rattle.atlas_search.specs.Bands.{number_of};
-ghost use Rattle.atlas_search.specs.Masks.{IsMarked, has};
+ghost use Rattle.atlas_search.specs.Masks.{IsMarked};
 ghost use Rattle.atlas_search.specs.Numbers.{no_slot};
 ghost use Rattle.atlas_search.specs.Tables.{IsPushed, head_of, is_used_at, low_of};
 
@@ -30,10 +30,15 @@ const BLANK: ListHead = ListHead {
 };
 
 /// The heads of all lists: one block of memory, which takes 21632 bytes. Contracts see the heads alone.
+///
+/// The list that was emptied last is often the next that gets a slot: so it stays marked until another list is emptied,
+/// and a mark says only that a list may have a slot.
 #[derive(Drop)]
 pub struct Table<A: Allocator> {
     heads: Vec<ListHead, A>,
     marks: Marks,
+    // The list that was emptied last, whose mark is kept; LISTS if none was.
+    emptied: usize,
 }
 
 impl<A: Allocator> Model for Table<A> {
@@ -45,7 +50,7 @@ impl<A: Allocator> Model for Table<A> {
 
     ghost view = { λ t. t.heads.items };
 
-    ghost invariant = { λ t. IsTable t.heads.items t.marks };
+    ghost invariant = { λ t. IsTable t.heads.items t.marks t.emptied };
 }
 
 impl<A: Allocator> Table<A> {
@@ -56,6 +61,7 @@ impl<A: Allocator> Table<A> {
         Ok(Table {
             heads: Vec::from_elem(alloc, BLANK, LISTS)?,
             marks: Marks::none(),
+            emptied: LISTS,
         })
     }
 
@@ -68,6 +74,7 @@ impl<A: Allocator> Table<A> {
         Ok(Table {
             heads: Vec::from_slice(*self.heads.allocator(), &self.heads)?,
             marks: self.marks.copy(),
+            emptied: self.emptied,
         })
     }
 
@@ -77,6 +84,7 @@ impl<A: Allocator> Table<A> {
     {
         self.heads.fill(BLANK);
         self.marks = Marks::none();
+        self.emptied = LISTS;
     }
 
     /// The first slot of a list, or none.
@@ -108,7 +116,9 @@ impl<A: Allocator> Table<A> {
         if head.first.number == NO_SLOT {
             head.first = first;
             head.low = top;
-            self.marks.mark(at);
+            if self.emptied != BANDS * at.row + at.column {
+                self.marks.mark(at);
+            }
         } else {
             head.first = first;
             head.low = head.low.min(top);
@@ -124,11 +134,15 @@ impl<A: Allocator> Table<A> {
         ensures lows { (k : ℕ) → low_of self.new k ≡ low_of self.old k }
     {
         self.heads[number].first = first;
-        if first.number == NO_SLOT {
-            self.marks.unmark(Place {
-                row: number / BANDS,
-                column: number % BANDS,
-            });
+        if first.number == NO_SLOT && self.emptied != number {
+            let before = self.emptied;
+            self.emptied = number;
+            if before < LISTS && self.heads[before].first.number == NO_SLOT {
+                self.marks.unmark(Place {
+                    row: before / BANDS,
+                    column: before % BANDS,
+                });
+            }
         }
     }
 
@@ -142,28 +156,27 @@ impl<A: Allocator> Table<A> {
         self.heads[number].low = low;
     }
 
-    /// The columns of a row with lists that aren't empty.
+    /// The columns of a row with lists that may have a slot: each that has one.
     pub fn row(&self, i: usize) -> Mask
         requires { i < BANDS }
-        ensures used { (j : ℕ) → j < BANDS → has result j ≡ is_used_at self.now (52 * i + j) }
+        ensures used { (j : ℕ) → j < BANDS → is_used_at self.now (52 * i + j) ≡ true → IsMarked result j }
         ensures inside { (j : ℕ) → IsMarked result j → j < BANDS }
     {
         self.marks.row(i)
     }
 
-    /// The rows of a column with lists that aren't empty.
+    /// The rows of a column with lists that may have a slot: each that has one.
     pub fn column(&self, j: usize) -> Mask
         requires { j < BANDS }
-        ensures used { (i : ℕ) → i < BANDS → has result i ≡ is_used_at self.now (52 * i + j) }
+        ensures used { (i : ℕ) → i < BANDS → is_used_at self.now (52 * i + j) ≡ true → IsMarked result i }
         ensures inside { (i : ℕ) → IsMarked result i → i < BANDS }
     {
         self.marks.column(j)
     }
 
-    /// The rows with a list that isn't empty.
+    /// The rows with a list that may have a slot: each with one that has.
     pub fn used(&self) -> Mask
         ensures each { (i j : ℕ) → i < BANDS → j < BANDS → is_used_at self.now (52 * i + j) ≡ true → IsMarked result i }
-        ensures only { (i : ℕ) → IsMarked result i → (j : ℕ) × (j < BANDS) × (is_used_at self.now (52 * i + j) ≡ true) }
         ensures inside { (i : ℕ) → IsMarked result i → i < BANDS }
     {
         self.marks.used()

@@ -81,7 +81,7 @@ below-marked all below k j is h = let p = and_both _ _ (sym (is j) ∙ h) in (p.
 
 -- A column more, of those that the marked rows have a list in.
 pub rows-next : (heads : List ListHead) (first column : ℕ) (rows here more : Mask)
-    → ((i : ℕ) → i < 52 → has here i ≡ is_used_at heads (52 * i + column))
+    → ((i : ℕ) → i < 52 → is_used_at heads (52 * i + column) ≡ true → IsMarked here i)
     → ((i : ℕ) → has more i ≡ (has rows i || has here i))
     → ((i j : ℕ) → i < 52 → first ≤ j → j < column → is_used_at heads (52 * i + j) ≡ true → IsMarked rows i)
     → (i j : ℕ) → i < 52 → first ≤ j → j < column + 1 → is_used_at heads (52 * i + j) ≡ true → IsMarked more i

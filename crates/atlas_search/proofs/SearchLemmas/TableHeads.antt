@@ -1,15 +1,14 @@
 -- A table after one of its heads is written.
-use Rattle.std.proofs.Common.{◌≡◌, ◌≢◌, ℕ, ◌+◌, ◌*◌, ◌/◌, ◌%◌, ◌<◌, ◌≤◌, ◌⊎◌, inl, inr, Bool, true, false, not, ◌==◌, List, length, get_or, slice_set, replicate, refl, ap, subst, ◌∙◌, arith}
+use Rattle.std.proofs.Common.{◌≡◌, ◌≢◌, ℕ, ◌+◌, ◌*◌, ◌/◌, ◌%◌, ◌<◌, ◌≤◌, ◌⊎◌, inl, inr, Bool, true, false, not, ◌||◌, ◌==◌, List, length, get_or, slice_set, replicate, refl, ap, sym, ◌∙◌, arith}
 use Rattle.std.proofs.lemmas.List.{get_or-set_same, get_or-set_other, get_or-replicate, get_or_read, length-set, length-replicate}
 use Rattle.std.proofs.Math.ListN.{get_or-eq_default}
-use Rattle.std.proofs.lemmas.Bool.{cases_lt, ne_eqb, eq-eqb}
+use Rattle.std.proofs.lemmas.Bool.{cases_eq, cases_lt, ne_eqb, eq-eqb, or_from, or_left, or_right}
 use Rattle.atlas_search.specs.declared.masks.Mask.{Mask}
 use Rattle.atlas_search.specs.declared.link.Link.{Link}
 use Rattle.atlas_search.specs.declared.table.ListHead.{ListHead}
 use Rattle.atlas_search.specs.Numbers.{no_slot}
 use Rattle.atlas_search.specs.Masks.{is_marked_at}
 use Rattle.atlas_search.specs.Tables.{blank_head, head_of, low_of, is_used_at, IsTable}
-use Rattle.atlas_search.proofs.SearchLemmas.MarkWrites.{cases_place}
 
 -- What an index reads.
 module _ (heads : List ListHead) (k : ℕ) (e : ListHead) (within : k < length heads) (read : e ≡ get_or heads k e) where
@@ -57,44 +56,112 @@ no_slot-is link none = ap not (eq-eqb link.number no_slot none)
 places_apart : (i j k l : ℕ) → j < 52 → l < 52 → (k ≢ i) ⊎ (l ≢ j) → 52 * k + l ≢ 52 * i + j
 places_apart i j k l p q h e = grind arith
 
-module _ (heads : List ListHead) (rows rows' : List Mask) (i j : ℕ) (e : ListHead) (is : IsTable heads rows) (row : i < 52) (column : j < 52) where
+or_both : (a b c d : Bool) → a ≡ c → b ≡ d → (a || b) ≡ (c || d)
+or_both a b c d p q = ap (λ t. t || b) p ∙ ap (λ t. c || t) q
+
+or_none : (a b : Bool) → b ≡ false → a ≡ (a || b)
+or_none true b e = refl
+or_none false b e = sym e
+
+-- The row and the column of a list by its number.
+
+row-part : (i j k : ℕ) → j < 52 → 52 * i + j ≡ k → i ≡ k / 52
+row-part i j k q h = omega (arith, q, h)
+
+column-part : (i j k : ℕ) → j < 52 → 52 * i + j ≡ k → j ≡ k % 52
+column-part i j k q h = omega (arith, q, h)
+
+parts-differ : (i j k : ℕ) → 52 * i + j ≢ k → (i ≢ k / 52) ⊎ (j ≢ k % 52)
+parts-differ i j k ne = elim (cases_eq i (k / 52)) [ inl e ↦ inr (λ h. ne (omega (arith, e, h))) | inr apart ↦ inl apart ]
+
+-- A head is written.
+module _ (heads : List ListHead) (rows : List Mask) (emptied k : ℕ) (e : ListHead) (is : IsTable heads rows emptied) (below : k < 2704) where
   abbrev new : List ListHead
-  new = slice_set heads (52 * i + j) e
+  new = slice_set heads k e
 
-  pub within : 52 * i + j < length heads
-  within = omega (arith, is.count, row, column)
+  within : k < length heads
+  within = omega (arith, is.count, below)
 
-  used-same : is_used_at new (52 * i + j) ≡ is_slot e.first
-  used-same = ap is_slot (head_of-same heads (52 * i + j) e within)
+  used-same : is_used_at new k ≡ is_slot e.first
+  used-same = ap is_slot (head_of-same heads k e within)
 
-  marked_by : is_marked_at rows' i j ≡ is_slot e.first → ((k l : ℕ) → (k ≢ i) ⊎ (l ≢ j) → is_marked_at rows' k l ≡ is_marked_at rows k l)
-      → (k l : ℕ) → ((k ≡ i) × (l ≡ j)) ⊎ ((k ≢ i) ⊎ (l ≢ j)) → k < 52 → l < 52 → is_marked_at rows' k l ≡ is_used_at new (52 * k + l)
-  marked_by this others k l (inl same) p q = grind (arith, used-same)
-  marked_by this others k l (inr apart) p q = grind (arith, head_of-other, places_apart)
+  used-other : (n : ℕ) → n ≢ k → is_used_at new n ≡ is_used_at heads n
+  used-other n apart = ap is_slot (head_of-other heads k e n apart)
 
-  pub written-table : is_marked_at rows' i j ≡ is_slot e.first → ((k l : ℕ) → (k ≢ i) ⊎ (l ≢ j) → is_marked_at rows' k l ≡ is_marked_at rows k l) → IsTable new rows'
-  written-table this others = grind (arith, length-set, marked_by, cases_place)
+  used-any : is_slot e.first ≡ is_used_at heads k → (n : ℕ) → is_used_at new n ≡ is_used_at heads n
+  used-any same n = elim (cases_eq n k) [
+    | inl here ↦ ap (is_used_at new) here ∙ used-same ∙ same ∙ sym (ap (is_used_at heads) here)
+    | inr apart ↦ used-other n apart
+  ]
 
--- The marks stay where a list stays as empty as it was.
-pub kept-table : (heads : List ListHead) (rows : List Mask) (i j : ℕ) (e : ListHead) → IsTable heads rows → i < 52 → j < 52
-    → is_used_at heads (52 * i + j) ≡ is_slot e.first → IsTable (slice_set heads (52 * i + j) e) rows
-kept-table heads rows i j e is row column same = written-table heads rows rows i j e is row column (is.marked i j row column ∙ same) (λ k l _. refl)
+  -- The list stays as empty as it was.
+  pub kept-table : is_slot e.first ≡ is_used_at heads k → IsTable new rows emptied
+  kept-table same = record {
+    count = length-set heads k e ∙ is.count;
+    marked = λ i j p q. is.marked i j p q ∙ or_both _ _ _ _ (sym (used-any same (52 * i + j))) refl;
+  }
 
--- A list by its number.
-parts : (k : ℕ) → 52 * (k / 52) + k % 52 ≡ k
-parts k = omega arith
+  -- It is the one that was emptied last, and so is marked in any case.
+  pub kept-mark : emptied ≡ k → IsTable new rows emptied
+  kept-mark last = record {
+    count = length-set heads k e ∙ is.count;
+    marked = λ i j p q. is.marked i j p q ∙ elim (cases_eq (52 * i + j) k) [
+      | inl here ↦ let same = eq-eqb (52 * i + j) emptied (here ∙ sym last) in or_right _ _ same ∙ sym (or_right _ _ same)
+      | inr apart ↦ or_both _ _ _ _ (sym (used-other (52 * i + j) apart)) refl
+    ];
+  }
 
-module _ (heads : List ListHead) (rows : List Mask) (k : ℕ) (e : ListHead) (is : IsTable heads rows) (below : k < 2704) where
-  pub written-number : (rows' : List Mask) → is_marked_at rows' (k / 52) (k % 52) ≡ is_slot e.first
-      → ((i j : ℕ) → (i ≢ k / 52) ⊎ (j ≢ k % 52) → is_marked_at rows' i j ≡ is_marked_at rows i j) → IsTable (slice_set heads k e) rows'
-  written-number rows' this others =
-      subst (λ n. IsTable (slice_set heads n e) rows') (parts k)
-      (written-table heads rows rows' (k / 52) (k % 52) e is (omega arith) (omega arith) this others)
+  -- It gets its first slot and is marked.
+  pub marked-table : (rows' : List Mask) (i j : ℕ) → j < 52 → 52 * i + j ≡ k → is_slot e.first ≡ true → is_marked_at rows' i j ≡ true
+      → ((a b : ℕ) → (a ≢ i) ⊎ (b ≢ j) → is_marked_at rows' a b ≡ is_marked_at rows a b) → IsTable new rows' emptied
+  marked-table rows' i j l here some this others = record {
+    count = length-set heads k e ∙ is.count;
+    marked = λ a b p q. elim (cases_eq (52 * a + b) k) [
+      | inl same ↦
+          ap (λ n. is_marked_at rows' n b) (row-part a b k q same ∙ sym (row-part i j k l here))
+          ∙ ap (is_marked_at rows' i) (column-part a b k q same ∙ sym (column-part i j k l here)) ∙ this
+          ∙ sym (or_left _ _ (ap (is_used_at new) same ∙ used-same ∙ some))
+      | inr ne ↦
+          others a b (elim (cases_eq a i) [ inl r ↦ inr (λ h. ne (omega (arith, r, h, here))) | inr differ ↦ inl differ ])
+          ∙ is.marked a b p q ∙ or_both _ _ _ _ (sym (used-other (52 * a + b) ne)) refl
+    ];
+  }
 
-  pub kept-number : is_used_at heads k ≡ is_slot e.first → IsTable (slice_set heads k e) rows
-  kept-number =
-      subst (λ n. is_used_at heads n ≡ is_slot e.first → IsTable (slice_set heads n e) rows) (parts k)
-      (kept-table heads rows (k / 52) (k % 52) e is (omega arith) (omega arith))
+  -- It loses its last slot and stays marked; the one that did so before stays marked if it has a slot.
+  module _ (used : is_used_at heads k ≡ true) (apart : emptied ≢ k) where
+    emptied-table : (rows' : List Mask)
+        → ((i j : ℕ) → i < 52 → j < 52 → 52 * i + j ≡ emptied → is_marked_at rows' i j ≡ is_used_at new emptied)
+        → ((i j : ℕ) → i < 52 → j < 52 → 52 * i + j ≢ emptied → is_marked_at rows' i j ≡ is_marked_at rows i j)
+        → IsTable new rows' k
+    emptied-table rows' this others = record {
+      count = length-set heads k e ∙ is.count;
+      marked = λ i j p q. elim (cases_eq (52 * i + j) emptied) [
+        | inl before ↦
+            this i j p q before ∙ or_none (is_used_at new emptied) (52 * i + j == k) (ne_eqb _ _ (λ h. apart (sym before ∙ h)))
+            ∙ ap (λ n. is_used_at new n || (52 * i + j == k)) (sym before)
+        | inr ne ↦ others i j p q ne ∙ is.marked i j p q ∙ elim (cases_eq (52 * i + j) k) [
+          | inl here ↦ or_left _ _ (ap (is_used_at heads) here ∙ used) ∙ sym (or_right _ _ (eq-eqb _ _ here))
+          | inr differ ↦ or_both _ _ _ _ (sym (used-other (52 * i + j) differ)) (ne_eqb _ _ ne ∙ sym (ne_eqb _ _ differ))
+        ]
+      ];
+    }
+
+    -- There was none.
+    pub first-emptied : 2704 ≤ emptied → IsTable new rows k
+    first-emptied past = emptied-table rows (λ i j p q h. absurd (omega (arith, past, h, p, q))) (λ i j p q ne. refl)
+
+    pub later-emptied : is_used_at new emptied ≡ true → IsTable new rows k
+    later-emptied full =
+        emptied-table rows (λ i j p q h. is.marked i j p q ∙ or_right _ _ (eq-eqb _ _ h) ∙ sym full) (λ i j p q ne. refl)
+
+    pub unmarked-table : (rows' : List Mask) → is_used_at new emptied ≡ false → is_marked_at rows' (emptied / 52) (emptied % 52) ≡ false
+        → ((i j : ℕ) → (i ≢ emptied / 52) ⊎ (j ≢ emptied % 52) → is_marked_at rows' i j ≡ is_marked_at rows i j)
+        → IsTable new rows' k
+    unmarked-table rows' empty this others =
+        emptied-table rows'
+        (λ i j p q h. ap (λ n. is_marked_at rows' n j) (row-part i j emptied q h)
+        ∙ ap (is_marked_at rows' (emptied / 52)) (column-part i j emptied q h) ∙ this ∙ sym empty)
+        (λ i j p q ne. others i j (parts-differ i j emptied ne))
 
 -- ---- no list has a slot
 
@@ -111,5 +178,8 @@ head_of-blank k =
 pub used-blank : (k : ℕ) → is_used_at (replicate 2704 blank_head) k ≡ false
 used-blank k = ap is_slot (head_of-blank k)
 
-pub blank-table : (rows : List Mask) → ((i j : ℕ) → is_marked_at rows i j ≡ false) → IsTable (replicate 2704 blank_head) rows
-blank-table rows none = grind (arith, length-replicate, used-blank)
+pub blank-table : (rows : List Mask) → ((i j : ℕ) → is_marked_at rows i j ≡ false) → IsTable (replicate 2704 blank_head) rows 2704
+blank-table rows none = record {
+  count = length-replicate 2704 blank_head;
+  marked = λ i j p q. none i j ∙ sym (or_from _ _ (used-blank (52 * i + j)) (ne_eqb (52 * i + j) 2704 (λ h. omega (arith, h, p, q))));
+}

@@ -39,13 +39,13 @@ least-reached heads own least columns used rows both each_column each_row later 
 
 -- The own row and column before the first turn.
 pub left-begin : (heads : List ListHead) (own : Place) (least : ℕ) (in_row columns in_column rows : Mask)
-    → ((j : ℕ) → j < 52 → has in_row j ≡ is_used_at heads (52 * own.row + j)) → KeepsFrom in_row columns own.column
-    → ((i : ℕ) → i < 52 → has in_column i ≡ is_used_at heads (52 * i + own.column)) → KeepsFrom in_column rows (own.row + 1)
+    → ((j : ℕ) → j < 52 → is_used_at heads (52 * own.row + j) ≡ true → IsMarked in_row j) → KeepsFrom in_row columns own.column
+    → ((i : ℕ) → i < 52 → is_used_at heads (52 * i + own.column) ≡ true → IsMarked in_column i) → KeepsFrom in_column rows (own.row + 1)
     → AreLeft heads own least columns rows
 left-begin heads own least in_row columns in_column rows used_row right used_column under =
     record {
-      in_row = λ j l hj full _. marked-from in_row columns own.column j right (used_row j hj ∙ full) l;
-      in_column = λ i l hi full _. marked-from in_column rows (own.row + 1) i under (used_column i hi ∙ full) (omega (arith, l));
+      in_row = λ j l hj full _. marked-from in_row columns own.column j right (used_row j hj full) l;
+      in_column = λ i l hi full _. marked-from in_column rows (own.row + 1) i under (used_column i hi full) (omega (arith, l));
     }
 
 -- After a turn up to `end`.

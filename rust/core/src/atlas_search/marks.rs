@@ -1,5 +1,5 @@
 // Erased from crates/atlas_search/src/marks.rt by rust/erase: don't edit.
-//! Which lists have a slot: marks in rows and columns.
+//! Marks of lists, in rows and columns.
 
 use crate::atlas_search::bands::{Place, BANDS};
 use crate::atlas_search::masks::Mask;

@@ -1,6 +1,6 @@
 // Erased from crates/atlas_search/src/table.rt by rust/erase: don't edit.
 //! The table of the lists of free slots: the first slot of each, a bound of its slots' `min.y`, and marks of those that
-//! have a slot.
+//! have a slot and of the one that was emptied last.
 
 use crate::atlas_search::bands::{Place, BANDS};
 use crate::atlas_search::link::{Link, NO_SLOT};
@@ -26,10 +26,15 @@ const BLANK: ListHead = ListHead {
 };
 
 /// The heads of all lists: one block of memory, which takes 21632 bytes. Contracts see the heads alone.
+///
+/// The list that was emptied last is often the next that gets a slot: so it stays marked until another list is emptied,
+/// and a mark says only that a list may have a slot.
 
 pub struct Table<A: Allocator> {
     heads: Vec<ListHead, A>,
     marks: Marks,
+    // The list that was emptied last, whose mark is kept; LISTS if none was.
+    emptied: usize,
 }
 
 impl<A: Allocator> Table<A> {
@@ -39,6 +44,7 @@ impl<A: Allocator> Table<A> {
         Ok(Table {
             heads: Vec::from_elem(alloc, BLANK, LISTS)?,
             marks: Marks::none(),
+            emptied: LISTS,
         })
     }
 
@@ -51,6 +57,7 @@ impl<A: Allocator> Table<A> {
         Ok(Table {
             heads: Vec::from_slice(*self.heads.allocator(), &self.heads)?,
             marks: self.marks.copy(),
+            emptied: self.emptied,
         })
     }
 
@@ -59,6 +66,7 @@ impl<A: Allocator> Table<A> {
     pub fn clear(&mut self) {
         self.heads.fill(BLANK);
         self.marks = Marks::none();
+        self.emptied = LISTS;
     }
 
     /// The first slot of a list, or none.
@@ -80,7 +88,9 @@ impl<A: Allocator> Table<A> {
         if head.first.number == NO_SLOT {
             head.first = first;
             head.low = top;
-            self.marks.mark(at);
+            if self.emptied != BANDS * at.row + at.column {
+                self.marks.mark(at);
+            }
         } else {
             head.first = first;
             head.low = head.low.min(top);
@@ -91,11 +101,15 @@ impl<A: Allocator> Table<A> {
     #[inline]
     pub fn set_first(&mut self, number: usize, first: Link) {
         self.heads[number].first = first;
-        if first.number == NO_SLOT {
-            self.marks.unmark(Place {
-                row: number / BANDS,
-                column: number % BANDS,
-            });
+        if first.number == NO_SLOT && self.emptied != number {
+            let before = self.emptied;
+            self.emptied = number;
+            if before < LISTS && self.heads[before].first.number == NO_SLOT {
+                self.marks.unmark(Place {
+                    row: before / BANDS,
+                    column: before % BANDS,
+                });
+            }
         }
     }
 
@@ -105,19 +119,19 @@ impl<A: Allocator> Table<A> {
         self.heads[number].low = low;
     }
 
-    /// The columns of a row with lists that aren't empty.
+    /// The columns of a row with lists that may have a slot: each that has one.
     #[inline]
     pub fn row(&self, i: usize) -> Mask {
         self.marks.row(i)
     }
 
-    /// The rows of a column with lists that aren't empty.
+    /// The rows of a column with lists that may have a slot: each that has one.
     #[inline]
     pub fn column(&self, j: usize) -> Mask {
         self.marks.column(j)
     }
 
-    /// The rows with a list that isn't empty.
+    /// The rows with a list that may have a slot: each with one that has.
     #[inline]
     pub fn used(&self) -> Mask {
         self.marks.used()

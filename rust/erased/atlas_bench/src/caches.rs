@@ -5,7 +5,7 @@ use crate::answers::Answers;
 use crate::error::BenchError;
 use crate::random::Random;
 use crate::sizes::{next_size, Kind};
-use wollemigo_core::guillotiere::{size2, AllocId, AtlasAllocator, Size};
+use wollemigo_core::guillotiere::{size2, AllocId, AtlasAllocator, AtlasError, Size};
 use wollemigo_support::alloc::Global;
 use wollemigo_support::prelude::Vec;
 
@@ -28,7 +28,7 @@ impl BoxCache {
     }
 
     // Requests a box. Whether it was granted.
-    fn request(&mut self, size: Size) -> Result<bool, BenchError> {
+    fn request(&mut self, size: Size) -> Result<bool, AtlasError> {
         let allocation = match self.atlas.allocate(size)? {
             Some(allocation) => allocation,
             _ => {
@@ -42,24 +42,21 @@ impl BoxCache {
         Ok(true)
     }
 
-    // Requests a tile of 16x16 pixels. `WrongAnswer` where it isn't granted.
-    fn request_tile(&mut self) -> Result<(), BenchError> {
-        if !self.request(size2(16, 16))? {
-            return Err(BenchError::WrongAnswer);
-        }
-        Ok(())
+    // Requests a tile of 16x16 pixels. Whether it was granted.
+    fn request_tile(&mut self) -> Result<bool, AtlasError> {
+        self.request(size2(16, 16))
     }
 
-    // Frees one of the live boxes, at random. `WrongAnswer` where none is live.
-    fn evict(&mut self) -> Result<(), BenchError> {
+    // Frees one of the live boxes, at random. Whether one was live.
+    fn evict(&mut self) -> Result<bool, AtlasError> {
         if self.live.is_empty() {
-            return Err(BenchError::WrongAnswer);
+            return Ok(false);
         }
         let place = self.random.below(self.live.len() as u64) as usize;
         let id = self.live.swap_remove(place);
         self.atlas.deallocate(id)?;
         self.answers.freed();
-        Ok(())
+        Ok(true)
     }
 }
 
@@ -71,7 +68,9 @@ pub fn cache(alloc: Global, kind: Kind, side: u16, calls: u32) -> Result<Answers
     let mut is_full = false;
     for _ in 0..calls {
         if is_full {
-            cache.evict()?;
+            if !cache.evict()? {
+                return Err(BenchError::WrongAnswer);
+            }
             is_full = false;
         } else if cache.request(size)? {
             size = next_size(kind, &mut cache.random);
@@ -89,10 +88,14 @@ const TILES: u32 = 16_384;
 fn half_tiled(alloc: Global) -> Result<BoxCache, BenchError> {
     let mut cache = BoxCache::new(alloc, 2048, 7)?;
     for _ in 0..TILES {
-        cache.request_tile()?;
+        if !cache.request_tile()? {
+            return Err(BenchError::WrongAnswer);
+        }
     }
     for _ in 0..TILES / 2 {
-        cache.evict()?;
+        if !cache.evict()? {
+            return Err(BenchError::WrongAnswer);
+        }
     }
     Ok(cache)
 }
@@ -102,10 +105,13 @@ fn half_tiled(alloc: Global) -> Result<BoxCache, BenchError> {
 pub fn tiles(alloc: Global, calls: u32) -> Result<Answers, BenchError> {
     let mut cache = half_tiled(alloc)?;
     for turn in 0..calls {
-        if turn % 2 == 0 {
-            cache.request_tile()?;
+        let is_done = if turn % 2 == 0 {
+            cache.request_tile()?
         } else {
-            cache.evict()?;
+            cache.evict()?
+        };
+        if !is_done {
+            return Err(BenchError::WrongAnswer);
         }
     }
     Ok(cache.answers)

@@ -7,7 +7,7 @@ pub invariant_of-self : goal.invariant_of-self
 invariant_of-self g c =
     let long : vec_len c.self.inside.heads ≡ 2704 = omega (arith, c.self.invariant.count, c.self.inside.heads.ok) in
     let is = c.fill.ensures.items (λ y e. e) ∙ ap (λ n. replicate n blank_head) long in
-    subst (λ hs. IsTable hs c.none-self-inside.result) (sym is) (blank-table c.none-self-inside.result c.none-self-inside.ensures)
+    subst (λ hs. IsTable hs c.none-self-inside.result 2704) (sym is) (blank-table c.none-self-inside.result c.none-self-inside.ensures)
 
 pub returns : goal.returns
 returns g c =

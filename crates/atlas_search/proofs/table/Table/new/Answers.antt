@@ -6,7 +6,7 @@ use Rattle.atlas_search.proofs.table.Table.new.Goals as goal
 pub invariant_of-result : goal.invariant_of-result
 invariant_of-result g c =
     let is = c.in_ok-from_elem.ensures.items_if_clones_equal (λ y e. e) in
-    subst (λ hs. IsTable hs c.none.result) (sym is) (blank-table c.none.result c.none.ensures)
+    subst (λ hs. IsTable hs c.none.result 2704) (sym is) (blank-table c.none.result c.none.ensures)
 
 pub returns : goal.returns
 returns g c = λ k. ap (λ hs. is_used_at hs k) (c.in_ok-from_elem.ensures.items_if_clones_equal (λ y e. e)) ∙ used-blank k

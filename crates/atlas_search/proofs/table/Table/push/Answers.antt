@@ -1,18 +1,34 @@
-use Rattle.std.proofs.Common.{arith}
+use Rattle.std.proofs.Common.{◌≡◌, ◌+◌, ◌*◌, true, refl, sym, ◌∙◌, arith}
 use Rattle.std.proofs.lemmas.Bool.{both_ways}
-use Rattle.atlas_search.proofs.SearchLemmas.TableHeads.{read-head, read-low, is_slot, slot-is, no_slot-is, kept-table, written-table, head_of-same, head_of-other, low_of-same, low_of-other}
+use Rattle.atlas_search.specs.Tables.{is_used_at}
+use Rattle.atlas_search.proofs.SearchLemmas.TableHeads.{read-head, read-low, is_slot, slot-is, no_slot-is, kept-table, kept-mark, marked-table, head_of-same, head_of-other, low_of-same, low_of-other}
 use Rattle.atlas_search.proofs.table.Table.push.Goals as goal
 
-pub invariant_of-self : goal.invariant_of-self
-invariant_of-self g c = grind (arith, written-table c.self.inside.heads.items c.self.inside.marks c.mark.new.self c.args.at.row c.args.at.column, slot-is)
+pub invariant_of-self-else-self-at : goal.invariant_of-self-else-self-at
+invariant_of-self-else-self-at g c =
+    let t = c.self.inside in
+    kept-mark t.heads.items t.marks t.emptied (52 * c.args.at.row + c.args.at.column) (record { first = c.args.first; low = c.args.top })
+    c.self.invariant (omega (arith, c.requires.row, c.requires.column)) c.if-self-at.false
 
-pub returns-then-head : goal.returns-then-head
-returns-then-head g c = grind (arith, head_of-same, head_of-other, low_of-same, low_of-other, read-head, no_slot-is, both_ways)
+pub returns-else-self-at : goal.returns-else-self-at
+returns-else-self-at g c = grind (arith, head_of-same, head_of-other, low_of-same, low_of-other, read-head, no_slot-is, both_ways)
+
+pub invariant_of-self : goal.invariant_of-self
+invariant_of-self g c =
+    let t = c.self.inside in
+    marked-table t.heads.items t.marks t.emptied (52 * c.args.at.row + c.args.at.column) (record { first = c.args.first; low = c.args.top })
+    c.self.invariant (omega (arith, c.requires.row, c.requires.column)) c.mark.new.self c.args.at.row c.args.at.column c.requires.column refl
+    (slot-is c.args.first c.requires.slot) c.mark.ensures.this c.mark.ensures.others
+
+pub returns-then-self-at : goal.returns-then-self-at
+returns-then-self-at g c = grind (arith, head_of-same, head_of-other, low_of-same, low_of-other, read-head, no_slot-is, both_ways)
 
 pub invariant_of-self-else-head : goal.invariant_of-self-else-head
 invariant_of-self-else-head g c =
-    let hs = c.self.inside.heads.items in
-    grind (arith, kept-table hs c.self.inside.marks c.args.at.row c.args.at.column, is_slot, slot-is, read-head hs)
+    let t = c.self.inside in
+    let used : is_used_at t.heads.items (52 * c.args.at.row + c.args.at.column) ≡ true = grind (arith, is_slot, slot-is, read-head t.heads.items) in
+    kept-table t.heads.items t.marks t.emptied (52 * c.args.at.row + c.args.at.column) (record { first = c.args.first; low = c.min-head.result })
+    c.self.invariant (omega (arith, c.requires.row, c.requires.column)) (slot-is c.args.first c.requires.slot ∙ sym used)
 
 pub returns-else-head : goal.returns-else-head
 returns-else-head g c = grind (arith, head_of-same, head_of-other, low_of-same, low_of-other, read-low)

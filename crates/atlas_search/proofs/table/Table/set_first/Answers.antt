@@ -1,19 +1,55 @@
-use Rattle.std.proofs.Common.{◌∙◌, sym, arith}
-use Rattle.atlas_search.proofs.SearchLemmas.TableHeads.{read-low, slot-is, no_slot-is, kept-number, written-number, head_of-same, head_of-other, low_of-any}
+use Rattle.std.proofs.Common.{◌≡◌, ◌<◌, ◌∙◌, true, length, slice_set, ap, sym, arith}
+use Rattle.std.proofs.lemmas.List.{length-set}
+use Rattle.atlas_search.specs.declared.table.ListHead.{ListHead}
+use Rattle.atlas_search.specs.Tables.{is_used_at}
+use Rattle.atlas_search.proofs.SearchLemmas.TableHeads.{read-head, read-low, is_slot, slot-is, no_slot-is, kept-table, kept-mark, first-emptied, later-emptied, unmarked-table, head_of-same, head_of-other, low_of-any}
 use Rattle.atlas_search.proofs.table.Table.set_first.Goals as goal
 
 pub invariant_of-self : goal.invariant_of-self
 invariant_of-self g c =
-    written-number c.self.inside.heads.items c.self.inside.marks c.args.number (record { first = c.args.first; low = c.index_mut.result.now.low })
-    c.self.invariant c.requires.number c.unmark.new.self
-    (c.unmark.ensures.this ∙ sym (no_slot-is c.args.first c.if-first-eq-NO_SLOT.true)) c.unmark.ensures.others
+    let t = c.self.inside in
+    let used : is_used_at t.heads.items c.args.number ≡ true = grind (arith, c.requires.used) in
+    let e : ListHead = record { first = c.args.first; low = c.index_mut.result.now.low } in
+    let new = slice_set t.heads.items c.args.number e in
+    let inside : t.emptied < length new = omega (arith, c.if-before-lt-LISTS.true, c.self.invariant.count, length-set t.heads.items c.args.number e) in
+    let read = read-head new t.emptied c.index.result.now inside c.index.ensures in
+    let empty = ap is_slot (sym read) ∙ no_slot-is c.index.result.now.first c.if-index.true in
+    unmarked-table t.heads.items t.marks t.emptied c.args.number e c.self.invariant c.requires.number used c.if-self-number.true c.unmark.new.self empty
+    c.unmark.ensures.this c.unmark.ensures.others
+
+pub invariant_of-self-else-index : goal.invariant_of-self-else-index
+invariant_of-self-else-index g c =
+    let t = c.self.inside in
+    let used : is_used_at t.heads.items c.args.number ≡ true = grind (arith, c.requires.used) in
+    let e : ListHead = record { first = c.args.first; low = c.index_mut.result.now.low } in
+    let new = slice_set t.heads.items c.args.number e in
+    let inside : t.emptied < length new = omega (arith, c.if-before-lt-LISTS.true, c.self.invariant.count, length-set t.heads.items c.args.number e) in
+    let read = read-head new t.emptied c.index.result.now inside c.index.ensures in
+    let full = ap is_slot (sym read) ∙ slot-is c.index.result.now.first c.if-index.false in
+    later-emptied t.heads.items t.marks t.emptied c.args.number e c.self.invariant c.requires.number used c.if-self-number.true full
+
+pub invariant_of-self-else-before-lt-LISTS : goal.invariant_of-self-else-before-lt-LISTS
+invariant_of-self-else-before-lt-LISTS g c =
+    let t = c.self.inside in
+    let used : is_used_at t.heads.items c.args.number ≡ true = grind (arith, c.requires.used) in
+    first-emptied t.heads.items t.marks t.emptied c.args.number (record { first = c.args.first; low = c.index_mut.result.now.low })
+    c.self.invariant c.requires.number used c.if-self-number.true c.if-before-lt-LISTS.false
+
+pub invariant_of-self-else-self-number : goal.invariant_of-self-else-self-number
+invariant_of-self-else-self-number g c =
+    let t = c.self.inside in
+    kept-mark t.heads.items t.marks t.emptied c.args.number (record { first = c.args.first; low = c.index_mut.result.now.low })
+    c.self.invariant c.requires.number c.if-self-number.false
 
 pub invariant_of-self-else-first-eq-NO_SLOT : goal.invariant_of-self-else-first-eq-NO_SLOT
 invariant_of-self-else-first-eq-NO_SLOT g c =
-    grind (arith, kept-number c.self.inside.heads.items c.self.inside.marks c.args.number, slot-is)
+    grind (arith, kept-table c.self.inside.heads.items c.self.inside.marks c.self.inside.emptied c.args.number, slot-is)
 
-pub returns-then-first-eq-NO_SLOT : goal.returns-then-first-eq-NO_SLOT
-returns-then-first-eq-NO_SLOT g c = grind (arith, head_of-same, head_of-other, low_of-any, read-low)
+pub returns-then-index : goal.returns-then-index
+returns-then-index g c = grind (arith, head_of-same, head_of-other, low_of-any, read-low)
+
+pub returns-else-before-lt-LISTS : goal.returns-else-before-lt-LISTS
+returns-else-before-lt-LISTS g c = grind (arith, head_of-same, head_of-other, low_of-any, read-low)
 
 pub returns-else-first-eq-NO_SLOT : goal.returns-else-first-eq-NO_SLOT
 returns-else-first-eq-NO_SLOT g c = grind (arith, head_of-same, head_of-other, low_of-any, read-low)
