@@ -4,6 +4,7 @@ pub mod EntryKeeping
 pub mod EntryLemmas
 pub mod GatherLemmas
 pub mod Moves
+pub mod ReadyLemmas
 pub mod RelocateLemmas
 pub mod RepackLemmas
 pub mod RepackTelling

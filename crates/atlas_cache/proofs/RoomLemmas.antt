@@ -3,4 +3,5 @@ pub mod Growing
 pub mod Ordering
 pub mod Paging
 pub mod Repacking
+pub mod Reserving
 pub mod Standing

@@ -9,6 +9,7 @@ pub mod Rings
 pub mod Refusals
 pub mod Relocating
 pub mod Repacking
+pub mod Reserving
 pub mod Rooms
 pub mod Shrinking
 pub mod Tables

@@ -1,5 +1,5 @@
 //! The cache.
-ghost use Rattle.std.specs.Prelude.{◌≡◌, ◌≢◌, ◌↔◌, ◌⊎◌, ◌+◌, ◌<◌, ◌≤◌, [], false, length, slice_get, IfErr, IfOk, IfSome, IsOk};
+ghost use Rattle.std.specs.Prelude.{◌≡◌, ◌≢◌, ◌↔◌, ◌⊎◌, ◌+◌, ◌<◌, ◌≤◌, ℕ, [], false, length, slice_get, IfErr, IfOk, IfSome, IsOk};
 ghost use Rattle.std.specs.Prelude.{IsSome, IsTrue};
 ghost use Rattle.std.specs.Prelude.{Err, None, Ok, OnErr, vec_capacity, vec_len};
 ghost use Rattle.guillotiere.specs.Boxes.{IsPositive};
@@ -9,6 +9,7 @@ ghost use Rattle.atlas_cache.specs.Asking.{bordered, AreUsable, CanStand, IsFaul
 ghost use Rattle.atlas_cache.specs.Counting.{one_more};
 ghost use Rattle.atlas_cache.specs.Entries.{lying};
 ghost use Rattle.atlas_cache.specs.Refusals.{IsRefusedNew};
+ghost use Rattle.atlas_cache.specs.Reserving.{room_in, HasReserves, KeepsPageSizes};
 ghost use Rattle.atlas_cache.specs.Rooms.{page_sizes, HasRoomOnlyAmong, IsRefusal};
 ghost use Rattle.atlas_cache.specs.declared.error.CacheError.TheVariants.{Memory};
 ghost use Rattle.atlas_cache.specs.declared.inserted.Inserted.TheVariants.{FrameFull, Held, NeverFits, Placed};
@@ -218,6 +219,10 @@ impl<K: Copy + Eq + Hash, S: BuildHasher, A: Allocator + Copy> TextureCache<K, S
     /// A new key with an empty size, of which a side is 0 or below, becomes a blank entry: `Placed` with a place that is
     /// empty. It takes no room, so that no page changes and nothing goes, and it never goes for another key's room.
     /// While entries are in reserve, it is never refused with `Memory`.
+    ///
+    /// Nor is an insert that neither adds a page nor grows one, as a page has room or every page is there and at its largest,
+    /// with one entry in reserve (`reserve`), 4 slots on each page (`reserve_slots`), and room in the changes for one more than
+    /// there are entries. With n entries, 4n slots and room for n more than there are entries, none of n such inserts is.
     pub fn insert(
         &mut self,
         key: K,
@@ -243,6 +248,9 @@ impl<K: Copy + Eq + Hash, S: BuildHasher, A: Allocator + Copy> TextureCache<K, S
         ensures memory { (IsPositive (sides_of size) → ⊥) → 0 < self.old.reserved → result ≢ Err Memory }
         ensures takes { self.old.reserved ≤ self.new.reserved + 1 }
         ensures stays { (self.new.options ≡ self.old.options) × (self.new.frame ≡ self.old.frame) }
+        ensures reserves { (n : ℕ) → HasReserves (n + 1) (room_in changes.old) self.old → KeepsPageSizes size self.old
+            → (result ≢ Err Memory) × HasReserves n (room_in changes.new) self.new }
+        ensures full { IsFull self.old → IsFull self.new }
     {
         self.entries.prove_kept();
         if let Some((known, entry)) = look_up(&self.entries, &key) {
@@ -301,6 +309,10 @@ impl<K: Copy + Eq + Hash, S: BuildHasher, A: Allocator + Copy> TextureCache<K, S
         ensures inserts { Inserts asked key size result changes.old.items changes.new.items self.old self.new }
         ensures errors { IfErr result (IsRefusedNew (length self.new.entries)) }
         ensures room { IsNoneInUse self.old → result ≢ Ok FrameFull }
+        ensures reserves { (n : ℕ) → HasReserves (n + 1) (room_in changes.old) self.old
+            → (HasNoPageFor asked self.old → IsFull self.old)
+            → (result ≢ Err Memory) × HasReserves n (room_in changes.new) self.new }
+        ensures full { IsFull self.old → IsFull self.new }
     {
         let mut from = 0;
         let mut to = self.rooms.len() as usize;
@@ -338,6 +350,8 @@ impl<K: Copy + Eq + Hash, S: BuildHasher, A: Allocator + Copy> TextureCache<K, S
         ensures full { result ≡ Ok None → HasNoPageFor asked self.old }
         ensures refused { OnErr result (LooksSame self.old self.new) }
         ensures errors { IfErr result (IsRefusedNew (length self.new.entries)) }
+        ensures reserves { (n room : ℕ) → HasReserves (n + 1) room self.old
+            → (result ≢ Err Memory) × HasReserves n room self.new }
     {
         let granted = grant(
             &mut self.rooms,
@@ -372,6 +386,10 @@ impl<K: Copy + Eq + Hash, S: BuildHasher, A: Allocator + Copy> TextureCache<K, S
         ensures stays { result ≡ Ok None → (self.new ≡ self.old) × (changes.new.items ≡ changes.old.items) }
         ensures refused { OnErr result ((self.new ≡ self.old) × (changes.new.items ≡ changes.old.items)) }
         ensures errors { IfErr result IsRefusal }
+        ensures reserves { IsFull self.old → (n : ℕ) → HasReserves n (room_in changes.old) self.old
+            → HasReserves n (room_in changes.new) self.new }
+        ensures memory { IsFull self.old → 0 < room_in changes.old → result ≢ Err Memory }
+        ensures full { IsFull self.old → IsFull self.new }
     {
         changes.reserve(1)?;
         if let Some((page, size)) = self.rooms.grow_page()? {
@@ -395,6 +413,9 @@ impl<K: Copy + Eq + Hash, S: BuildHasher, A: Allocator + Copy> TextureCache<K, S
         ensures others { IfSome result (λ page. KeepsPages self.old.pages self.new.pages page) }
         ensures stops { result ≡ None → AreAllInUse self.old }
         ensures stays { result ≡ None → (self.new ≡ self.old) × (changes.new.items ≡ changes.old.items) }
+        ensures reserves { (n : ℕ) → HasReserves n (room_in changes.old) self.old
+            → HasReserves n (room_in changes.new) self.new }
+        ensures full { IsFull self.new }
     {
         let Some((number, entry)) = oldest_lying(&self.entries) else {
             return None;

@@ -1,6 +1,6 @@
 //! The pages of a cache, each an atlas: small steps, of which none evicts.
 ghost use Rattle.std.specs.Prelude.{◌≡◌, ◌≢◌, ◌↔◌, ◌*◌, ◌<◌, ◌≤◌, ℕ, min, pos, [], ◌∷◌, ◌++◌, length};
-ghost use Rattle.std.specs.Prelude.{slice_get, slice_set, IfErr, IfNone, IfOk, IfSome, IsOkUnless, IsSome, IsTrue};
+ghost use Rattle.std.specs.Prelude.{slice_get, slice_set, Err, IfErr, IfNone, IfOk, IfSome, IsOkUnless, IsSome, IsTrue};
 ghost use Rattle.std.specs.Prelude.{None, Ok, OnErr, OnOk, Some};
 ghost use Rattle.guillotiere.specs.Boxes.{Fits, IsPositive};
 ghost use Rattle.guillotiere.specs.Callers.{IsShortage};
@@ -14,9 +14,12 @@ ghost use Rattle.atlas_cache.specs.Entries.{no_page};
 ghost use Rattle.atlas_cache.specs.Rooms.{grown_sides, growth_left, page_sizes, AreAllLargest, AreLargestBelow};
 ghost use Rattle.atlas_cache.specs.Rooms.{rooms_of, IsAtLeast, IsFirstToGrow, IsNothingLive, IsRefusal, KeepsRooms};
 ghost use Rattle.atlas_cache.specs.Rooms.{HasRoomOnlyAmong, IsRounded, LargestHasRoom};
+ghost use Rattle.atlas_cache.specs.Reserving.{HaveSlots, UseAtMost};
 ghost use Rattle.atlas_cache.specs.Shrinking.{DropsIdle, IsLastInUse};
+ghost use Rattle.atlas_cache.specs.declared.error.CacheError.TheVariants.{Memory};
 
 mod repacking;
+mod reserving;
 mod usable;
 
 use crate::error::CacheError;
@@ -46,7 +49,8 @@ impl<A: Allocator + Copy> Model for Rooms<A> {
 // Why a cache refuses what an atlas refused.
 fn refusal(error: AtlasError) -> CacheError
     requires { IsShortage error }
-    ensures { IsRefusal result }
+    ensures refusal { IsRefusal result }
+    ensures memory { result ≡ Memory → error ≡ AtlasError.Memory }
 {
     match error {
         AtlasError::Slots => CacheError::Slots,
@@ -81,6 +85,8 @@ fn take<A: Allocator + Copy>(
     ensures none { result ≡ Ok None → pages.new.items ≡ pages.old.items }
     ensures refused { OnErr result (pages.new.items ≡ pages.old.items) }
     ensures errors { IfErr result IsRefusal }
+    ensures slots { UseAtMost 4 pages.old.items pages.new.items }
+    ensures memory { HaveSlots 4 pages.old.items → result ≢ Err Memory }
 {
     match pages[page].allocate(asked) {
         Ok(granted) => Ok(granted),
@@ -114,6 +120,8 @@ fn place_first<A: Allocator + Copy>(
     ensures none { result ≡ Ok None → pages.new.items ≡ pages.old.items }
     ensures refused { OnErr result (pages.new.items ≡ pages.old.items) }
     ensures errors { IfErr result IsRefusal }
+    ensures slots { UseAtMost 4 pages.old.items pages.new.items }
+    ensures memory { HaveSlots 4 pages.old.items → result ≢ Err Memory }
 {
     for page in from..to {
         if let Some(granted) = take(pages, page, asked)? {
@@ -130,6 +138,7 @@ fn give_back<A: Allocator + Copy>(pages: &mut Vec<AtlasAllocator<A>, A>, page: u
     ensures sizes { page_sizes pages.new.items ≡ page_sizes pages.old.items }
     ensures kept { (o : CacheOptions) → KeepsRooms (rooms_of o pages.old.items)
         → KeepsRooms (rooms_of o pages.new.items) }
+    ensures slots { UseAtMost 0 pages.old.items pages.new.items }
 {
     let _freed = pages[page].deallocate(id);
 }
@@ -395,6 +404,8 @@ impl<A: Allocator + Copy> Rooms<A> {
         ensures none { result ≡ Ok None → self.new ≡ self.old }
         ensures refused { OnErr result (self.new ≡ self.old) }
         ensures errors { IfErr result IsRefusal }
+        ensures slots { UseAtMost 4 self.old.pages self.new.pages }
+        ensures memory { HaveSlots 4 self.old.pages → result ≢ Err Memory }
     {
         let to = self.pages.len();
         self.place_among(0, to, asked)
@@ -424,6 +435,8 @@ impl<A: Allocator + Copy> Rooms<A> {
         ensures none { result ≡ Ok None → self.new ≡ self.old }
         ensures refused { OnErr result (self.new ≡ self.old) }
         ensures errors { IfErr result IsRefusal }
+        ensures slots { UseAtMost 4 self.old.pages self.new.pages }
+        ensures memory { HaveSlots 4 self.old.pages → result ≢ Err Memory }
     {
         place_first(&mut self.pages, &self.options, from, to, asked)
     }
@@ -435,6 +448,7 @@ impl<A: Allocator + Copy> Rooms<A> {
         ensures leaves { LeavesNoBoxOn self.old.pages self.new.pages page id }
         ensures sizes { page_sizes self.new.pages ≡ page_sizes self.old.pages }
         ensures options { self.new.options ≡ self.old.options }
+        ensures slots { UseAtMost 0 self.old.pages self.new.pages }
     {
         give_back(&mut self.pages, page as usize, id);
     }

@@ -116,3 +116,29 @@ fn reserved_entries_of_a_cache_take_no_more_memory(rt: HostRuntime) -> Result<()
     assert!(rt; asked.saturating_sub(reserved) >= 3);
     Ok(())
 }
+
+// On a full page of 4 by 4 keys each one more evicts one, each of 8 by 8 four, and none of either asks for memory.
+#[test]
+fn inserts_in_reserve_ask_for_no_memory(rt: HostRuntime) -> Result<(), Fail> {
+    let heap = Refusing::new(rt.alloc());
+    let options = options(size2(16, 16), 1, 0);
+    let mut cache = TextureCache::with_hasher(&heap, options, BuildHasherDefault::new())?;
+    let mut changes = Vec::new(&heap);
+    for key in 0..16 {
+        let _placed = insert(&mut cache, key, size2(4, 4), &mut changes)?;
+    }
+    cache.begin_frame();
+    cache.reserve(4)?;
+    cache.reserve_slots(16)?;
+    changes.reserve(20)?;
+    let made = heap.requests();
+    heap.refuse_nth(1);
+    for key in 16..20 {
+        let side = if key < 18 { 4 } else { 8 };
+        let placed = insert(&mut cache, key, size2(side, side), &mut changes)?;
+        assert!(rt; matches!(placed, Inserted::Placed(_)));
+    }
+    assert!(rt; heap.requests() == made);
+    assert!(rt; peek(&cache, 0).is_none() && peek(&cache, 19).is_some());
+    Ok(())
+}

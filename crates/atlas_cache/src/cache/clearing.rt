@@ -1,10 +1,13 @@
 //! What goes without another entry that comes, and room that is asked for beforehand.
-ghost use Rattle.std.specs.Prelude.{◌≡◌, ◌+◌, ◌≤◌, false, length, IsOk, IsOkUnless, IsTrue, OnErr, OnOk};
+ghost use Rattle.std.specs.Prelude.{◌≡◌, ◌+◌, ◌≤◌, false, length, map, IfErr, IsOk, IsOkUnless, IsTrue, OnErr, OnOk};
 ghost use Rattle.std.specs.Prelude.{vec_capacity, vec_len};
 ghost use Rattle.std.specs.List.{AllByRecursion};
-ghost use Rattle.atlas_cache.specs.Caches.{with_reserve};
+ghost use Rattle.guillotiere.specs.Stored.{state_of};
+ghost use Rattle.atlas_cache.specs.Caches.{with_reserve, IsFull};
 ghost use Rattle.atlas_cache.specs.Changes.{picture_of, ShowsSame};
 ghost use Rattle.atlas_cache.specs.Clearing.{all_forgotten, Clears, DropsLast, IsUsedSince, TellsChanges, Trims};
+ghost use Rattle.atlas_cache.specs.Reserving.{HaveSlots, UseAtMost};
+ghost use Rattle.atlas_cache.specs.Rooms.{IsRefusal};
 
 use crate::cache::TextureCache;
 use crate::cache::holding::{oldest, place_of, take_out};
@@ -51,6 +54,21 @@ impl<K: Copy + Eq + Hash, S: BuildHasher, A: Allocator + Copy> TextureCache<K, S
     {
         self.entries.reserve(additional)?;
         Ok(())
+    }
+
+    /// At least so many slots are in reserve on each page from now on. An insert that neither adds a page nor grows one takes
+    /// at most 4 of each page; a page that is added later has none in reserve, one that grows takes up to 3 of its own, and
+    /// one that is repacked may have none. Nothing else changes. `Slots` if those of a page don't suffice, `Memory` if memory
+    /// is refused; the pages before that one have theirs in reserve then.
+    pub fn reserve_slots(&mut self, additional: u32) -> Result<(), CacheError>
+        ensures ready { OnOk result (HaveSlots additional self.new.pages) }
+        ensures states { map state_of self.new.pages ≡ map state_of self.old.pages }
+        ensures slots { UseAtMost 0 self.old.pages self.new.pages }
+        ensures rest { self.new ≡ record self.old { pages = self.new.pages } }
+        ensures full { IsFull self.old → IsFull self.new }
+        ensures errors { IfErr result IsRefusal }
+    {
+        self.rooms.reserve_slots(additional)
     }
 
     // The entries that weren't used for so many frames go.

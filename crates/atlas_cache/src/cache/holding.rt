@@ -6,6 +6,7 @@ ghost use Rattle.atlas_cache.specs.Caches.{entries_of, entry_for, shown, HoldsEn
 ghost use Rattle.atlas_cache.specs.Changes.{GetsPlace};
 ghost use Rattle.atlas_cache.specs.Entries.{entry_at, is_blank, lying, number_of, without_number, IsNextNumber};
 ghost use Rattle.atlas_cache.specs.Refusals.{IsRefusedNew, IsWithoutNumber};
+ghost use Rattle.atlas_cache.specs.Reserving.{HaveSlots, UseAtMost};
 ghost use Rattle.atlas_cache.specs.Rooms.{page_sizes, HasRoomOnlyAmong, IsRounded};
 ghost use Rattle.atlas_cache.specs.declared.error.CacheError.TheVariants.{Memory};
 
@@ -122,6 +123,8 @@ pub fn grant<K: Copy + Eq + Hash, S: BuildHasher, A: Allocator + Copy>(
     ensures refused { OnErr result (HasSameRectangles rooms.old.pages rooms.new.pages
         × (entries.new ≡ entries.old)) }
     ensures errors { IfErr result (IsRefusedNew (length entries.old.entries)) }
+    ensures slots { UseAtMost 4 rooms.old.pages rooms.new.pages }
+    ensures memory { 0 < entries.old.reserved → HaveSlots 4 rooms.old.pages → result ≢ Err Memory }
 {
     let Some((page, granted)) = rooms.place_among(from, to, asked)? else {
         return Ok(None);
@@ -193,6 +196,7 @@ pub fn take_out<K: Copy + Eq + Hash, S: BuildHasher, A: Allocator + Copy>(
     ensures leaves { LeavesNoBoxOn rooms.old.pages rooms.new.pages entry.page entry.id }
     ensures sizes { page_sizes rooms.new.pages ≡ page_sizes rooms.old.pages }
     ensures options { rooms.new.options ≡ rooms.old.options }
+    ensures slots { UseAtMost 0 rooms.old.pages rooms.new.pages }
 {
     entries.remove(number);
     if entry.page < rooms.len() {

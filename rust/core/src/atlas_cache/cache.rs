@@ -146,6 +146,10 @@ impl<K: Copy + Eq + Hash, S: BuildHasher, A: Allocator + Copy> TextureCache<K, S
     /// A new key with an empty size, of which a side is 0 or below, becomes a blank entry: `Placed` with a place that is
     /// empty. It takes no room, so that no page changes and nothing goes, and it never goes for another key's room.
     /// While entries are in reserve, it is never refused with `Memory`.
+    ///
+    /// Nor is an insert that neither adds a page nor grows one, as a page has room or every page is there and at its largest,
+    /// with one entry in reserve (`reserve`), 4 slots on each page (`reserve_slots`), and room in the changes for one more than
+    /// there are entries. With n entries, 4n slots and room for n more than there are entries, none of n such inserts is.
     #[inline]
     pub fn insert(
         &mut self,

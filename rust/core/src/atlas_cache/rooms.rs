@@ -2,6 +2,7 @@
 //! The pages of a cache, each an atlas: small steps, of which none evicts.
 
 mod repacking;
+mod reserving;
 mod usable;
 
 use crate::atlas_cache::error::CacheError;

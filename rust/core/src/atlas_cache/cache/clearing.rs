@@ -38,6 +38,15 @@ impl<K: Copy + Eq + Hash, S: BuildHasher, A: Allocator + Copy> TextureCache<K, S
         Ok(())
     }
 
+    /// At least so many slots are in reserve on each page from now on. An insert that neither adds a page nor grows one takes
+    /// at most 4 of each page; a page that is added later has none in reserve, one that grows takes up to 3 of its own, and
+    /// one that is repacked may have none. Nothing else changes. `Slots` if those of a page don't suffice, `Memory` if memory
+    /// is refused; the pages before that one have theirs in reserve then.
+    #[inline]
+    pub fn reserve_slots(&mut self, additional: u32) -> Result<(), CacheError> {
+        self.rooms.reserve_slots(additional)
+    }
+
     // The entries that weren't used for so many frames go.
     #[inline]
     fn drop_unused(&mut self, frames: u64, changes: &mut Changes<K, A>) {

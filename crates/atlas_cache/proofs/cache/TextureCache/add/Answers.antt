@@ -1,6 +1,9 @@
-use Rattle.std.proofs.Common.{ap, refl, Ok, arith, ◌∙◌}
+use Rattle.std.proofs.Common.{ap, refl, length, Err, Ok, arith, rules, ◌∙◌, ◌≡◌, ◌+◌, ◌*◌}
 use Rattle.atlas_cache.proofs.CacheLemmas.{is_bordered}
 use Rattle.atlas_cache.proofs.ListLemmas.{length-listed, not-numbered}
+use Rattle.atlas_cache.specs.Caches.{entries_of}
+use Rattle.atlas_cache.proofs.ReadyLemmas.{error_is, one_fewer, reserves_left}
+use Rattle.atlas_cache.proofs.RoomLemmas.Reserving.{none_used, slots_left}
 use Rattle.atlas_cache.proofs.cache.TextureCache.add.Goals as goal
 
 pub grant-requires-clause-absent : goal.grant-requires-clause-absent
@@ -62,3 +65,30 @@ returns-clause-adds g c =
       frame = refl;
       counts = refl;
     })
+
+pub returns-in_err-granted-clause-reserves : goal.returns-in_err-granted-clause-reserves
+returns-in_err-granted-clause-reserves g c =
+    let same : c.from_residual.result ≡ Err c.in_err-granted.field-0.0 = search rules in
+    rw (← c.self.view_is) (λ n room had. (
+      λ is. c.in_err-granted.ensures.memory (omega (arith, had.entries))
+          (slots_left 0 4 (4 * (n + 1)) _ _ (omega arith) (none_used 0 _) had.slots)
+          (ap Err (error_is c.in_err-granted.field-0.0 c.from_residual.result same is)),
+      reserves_left n (n + 1) room room 4 _ _ c.grant.ensures.slots (omega arith)
+          (omega (arith, ap (λ t. t.reserved) c.in_err-granted.ensures.refused.1))
+          (omega (arith, ap (λ t. length (entries_of t.entries)) c.in_err-granted.ensures.refused.1)) had,
+    ))
+
+pub returns-in_default-clause-reserves : goal.returns-in_default-clause-reserves
+returns-in_default-clause-reserves g c =
+    let same = c.in_ok-granted.ensures.none (ap Ok c.in_default.is) in
+    rw (← c.self.view_is, same.0, same.1) (λ n room had. (λ is. cc, one_fewer n room _ had))
+
+pub returns-clause-reserves : goal.returns-clause-reserves
+returns-clause-reserves g c =
+    let first = rw c.in-Some.is at c.in_ok-granted.ensures.first in
+    let reserved = rw c.in-Some.is at c.in_ok-granted.ensures.reserved in
+    rw (← c.self.view_is) (λ n room had. (
+      λ is. cc,
+      reserves_left n (n + 1) room room 4 _ _ c.grant.ensures.slots (omega arith) (omega (arith, reserved))
+          (omega (arith, ap length first)) had,
+    ))

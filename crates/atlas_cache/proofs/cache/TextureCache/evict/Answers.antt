@@ -1,4 +1,4 @@
-use Rattle.std.proofs.Common.{refl, arith}
+use Rattle.std.proofs.Common.{ap, length, refl, arith, ◌≡◌, ◌++◌}
 use Rattle.atlas_cache.specs.Caches.{entries_of}
 use Rattle.atlas_cache.specs.Entries.{without_number}
 use Rattle.atlas_cache.specs.declared.changes.CacheChange.TheVariants.{Evicted}
@@ -6,6 +6,7 @@ use Rattle.atlas_cache.proofs.CacheLemmas.{bordered-at, rectangle-live, rest_bor
 use Rattle.atlas_cache.proofs.BlankLemmas.{all-in-use, falls-here, length-less}
 use Rattle.atlas_cache.proofs.ListLemmas.{parts}
 use Rattle.atlas_cache.proofs.RoomLemmas.Paging.{as_many, page_of}
+use Rattle.atlas_cache.proofs.ReadyLemmas.{full_stays, reserves_left}
 use Rattle.atlas_cache.proofs.cache.TextureCache.evict.Goals as goal
 
 pub returns-in_default-clause-stops : goal.returns-in_default-clause-stops
@@ -96,3 +97,25 @@ returns-clause-there g c =
 
 pub returns-clause-others : goal.returns-clause-others
 returns-clause-others g c = rw (← c.self.view_is) c.take_out.ensures.leaves.others
+
+pub returns-in_default-clause-reserves : goal.returns-in_default-clause-reserves
+returns-in_default-clause-reserves g c = rw (← c.self.view_is) (λ n had. had)
+
+pub returns-then-entry-self-clause-reserves : goal.returns-then-entry-self-clause-reserves
+returns-then-entry-self-clause-reserves g c = rw (← c.self.view_is) (λ n had. had)
+
+pub returns-clause-reserves : goal.returns-clause-reserves
+returns-clause-reserves g c =
+    let w = rw c.in-Some.is at c.oldest_lying.ensures.last in
+    let fewer = length-less w.newer c.in-Some.entry w.older in
+    let was = ap length w.was in
+    let is : length (entries_of c.take_out.new.entries.entries) ≡ length (w.newer ++ w.older) =
+    rw c.take_out.ensures.without (ap length w.others) in
+    rw (← c.self.view_is) (λ n had.
+    reserves_left n n _ _ 0 _ _ c.take_out.ensures.slots (omega arith) (omega (arith, c.take_out.ensures.reserved))
+    (omega (arith, fewer, was, is, c.push_reserved.ensures.len, c.push_reserved.ensures.capacity, c.requires.room)) had)
+
+pub returns-clause-full : goal.returns-clause-full
+returns-clause-full g c =
+    full_stays c.args.self.now _ (rw (← c.self.view_is) c.take_out.ensures.options) (rw (← c.self.view_is) c.take_out.ensures.sizes)
+    c.requires.full

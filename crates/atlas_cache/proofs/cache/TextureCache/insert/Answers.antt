@@ -1,4 +1,4 @@
-use Rattle.std.proofs.Common.{◌≡◌, ap, refl, sym, ◌∙◌, ◌∷◌, [], arith, rules}
+use Rattle.std.proofs.Common.{◌≡◌, ◌+◌, ap, length, refl, subst, sym, ◌∙◌, ◌∷◌, ◌++◌, [], arith, rules}
 use Rattle.atlas_cache.specs.Caches.{CacheState, entries_of}
 use Rattle.atlas_cache.specs.Changes.{Uses}
 use Rattle.atlas_cache.specs.Entries.{without_number}
@@ -8,6 +8,13 @@ use Rattle.atlas_cache.proofs.InsertLemmas.{blank_takes, inserts_stay, inserts_t
 use Rattle.atlas_cache.proofs.KeyLemmas.{found_named, own_keys}
 use Rattle.atlas_cache.proofs.ListLemmas.{append-none, parts}
 use Rattle.atlas_cache.proofs.PictureLemmas.{blanks_tell, inserts_tell, same_shown, uses_tell}
+use Rattle.guillotiere.specs.declared.Size.{Size}
+use Rattle.guillotiere.specs.Pixels.{size_of}
+use Rattle.atlas_cache.specs.Asking.{bordered}
+use Rattle.atlas_cache.specs.Caches.{HasNoPageFor}
+use Rattle.atlas_cache.proofs.BlankLemmas.{length-less}
+use Rattle.atlas_cache.proofs.ReadyLemmas.{blank_full, blank_reserves, one_fewer, reserves_left}
+use Rattle.atlas_cache.proofs.RoomLemmas.Reserving.{none_used}
 use Rattle.atlas_cache.proofs.cache.TextureCache.insert.Goals as goal
 
 pub place_of-requires : goal.place_of-requires
@@ -159,3 +166,43 @@ returns-clause-told g c =
     inserts_tell g.K.PartialEq.eq g.met.K.Eq.laws c.in-Some-asked.asked c.args.key c.args.size c.insert_new.result
     c.args.changes.now.items c.insert_new.new.changes.items c.args.self.now c.insert_new.new.self (rw (← c.self.view_is) own)
     c.insert_new.ensures.inserts
+
+pub returns-then-ne-clause-reserves : goal.returns-then-ne-clause-reserves
+returns-then-ne-clause-reserves g c = rw (← c.self.view_is) (λ n had _. (λ is. cc, one_fewer n _ _ had))
+
+pub returns-in-Some-clause-reserves : goal.returns-in-Some-clause-reserves
+returns-in-Some-clause-reserves g c =
+    let found = rw c.in-Some.is at c.look_up.ensures.found in
+    let it = c.self.inside in
+    let n = c.in-Some.known in
+    let e = c.in-Some.entry in
+    let p = parts n it.entries.entries e found.at in
+    let less = length-less p.newer e p.older in
+    let now : length (entries_of c.touch.new.self.entries) ≡ length (p.newer ++ p.older) + 1 =
+    rw (c.touch.ensures.entries, touched-is n it.frame it.entries.entries e found.at) (omega (arith, ap length p.rests)) in
+    rw (← c.self.view_is) (λ k had _. (
+      λ is. cc,
+      reserves_left k (k + 1) _ _ 4 _ _ (none_used 4 it.rooms.pages) (omega arith) (omega (arith, c.touch.ensures.reserved))
+          (omega (arith, less, ap length p.was, now)) had,
+    ))
+
+pub returns-then-not-is_positive-clause-reserves : goal.returns-then-not-is_positive-clause-reserves
+returns-then-not-is_positive-clause-reserves g c = λ n had _. (
+  c.add_blank.ensures.memory (omega (arith, had.entries)),
+  blank_reserves c.args.key c.args.size c.add_blank.result c.args.self.now c.add_blank.new.self n _ c.add_blank.ensures.inserts had,
+)
+
+pub returns-then-not-is_positive-clause-full : goal.returns-then-not-is_positive-clause-full
+returns-then-not-is_positive-clause-full g c =
+    blank_full c.args.key c.args.size c.add_blank.result c.args.self.now c.add_blank.new.self c.add_blank.ensures.inserts
+
+pub returns-in_default-asked-clause-reserves : goal.returns-in_default-asked-clause-reserves
+returns-in_default-asked-clause-reserves g c = rw (← c.self.view_is) (λ n had _. (λ is. cc, one_fewer n _ _ had))
+
+pub returns-clause-reserves : goal.returns-clause-reserves
+returns-clause-reserves g c = λ n had keeps.
+    let stands = c.in-Some-asked.ensures.0 in
+    let asked = rw c.options-2.ensures.options at c.in-Some-asked.ensures.1 in
+    let is : c.in-Some-asked.asked ≡ size_of (bordered c.args.self.now.options c.args.size) = rw (← c.self.view_is) asked in
+    c.insert_new.ensures.reserves n had (λ none.
+    keeps stands.positive (subst (λ (asked : Size). HasNoPageFor asked c.args.self.now) is none))

@@ -1,5 +1,6 @@
-use Rattle.std.proofs.Common.{◌≡◌, ◌≤◌, length, None}
-use Rattle.atlas_cache.specs.Caches.{entry_for, steps_left}
+use Rattle.std.proofs.Common.{◌≡◌, ◌≤◌, ℕ, length, None}
+use Rattle.atlas_cache.specs.Caches.{entry_for, steps_left, HasNoPageFor, IsFull}
+use Rattle.atlas_cache.specs.Reserving.{room_in, HasReserves}
 use Rattle.atlas_cache.specs.Rooms.{HasRoomOnlyAmong}
 use Rattle.atlas_cache.proofs.LoopLemmas.{Reached}
 use Rattle.atlas_cache.proofs.cache.TextureCache.insert_new.Given as goal
@@ -12,6 +13,10 @@ invariant-loop-place g l =
       options : l.self.options ≡ l.fn.self.options;
       inside : l.to ≤ length l.self.pages;
       others : HasRoomOnlyAmong l.asked l.self.pages l.from l.to;
+      full : IsFull l.fn.self → IsFull l.self;
+      keeps : (HasNoPageFor l.asked l.fn.self → IsFull l.fn.self) → HasNoPageFor l.asked l.self → IsFull l.self;
+      reserves : (n : ℕ) → (HasNoPageFor l.asked l.fn.self → IsFull l.fn.self) → HasReserves n (room_in l.fn.changes) l.fn.self
+          → HasReserves n (room_in l.changes) l.self;
     }
 
 abbrev pub decreases-loop-place : goal.decreases-loop-place

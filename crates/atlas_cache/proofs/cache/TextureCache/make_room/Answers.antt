@@ -1,7 +1,9 @@
-use Rattle.std.proofs.Common.{ap, Ok}
+use Rattle.std.proofs.Common.{ap, arith, Ok}
 use Rattle.atlas_cache.specs.Caches.{entries_of}
 use Rattle.atlas_cache.specs.Entries.{lying}
 use Rattle.atlas_cache.proofs.HoldingLemmas.{stays}
+use Rattle.atlas_cache.proofs.ReadyLemmas.{reserves_left}
+use Rattle.atlas_cache.proofs.RoomLemmas.Reserving.{none_used}
 use Rattle.atlas_cache.proofs.cache.TextureCache.make_room.Goals as goal
 
 pub invariant_of-self-in-Some : goal.invariant_of-self-in-Some
@@ -24,3 +26,70 @@ invariant_of-self-in-Some-2 g c =
       bordered = was.bordered;
       frames = was.frames;
     })
+
+pub returns-in_err-reserve-clause-reserves : goal.returns-in_err-reserve-clause-reserves
+returns-in_err-reserve-clause-reserves g c = λ full n had.
+    reserves_left n n _ _ 0 _ _ (none_used 0 _) (omega arith) (omega arith)
+    (omega (arith, c.reserve.ensures.len, c.reserve.ensures.capacity)) had
+
+pub returns-in_err-reserve-clause-memory : goal.returns-in_err-reserve-clause-memory
+returns-in_err-reserve-clause-memory g c = λ full some is. omega (arith, some, c.in_err-reserve.ensures.full)
+
+pub returns-in_err-page-clause-reserves : goal.returns-in_err-page-clause-reserves
+returns-in_err-page-clause-reserves g c = λ full n had.
+    let it = rw (← c.self.view_is) at full in let no = c.in_err-page.ensures.none.1 it.largest in cc
+
+pub returns-in_err-page-clause-memory : goal.returns-in_err-page-clause-memory
+returns-in_err-page-clause-memory g c = λ full some is.
+    let it = rw (← c.self.view_is) at full in let no = c.in_err-page.ensures.none.1 it.largest in cc
+
+pub returns-in_err-page-clause-full : goal.returns-in_err-page-clause-full
+returns-in_err-page-clause-full g c = λ full.
+    let it = rw (← c.self.view_is) at full in let no = c.in_err-page.ensures.none.1 it.largest in cc
+
+pub returns-in-Some-clause-reserves : goal.returns-in-Some-clause-reserves
+returns-in-Some-clause-reserves g c = λ full n had.
+    let it = rw (← c.self.view_is) at full in let no = c.in_ok-page.ensures.none.1 it.largest in cc
+
+pub returns-in-Some-clause-full : goal.returns-in-Some-clause-full
+returns-in-Some-clause-full g c = λ full.
+    let it = rw (← c.self.view_is) at full in let no = c.in_ok-page.ensures.none.1 it.largest in cc
+
+pub returns-in_err-page-2-clause-reserves : goal.returns-in_err-page-2-clause-reserves
+returns-in_err-page-2-clause-reserves g c = λ full n had.
+    let it = rw (← c.self.view_is) at full in
+    let same = c.in_ok-page.ensures.nothing (ap Ok c.in_default.is) in
+    let none = rw same at c.in_err-page-2.ensures.none in let no = none.1 it.all in cc
+
+pub returns-in_err-page-2-clause-memory : goal.returns-in_err-page-2-clause-memory
+returns-in_err-page-2-clause-memory g c = λ full some is.
+    let it = rw (← c.self.view_is) at full in
+    let same = c.in_ok-page.ensures.nothing (ap Ok c.in_default.is) in
+    let none = rw same at c.in_err-page-2.ensures.none in let no = none.1 it.all in cc
+
+pub returns-in_err-page-2-clause-full : goal.returns-in_err-page-2-clause-full
+returns-in_err-page-2-clause-full g c = λ full.
+    let it = rw (← c.self.view_is) at full in
+    let same = c.in_ok-page.ensures.nothing (ap Ok c.in_default.is) in
+    let none = rw same at c.in_err-page-2.ensures.none in let no = none.1 it.all in cc
+
+pub returns-in-Some-2-clause-reserves : goal.returns-in-Some-2-clause-reserves
+returns-in-Some-2-clause-reserves g c = λ full n had.
+    let it = rw (← c.self.view_is) at full in
+    let same = c.in_ok-page.ensures.nothing (ap Ok c.in_default.is) in
+    let none = rw same at c.in_ok-page-2.ensures.none in let no = none.1 it.all in cc
+
+pub returns-in-Some-2-clause-full : goal.returns-in-Some-2-clause-full
+returns-in-Some-2-clause-full g c = λ full.
+    let it = rw (← c.self.view_is) at full in
+    let same = c.in_ok-page.ensures.nothing (ap Ok c.in_default.is) in
+    let none = rw same at c.in_ok-page-2.ensures.none in let no = none.1 it.all in cc
+
+pub returns-clause-reserves : goal.returns-clause-reserves
+returns-clause-reserves g c =
+    let one = c.in_ok-page.ensures.nothing (ap Ok c.in_default.is) in
+    let two = c.in_ok-page-2.ensures.nothing (ap Ok c.in_default-2.is) in
+    let goes = rw (two, one) at c.evict.ensures.reserves in
+    rw (← c.self.view_is) (λ full n had. goes n (
+    reserves_left n n _ _ 0 _ _ (none_used 0 _) (omega arith) (omega arith)
+    (omega (arith, c.reserve.ensures.len, c.reserve.ensures.capacity)) had))

@@ -5,6 +5,7 @@ use Rattle.atlas_cache.specs.Caches.{entries_of}
 use Rattle.atlas_cache.specs.Entries.{is_blank, lying, no_page}
 use Rattle.atlas_cache.specs.declared.entries.Entry.{Entry}
 use Rattle.atlas_cache.proofs.HoldingLemmas.{joined, stays}
+use Rattle.atlas_cache.proofs.RoomLemmas.Reserving.{both_used}
 use Rattle.atlas_cache.proofs.cache.holding.grant.Goals as goal
 
 pub returns-in-Ok-clause-held : goal.returns-in-Ok-clause-held
@@ -39,3 +40,8 @@ pub returns-in-Err-clause-refused : goal.returns-in-Err-clause-refused
 returns-in-Err-clause-refused g c =
     let adds = rw c.in-Some.is at c.in_ok-page.ensures.adds in
     (pages_given_back _ _ _ _ _ _ adds c.free.ensures.leaves, c.in-Err.ensures.refused)
+
+pub returns-in-Err-clause-slots : goal.returns-in-Err-clause-slots
+returns-in-Err-clause-slots g c =
+    both_used 4 0 4 c.args.rooms.now.pages c.place_among.new.self.pages c.free.new.self.pages (omega arith) c.place_among.ensures.slots
+    c.free.ensures.slots

@@ -4,6 +4,7 @@ use Rattle.atlas_cache.specs.Caches.{entries_of}
 use Rattle.atlas_cache.specs.Entries.{is_blank, no_page, without_number}
 use Rattle.atlas_cache.proofs.CacheLemmas.{number-at, pages_stay, rectangle-live, rest_held, rest_off}
 use Rattle.atlas_cache.proofs.ListLemmas.{parts}
+use Rattle.atlas_cache.proofs.RoomLemmas.Reserving.{none_used}
 use Rattle.atlas_cache.proofs.cache.holding.take_out.Goals as goal
 
 pub remove-requires : goal.remove-requires
@@ -36,3 +37,6 @@ returns-else-entry-len-clause-held g c =
 pub returns-else-entry-len-clause-leaves : goal.returns-else-entry-len-clause-leaves
 returns-else-entry-len-clause-leaves g c =
     pages_stay c.args.rooms.now.pages c.args.entry.page c.args.entry.id (omega (arith, c.if-entry-len.false, c.len.ensures.pages))
+
+pub returns-else-entry-len-clause-slots : goal.returns-else-entry-len-clause-slots
+returns-else-entry-len-clause-slots g c = none_used 0 c.args.rooms.now.pages

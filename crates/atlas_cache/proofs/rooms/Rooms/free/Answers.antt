@@ -7,3 +7,6 @@ give_back-requires g c =
 
 pub invariant_of-self : goal.invariant_of-self
 invariant_of-self g c = c.give_back.ensures.kept c.self.inside.options c.self.invariant
+
+pub returns-clause-slots : goal.returns-clause-slots
+returns-clause-slots g c = rw (← c.self.view_is) c.give_back.ensures.slots

@@ -31,3 +31,9 @@ place_first-requires-clause-others g c = rw (← c.self.view_is) at c.requires.o
 
 pub place_first-requires-clause-inside : goal.place_first-requires-clause-inside
 place_first-requires-clause-inside g c = rw (← c.self.view_is) at c.requires.inside
+
+pub returns-clause-slots : goal.returns-clause-slots
+returns-clause-slots g c = rw (← c.self.view_is) c.place_first.ensures.slots
+
+pub returns-clause-memory : goal.returns-clause-memory
+returns-clause-memory g c = rw (← c.self.view_is) c.place_first.ensures.memory

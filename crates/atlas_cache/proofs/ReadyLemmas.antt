@@ -1,0 +1,63 @@
+-- What an insert leaves in reserve.
+use Rattle.std.proofs.Common.{ℕ, ◌≡◌, ◌≢◌, ◌+◌, ◌*◌, ◌<◌, ◌≤◌, ◌∙◌, List, length, Result, Ok, Err, sym, ap, arith}
+use Rattle.guillotiere.specs.declared.Size.{Size}
+use Rattle.guillotiere.specs.Stored.{AtlasValue}
+use Rattle.atlas_cache.specs.declared.error.CacheError.{CacheError}
+use Rattle.atlas_cache.specs.declared.error.CacheError.TheVariants.{Memory}
+use Rattle.atlas_cache.specs.declared.inserted.Inserted.{Inserted}
+use Rattle.atlas_cache.specs.declared.inserted.Inserted.TheVariants.{Placed, Held, FrameFull, NeverFits}
+use Rattle.atlas_cache.specs.declared.options.CacheOptions.{CacheOptions}
+use Rattle.atlas_cache.specs.Caches.{CacheState, IsFull}
+use Rattle.atlas_cache.specs.Changes.{InsertsBlank}
+use Rattle.atlas_cache.specs.Reserving.{HasReserves, UseAtMost}
+use Rattle.atlas_cache.specs.Rooms.{page_sizes}
+use Rattle.atlas_cache.proofs.RoomLemmas.Paging.{as_many}
+use Rattle.atlas_cache.proofs.RoomLemmas.Reserving.{none_used, slots_left}
+
+-- What an error is that is passed on.
+pub error_is : {X : Type 0} (error : CacheError) (result : Result X CacheError) → result ≡ Err error → result ≡ Err Memory
+    → error ≡ Memory
+error_is error result is memory = let same = sym is ∙ memory in cc
+
+module _ {K : Type 0} where
+  -- Where the sizes and the options stay, every page is there and at its largest still.
+  pub full_stays : (s t : CacheState K) → t.options ≡ s.options → page_sizes t.pages ≡ page_sizes s.pages → IsFull s → IsFull t
+  full_stays s t options sizes full = record {
+    all = as_many s.pages t.pages sizes ∙ full.all ∙ ap (λ (o : CacheOptions). o.pages) (sym options);
+    largest = rw (options, sizes) full.largest;
+  }
+
+  -- What is left after a step that takes one entry at most, 4 slots of a page, and room for one change more than entries go.
+  pub reserves_left : (n k room left uses : ℕ) (s t : CacheState K) → UseAtMost uses s.pages t.pages → 4 * n + uses ≤ 4 * k
+      → n + s.reserved ≤ k + t.reserved → length t.entries + n + room ≤ length s.entries + k + left
+      → HasReserves k room s → HasReserves n left t
+  reserves_left n k room left uses s t slots most entries changes had = record {
+    entries = omega (arith, entries, had.entries);
+    slots = slots_left uses (4 * n) (4 * k) s.pages t.pages most slots had.slots;
+    changes = omega (arith, changes, had.changes);
+  }
+
+  -- Where one more is had, this many are.
+  pub one_fewer : (n room : ℕ) (s : CacheState K) → HasReserves (n + 1) room s → HasReserves n room s
+  one_fewer n room s had =
+      reserves_left n (n + 1) room room 4 s s (none_used 4 s.pages) (omega arith) (omega arith) (omega arith) had
+
+  -- A key of an empty size takes one entry at most, and nothing of the pages.
+  pub blank_reserves : (key : K) (size : Size) (result : Result Inserted CacheError) (s t : CacheState K) (n room : ℕ)
+      → InsertsBlank key size result s t → HasReserves (n + 1) room s → HasReserves n room t
+  blank_reserves key size (Ok (Placed place)) s t n room ins had =
+      reserves_left n (n + 1) room room 4 s t (rw ins.pages (none_used 4 s.pages)) (omega arith) (omega (arith, ins.reserved))
+      (omega (arith, ap length ins.first)) had
+  blank_reserves key size (Ok (Held place)) s t n room ins had = absurd ins
+  blank_reserves key size (Ok FrameFull) s t n room ins had = absurd ins
+  blank_reserves key size (Ok NeverFits) s t n room ins had = absurd ins
+  blank_reserves key size (Err error) s t n room ins had = rw ins.0 (one_fewer n room s had)
+
+  -- And it changes no page.
+  pub blank_full : (key : K) (size : Size) (result : Result Inserted CacheError) (s t : CacheState K)
+      → InsertsBlank key size result s t → IsFull s → IsFull t
+  blank_full key size (Ok (Placed place)) s t ins full = full_stays s t ins.options (ap page_sizes ins.pages) full
+  blank_full key size (Ok (Held place)) s t ins full = absurd ins
+  blank_full key size (Ok FrameFull) s t ins full = absurd ins
+  blank_full key size (Ok NeverFits) s t ins full = absurd ins
+  blank_full key size (Err error) s t ins full = rw ins.0 full

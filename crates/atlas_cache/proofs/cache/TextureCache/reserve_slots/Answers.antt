@@ -1,0 +1,28 @@
+use Rattle.std.proofs.Common.{refl}
+use Rattle.atlas_cache.specs.Caches.{entries_of}
+use Rattle.atlas_cache.specs.Entries.{lying}
+use Rattle.atlas_cache.proofs.HoldingLemmas.{stays}
+use Rattle.atlas_cache.proofs.ReadyLemmas.{full_stays}
+use Rattle.atlas_cache.proofs.RoomLemmas.Reserving.{same_rectangles, same_sizes}
+use Rattle.atlas_cache.proofs.cache.TextureCache.reserve_slots.Goals as goal
+
+pub invariant_of-self : goal.invariant_of-self
+invariant_of-self g c =
+    let was = c.self.invariant in
+    let old = c.self.inside.rooms.pages in
+    let new = c.reserve_slots.new.self.pages in
+    rw c.reserve_slots.ensures.options (record {
+      held = stays old new (same_rectangles old new c.reserve_slots.ensures.states) (lying (entries_of c.self.inside.entries.entries))
+          was.held;
+      bordered = was.bordered;
+      frames = was.frames;
+    })
+
+pub returns-clause-rest : goal.returns-clause-rest
+returns-clause-rest g c = rw (← c.self.view_is, c.reserve_slots.ensures.options) refl
+
+pub returns-clause-full : goal.returns-clause-full
+returns-clause-full g c =
+    let states = c.reserve_slots.ensures.states in
+    rw (← c.self.view_is) (full_stays _ _ c.reserve_slots.ensures.options
+    (same_sizes c.self.inside.rooms.pages c.reserve_slots.new.self.pages states))

@@ -1,0 +1,37 @@
+-- What is in reserve on the pages of a cache, and for inserts that are still to come.
+use Rattle.std.specs.Prelude.{◌≡◌, ◌+◌, ◌-◌, ◌*◌, ◌≤◌, ℕ, List, length, Some, slice_get, Vec, vec_capacity, vec_len}
+use Rattle.guillotiere.specs.declared.Size.{Size}
+use Rattle.guillotiere.specs.Boxes.{IsPositive}
+use Rattle.guillotiere.specs.Pixels.{sides_of, size_of}
+use Rattle.guillotiere.specs.Reserves.{HasReserve, UsesAtMost}
+use Rattle.guillotiere.specs.Stored.{AtlasValue}
+use Rattle.atlas_cache.specs.Asking.{bordered}
+use Rattle.atlas_cache.specs.Caches.{CacheState, HasNoPageFor, IsFull}
+
+-- Each page has so many slots in reserve.
+abbrev pub HaveSlots : ℕ → List AtlasValue → Type 0
+HaveSlots n pages = (page : ℕ) (s : AtlasValue) → slice_get pages page ≡ Some s → HasReserve n s
+
+-- Each page was there before, at most n more of its slots are used, and there is memory for no fewer.
+abbrev pub UseAtMost : ℕ → (old new : List AtlasValue) → Type 0
+UseAtMost n old new =
+    (page : ℕ) (t : AtlasValue) → slice_get new page ≡ Some t
+    → (s : AtlasValue) × (slice_get old page ≡ Some s) × UsesAtMost n s t
+
+-- For how many more items a list has memory.
+abbrev pub room_in : {X Z : Type 0} → Vec X Z → ℕ
+room_in v = vec_capacity v - vec_len v
+
+module _ {K : Type 0} where
+  -- There is memory for n inserts, where the changes have so much room: n entries are in reserve, 4n slots on each page,
+  -- and room for n changes more than there are entries.
+  pub record HasReserves (n room : ℕ) (s : CacheState K) : Type 0 where
+    pub entries : n ≤ s.reserved
+    pub slots : HaveSlots (4 * n) s.pages
+    pub changes : length s.entries + n ≤ room
+
+  -- An insert of this size adds no page and grows none: it is empty, or a page has room for it, or every page is there and at
+  -- its largest.
+  abbrev pub KeepsPageSizes : Size → CacheState K → Type 0
+  KeepsPageSizes size s =
+      IsPositive (sides_of size) → HasNoPageFor (size_of (bordered s.options size)) s → IsFull s
