@@ -1,5 +1,5 @@
-//! The three calls by which a request is placed in the tree of slots: a leaf is cut in two, is put in a container of
-//! its own, or is granted. They leave the lists alone.
+//! The writes by which a request is placed in the tree of slots: a leaf is cut in two, is put in a container of its own,
+//! or is granted. They leave the lists alone.
 ghost use Rattle.std.specs.Prelude.{◌≡◌, ◌≢◌, ◌<◌, length};
 ghost use Rattle.atlas_model.specs.Boxes.{box_sides, side};
 ghost use Rattle.atlas_model.specs.Pixels.{box_of, rectangle_of};
@@ -10,8 +10,8 @@ ghost use Rattle.atlas_store.specs.Slots.Standing.{IsTree};
 ghost use Rattle.atlas_store.specs.Slots.Parts.{back_part, front_node, front_part, inner_node};
 
 use crate::slots::{Node, NodeKind, Slot, read_node, set_kind, set_previous, write_node};
-use atlas_model::{Rectangle, point2};
-use atlas_search::cut::{Orientation, across};
+use atlas_model::Rectangle;
+use atlas_search::cut::{Orientation, across, back, front};
 use atlas_search::link::{Link, NO_SLOT};
 
 // The two parts of a leaf's rectangle that is cut after its first `extent` pixels along an axis.
@@ -23,21 +23,7 @@ fn cut_area(area: Rectangle, axis: Orientation, extent: u32) -> (Rectangle, Rect
     ensures rest { result.1 ≡ rectangle_of (back_part (axis_of axis) extent (box_of area)) }
 {
     let extent = extent as i32;
-    let Rectangle { min, max } = area;
-    match axis {
-        Orientation::Horizontal => {
-            let x = min.x + extent;
-            let end = point2(x, max.y);
-            let start = point2(x, min.y);
-            (Rectangle { min, max: end }, Rectangle { min: start, max })
-        }
-        Orientation::Vertical => {
-            let y = min.y + extent;
-            let end = point2(max.x, y);
-            let start = point2(min.x, y);
-            (Rectangle { min, max: end }, Rectangle { min: start, max })
-        }
-    }
+    (front(area, axis, extent), back(area, axis, extent))
 }
 
 /// How a free leaf gives way to a request that fits it, with the request's pixels along the leaf's sequence and across

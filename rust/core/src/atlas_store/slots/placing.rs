@@ -1,9 +1,9 @@
 // Erased from crates/atlas_store/src/slots/placing.rt by rust/erase: don't edit.
-//! The three calls by which a request is placed in the tree of slots: a leaf is cut in two, is put in a container of
-//! its own, or is granted. They leave the lists alone.
+//! The writes by which a request is placed in the tree of slots: a leaf is cut in two, is put in a container of its own,
+//! or is granted. They leave the lists alone.
 
-use crate::atlas_model::{point2, Rectangle};
-use crate::atlas_search::cut::{across, Orientation};
+use crate::atlas_model::Rectangle;
+use crate::atlas_search::cut::{across, back, front, Orientation};
 use crate::atlas_search::link::{Link, NO_SLOT};
 use crate::atlas_store::slots::{
     read_node, set_kind, set_previous, write_node, Node, NodeKind, Slot,
@@ -13,21 +13,7 @@ use crate::atlas_store::slots::{
 #[inline(always)]
 fn cut_area(area: Rectangle, axis: Orientation, extent: u32) -> (Rectangle, Rectangle) {
     let extent = extent as i32;
-    let Rectangle { min, max } = area;
-    match axis {
-        Orientation::Horizontal => {
-            let x = min.x + extent;
-            let end = point2(x, max.y);
-            let start = point2(x, min.y);
-            (Rectangle { min, max: end }, Rectangle { min: start, max })
-        }
-        Orientation::Vertical => {
-            let y = min.y + extent;
-            let end = point2(max.x, y);
-            let start = point2(min.x, y);
-            (Rectangle { min, max: end }, Rectangle { min: start, max })
-        }
-    }
+    (front(area, axis, extent), back(area, axis, extent))
 }
 
 /// How a free leaf gives way to a request that fits it, with the request's pixels along the leaf's sequence and across
