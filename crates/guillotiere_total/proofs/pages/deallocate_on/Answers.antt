@@ -1,0 +1,7 @@
+use Rattle.std.proofs.Common.{arith}
+use Rattle.guillotiere_total.proofs.PageAnswers.{leaves_off_pages}
+use Rattle.guillotiere_total.proofs.pages.deallocate_on.Goals as goal
+
+pub returns-then-page-pages-clause-leaves : goal.returns-then-page-pages-clause-leaves
+returns-then-page-pages-clause-leaves g c =
+    leaves_off_pages c.args.pages.now c.args.page c.args.id (omega (arith, c.if-page-pages.true))
