@@ -1,5 +1,6 @@
 -- What an error of a request to a page says, and what is so of a page that isn't there.
-use Rattle.std.proofs.Common.{◌≡◌, ◌<◌, ◌≤◌, ◌∙◌, ℕ, List, Option, Result, Ok, Err, Some, None, length, slice_get, IfErr, IsErrAnd, arith, inl, inr, subst, sym, refl}
+use Rattle.std.proofs.Common.{◌≡◌, ◌<◌, ◌≤◌, ◌∙◌, ℕ, List, Option, Result, Ok, Err, Some, None, length, slice_get}
+use Rattle.std.proofs.Common.{IfErr, IsErrAnd, arith, inl, inr, subst, sym, refl}
 use Rattle.std.proofs.lemmas.Option.{slice_get_cases, slice_get_past}
 use Rattle.guillotiere.specs.declared.Allocation.{Allocation}
 use Rattle.guillotiere.specs.declared.AtlasError.{AtlasError}
