@@ -4,8 +4,6 @@ ghost use Rattle.guillotiere.specs.Pixels.{sides_of};
 ghost use Rattle.guillotiere.specs.Boxes.{Fits};
 ghost use Rattle.guillotiere.specs.Reserves.{HasReserve};
 ghost use Rattle.guillotiere.specs.Stored.{state_of};
-ghost use Rattle.atlas_cache.specs.Caches.{IsFull};
-ghost use Rattle.atlas_cache.specs.Reserving.{room_in, HasReserves};
 
 use atlas_cache::entries::{DefaultHasher, Entries, Entry};
 use atlas_cache::recency::Recency;
@@ -144,42 +142,5 @@ pub fn two_spaces<A: Allocator + Copy>(
     prove!(!matches!(&one, Err(CacheError::Memory)));
     let two = cache.insert(second, size2(0, 0), changes);
     prove!(!matches!(&two, Err(CacheError::Memory)));
-    Ok(())
-}
-
-/// Two glyphs over a cache that is full, for which memory was taken first: neither finds that there is none, whatever goes.
-pub fn two_glyphs<A: Allocator + Copy>(
-    cache: &mut TextureCache<u64, DefaultHasher, A>,
-    first: u64,
-    second: u64,
-    size: Size,
-    changes: &mut Changes<u64, A>,
-) -> Result<(), CacheError>
-    requires { IsFull cache.old }
-{
-    cache.reserve(2)?;
-    cache.reserve_slots(8)?;
-    changes.reserve(cache.len().saturating_add(2))?;
-    let one = cache.insert(first, size, changes);
-    prove!(!matches!(&one, Err(CacheError::Memory)));
-    let two = cache.insert(second, size, changes);
-    prove!(!matches!(&two, Err(CacheError::Memory)));
-    Ok(())
-}
-
-/// One insert of those that are in reserve leaves the others.
-pub fn one_glyph<A: Allocator + Copy>(
-    cache: &mut TextureCache<u64, DefaultHasher, A>,
-    key: u64,
-    size: Size,
-    changes: &mut Changes<u64, A>,
-) -> Result<(), CacheError>
-    requires full { IsFull cache.old }
-    requires reserves { HasReserves 8 (room_in changes.old) cache.old }
-    ensures full { IsFull cache.new }
-    ensures reserves { HasReserves 7 (room_in changes.new) cache.new }
-    ensures memory { result ≢ Err CacheError.Memory }
-{
-    let _placed = cache.insert(key, size, changes)?;
     Ok(())
 }

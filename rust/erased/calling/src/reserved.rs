@@ -137,32 +137,3 @@ pub fn two_spaces<A: Allocator + Copy>(
     prove!(!matches!(&two, Err(CacheError::Memory)));
     Ok(())
 }
-
-/// Two glyphs over a cache that is full, for which memory was taken first: neither finds that there is none, whatever goes.
-pub fn two_glyphs<A: Allocator + Copy>(
-    cache: &mut TextureCache<u64, DefaultHasher, A>,
-    first: u64,
-    second: u64,
-    size: Size,
-    changes: &mut Changes<u64, A>,
-) -> Result<(), CacheError> {
-    cache.reserve(2)?;
-    cache.reserve_slots(8)?;
-    changes.reserve(cache.len().saturating_add(2))?;
-    let one = cache.insert(first, size, changes);
-    prove!(!matches!(&one, Err(CacheError::Memory)));
-    let two = cache.insert(second, size, changes);
-    prove!(!matches!(&two, Err(CacheError::Memory)));
-    Ok(())
-}
-
-/// One insert of those that are in reserve leaves the others.
-pub fn one_glyph<A: Allocator + Copy>(
-    cache: &mut TextureCache<u64, DefaultHasher, A>,
-    key: u64,
-    size: Size,
-    changes: &mut Changes<u64, A>,
-) -> Result<(), CacheError> {
-    let _placed = cache.insert(key, size, changes)?;
-    Ok(())
-}
