@@ -47,8 +47,10 @@ CASES = [
     ('no words', GOOD, [], 2, [r'FOLDER and OUT are needed; --help tells more']),
     ('one word', GOOD, ['F'], 2, [r'FOLDER and OUT are needed; --help tells more']),
     ('three words', GOOD, ['F', 'O', 'x'], 2, [r".*'x'.*"]),
-    ('unknown', GOOD, ['F', 'O', '--forms', 'css'], 2, [r".*'--forms'.*"]),
+    ('unknown', GOOD, ['F', 'O', '--forms', 'css'], 2, [r".*'--forms'.*; did you mean --form\?"]),
+    ('unlike all', GOOD, ['F', 'O', '--qqq'], 2, [r"(?!.*did you mean).*'--qqq'.*"]),
     ('form', GOOD, ['F', 'O', '--form', 'unity'], 2, [r".*'unity'.*"]),
+    ('forms', GOOD, ['F', 'O', '--form', 'libgdk'], 2, [r".*'libgdk'.*; did you mean libgdx\?"]),
     ('padding', GOOD, ['F', 'O', '--padding', '65536'], 2, [r'.*65536.*']),
     ('extrude', GOOD, ['F', 'O', '--extrude', 'x'], 2, [r".*'x'.*"]),
     ('scale', GOOD, ['F', 'O', '--scale', '2'], 2, [r'.*above 0 and up to 1.*']),
@@ -61,15 +63,18 @@ CASES = [
     ('greatest', GOOD, ['F', 'O', '--greatest', '0'], 2, [r'--least is below 1, or --greatest below it']),
     ('page', GOOD, ['F', 'O', '--page'], 2, [r'--page goes with --form css alone']),
     ('turn', GOOD, ['F', 'O', '--turn', '--form', 'godot'], 2, [r"--turn doesn't go with --form godot: .*"]),
-    ('name', GOOD, ['F', 'O/'], 2, [r'OUT is the name of the sheet, without its ending']),
+    *(('name ' + out, GOOD, ['F', out], 2, [r'OUT is the name of the sheet, without its ending'])
+      for out in ('O/', 'O/.', 'O/..', 'O/./', 'O/.png', 'O/..png')),
     ('inside', GOOD, ['F', 'F/sheet'], 2, [r'.*it lies in the folder of pictures.*']),
     ('no folder', GOOD, ['F/none', 'O'], 1, [r'.*none: .*']),
     ('a file', GOOD, ['F/a.png', 'O'], 1, [r".*a\.png: it isn't a folder"]),
     ('nowhere', GOOD, ['F', 'O/none/sheet'], 1, [r'.*none: there is no such folder to write to']),
+    ('unwritable', GOOD, ['F', '/proc/sheet'], 1, [r"/proc/sheet\.png: it can't be written there: .*"]),
     ('empty', {'x.txt': b''}, ['F', 'O'], 1, [r'.*no PNG, JPEG or WebP lies in it']),
     ('bad files', {**GOOD, 'c.png': b'no', 'd.jpg': b'\xff\xd8\xff\xe0', 'e.png': WHOLE[:-30], 'f.webp': b'RIFF....WEBP'}, ['F', 'O'], 1,
-     [r'.*c\.png: not a PNG, JPEG or WebP', r'.*d\.jpg: .*', r'.*e\.png: .*', r'.*f\.webp: .*']),
-    ('checksum', {'a.png': WHOLE[:40] + bytes([WHOLE[40] ^ 1]) + WHOLE[41:]}, ['F', 'O'], 1, [r'.*a\.png: .*']),
+     [r'.*c\.png: not a PNG, JPEG or WebP', *(r'.*%s: the file is damaged \(.+\)' % name for name in (r'd\.jpg', r'e\.png', r'f\.webp'))]),
+    ('checksum', {'a.png': WHOLE[:40] + bytes([WHOLE[40] ^ 1]) + WHOLE[41:]}, ['F', 'O'], 1,
+     [r'.*a\.png: the file is damaged \(CRC error: .*\)']),
     ('no sides', {'a.png': b'\x89PNG\r\n\x1a\n' + chunk(b'IHDR', bytes(8) + b'\x08\0\0\0\0')}, ['F', 'O'], 1, [r'.*a\.png: .*']),
     ('great', {'a.png': b'\x89PNG\r\n\x1a\n' + chunk(b'IHDR', b'\x7f\xff\xff\xff' * 2 + b'\x08\6\0\0\0') + WHOLE[33:]}, ['F', 'O'], 1,
      [r'.*a\.png: .*']),
@@ -111,12 +116,13 @@ def case(what, files, words, status, lines):
         if what == 'a folder':
             os.mkdir(os.path.join(out, 'sheet.json'))
             before = ['sheet.json']
+        given = written(folder)
         places = {'F': folder, 'O': os.path.join(out, 'sheet'), 'O/': out + '/'}
         done = run([places.get(word) or re.sub(r'^([FO])/', lambda m: {'F': folder, 'O': out}[m.group(1)] + '/', word) for word in words])
         told = done.stderr.splitlines()
         good = (done.returncode == status and len(told) == len(lines) and done.stdout == ''
                 and all(re.fullmatch('guillotiere-sheet: ' + line, each) for line, each in zip(lines, told))
-                and written(out) == before and len(written(folder)) == len(files))
+                and written(out) == before and written(folder) == given)
         check(what, good, (done.returncode, told, done.stdout, written(out)))
 
 
@@ -143,7 +149,8 @@ def no_space():
             resource.setrlimit(resource.RLIMIT_FSIZE, (1200, 1200))
         done = run([room + '/in', room + '/out/sheet'], preexec_fn=limit)
         after = {name: open(room + '/out/' + name, 'rb').read() for name in os.listdir(room + '/out')}
-        check('no space', done.returncode == 1 and len(done.stderr.splitlines()) == 1 and before == after and len(before) == 2,
+        is_told = re.fullmatch(r"guillotiere-sheet: .*/sheet\.(png|json): it can't be written there: .*\n", done.stderr)
+        check('no space', done.returncode == 1 and is_told and before == after and len(before) == 2,
               (done.returncode, done.stderr, sorted(after)))
 
 

@@ -81,7 +81,7 @@ def form(name, way, folder, originals, room):
     done = run(folder, out, '--form', name, *words)
     lines = done.stderr.splitlines()
     assert bool(lines) == ('--effort' in words)
-    assert all(re.fullmatch(r'guillotiere-sheet: so far \d+x\d+', line) for line in lines), lines
+    assert all(re.fullmatch(r'guillotiere-sheet: \S+ full: so far a sheet of \d+x\d+ takes all pictures', line) for line in lines), lines
     compare(readers.read(name, out), originals, '--trim' in words)
     if way == 'pages':
         assert len(done.stdout.splitlines()) > 1
@@ -127,13 +127,13 @@ def extruded(folder, room):
 
 def sizes_told(done):
     """The sides of the sheets, as the program tells them."""
-    return [tuple(map(int, re.search(r': (\d+)x(\d+), \d+ sprites$', line).groups())) for line in done.stdout.splitlines()]
+    return [tuple(map(int, re.search(r': (\d+)x(\d+), (?:1 sprite|\d+ sprites)$', line).groups())) for line in done.stdout.splitlines()]
 
 
 def dense(folder, originals, room):
     """A smaller sheet than without it; of several sheets all but the last are as large as allowed, and there are no more of them."""
-    out = os.path.join(room, 'dense')
     for more in ([], ['--effort', '50'], ['--greatest', '200', '--pages', '99'], ['--greatest', '160', '--pages', '99', '--turn']):
+        out = os.path.join(room, ' '.join(['dense', *more]))
         (*_, plain), (*full, last) = both = [sizes_told(run(folder, out, '--trim', *more, *words)) for words in ([], ['--dense'])]
         compare(readers.read('json-hash', out), originals, True)
         greatest = int(more[1]) if '--greatest' in more else 4096

@@ -1,7 +1,8 @@
 //! Pictures from the bytes of their files.
 use crate::colour::Colour;
 use crate::picture::{Picture, Pixel};
-use image::ImageFormat;
+use image::{ImageError, ImageFormat};
+use std::fmt::Display;
 use std::io::Cursor;
 
 const PNG: [u8; 8] = [0x89, b'P', b'N', b'G', 13, 10, 26, 10];
@@ -24,9 +25,10 @@ pub fn decoded(bytes: &[u8]) -> Result<(Picture, Colour), String> {
     limits.max_alloc = Some(GREATEST as u64);
     let mut reader = image::io::Reader::with_format(Cursor::new(bytes), format);
     reader.limits(limits);
-    let pixels = reader
-        .decode()
-        .map_err(|error| one_line(&error.to_string()))?;
+    let pixels = reader.decode().map_err(|error| match error {
+        ImageError::Decoding(_) | ImageError::IoError(_) => damaged(&error),
+        error => one_line(&error.to_string()),
+    })?;
     let has_profile = bytes.windows(profile.len()).any(|window| window == profile);
     let rgba = pixels.into_rgba8();
     let picture = Picture {
@@ -41,6 +43,11 @@ fn one_line(text: &str) -> String {
     text.split_whitespace().collect::<Vec<_>>().join(" ")
 }
 
+// The words in brackets are those of the library that reads it.
+fn damaged(error: &impl Display) -> String {
+    format!("the file is damaged ({})", one_line(&error.to_string()))
+}
+
 fn non_empty(picture: Picture) -> Result<Picture, String> {
     if picture.width == 0 || picture.height == 0 {
         return Err("it has no pixels".to_string());
@@ -52,7 +59,10 @@ fn from_png(bytes: &[u8]) -> Result<Picture, String> {
     let limits = png::Limits { bytes: GREATEST };
     let mut decoder = png::Decoder::new_with_limits(bytes, limits);
     decoder.set_transformations(png::Transformations::normalize_to_color8());
-    let told = |error: png::DecodingError| one_line(&error.to_string());
+    let told = |error: png::DecodingError| match error {
+        png::DecodingError::Format(_) | png::DecodingError::IoError(_) => damaged(&error),
+        error => one_line(&error.to_string()),
+    };
     let mut reader = decoder.read_info().map_err(told)?;
     if reader.output_buffer_size() > GREATEST {
         return Err("it is too large".to_string());

@@ -55,13 +55,11 @@ fn check_folders(words: &Words) -> Result<(), Fault> {
 
 fn lines(built: &Built) -> Vec<String> {
     let line = |page: &sheet::Page| {
-        format!(
-            "{}: {}x{}, {} sprites",
-            page.image,
-            page.width,
-            page.height,
-            page.frames.len()
-        )
+        let count = match page.frames.len() {
+            1 => "1 sprite".to_string(),
+            count => format!("{} sprites", count),
+        };
+        format!("{}: {}x{}, {}", page.image, page.width, page.height, count)
     };
     built.sheet.pages.iter().map(line).collect()
 }

@@ -39,6 +39,11 @@ impl Drop for Beside {
     }
 }
 
+// Where no file can be made in the folder, the system tells of a file that isn't there.
+fn unwritten(path: &Path, error: std::io::Error) -> Fault {
+    Fault::file(path, format!("it can't be written there: {}", error))
+}
+
 /// Writes all files beside, and then gives them their names: where a write fails, no file has changed.
 pub fn write(folder: &Path, files: &[File]) -> Result<(), Fault> {
     let mut written = Beside(Vec::new());
@@ -49,10 +54,10 @@ pub fn write(folder: &Path, files: &[File]) -> Result<(), Fault> {
         }
         let beside = folder.join(format!(".{}.{}.part", name, std::process::id()));
         written.0.push((beside.clone(), path.clone()));
-        fs::write(&beside, bytes).map_err(|error| Fault::file(&path, error))?;
+        fs::write(&beside, bytes).map_err(|error| unwritten(&path, error))?;
     }
     while let Some((beside, path)) = written.0.first().cloned() {
-        fs::rename(&beside, &path).map_err(|error| Fault::file(&path, error))?;
+        fs::rename(&beside, &path).map_err(|error| unwritten(&path, error))?;
         written.0.remove(0);
     }
     Ok(())

@@ -175,6 +175,7 @@ fn packed(
     names: &[&str],
     known: &[Known],
     stored: &[Stored],
+    scale: Scale,
     words: &Words,
 ) -> Result<Pages, Fault> {
     let options = words.options();
@@ -186,7 +187,13 @@ fn packed(
     // With an effort it may take long.
     let progress = |size: Size| {
         if words.effort > 0 {
-            eprintln!("guillotiere-sheet: so far {}x{}", size.width, size.height);
+            eprintln!(
+                "guillotiere-sheet: {}{}: so far a sheet of {}x{} takes all pictures",
+                words.stem(),
+                scale.suffix(),
+                size.width,
+                size.height
+            );
         }
     };
     let ways = Ways {
@@ -270,7 +277,7 @@ fn drawn(pages: &[Page], stored: &[Stored], packed: &Pages, words: &Words) -> Ve
 pub fn built(found: &[(String, Picture)], scale: Scale, words: &Words) -> Result<Built, Fault> {
     let names: Vec<&str> = found.iter().map(|(name, _)| name.as_str()).collect();
     let (known, stored) = kept(found, scale, words);
-    let packed = packed(&names, &known, &stored, words)?;
+    let packed = packed(&names, &known, &stored, scale, words)?;
     let mut pages = empty_pages(&packed, scale, words);
     let mut left_out = Vec::new();
     for (name, one) in names.iter().zip(&known) {

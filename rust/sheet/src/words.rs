@@ -2,7 +2,7 @@
 use crate::fault::{Fault, WORDS};
 use crate::forms::Form;
 use crate::scale::Scale;
-use clap::error::ErrorKind;
+use clap::error::{ContextKind, ErrorKind};
 use clap::Parser;
 use guillotiere::sheet::{Allowed, SheetOptions};
 use guillotiere::size2;
@@ -143,11 +143,15 @@ impl Words {
         if let Some(name) = self.out.to_str().and_then(|out| out.strip_suffix(".png")) {
             self.out = PathBuf::from(name);
         }
-        let out = self.out.to_str().unwrap_or("");
-        let fault = if self.stem().is_empty() || out.ends_with(std::path::is_separator) {
-            Some("OUT is the name of the sheet, without its ending")
-        } else if out.is_empty() {
+        // A path's own parts pass over a `.` at its end.
+        let is_name = |out: &str| {
+            let last = out.rsplit(std::path::is_separator).next();
+            !["", ".", ".."].contains(&last.unwrap_or(""))
+        };
+        let fault = if self.out.to_str().is_none() {
             Some("OUT isn't UTF-8")
+        } else if !self.out.to_str().map_or(false, is_name) {
+            Some("OUT is the name of the sheet, without its ending")
         } else if self.stem().chars().any(char::is_control) {
             Some("OUT has a control character")
         } else if self.page && self.form != Form::Css {
@@ -197,15 +201,21 @@ pub fn words(given: impl IntoIterator<Item = std::ffi::OsString>) -> Result<Word
         ErrorKind::MissingRequiredArgument => {
             Fault::new(WORDS, "FOLDER and OUT are needed; --help tells more")
         }
-        _ => Fault::new(WORDS, one_line(&error.to_string())),
+        _ => Fault::new(WORDS, one_line(&error)),
     })?;
     words.check()?;
     Ok(words)
 }
 
-// The first paragraph of what the parser tells, as one line.
-fn one_line(text: &str) -> String {
-    let first = text.split("\n\n").next().unwrap_or(text);
+// The first paragraph of what the parser tells, and what it takes to be meant, as one line.
+fn one_line(error: &clap::Error) -> String {
+    let text = error.to_string();
+    let first = text.split("\n\n").next().unwrap_or(&text);
     let line = first.split_whitespace().collect::<Vec<_>>().join(" ");
-    line.trim_start_matches("error: ").to_string()
+    let line = line.trim_start_matches("error: ");
+    let meant = [ContextKind::SuggestedArg, ContextKind::SuggestedValue];
+    match meant.iter().find_map(|kind| error.get(*kind)) {
+        Some(meant) => format!("{}; did you mean {}?", line, meant),
+        None => line.to_string(),
+    }
 }
