@@ -86,7 +86,12 @@ CASES = [
     ('too large', {**GOOD, 'c.png': png(100, 3), 'd.png': png(3, 64)}, ['F', 'O', '--size', '64', '64'], 3,
      [r"c\.png: 100x3 with padding 1 doesn't fit a sheet of 64x64", r"d\.png: 3x64 .*"]),
     ('no room', {'%d.png' % n: png(30, 30, n) for n in range(9)}, ['F', 'O', '--size', '64', '64', '--pages', '2'], 3,
-     [r'2 sheets take not all pictures, 64x64 at most: \d\.png found no place; .*']),
+     [r'2 sheets take not all pictures, 64x64 at most: \d\.png found no place; more --pages, a larger sheet or --leave-out would help']),
+    ('no room for groups', {'%d/%d.png' % (n // 3, n): png(30, 30, n) for n in range(9)},
+     ['F', 'O', '--size', '64', '64', '--pages', '2', '--group'], 3,
+     [r'2 sheets take not all pictures, .* more --pages, a larger sheet, --leave-out, or no --group may help']),
+    ('no room in one', {'%d/%d.png' % (n // 3, n): png(30, 30, n) for n in range(9)}, ['F', 'O', '--size', '64', '64', '--group'], 3,
+     [r'one sheet takes not all pictures, .* more --pages, a larger sheet or --leave-out would help']),
     ('a folder', GOOD, ['F', 'O'], 1, [r'.*sheet\.json: it is a folder']),
 ]
 
@@ -133,6 +138,18 @@ def left_out():
         is_named = re.fullmatch(r'guillotiere-sheet: left out of sheet: \d\.png\n', done.stderr)
         check('left out', done.returncode == 4 and is_named and written(room + '/in') == ['%d.png' % n for n in range(5)]
               and os.path.exists(room + '/sheet.json'), (done.returncode, done.stderr))
+
+
+def told():
+    """The line of a sheet; with --pages its file has a number even where it is the only one."""
+    with tempfile.TemporaryDirectory() as room:
+        put(room + '/in', {'a.png': WHOLE})
+        for words, name, line in (([], 'one', 'one.png: 10x10, 1 sprite\n'), (['--pages', '1'], 'two', 'two-0.png: 10x10, 1 sprite\n'),
+                                  (['--pages', '9', '--scale', '0.5'], 'three', 'three-0@0.5x.png: 6x6, 1 sprite\n')):
+            done = run([room + '/in', room + '/' + name] + words)
+            stem = line.split('.png:')[0]
+            is_there = [each for each in written(room) if each.startswith(name)] == [stem + '.json', stem + '.png']
+            check('told: ' + name, (done.returncode, done.stdout, done.stderr) == (0, line, '') and is_there, (done.stdout, written(room)))
 
 
 def no_space():
@@ -193,6 +210,7 @@ def watched():
 for each in CASES:
     case(*each)
 left_out()
+told()
 no_space()
 watched()
 print('%d passed, %d failed' % (Count.passed, Count.failed))

@@ -163,17 +163,24 @@ def grouped(folder, room):
                 sheets = sheets_of_folders(out)
                 assert all(len(each) == 1 for inside, each in sheets.items() if inside) == is_group, sheets
                 assert len(sheets) == 7
+                assert done.stderr == ''
+    out = os.path.join(room, 'parted')
+    for more, at in (([], ''), (['--scale', '0.9'], ' at scale 0.9')):
+        done = run(to, out, '--size', '170', '170', '--pages', '20', '--group', *more)
+        parted = [inside for inside, each in sorted(sheets_of_folders(out, at and '@0.9x').items()) if inside and len(each) > 1]
+        line = "guillotiere-sheet: folder %s is parted%s: one sheet of 170x170 doesn't take it\n"
+        assert parted and len(parted) < 6 and done.stderr == ''.join(line % (inside, at) for inside in parted), (parted, done.stderr)
     together = run(to, os.path.join(room, 'one sheet'), '--group')
     assert len(together.stdout.splitlines()) == 1
     whole = {tuple(told['frame'].values()) for told in frames(os.path.join(room, 'one sheet')).values()}
     assert len(whole) == len({picture.tobytes() + bytes(str(picture.size), 'ascii') for picture in originals.values()})
 
 
-def sheets_of_folders(out):
+def sheets_of_folders(out, suffix=''):
     """The numbers of the sheets on which the sprites of each folder lie."""
     found, number = {}, 0
-    while os.path.exists('%s-%d.json' % (out, number)):
-        for name in frames('%s-%d' % (out, number)):
+    while os.path.exists('%s-%d%s.json' % (out, number, suffix)):
+        for name in frames('%s-%d%s' % (out, number, suffix)):
             found.setdefault(os.path.dirname(name), set()).add(number)
         number += 1
     return found

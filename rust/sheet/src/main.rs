@@ -112,6 +112,7 @@ pub fn run(words: &Words) -> Result<Done, Fault> {
         let built = sheet::built(&found, *scale, words)?;
         let suffix = scale.suffix();
         done.has_left_out |= !built.left_out.is_empty();
+        done.notes.extend(built.parted.iter().cloned());
         done.notes.extend(
             built
                 .left_out

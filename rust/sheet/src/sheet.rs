@@ -7,7 +7,7 @@ use crate::scale::Scale;
 use crate::words::Words;
 use guillotiere::sheet::{SheetError, SheetOptions};
 use guillotiere::{size2, Size};
-use std::collections::HashMap;
+use std::collections::{BTreeMap, BTreeSet, HashMap};
 
 /// A sprite in a sheet. Sides and corners are in pixels.
 #[derive(Clone, Debug, PartialEq)]
@@ -58,11 +58,13 @@ pub struct Sheet {
     pub pages: Vec<Page>,
 }
 
-/// All sheets of one scale, their pictures, and the names that are left out.
+/// All sheets of one scale, their pictures, the names that are left out, and a line for each folder that should lie on one sheet
+/// and doesn't.
 pub struct Built {
     pub sheet: Sheet,
     pub pictures: Vec<Picture>,
     pub left_out: Vec<String>,
+    pub parted: Vec<String>,
 }
 
 /// A part of a picture that has one place, for all names that lead to it, and the folder with which it lies on one sheet.
@@ -78,14 +80,24 @@ struct Known {
     whole: (u32, u32),
 }
 
+// Whether those of a folder lie on one of several sheets.
+fn keeps_together(words: &Words) -> bool {
+    words.group && words.limit() > 1
+}
+
+// The folder of a sprite, if it doesn't lie in FOLDER itself.
+fn folder_of(name: &str) -> Option<&str> {
+    name.rsplit_once('/').map(|(folder, _)| folder)
+}
+
 // The number of the folder in which each picture lies, where those of a folder keep together; none of those in FOLDER itself.
 fn groups(found: &[(String, Picture)], words: &Words) -> Vec<Option<usize>> {
-    if !words.group || words.pages == 1 {
+    if !keeps_together(words) {
         return vec![None; found.len()];
     }
     let mut numbers: HashMap<&str, usize> = HashMap::new();
     let number = found.iter().map(|(name, _)| {
-        let (folder, _) = name.rsplit_once('/')?;
+        let folder = folder_of(name)?;
         let next = numbers.len();
         Some(*numbers.entry(folder).or_insert(next))
     });
@@ -199,7 +211,7 @@ fn packed(
     let ways = Ways {
         options,
         is_dense: words.dense,
-        limit: words.pages as usize,
+        limit: words.limit(),
     };
     let pages = pages(&sizes, &groups, &ways, progress).map_err(refused)?;
     let is_homeless = |one: &Known| pages.places[one.stored].is_none();
@@ -208,38 +220,82 @@ fn packed(
     if homeless.is_empty() || words.leave_out && !pages.sizes.is_empty() {
         return Ok(pages);
     }
-    Err(no_room(&homeless, greatest(options.allowed), words.pages))
+    Err(no_room(&homeless, greatest(options.allowed), words))
 }
 
-fn no_room(homeless: &[&str], room: Size, pages: u32) -> Fault {
-    let sheets = match pages {
+fn no_room(homeless: &[&str], room: Size, words: &Words) -> Fault {
+    let sheets = match words.limit() {
         1 => "one sheet takes".to_string(),
         count => format!("{} sheets take", count),
     };
+    let help = if keeps_together(words) {
+        "more --pages, a larger sheet, --leave-out, or no --group may help"
+    } else {
+        "more --pages, a larger sheet or --leave-out would help"
+    };
     let line = format!(
-        "{} not all pictures, {}x{} at most: {} found no place; more --pages, a larger sheet or --leave-out would help",
+        "{} not all pictures, {}x{} at most: {} found no place; {}",
         sheets,
         room.width,
         room.height,
-        named(homeless)
+        named(homeless),
+        help
     );
     Fault::new(ROOM, line)
 }
 
-fn image_name(stem: &str, scale: Scale, page: usize, count: usize) -> String {
-    let number = if count == 1 {
+// The folders whose sprites lie on several sheets, or have a place in part; a line for each.
+fn parted(
+    names: &[&str],
+    known: &[Known],
+    packed: &Pages,
+    scale: Scale,
+    words: &Words,
+) -> Vec<String> {
+    if !keeps_together(words) {
+        return Vec::new();
+    }
+    let room = greatest(words.options().allowed);
+    let mut sheets: BTreeMap<&str, BTreeSet<Option<usize>>> = BTreeMap::new();
+    for (name, one) in names.iter().zip(known) {
+        if let Some(folder) = folder_of(name) {
+            let sheet = packed.places[one.stored].map(|place| place.page);
+            sheets.entry(folder).or_default().insert(sheet);
+        }
+    }
+    let several = sheets.iter().filter(|(_, sheets)| sheets.len() > 1);
+    let line = |folder: &str| {
+        format!(
+            "folder {} is parted{}: one sheet of {}x{} doesn't take it",
+            folder,
+            at_scale(scale),
+            room.width,
+            room.height
+        )
+    };
+    several.map(|(folder, _)| line(folder)).collect()
+}
+
+fn at_scale(scale: Scale) -> String {
+    if scale.is_one() {
         String::new()
     } else {
-        format!("-{}", page)
+        format!(" at scale {}", scale)
+    }
+}
+
+fn image_name(words: &Words, scale: Scale, page: usize) -> String {
+    let number = match words.pages {
+        None => String::new(),
+        Some(_) => format!("-{}", page),
     };
-    format!("{}{}{}.png", stem, number, scale.suffix())
+    format!("{}{}{}.png", words.stem(), number, scale.suffix())
 }
 
 // The sheets, still without sprites.
 fn empty_pages(packed: &Pages, scale: Scale, words: &Words) -> Vec<Page> {
-    let count = packed.sizes.len();
     let page = |(number, size): (usize, &Size)| Page {
-        image: image_name(words.stem(), scale, number, count),
+        image: image_name(words, scale, number),
         width: size.width as u32,
         height: size.height as u32,
         frames: Vec::new(),
@@ -306,5 +362,6 @@ pub fn built(found: &[(String, Picture)], scale: Scale, words: &Words) -> Result
         sheet,
         pictures,
         left_out,
+        parted: parted(&names, &known, &packed, scale, words),
     })
 }

@@ -22,7 +22,7 @@ Status: 0 written; 1 a file can't be read or written; 2 wrong words; 3 the pictu
 pub struct Words {
     /// Its pictures (.png, .jpg, .jpeg, .webp), and those of the folders in it, are the sprites; names are paths in it
     pub folder: PathBuf,
-    /// OUT.png is the sheet, and beside it lies the file of the form; with several sheets OUT-0.png, OUT-1.png ..
+    /// OUT.png is the sheet, and beside it lies the file of the form; with --pages the sheets are OUT-0.png, OUT-1.png ..
     pub out: PathBuf,
     /// What is written beside the pictures
     #[arg(long, value_enum, default_value_t = Form::JsonHash)]
@@ -39,10 +39,10 @@ pub struct Words {
     /// Also sheets of smaller pictures: 1,0.5 writes OUT and OUT@0.5x
     #[arg(long, value_name = "S,..", value_delimiter = ',', default_value = "1")]
     pub scale: Vec<Scale>,
-    /// At most so many sheets
-    #[arg(long, value_name = "N", default_value_t = 1, value_parser = clap::value_parser!(u32).range(1..))]
-    pub pages: u32,
-    /// Of several sheets one has all pictures of a folder, where one of the greatest size takes them; those in FOLDER itself lie anywhere
+    /// At most so many sheets, which are numbered even where there is one; without it there is one, and no number
+    #[arg(long, value_name = "N", value_parser = clap::value_parser!(u32).range(1..))]
+    pub pages: Option<u32>,
+    /// With --pages: one sheet has all pictures of a folder, where one of the greatest size takes them; those in FOLDER itself lie anywhere
     #[arg(long)]
     pub group: bool,
     /// Tries smaller sheets too, in which no whole cuts part the sprites and none is turned; of several sheets for the last
@@ -119,6 +119,11 @@ impl Words {
             seed: self.seed,
             ..SheetOptions::new(allowed)
         }
+    }
+
+    /// At most so many sheets.
+    pub fn limit(&self) -> usize {
+        self.pages.map_or(1, |pages| pages as usize)
     }
 
     /// The name of the files without what stands before and after it.
