@@ -311,13 +311,24 @@ def colours(room):
         write('a.png', *more)
         told = run(folder, out).stderr
         assert told.startswith('guillotiere-sheet: colours differ: a.png: ') and told.count('\n') == 1, told
-        assert told.endswith('gAMA is applied, the sheet is sRGB\n' if is_applied else "aren't applied, the numbers are taken as sRGB\n")
+        assert told.endswith('gAMA is applied, so its numbers change: the sheet is sRGB\n' if is_applied else "aren't applied, the numbers are taken as sRGB\n")
         found = readers.read('json-hash', out)
         sheet = icons.chunks(out + '.png')
         assert not {b'gAMA', b'cHRM', b'iCCP'} & sheet.keys() and sheet[b'sRGB'] == b'\0'
         assert found['b.png'].tobytes() == row
         for value in range(256):
             assert abs(found['a.png'].getpixel((value, 0))[0] - (as_srgb(value) if is_applied else value)) <= 0.5001
+        kept(folder, out, {'a.png': row, 'b.png': row})
+    write('b.png', PRIMARIES, GAMMA)
+    write('a.png', PRIMARIES, GAMMA)
+    kept(folder, out, {'a.png': row, 'b.png': row})
+
+
+def kept(folder, out, rows):
+    """With --keep-numbers the numbers stay, the sheet has no chunk of colours, and nothing is told."""
+    assert run(folder, out, '--keep-numbers').stderr == ''
+    assert not {b'gAMA', b'cHRM', b'iCCP', b'sRGB'} & icons.chunks(out + '.png').keys()
+    assert {name: picture.tobytes() for name, picture in readers.read('json-hash', out).items()} == rows
 
 
 def screenshot(chromium, page, size, room):

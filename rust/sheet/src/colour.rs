@@ -13,6 +13,7 @@ pub struct Colour {
 }
 
 /// What holds for the sheets, and what is to be told of it.
+#[derive(Default)]
 pub struct Settled {
     pub chunks: Vec<Chunk>,
     pub notes: Vec<String>,
@@ -134,13 +135,21 @@ pub fn settle(found: &mut [(String, Picture, Colour)]) -> Settled {
         )),
     };
     let notes = [
-        note(&applied, "gAMA is applied, the sheet is sRGB"),
+        note(&applied, &applied_to(applied.len())),
         note(&passed_over, PASSED_OVER),
     ];
     Settled {
         chunks: vec![(*b"sRGB", vec![0])],
         notes: notes.into_iter().flatten().collect(),
     }
+}
+
+fn applied_to(count: usize) -> String {
+    let whose = if count == 1 { "its" } else { "their" };
+    format!(
+        "gAMA is applied, so {} numbers change: the sheet is sRGB",
+        whose
+    )
 }
 
 // Brings red, green and blue to sRGB: a number v of 0 to 1 stands for the light v to the power of 1 / gamma.
@@ -214,12 +223,21 @@ mod tests {
         assert_eq!(settled.chunks, [(*b"sRGB", vec![0])]);
         assert_eq!(
             settled.notes,
-            ["colours differ: a: gAMA is applied, the sheet is sRGB"]
+            ["colours differ: a: gAMA is applied, so its numbers change: the sheet is sRGB"]
         );
         // 20/255 to the power 1/0.45455 is 0.003697; 1.055 times that to 1/2.4, less 0.055, is 0.0473, which is 12.06 of 255.
         // 128/255 gives 0.2195, and that 0.50588, which is 129.00 of 255.
         assert_eq!(found[0].1.pixels[0], [0, 12, 129, 255]);
         assert_eq!(found[1].1.pixels[0], [0, 20, 128, 255]);
+    }
+
+    #[test]
+    fn counts_those_that_change() {
+        let both: [(&[u8; 4], &[u8]); 2] = [(b"cHRM", &primaries()), GAMMA];
+        let mut found = [one("a", &both), one("b", &both), one("c", &[])];
+        let notes = settle(&mut found).notes;
+        let note = "colours differ: a and 1 more: gAMA is applied, so their numbers change: the sheet is sRGB";
+        assert_eq!(notes, [note]);
     }
 
     #[test]

@@ -12,6 +12,7 @@ mod sheet;
 mod watch;
 mod words;
 
+use colour::Settled;
 use fault::{Fault, LEFT_OUT, WORDS};
 use sheet::{Built, Sheet};
 use std::path::PathBuf;
@@ -96,7 +97,11 @@ pub fn run(words: &Words) -> Result<Done, Fault> {
     let mut found = folder::pictures(&words.folder, words.drop_extension)?;
     let names: Vec<&str> = found.iter().map(|one| one.0.as_str()).collect();
     forms::check_names(words.form, words.stem(), &names)?;
-    let settled = colour::settle(&mut found);
+    let settled = if words.keep_numbers {
+        Settled::default()
+    } else {
+        colour::settle(&mut found)
+    };
     let found: Vec<_> = found
         .into_iter()
         .map(|(name, picture, _)| (name, picture))

@@ -36,6 +36,9 @@ pub struct Words {
     /// Multiplies red, green and blue by alpha
     #[arg(long)]
     pub premultiply: bool,
+    /// Keeps the numbers of all pictures, whatever their files say of colours; the sheets say nothing of them
+    #[arg(long)]
+    pub keep_numbers: bool,
     /// Also sheets of smaller pictures: 1,0.5 writes OUT and OUT@0.5x
     #[arg(long, value_name = "S,..", value_delimiter = ',', default_value = "1")]
     pub scale: Vec<Scale>,
