@@ -20,7 +20,7 @@ declare global {
  * Fetches and starts the WebAssembly module; all else waits for it. It may be called any number of times: once the module runs,
  * the others do nothing. After a trap it starts a new one; objects that were made before stay out of use.
  *
- * @param source where the module is: `wollemigo.wasm` beside this script where nothing is given. Node reads it from the disk.
+ * @param source where the module is: `wollemigo.wasm` next to this script where nothing is given. Node reads it from the disk.
  * @throws {WollemigoError} `LOAD_FAILED`, with what was wrong as its `cause`.
  */
 export function load(
@@ -44,7 +44,7 @@ export type ErrorCode =
   | 'TRAPPED'
   /** An empty size of an atlas, options that aren't valid, a growth that shrinks a side, a bad limit. */
   | 'BAD_CALL'
-  /** An id isn't live, or stands twice in a list of ids. */
+  /** An id isn't live, or is twice in a list of ids. */
   | 'NOT_LIVE'
   /** More slots would be used than the limit allows. */
   | 'SLOTS'
@@ -174,13 +174,13 @@ export class Atlas {
   allocate(width: number, height: number): Allocation | null;
   /** Frees the box of a live id. Throws `NOT_LIVE`. */
   deallocate(id: number): void;
-  /** Frees the boxes of these ids, all or none. Throws `NOT_LIVE` if one isn't live or stands twice; `MEMORY`. */
+  /** Frees the boxes of these ids, all or none. Throws `NOT_LIVE` if one isn't live or comes twice; `MEMORY`. */
   deallocateAll(ids: Iterable<number>): void;
   /** The rectangle of an id; null where it isn't live. */
   get(id: number): Rectangle | null;
   /** Whether a request of this size has room: then `allocate` grants it, slots and memory aside. */
   canFit(width: number, height: number): boolean;
-  /** Takes memory for so many slots beside those that are used: 4 for a request, 3 for a growth. Throws `SLOTS`, `MEMORY`. */
+  /** Takes memory for so many slots in addition to those that are used: 4 for a request, 3 for a growth. Throws `SLOTS`, `MEMORY`. */
   reserve(additional: number): void;
 
   /** Makes the atlas larger; every live id keeps its rectangle. Throws `BAD_CALL` if a side shrinks; `SLOTS`, `MEMORY`. */
@@ -343,20 +343,20 @@ export class TextureCache {
    * Throws `OTHER_SIZE`, `NEVER_FITS`, and then nothing changed; `NUMBERS`, `SLOTS`, `MEMORY`.
    */
   insert(key: Key, width: number, height: number): Entry | null;
-  /** A key goes. Gives the place that it had; null where it wasn't held. No change tells it. */
+  /** A key goes. Gives the place that it had; null where it wasn't held. No change reports this. */
   remove(key: Key): Place | null;
   /** Whether a key is held; it counts as no use, and as no hit or miss. */
   has(key: Key): boolean;
   /** What was done and not handed over yet, each change once, in the order in which they were made:
    * `for (const change of cache.changes())`. One that isn't reached waits for the next time. */
   changes(): IterableIterator<CacheChange>;
-  /** All keys go. The pages stay. No change tells it. */
+  /** All keys go. The pages stay. No change reports this. */
   clear(): void;
-  /** The keys that weren't used for at least so many frames go, each told by a change. Throws `MEMORY`. */
+  /** The keys that weren't used for at least so many frames go, each reported by a change. Throws `MEMORY`. */
   trim(frames: number | bigint): void;
-  /** The pages behind the last one with a key go, each told as removed, the last one first; after `clear` all pages. Throws `MEMORY`. */
+  /** The pages behind the last one with a key go, each reported as removed, the last one first; after `clear` all. Throws `MEMORY`. */
   shrink(): void;
-  /** Places the keys of a page anew, so that what is free comes together; each is told by a change. Throws `NO_PAGE`, `SLOTS`,
+  /** Places the keys of a page anew, so that what is free comes together; each is reported by a change. Throws `NO_PAGE`, `SLOTS`,
    * `MEMORY`. */
   repack(page: number): void;
 

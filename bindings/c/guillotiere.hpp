@@ -472,7 +472,7 @@ public:
         if (guillotiere_cache_next_change(&handle_, &next) != GUILLOTIERE_DONE) return std::nullopt;
         return cache_change{static_cast<change_kind>(next.kind), next.page, next.size, next.key, next.from, next.to};
     }
-    // All keys go, and no change tells it.
+    // All keys go, and no change reports this.
     [[nodiscard]] status clear() { return static_cast<status>(guillotiere_cache_clear(&handle_)); }
     // What wasn't used for so many frames goes.
     [[nodiscard]] status trim(std::uint64_t frames) { return static_cast<status>(guillotiere_cache_trim(&handle_, frames)); }

@@ -163,8 +163,8 @@ impl AtlasAllocator {
         }))
     }
 
-    /// Whether a request of this size has room: then `allocate` grants it, slots and memory aside; else it answers
-    /// None. Takes one search, and no memory.
+    /// Whether a request of this size has room: then `allocate` grants it, slots and memory aside; otherwise it
+    /// answers None. Takes one search, and no memory.
     pub fn can_fit(&self, requested_size: Size) -> bool {
         self.atlas.can_fit(convert::library_size(requested_size))
     }

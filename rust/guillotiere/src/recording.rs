@@ -1,7 +1,7 @@
 //! Persistence: an allocator that records its calls, and recordings that can be kept and taken up again. The recorder of
 //! the crate `guillotiere` 0.7.0 doesn't compile; this one has names of its own.
 //!
-//! The ids of an [`AtlasAllocator`](crate::AtlasAllocator) hang on its slots, and of slots that are read from a file no
+//! The ids of an [`AtlasAllocator`](crate::AtlasAllocator) depend on its slots, and of slots that are read from a file no
 //! one can say whether calls led to them. So what is kept is the list of calls with their answers, a [`Recording`]:
 //! `resume` carries them out once more in a new allocator and compares each answer before the allocator is given out.
 //!
@@ -126,14 +126,14 @@ impl RecordingAllocator {
         Ok(granted.map(|granted| convert::allocation(&granted)))
     }
 
-    /// Whether a request of this size has room: then `allocate` grants it, names, slots and memory aside; else it
+    /// Whether a request of this size has room: then `allocate` grants it, names, slots and memory aside; otherwise it
     /// answers None. Takes one search, and no memory.
     pub fn can_fit(&self, requested_size: Size) -> bool {
         self.session.can_fit(convert::library_size(requested_size))
     }
 
     /// Takes memory for so many more slots than are used, as `AtlasAllocator::try_reserve` does; it is not recorded.
-    /// What is recorded and the names want memory beside it. An error is `Slots` or `Memory`.
+    /// What is recorded and the names take memory in addition. An error is `Slots` or `Memory`.
     pub fn try_reserve(&mut self, additional: u32) -> Result<(), AtlasError> {
         Ok(self.session.reserve(additional)?)
     }

@@ -277,7 +277,7 @@ pub fn pack_pages(sprites: &[Size], options: &SheetOptions) -> Result<Option<Pag
 /// use guillotiere::sheet::{pack_groups, Allowed, SheetOptions};
 /// use guillotiere::size2;
 ///
-/// // A square of 8 takes four of these sprites, so the group of two has no room beside the group of three.
+/// // A square of 8 takes four of these sprites, so the group of two has no room next to the group of three.
 /// let options = SheetOptions::new(Allowed::Squares { least: 1, greatest: 8 });
 /// let groups = [Some(0), Some(1), Some(0), Some(1), Some(0), None];
 /// let pages = pack_groups(&[size2(4, 4); 6], &groups, &options)?.unwrap();

@@ -35,7 +35,7 @@ pub fn dump_into_svg(
     output.write_all(text.as_bytes())
 }
 
-// Where a drawing stands: its corner, and how much each side is scaled.
+// Where a drawing is: its corner, and how much each side is scaled.
 struct Frame {
     corner: (f32, f32),
     scale: (f32, f32),
