@@ -6,8 +6,8 @@
  * to 2147483647. Whatever else is given, of whatever type, is answered by a {@link WollemigoError} with a `code`, and then
  * nothing changed.
  *
- * An object has memory outside of JavaScript's own. `dispose` gives it back, and so does the end of a `using` block; of what is
- * forgotten it is given back some time after JavaScript's collector found it.
+ * An object has memory outside of JavaScript's own. `dispose` gives it back, and so does the end of a `using` block; that of a
+ * forgotten object is given back some time after JavaScript's collector finds it.
  */
 
 declare global {
