@@ -1,11 +1,11 @@
 /* The atlas allocators of guillotiere, for C99.
  *
  * An atlas is one large rectangle, often a texture, that hands out boxes and takes them back. A simple allocator hands
- * out boxes and takes none back. A cache keeps rectangles under keys in the pages of a texture array, and tells what its
- * caller has to do to the textures. guillotiere_pack takes sprites that all are known beforehand and packs them into one
- * small sheet, guillotiere_pack_dense into one that is as a rule smaller, guillotiere_pack_pages into several,
- * guillotiere_pack_groups into several with each group of sprites on one of them, and guillotiere_fill as many of them as one
- * sheet takes; these need no handle. Lengths and coordinates are in pixels, areas in unit squares; y grows downwards.
+ * out boxes and takes none back. A cache keeps rectangles under keys in pages, which are textures or the layers of a texture
+ * array, and tells what its caller has to do to the textures. guillotiere_pack takes sprites that all are known beforehand
+ * and packs them into one small sheet, guillotiere_pack_dense into one that is as a rule smaller, guillotiere_pack_pages into
+ * several, guillotiere_pack_groups into several with each group of sprites on one of them, and guillotiere_fill as many of them
+ * as one sheet takes; these need no handle. Lengths and coordinates are in pixels, areas in unit squares; y grows downwards.
  *
  * Handles. A handle is a place for an allocator, which its owner keeps:
  *
@@ -286,8 +286,8 @@ typedef struct guillotiere_cache_change {
     guillotiere_place to;
 } guillotiere_cache_change;
 
-/* How often guillotiere_cache_get found its key and how often it didn't, and how many keys were evicted. A count that
- * reaches 18446744073709551615 stays there. */
+/* How often guillotiere_cache_get found its key and how often it didn't, and how many keys an insertion, a trim or a repacking
+ * evicted. A count that reaches 18446744073709551615 stays there. */
 typedef struct guillotiere_counts {
     uint64_t hits;
     uint64_t misses;
@@ -450,7 +450,7 @@ uint32_t guillotiere_simple_slots(const guillotiere_simple *simple, guillotiere_
 /* Whether one free box has the allocator's size; also true of a handle that holds nothing. */
 bool guillotiere_simple_is_empty(const guillotiere_simple *simple);
 
-/* --- A cache of rectangles under keys, in the pages of a texture array ------------------------------------------------ */
+/* --- A cache of rectangles under keys, in pages that are textures or the layers of a texture array -------------------- */
 
 /* Makes a cache that holds nothing and has no page yet, where the handle holds nothing. Keys are any numbers of 64 bits;
  * they are hashed with a fixed seed.
@@ -461,7 +461,8 @@ uint32_t guillotiere_cache_new(const guillotiere_cache_options *options, guillot
 /* Lets a cache go, with all its memory; the handle holds nothing then. */
 void guillotiere_cache_free(guillotiere_cache *cache);
 
-/* A new frame: what was used before may be evicted from now on. DONE; EMPTY. */
+/* A new frame: what was used before may be evicted from now on. Before the first new frame nothing gives way: all that is held is
+ * used in it. DONE; EMPTY. */
 uint32_t guillotiere_cache_begin_frame(guillotiere_cache *cache);
 
 /* The place of a key, which is used in this frame from now on. Counts a hit or a miss. DONE; NOT_HELD; EMPTY. */
@@ -472,9 +473,10 @@ uint32_t guillotiere_cache_peek(const guillotiere_cache *cache, uint64_t key, gu
 
 /* A place for a key, which is used in this frame. A key that is held keeps its place, and is the most recently used; that
  * counts as no hit. A new key comes on the first page with room for its size with the padding. Where none has room a page
- * grows; where none can grow one is added; and where all are there, of the keys on a page the least recently used one goes
- * that this frame didn't use; and so on. What was done is handed over by guillotiere_cache_next_change, also after FRAME_FULL and after an
- * error: follow it before the place is used.
+ * grows, by its lesser side, which doubles, the width of equal ones, and no further than the largest page; where none can grow one
+ * is added; and where all are there, of the keys on a page the least recently used one goes that this frame didn't use; and so on.
+ * What was done is handed over by guillotiere_cache_next_change, also after FRAME_FULL and after an error: follow it before the
+ * place is used.
  * DONE: the key is new, and its place was written: its pixels are to be written to the texture. HELD: it was held, and its
  * place was written, where its pixels are. FRAME_FULL: every page is there and at its largest, this frame uses all keys on
  * them and no page has room: draw what is batched, call guillotiere_cache_begin_frame and insert again; as long as a frame has used
@@ -507,14 +509,15 @@ uint32_t guillotiere_cache_trim(guillotiere_cache *cache, uint64_t frames);
  * was; EMPTY. */
 uint32_t guillotiere_cache_shrink(guillotiere_cache *cache);
 
-/* Places the keys of a page anew, the largest first, so that what is free comes together; pages are counted from 0. Each key
- * of the page is told by a change, the most recently used first: GUILLOTIERE_MOVED, also where it stays, or
- * GUILLOTIERE_EVICTED, where it found no room. A place that a key moves to can overlap one that a later change moves from:
+/* Places the keys of a page anew, the largest first, and of one area the one that was used last, so that what is free comes
+ * together; pages are counted from 0. Each key of the page is told by a change, the most recently used first:
+ * GUILLOTIERE_MOVED, also where it stays, or GUILLOTIERE_EVICTED, where it found no room. A place that a key moves to can overlap one that a later change moves from:
  * copy all pixels from the page as it was before the call.
  * DONE; NO_PAGE, SLOTS or MEMORY, and then all is as it was; EMPTY. */
 uint32_t guillotiere_cache_repack(guillotiere_cache *cache, uint32_t page);
 
-/* Takes memory for so many more keys; nothing else changes. DONE; MEMORY; EMPTY. */
+/* Takes memory for so many more keys; nothing else changes. An insertion still asks for memory for slots of a page and for changes.
+ * DONE; MEMORY; EMPTY. */
 uint32_t guillotiere_cache_reserve(guillotiere_cache *cache, size_t additional);
 
 /* The most recently used key, and its place; it counts as no use. DONE; NOT_HELD if no key is held; EMPTY. */

@@ -110,7 +110,7 @@ enum class insertion : std::uint32_t {
     fresh = GUILLOTIERE_DONE,            // the key is new: its pixels are to be written to its place, which is empty if it has none
     held = GUILLOTIERE_HELD,             // the key was held, and its pixels are in its place
     frame_full = GUILLOTIERE_FRAME_FULL, // draw what is batched, begin a frame, and insert again
-    never_fits = GUILLOTIERE_NEVER_FITS, // the size passes the largest page
+    never_fits = GUILLOTIERE_NEVER_FITS, // the size passes the largest page, with the padding and rounded up to the alignment
 };
 
 // The answer of an insertion, and the place of a key that is new or was held.
@@ -420,7 +420,7 @@ private:
     guillotiere_simple handle_;
 };
 
-// A cache of rectangles under keys, in the pages of a texture array.
+// A cache of rectangles under keys, in pages that are textures or the layers of a texture array.
 class cache {
 public:
     static result<cache> make(const cache_options &with) {

@@ -79,7 +79,8 @@ struct happened {
 
 class painter {
 public:
-    // A border of one pixel lies around each glyph: here a quad takes all of it, so that whatever is left there would be seen.
+    // A border of one pixel lies around each glyph. Quads lie on whole pixels and aren't scaled: here one takes all of the border, so
+    // that whatever is left there would be seen. Where a filter mixes pixels, let a quad pass `inner` by half a pixel at most.
     static constexpr int border = 1;
 
     painter(SDL_Renderer *renderer, guillotiere::cache cache) : renderer_(renderer), cache_(std::move(cache)) {}
@@ -161,6 +162,7 @@ private:
         if (is_blank(place)) return;
         if (place.number >= kept_.size()) kept_.resize(cache_.numbers());
         kept_[place.number] = {pixels.left, pixels.top};
+        usual_ = {pixels.width, pixels.height};
         const SDL_Rect all = area_of(place.rectangle);
         const auto made = pixels_of(pixels, all.w, all.h, place.inner.min_x - all.x, place.inner.min_y - all.y);
         SDL_UpdateTexture(page(place.page), &all, made.data(), all.w * int(sizeof made[0]));
@@ -228,17 +230,18 @@ private:
         return all;
     }
 
-    // Where glyphs made way though a quarter of a page is free, that room lies in small pieces: the page with the most of it is
-    // packed anew.
+    // Where glyphs made way though much of a page is free, that room lies in pieces too small for a glyph like the last one: the page
+    // that loses the most so is packed anew.
     void repack_if_fragmented() {
         const auto evictions = std::exchange(evictions_, cache_.statistics().evictions);
         if (evictions == evictions_) return;
         std::uint32_t most = 0;
         for (std::uint32_t page = 1; page < cache_.page_count(); page++)
-            if (cache_.areas(page)->free > cache_.areas(most)->free) most = page;
-        const auto areas = *cache_.areas(most);
-        if (areas.free >= areas.allocated / 3) repack(most);
+            if (lost_on(page) > lost_on(most)) most = page;
+        if (lost_on(most) >= cache_.areas(most)->allocated / 8) repack(most);
     }
+
+    std::uint64_t lost_on(std::uint32_t page) const { return *cache_.unusable_area(page, usual_); }
 
     // No quad may wait here: it would show what its glyph moved away from.
     void repack(std::uint32_t number) {
@@ -256,6 +259,7 @@ private:
     std::vector<texture> pages_;
     std::vector<kept> kept_;
     std::vector<quad> batch_;
+    guillotiere::size usual_{1, 1};
     std::uint64_t evictions_ = 0;
     int frame_ = 0;
     happened happened_{};

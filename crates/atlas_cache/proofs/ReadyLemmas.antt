@@ -1,5 +1,5 @@
 -- What an insert leaves in reserve.
-use Rattle.std.proofs.Common.{ℕ, ◌≡◌, ◌≢◌, ◌+◌, ◌*◌, ◌<◌, ◌≤◌, ◌∙◌, List, length, Result, Ok, Err, sym, ap, arith}
+use Rattle.std.proofs.Common.{ℕ, ◌≡◌, ◌≢◌, ◌+◌, ◌-◌, ◌*◌, ◌<◌, ◌≤◌, ◌∙◌, List, length, Result, Ok, Err, sym, ap, arith}
 use Rattle.guillotiere.specs.declared.Size.{Size}
 use Rattle.guillotiere.specs.Stored.{AtlasValue}
 use Rattle.atlas_cache.specs.declared.error.CacheError.{CacheError}
@@ -9,7 +9,7 @@ use Rattle.atlas_cache.specs.declared.inserted.Inserted.TheVariants.{Placed, Hel
 use Rattle.atlas_cache.specs.declared.options.CacheOptions.{CacheOptions}
 use Rattle.atlas_cache.specs.Caches.{CacheState, IsFull}
 use Rattle.atlas_cache.specs.Changes.{InsertsBlank}
-use Rattle.atlas_cache.specs.Reserving.{HasReserves, UseAtMost}
+use Rattle.atlas_cache.specs.Reserving.{HasReserves, HaveSlots, UseAtMost}
 use Rattle.atlas_cache.specs.Rooms.{page_sizes}
 use Rattle.atlas_cache.proofs.RoomLemmas.Paging.{as_many}
 use Rattle.atlas_cache.proofs.RoomLemmas.Reserving.{none_used, slots_left}
@@ -61,3 +61,8 @@ module _ {K : Type 0} where
   blank_full key size (Ok FrameFull) s t ins full = absurd ins
   blank_full key size (Ok NeverFits) s t ins full = absurd ins
   blank_full key size (Err error) s t ins full = rw ins.0 full
+
+  -- What one insert asks for.
+  pub one_reserved : (full len : ℕ) (s : CacheState K) → 0 < s.reserved → HaveSlots 4 s.pages → len + length s.entries < full
+      → HasReserves (0 + 1) (full - len) s
+  one_reserved full len s some slots room = record { entries = omega (arith, some); slots = slots; changes = omega (arith, room) }

@@ -3,7 +3,7 @@ use Rattle.std.proofs.Common.{ℕ, ◌+◌, ◌≤◌, ◌≡◌, max, List, len
 use Rattle.std.specs.HashMap.{HashMap, hash_map_len, spare}
 use Rattle.atlas_cache.specs.Orders.{IsEntry, Order, gone, used, with_newest, with_reserve}
 use Rattle.atlas_cache.specs.Tables.{HasMemory}
-use Rattle.atlas_cache.proofs.RingLemmas.{length-without_first}
+use Rattle.atlas_search.proofs.Occurrences.{length-without}
 
 -- What a removal takes from a map is at most one.
 pub one-at-most : (o : Option ℕ) → (if is_some o then 1 else 0) ≤ 1
@@ -39,9 +39,9 @@ module _ {K S : Type 0} (map : HashMap K ℕ S) (order : Order) (room : ℕ) (h 
   pub memory-used : (n : ℕ) → IsEntry n order → HasMemory map (used n order) room
   memory-used n l = record {
     places = h.places;
-    held = omega (arith, h.held, length-without_first n order.entries l);
-    few = omega (arith, h.few, length-without_first n order.entries l);
-    items = omega (arith, h.items, length-without_first n order.entries l);
+    held = omega (arith, h.held, length-without n order.entries l);
+    few = omega (arith, h.few, length-without n order.entries l);
+    items = omega (arith, h.items, length-without n order.entries l);
   }
 
   -- An entry goes, from the map and from the order.
@@ -49,9 +49,9 @@ module _ {K S : Type 0} (map : HashMap K ℕ S) (order : Order) (room : ℕ) (h 
       → HasMemory new (gone n order) room
   memory-gone n new l places held = record {
     places = omega (arith, h.places, places);
-    held = omega (arith, h.held, held, length-without_first n order.entries l);
-    few = omega (arith, h.few, length-without_first n order.entries l);
-    items = omega (arith, h.items, length-without_first n order.entries l);
+    held = omega (arith, h.held, held, length-without n order.entries l);
+    few = omega (arith, h.few, length-without n order.entries l);
+    items = omega (arith, h.items, length-without n order.entries l);
   }
 
   -- An entry joins, which takes one of those in reserve, if there are any.

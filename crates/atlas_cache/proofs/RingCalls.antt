@@ -2,14 +2,15 @@
 use Rattle.std.proofs.Common.{ℕ, ◌<◌, ◌≤◌, ◌≡◌, List, [], ◌∷◌, refl, sym, ap, ◌∙◌, ◌⊎◌, inl, inr, arith, length}
 use Rattle.std.proofs.lemmas.Bool.{cases_eq}
 use Rattle.atlas_cache.specs.declared.recency.links.Link.{Link}
-use Rattle.atlas_cache.specs.Orders.{one_if_same, times_in, without_first}
+use Rattle.atlas_search.specs.Numbers.{same, occurs, without}
 use Rattle.atlas_cache.specs.Rings.{RunsThrough, IsRing, IsInRing, at_once, no_entry, next_at, previous_at}
-use Rattle.atlas_cache.proofs.RingLemmas.{IsUnlinked, RunsThrough-unlinked, RunsThrough-pushed, one_if_same-self, one_if_same-ne, ne-from_times_in, at_once-here, at_once-there, times_in-without, next-in_chain, previous-in_chain}
+use Rattle.atlas_cache.proofs.RingLemmas.{IsUnlinked, RunsThrough-unlinked, RunsThrough-pushed, at_once-here, at_once-there, next-in_chain, previous-in_chain}
+use Rattle.atlas_search.proofs.Occurrences.{same-self, same-ne, ne-from_occurs, occurs-without}
 
 -- No entry has the number of none.
-pub none-occurs : (links : List Link) (ends : Link) (xs : List ℕ) → length links ≤ 4294967295 → IsRing links ends xs → times_in no_entry xs ≡ 0
+pub none-occurs : (links : List Link) (ends : Link) (xs : List ℕ) → length links ≤ 4294967295 → IsRing links ends xs → occurs no_entry xs ≡ 0
 none-occurs links ends xs short h =
-    elim (cases_eq (times_in no_entry xs) 0) [
+    elim (cases_eq (occurs no_entry xs) 0) [
       | inl e ↦ e
       | inr ne ↦ let l = h.inside no_entry (omega (arith, ne)) in absurd (omega (arith, l, short))
     ]
@@ -28,20 +29,20 @@ unlinked-by l0 l1 l2 e0 e1 e2 i p n =
     unlinked-from (next_at l0 e0) (previous_at l0 e0) (next_at l1 e1) (previous_at l1 e1) (next_at l2 e2) (previous_at l2 e2) i p n
 
 module _ (links : List Link) (ends : Link) (new : List Link) (last : Link) (short : length links ≤ 4294967295) (same_length : length new ≡ length links) where
-  pub IsRing-unlinked : (i : ℕ) → IsUnlinked (next_at links ends) (previous_at links ends) (next_at new last) (previous_at new last) i → (xs : List ℕ) → IsRing links ends xs → 0 < times_in i xs → IsRing new last (without_first i xs)
+  pub IsRing-unlinked : (i : ℕ) → IsUnlinked (next_at links ends) (previous_at links ends) (next_at new last) (previous_at new last) i → (xs : List ℕ) → IsRing links ends xs → 0 < occurs i xs → IsRing new last (without i xs)
   IsRing-unlinked i w xs h l =
       let none = none-occurs links ends xs short h in
       record {
         chain = RunsThrough-unlinked _ _ _ _ i w no_entry xs h.once none none l h.chain;
-        once = λ k. omega (arith, times_in-without i xs l k, h.once k);
-        inside = λ k m. omega (arith, same_length, h.inside k (omega (arith, times_in-without i xs l k, m)));
+        once = λ k. omega (arith, occurs-without i xs l k, h.once k);
+        inside = λ k m. omega (arith, same_length, h.inside k (omega (arith, occurs-without i xs l k, m)));
       }
 
-  pub others-unlinked : (i : ℕ) → IsUnlinked (next_at links ends) (previous_at links ends) (next_at new last) (previous_at new last) i → (xs : List ℕ) (k : ℕ) → IsRing links ends xs → 0 < times_in i xs → (k ≡ no_entry → ⊥) → times_in k xs ≡ 0 → next_at new last k ≡ next_at links ends k
+  pub others-unlinked : (i : ℕ) → IsUnlinked (next_at links ends) (previous_at links ends) (next_at new last) (previous_at new last) i → (xs : List ℕ) (k : ℕ) → IsRing links ends xs → 0 < occurs i xs → (k ≡ no_entry → ⊥) → occurs k xs ≡ 0 → next_at new last k ≡ next_at links ends k
   others-unlinked i w xs k h l nk z =
       w.next k (λ q. elim (previous-in_chain (next_at links ends) (previous_at links ends) no_entry i xs h.chain l) [
         | inl e ↦ nk (q ∙ e)
-        | inr m ↦ ne-from_times_in k (previous_at links ends i) xs z m (sym q)
+        | inr m ↦ ne-from_occurs k (previous_at links ends i) xs z m (sym q)
       ])
 
 pub neighbours-inside : (links : List Link) (ends : Link) (i : ℕ) → IsInRing links ends i → ((previous_at links ends i ≡ no_entry) ⊎ (previous_at links ends i < length links)) × ((next_at links ends i ≡ no_entry) ⊎ (next_at links ends i < length links))
@@ -60,23 +61,23 @@ pub record IsPushed (l0 l1 l2 l3 : List Link) (e0 e2 e3 : Link) (i : ℕ) : Type
   pub previous3 : (k : ℕ) → previous_at l3 e3 k ≡ at_once (next_at l0 e0 no_entry) i (previous_at l2 e2) k
 
 -- What stands first isn't an entry that the ring doesn't hold.
-pub first-apart : (links : List Link) (ends : Link) (i : ℕ) (xs : List ℕ) → RunsThrough (next_at links ends) (previous_at links ends) no_entry xs → times_in i xs ≡ 0 → (i ≡ no_entry → ⊥) → i ≡ next_at links ends no_entry → ⊥
+pub first-apart : (links : List Link) (ends : Link) (i : ℕ) (xs : List ℕ) → RunsThrough (next_at links ends) (previous_at links ends) no_entry xs → occurs i xs ≡ 0 → (i ≡ no_entry → ⊥) → i ≡ next_at links ends no_entry → ⊥
 first-apart links ends i [] h z ni e = ni (e ∙ h.0)
-first-apart links ends i (x ∷ xs) h z ni e = ne-from_times_in i x (x ∷ xs) z (omega (arith, one_if_same-self x)) (sym h.0 ∙ sym e)
+first-apart links ends i (x ∷ xs) h z ni e = ne-from_occurs i x (x ∷ xs) z (omega (arith, same-self x)) (sym h.0 ∙ sym e)
 
 -- What stands first is an entry, or none.
 pub first-inside : (links : List Link) (ends : Link) (xs : List ℕ) → IsRing links ends xs → (next_at links ends no_entry ≡ no_entry) ⊎ (next_at links ends no_entry < length links)
 first-inside links ends [] h = inl h.chain.0
 first-inside links ends (x ∷ xs) h =
     let e : next_at links ends no_entry ≡ x = h.chain.0 in
-    inr (rw e (h.inside x (omega (arith, one_if_same-self x))))
+    inr (rw e (h.inside x (omega (arith, same-self x))))
 
 module _ (l0 l1 l2 l3 : List Link) (e0 e2 e3 : Link) (i : ℕ) (w : IsPushed l0 l1 l2 l3 e0 e2 e3 i) (ni : i ≡ no_entry → ⊥) where
   pub others-pushed : (k : ℕ) → (k ≡ no_entry → ⊥) → (k ≡ i → ⊥) → next_at l3 e3 k ≡ next_at l0 e0 k
   others-pushed k nk ki =
       w.next3 k ∙ w.next2 k ∙ at_once-there no_entry i (next_at l1 e0) k nk ∙ w.next1 k ∙ at_once-there i (next_at l0 e0 no_entry) (next_at l0 e0) k ki
 
-  pub IsRing-pushed : length l0 ≤ 4294967295 → length l3 ≡ length l0 → i < length l0 → (xs : List ℕ) → IsRing l0 e0 xs → times_in i xs ≡ 0 → IsRing l3 e3 (i ∷ xs)
+  pub IsRing-pushed : length l0 ≤ 4294967295 → length l3 ≡ length l0 → i < length l0 → (xs : List ℕ) → IsRing l0 e0 xs → occurs i xs ≡ 0 → IsRing l3 e3 (i ∷ xs)
   IsRing-pushed short same_length inside xs h z =
       let none = none-occurs l0 e0 xs short h in
       let f = next_at l0 e0 no_entry in
@@ -88,6 +89,6 @@ module _ (l0 l1 l2 l3 : List Link) (e0 e2 e3 : Link) (i : ℕ) (w : IsPushed l0 
       let previous : (k : ℕ) → (k ≡ i → ⊥) → (k ≡ f → ⊥) → previous_at l3 e3 k ≡ previous_at l0 e0 k = (λ k ki kf. w.previous3 k ∙ at_once-there f i (previous_at l2 e2) k kf ∙ w.previous2 k ∙ w.previous1 k ∙ at_once-there i no_entry (previous_at l0 e0) k ki) in
       record {
         chain = RunsThrough-pushed (next_at l0 e0) (previous_at l0 e0) (next_at l3 e3) (previous_at l3 e3) i xs h.once z none ni first own_next own_previous after (λ k ki kn. others-pushed k kn ki) previous h.chain;
-        once = λ k. elim (cases_eq k i) [ inl e ↦ omega (arith, one_if_same-self i, z, ap (λ v. one_if_same v i) e, ap (λ v. times_in v xs) e) | inr ne ↦ omega (arith, one_if_same-ne k i ne, h.once k) ];
-        inside = λ k m. elim (cases_eq k i) [ inl e ↦ omega (arith, e, inside, same_length) | inr ne ↦ omega (arith, same_length, h.inside k (omega (arith, one_if_same-ne k i ne, m))) ];
+        once = λ k. elim (cases_eq k i) [ inl e ↦ omega (arith, same-self i, z, ap (λ v. same v i) e, ap (λ v. occurs v xs) e) | inr ne ↦ omega (arith, same-ne k i ne, h.once k) ];
+        inside = λ k m. elim (cases_eq k i) [ inl e ↦ omega (arith, e, inside, same_length) | inr ne ↦ omega (arith, same_length, h.inside k (omega (arith, same-ne k i ne, m))) ];
       }

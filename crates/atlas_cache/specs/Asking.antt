@@ -34,14 +34,28 @@ pub record AreUsable (o : CacheOptions) : Type 0 where
   pub atlas : AreValid (options_of o.atlas)
   pub room : CanStand o one_pixel
 
+-- A new page isn't empty, and fits the largest one; then, that there are pages; then, that the padding isn't below 0; and
+-- then, that the atlas's options are valid.
+abbrev pub HasGoodSizes : CacheOptions → Type 0
+HasGoodSizes o = IsPositive (sides_of o.page) × Fits (sides_of o.page) (sides_of o.largest_page)
+
+abbrev pub HasGoodPages : CacheOptions → Type 0
+HasGoodPages o = HasGoodSizes o × (0 < o.pages)
+
+abbrev pub HasGoodPadding : CacheOptions → Type 0
+HasGoodPadding o = HasGoodPages o × (pos 0 ≤ℤ o.padding)
+
+abbrev pub HasGoodAtlas : CacheOptions → Type 0
+HasGoodAtlas o = HasGoodPadding o × AreValid (options_of o.atlas)
+
 -- What an error says of options: what is wrong, and that nothing of what is looked at before is.
 abbrev pub IsFaultIn : CacheOptions → OptionsError → Type 0
 IsFaultIn o EmptyPage = IsPositive (sides_of o.page) → ⊥
 IsFaultIn o LargestPage = IsPositive (sides_of o.page) × (Fits (sides_of o.page) (sides_of o.largest_page) → ⊥)
-IsFaultIn o NoPages = Fits (sides_of o.page) (sides_of o.largest_page) × (o.pages ≡ 0)
-IsFaultIn o Padding = (0 < o.pages) × (o.padding <ℤ pos 0)
-IsFaultIn o Atlas = (pos 0 ≤ℤ o.padding) × (AreValid (options_of o.atlas) → ⊥)
-IsFaultIn o NothingFits = AreValid (options_of o.atlas) × (CanStand o one_pixel → ⊥)
+IsFaultIn o NoPages = HasGoodSizes o × (o.pages ≡ 0)
+IsFaultIn o Padding = HasGoodPages o × (o.padding <ℤ pos 0)
+IsFaultIn o Atlas = HasGoodPadding o × (AreValid (options_of o.atlas) → ⊥)
+IsFaultIn o NothingFits = HasGoodAtlas o × (CanStand o one_pixel → ⊥)
 
 -- A rectangle with no pixel.
 abbrev pub no_pixels : Rectangle

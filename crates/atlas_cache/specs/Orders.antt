@@ -1,5 +1,6 @@
 -- Entries by their numbers, in the order of their use.
-use Rattle.std.specs.Prelude.{ℕ, ◌+◌, ◌-◌, ◌≡◌, ◌<◌, ◌≤◌, ◌==◌, max, if◌then◌else◌, List, [], ◌∷◌, length, Option, None, Some}
+use Rattle.std.specs.Prelude.{ℕ, ◌+◌, ◌-◌, ◌≡◌, ◌<◌, ◌≤◌, max, List, [], ◌∷◌, length, Option, None, Some}
+use Rattle.atlas_search.specs.Numbers.{occurs, without}
 
 -- The entries, the most recently used first; how many numbers were given out so far: 0, 1 and so on; and how many entries
 -- are in reserve: for so many that come next there is memory.
@@ -8,23 +9,9 @@ pub record Order : Type 0 where
   pub made : ℕ
   pub reserved : ℕ
 
--- 1 if the numbers are equal.
-abbrev pub one_if_same : ℕ → ℕ → ℕ
-one_if_same i j = if i == j then 1 else 0
-
--- How often a number stands in a list.
-abbrev pub times_in : ℕ → List ℕ → ℕ
-times_in k [] = 0
-times_in k (x ∷ xs) = one_if_same k x + times_in k xs
-
--- The list without the first i.
-abbrev pub without_first : ℕ → List ℕ → List ℕ
-without_first i [] = []
-without_first i (x ∷ xs) = if i == x then xs else x ∷ without_first i xs
-
 -- The number is that of an entry.
 abbrev pub IsEntry : ℕ → Order → Type 0
-IsEntry k o = 0 < times_in k o.entries
+IsEntry k o = 0 < occurs k o.entries
 
 -- The first of a list.
 abbrev pub newest_of : List ℕ → Option ℕ
@@ -39,15 +26,15 @@ oldest_of (x ∷ (y ∷ ys)) = oldest_of (y ∷ ys)
 
 -- The entry is the most recently used; the others keep their order.
 abbrev pub used : ℕ → Order → Order
-used k o = record o { entries = k ∷ without_first k o.entries }
+used k o = record o { entries = k ∷ without k o.entries }
 
 -- The entry is gone; the others keep their order.
 abbrev pub gone : ℕ → Order → Order
-gone k o = record o { entries = without_first k o.entries }
+gone k o = record o { entries = without k o.entries }
 
 -- The number isn't that of an entry: one that was given out before, or, if all of those are in use, the next one.
 pub record IsFreshNumber (k : ℕ) (o : Order) : Type 0 where
-  pub free : times_in k o.entries ≡ 0
+  pub free : occurs k o.entries ≡ 0
   pub next : k ≤ o.made
   pub dense : k ≡ o.made → length o.entries ≡ o.made
 

@@ -2,7 +2,7 @@
 use Rattle.std.specs.Prelude.{ℕ, ◌+◌, ◌≡◌, ◌<◌, ◌≤◌, ◌==◌, if◌then◌else◌, List, [], ◌∷◌, length, zero, suc}
 use Rattle.std.specs.Prelude.{slice_index_or}
 use Rattle.atlas_cache.specs.declared.recency.links.Link.{Link}
-use Rattle.atlas_cache.specs.Orders.{times_in}
+use Rattle.atlas_search.specs.Numbers.{occurs}
 
 -- The number of no entry. The ends of the order stand there: what comes after it is the most recently used entry, and
 -- what comes before it is the least recently used one.
@@ -33,8 +33,8 @@ RunsThrough next previous before (x ∷ xs) = (next before ≡ x) × (previous x
 -- The links run through xs, each once.
 pub record IsRing (links : List Link) (ends : Link) (xs : List ℕ) : Type 0 where
   pub chain : RunsThrough (next_at links ends) (previous_at links ends) no_entry xs
-  pub once : (k : ℕ) → times_in k xs ≤ 1
-  pub inside : (k : ℕ) → 0 < times_in k xs → k < length links
+  pub once : (k : ℕ) → occurs k xs ≤ 1
+  pub inside : (k : ℕ) → 0 < occurs k xs → k < length links
 
 -- The first so many that the links run through.
 abbrev pub line : ℕ → (next : ℕ → ℕ) → ℕ → List ℕ
@@ -48,18 +48,18 @@ RunsForward next at (x ∷ xs) = (at ≡ x) × RunsForward next (next x) xs
 
 -- The links run through some list with this entry.
 abbrev pub IsInRing : List Link → (ends : Link) → ℕ → Type 0
-IsInRing links ends k = (xs : List ℕ) × IsRing links ends xs × (0 < times_in k xs)
+IsInRing links ends k = (xs : List ℕ) × IsRing links ends xs × (0 < occurs k xs)
 
 -- The links run through some list without this entry.
 abbrev pub IsOutsideRing : List Link → (ends : Link) → ℕ → Type 0
-IsOutsideRing links ends k = (xs : List ℕ) × IsRing links ends xs × (times_in k xs ≡ 0)
+IsOutsideRing links ends k = (xs : List ℕ) × IsRing links ends xs × (occurs k xs ≡ 0)
 
 -- The numbers that belong to no entry stand in a line that begins with `unused`.
 pub record HasSpare (links : List Link) (ends : Link) (unused : ℕ) (entries : List ℕ) : Type 0 where
   pub spare : List ℕ
   pub line : RunsForward (next_at links ends) unused spare
-  pub each : (k : ℕ) → k < length links → times_in k entries + times_in k spare ≡ 1
-  pub inside : (k : ℕ) → 0 < times_in k entries + times_in k spare → k < length links
+  pub each : (k : ℕ) → k < length links → occurs k entries + occurs k spare ≡ 1
+  pub inside : (k : ℕ) → 0 < occurs k entries + occurs k spare → k < length links
   pub all : length entries + length spare ≡ length links
 
 -- The entries that the links run through, the first first.

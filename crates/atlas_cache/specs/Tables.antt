@@ -4,7 +4,8 @@ use Rattle.std.specs.Prelude.{ℕ, ◌+◌, ◌≡◌, ◌<◌, ◌≤◌, Bool,
 use Rattle.std.specs.Option.{option_map_or}
 use Rattle.std.specs.HashMap.{HashMap, get, hash_map_len, spare}
 use Rattle.atlas_cache.specs.declared.entries.Entry.{Entry}
-use Rattle.atlas_cache.specs.Orders.{Order, IsEntry, times_in}
+use Rattle.atlas_cache.specs.Orders.{Order, IsEntry}
+use Rattle.atlas_search.specs.Numbers.{occurs}
 
 module _ {K : Type 0} where
   -- What belongs to each of the numbers.
@@ -26,7 +27,7 @@ module _ {K : Type 0} where
       (items : List (Entry K)) : Type 0 where
     pub made : order.made ≤ length items
     pub inside : (n : ℕ) → IsEntry n order → n < length items
-    pub once : (n : ℕ) → times_in n order.entries ≤ 1
+    pub once : (n : ℕ) → occurs n order.entries ≤ 1
     pub found : (k : K) (n : ℕ) → get eq map k ≡ Some n → HasKey eq k n order items
     pub known : (k : K) (n : ℕ) → HasKey eq k n order items → get eq map k ≡ Some n
     pub own : (n : ℕ) (e : Entry K) → slice_get items n ≡ Some e → e.number ≡ n

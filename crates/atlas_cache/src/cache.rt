@@ -9,7 +9,7 @@ ghost use Rattle.atlas_cache.specs.Asking.{bordered, AreUsable, CanStand, IsFaul
 ghost use Rattle.atlas_cache.specs.Counting.{one_more};
 ghost use Rattle.atlas_cache.specs.Entries.{lying};
 ghost use Rattle.atlas_cache.specs.Refusals.{IsRefusedNew};
-ghost use Rattle.atlas_cache.specs.Reserving.{room_in, HasReserves, KeepsPageSizes};
+ghost use Rattle.atlas_cache.specs.Reserving.{room_in, HasReserves, HaveSlots, KeepsPageSizes};
 ghost use Rattle.atlas_cache.specs.Rooms.{page_sizes, HasRoomOnlyAmong, IsRefusal};
 ghost use Rattle.atlas_cache.specs.declared.error.CacheError.TheVariants.{Memory};
 ghost use Rattle.atlas_cache.specs.declared.inserted.Inserted.TheVariants.{FrameFull, Held, NeverFits, Placed};
@@ -117,8 +117,8 @@ impl<K: Copy + Eq + Hash, S: BuildHasher, A: Allocator + Copy> TextureCache<K, S
     ghost use Rattle.atlas_cache.specs.Changes.{ShowsSame, Uses};
     ghost use Rattle.atlas_cache.specs.Telling.{Tells};
 
-    /// A new frame: what was used before may go from now on. Frames are counted up to
-    /// 2^64 - 1; after that one no other begins.
+    /// A new frame: what was used before may go from now on. Before the first new frame nothing gives way: all that is held
+    /// is used in it. Frames are counted up to 2^64 - 1; after that one no other begins.
     pub fn begin_frame(&mut self)
         ensures frame { self.new ≡ record self.old { frame = one_more self.old.frame } }
         ensures unused { self.old.frame < 18446744073709551615 → IsNoneInUse self.new }
@@ -251,6 +251,9 @@ impl<K: Copy + Eq + Hash, S: BuildHasher, A: Allocator + Copy> TextureCache<K, S
         ensures reserves { (n : ℕ) → HasReserves (n + 1) (room_in changes.old) self.old → KeepsPageSizes size self.old
             → (result ≢ Err Memory) × HasReserves n (room_in changes.new) self.new }
         ensures full { IsFull self.old → IsFull self.new }
+        ensures one { 0 < self.old.reserved → HaveSlots 4 self.old.pages
+            → vec_len changes.old + length self.old.entries < vec_capacity changes.old → KeepsPageSizes size self.old
+            → result ≢ Err Memory }
     {
         self.entries.prove_kept();
         if let Some((known, entry)) = look_up(&self.entries, &key) {

@@ -2,8 +2,9 @@
 //! are.
 ghost use Rattle.std.specs.Prelude.{◌≡◌, ◌≢◌, ◌⊎◌, ◌+◌, ◌<◌, ◌≤◌, max, ℕ, List, [], ◌∷◌, ◌++◌, length, IsTrue, ◌↔◌, IfErr};
 ghost use Rattle.std.specs.Prelude.{Err, IfOk, IfSome, IsOkUnless, OnErr, OnOk, vec_capacity};
-ghost use Rattle.atlas_cache.specs.Orders.{IsEntry, IsFreshNumber, newest_of, gone, with_newest, oldest_of, times_in};
-ghost use Rattle.atlas_cache.specs.Orders.{used, with_reserve, without_first};
+ghost use Rattle.atlas_search.specs.Numbers.{occurs, without};
+ghost use Rattle.atlas_cache.specs.Orders.{IsEntry, IsFreshNumber, newest_of, gone, with_newest, oldest_of};
+ghost use Rattle.atlas_cache.specs.Orders.{used, with_reserve};
 ghost use Rattle.atlas_cache.specs.Refusals.{IsWithoutNumber};
 ghost use Rattle.atlas_cache.specs.Rings.{HasSpare, IsInRing, IsRing, next_at, no_entry};
 ghost use Rattle.atlas_cache.specs.declared.error.CacheError.TheVariants.{Memory, Numbers};
@@ -54,10 +55,10 @@ const NO_ENDS: Link = Link {
 fn move_to_front(links: &mut [Link], ends: &mut Link, at: u32)
     requires listed { IsInRing links.old ends.old at }
     requires short { length links.old ≤ no_entry }
-    ensures ring { (xs : List ℕ) → IsRing links.old ends.old xs → 0 < times_in at xs
-        → IsRing links.new ends.new (at ∷ without_first at xs) }
-    ensures others { (xs : List ℕ) (k : ℕ) → IsRing links.old ends.old xs → 0 < times_in at xs → k < length links.old
-        → times_in k xs ≡ 0 → next_at links.new ends.new k ≡ next_at links.old ends.old k }
+    ensures ring { (xs : List ℕ) → IsRing links.old ends.old xs → 0 < occurs at xs
+        → IsRing links.new ends.new (at ∷ without at xs) }
+    ensures others { (xs : List ℕ) (k : ℕ) → IsRing links.old ends.old xs → 0 < occurs at xs → k < length links.old
+        → occurs k xs ≡ 0 → next_at links.new ends.new k ≡ next_at links.old ends.old k }
     ensures size { length links.new ≡ length links.old }
 {
     unlink(links, ends, at);
@@ -68,11 +69,11 @@ fn move_to_front(links: &mut [Link], ends: &mut Link, at: u32)
 fn give_back(links: &mut [Link], ends: &mut Link, at: u32, unused: u32)
     requires listed { IsInRing links.old ends.old at }
     requires short { length links.old ≤ no_entry }
-    ensures ring { (xs : List ℕ) → IsRing links.old ends.old xs → 0 < times_in at xs
-        → IsRing links.new ends.new (without_first at xs) }
+    ensures ring { (xs : List ℕ) → IsRing links.old ends.old xs → 0 < occurs at xs
+        → IsRing links.new ends.new (without at xs) }
     ensures own { next_at links.new ends.new at ≡ unused }
-    ensures others { (xs : List ℕ) (k : ℕ) → IsRing links.old ends.old xs → 0 < times_in at xs → k < length links.old
-        → times_in k xs ≡ 0 → next_at links.new ends.new k ≡ next_at links.old ends.old k }
+    ensures others { (xs : List ℕ) (k : ℕ) → IsRing links.old ends.old xs → 0 < occurs at xs → k < length links.old
+        → occurs k xs ≡ 0 → next_at links.new ends.new k ≡ next_at links.old ends.old k }
     ensures size { length links.new ≡ length links.old }
 {
     unlink(links, ends, at);
@@ -143,7 +144,7 @@ impl<A: Allocator> Recency<A> {
 
     /// Says what each order keeps, and does nothing: each entry stands in it once, under a number that was given out.
     pub fn prove_kept(&self)
-        ensures once { (k : ℕ) → times_in k self.now.entries ≤ 1 }
+        ensures once { (k : ℕ) → occurs k self.now.entries ≤ 1 }
         ensures made { (k : ℕ) → IsEntry k self.now → k < self.now.made }
     {
         let _links = &self.links;

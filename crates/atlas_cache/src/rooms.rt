@@ -16,7 +16,7 @@ ghost use Rattle.atlas_cache.specs.Rooms.{rooms_of, IsAtLeast, IsFirstToGrow, Is
 ghost use Rattle.atlas_cache.specs.Rooms.{HasRoomOnlyAmong, IsRounded, LargestHasRoom};
 ghost use Rattle.atlas_cache.specs.Reserving.{HaveSlots, UseAtMost};
 ghost use Rattle.atlas_cache.specs.Shrinking.{DropsIdle, IsLastInUse};
-ghost use Rattle.atlas_cache.specs.declared.error.CacheError.TheVariants.{Memory};
+ghost use Rattle.atlas_cache.specs.declared.error.CacheError.TheVariants.{Memory, Slots};
 
 mod repacking;
 mod reserving;
@@ -51,6 +51,7 @@ fn refusal(error: AtlasError) -> CacheError
     requires { IsShortage error }
     ensures refusal { IsRefusal result }
     ensures memory { result ≡ Memory → error ≡ AtlasError.Memory }
+    ensures slots { result ≡ Slots → error ≡ AtlasError.Slots }
 {
     match error {
         AtlasError::Slots => CacheError::Slots,
@@ -453,10 +454,10 @@ impl<A: Allocator + Copy> Rooms<A> {
         give_back(&mut self.pages, page as usize, id);
     }
 
-    /// The first page that isn't at its largest grows: the page, and its size from now on, in pixels. Its lesser side
-    /// is doubled, up to the largest, or the other side if that one is at its largest. None exactly if each page is at
-    /// its largest. No rectangle moves. `Slots` if that page has too few of them, `Memory` if memory is refused. Unless
-    /// a page grows, nothing changes.
+    /// The first page that isn't at its largest grows: the page, and its size from now on, in pixels. Its lesser side,
+    /// the width of equal ones, is doubled, but no further than the largest page's, or the other side if that one is at its
+    /// largest. None exactly if each page is at its largest. No rectangle moves. `Slots` if that page has too few of them,
+    /// `Memory` if memory is refused. Unless a page grows, nothing changes.
     pub fn grow_page(&mut self) -> Result<Option<(u32, Size)>, CacheError>
         ensures first { IfOk result (λ grown. IfSome grown (λ growth.
             IsFirstToGrow self.old.options (page_sizes self.old.pages) growth.0 growth.1)) }

@@ -4,6 +4,7 @@ ghost use Rattle.guillotiere.specs.Pixels.{sides_of};
 ghost use Rattle.guillotiere.specs.Boxes.{Fits};
 ghost use Rattle.guillotiere.specs.Reserves.{HasReserve};
 ghost use Rattle.guillotiere.specs.Stored.{state_of};
+ghost use Rattle.atlas_cache.specs.Caches.{IsFull};
 
 use atlas_cache::entries::{DefaultHasher, Entries, Entry};
 use atlas_cache::recency::Recency;
@@ -142,5 +143,23 @@ pub fn two_spaces<A: Allocator + Copy>(
     prove!(!matches!(&one, Err(CacheError::Memory)));
     let two = cache.insert(second, size2(0, 0), changes);
     prove!(!matches!(&two, Err(CacheError::Memory)));
+    Ok(())
+}
+
+/// A glyph for which memory was taken first, where each page is there and at its largest: other glyphs may go for it, but it
+/// isn't refused for memory.
+pub fn one_glyph<A: Allocator + Copy>(
+    cache: &mut TextureCache<u64, DefaultHasher, A>,
+    key: u64,
+    size: Size,
+    changes: &mut Changes<u64, A>,
+) -> Result<(), CacheError>
+    requires { IsFull cache.old }
+{
+    cache.reserve(1)?;
+    cache.reserve_slots(4)?;
+    changes.reserve(cache.len() + 1)?;
+    let placed = cache.insert(key, size, changes);
+    prove!(!matches!(&placed, Err(CacheError::Memory)));
     Ok(())
 }

@@ -1,5 +1,5 @@
-//! Rectangles under keys in the pages of a texture array: pages are added and grow as they are needed, and at their
-//! limit the least recently used keys go. The crate `guillotiere` has nothing of the kind.
+//! Rectangles under keys in pages, which are textures or the layers of a texture array: pages are added and grow as they
+//! are needed, and at their limit the least recently used keys go. The crate `guillotiere` has nothing of the kind.
 //!
 //! ```
 //! use guillotiere::cache::{CacheChange, CacheOptions, Inserted, TextureCache};
@@ -14,23 +14,31 @@
 //! })
 //! .unwrap();
 //! glyphs.begin_frame();
-//! let inserted = glyphs.insert('g', size2(20, 30))?;
-//! while let Some(change) = glyphs.next_change() {
-//!     match change {
-//!         CacheChange::PageAdded { page, size } => println!("texture {page} has {size:?} pixels"),
-//!         CacheChange::PageGrown { page, size } => println!("texture {page} grows to {size:?}"),
-//!         CacheChange::Evicted { key, .. } => println!("{key} is gone"),
-//!         CacheChange::Moved { key, to, .. } => println!("{key} is at {to:?}"),
-//!         CacheChange::PageRemoved { page } => println!("drop texture {page}"),
+//! let place = loop {
+//!     let inserted = glyphs.insert('g', size2(20, 30))?;
+//!     while let Some(change) = glyphs.next_change() {
+//!         match change {
+//!             CacheChange::PageAdded { page, size } => println!("make texture {page} of {size:?} pixels"),
+//!             CacheChange::PageGrown { page, size } => println!("make texture {page} larger: {size:?}"),
+//!             CacheChange::Evicted { key, .. } => println!("{key} is gone"),
+//!             CacheChange::Moved { from, to, .. } => println!("copy {:?} to {:?}", from.rectangle, to.rectangle),
+//!             CacheChange::PageRemoved { page } => println!("drop texture {page}"),
+//!         }
 //!     }
-//! }
-//! match inserted {
-//!     Inserted::Placed(place) => println!("write its pixels at {place:?}"),
-//!     Inserted::Held(place) => println!("draw it from {place:?}"),
-//!     Inserted::FrameFull => println!("draw what this frame has, begin a new one, and insert again"),
-//!     Inserted::NeverFits => println!("it has no place"),
-//! }
-//! assert_eq!(glyphs.get('g'), inserted.place());
+//!     match inserted {
+//!         Inserted::Placed(place) => {
+//!             println!("write its pixels at {:?}, cleared ones in the rest of {:?}", place.inner, place.rectangle);
+//!             break Some(place);
+//!         }
+//!         Inserted::Held(place) => break Some(place),
+//!         Inserted::FrameFull => {
+//!             println!("draw what this frame has so far");
+//!             glyphs.begin_frame();
+//!         }
+//!         Inserted::NeverFits => break None,
+//!     }
+//! };
+//! assert_eq!(glyphs.get('g'), place);
 //! # Ok::<(), guillotiere::cache::CacheError>(())
 //! ```
 use crate::{convert, AllocatorOptions, Rectangle, Size};
@@ -46,11 +54,12 @@ use wollemigo_support::vec::Vec as LibraryVec;
 pub struct CacheOptions {
     /// The size of a new page; it isn't empty.
     pub page: Size,
-    /// The size up to which pages grow; neither side is less than that of `page`.
+    /// The size up to which pages grow; neither side is less than that of `page`. The layers of a texture array have one
+    /// size: for those it is that of `page`.
     pub largest_page: Size,
     /// The most pages; at least 1.
     pub pages: u32,
-    /// What stays free on all four sides of an entry; at least 0.
+    /// The width of the border on all four sides of an entry; at least 0.
     pub padding: i32,
     /// The options of each page's atlas; they are valid.
     pub atlas: AllocatorOptions,
@@ -68,7 +77,8 @@ pub struct Place {
     /// The rectangle with its padding, which no other entry of the page overlaps. Its border shows what lay there
     /// before: clear it.
     pub rectangle: Rectangle,
-    /// The rectangle that has the sides that were asked for: behind the padding, from the left and from above.
+    /// The rectangle that has the sides that were asked for: behind the padding, from the left and from above. At the right
+    /// and below, `rectangle` has the padding as well, and more where an alignment rounds up.
     pub inner: Rectangle,
 }
 
@@ -120,7 +130,7 @@ pub enum CacheChange<K = u64> {
         /// Where it was.
         place: Place,
     },
-    /// A key moved, by a repacking: copy what it shows from the page as it was before.
+    /// A key moved, by a repacking: copy `from.rectangle`, out of a copy of the page as it was before, to `to.rectangle`.
     Moved {
         /// The key.
         key: K,
@@ -143,7 +153,7 @@ pub struct Counts {
     pub hits: u64,
     /// The calls of `get` that didn't.
     pub misses: u64,
-    /// The entries that were evicted.
+    /// The entries that were evicted: by an insertion, a trim or a repacking.
     pub evictions: u64,
 }
 
@@ -186,7 +196,7 @@ impl From<library::CacheError> for CacheError {
     }
 }
 
-/// What is wrong with the options of a cache.
+/// What is wrong with the options of a cache: the first of these that is so, in this order.
 #[derive(Copy, Clone, Debug, PartialEq, Eq, Hash)]
 #[non_exhaustive]
 pub enum OptionsError {
@@ -288,7 +298,7 @@ fn change_of<K>(change: library::CacheChange<K>) -> CacheChange<K> {
     }
 }
 
-/// Rectangles under keys in the pages of a texture array.
+/// Rectangles under keys in pages, which are textures or the layers of a texture array.
 ///
 /// What a call did to keys and pages waits in the cache until `next_change` hands it over. The hasher that is taken
 /// where none is given is fast, and its seed is fixed: for keys that a stranger picks give another.
@@ -322,7 +332,8 @@ impl<K: Copy + Eq + Hash, S: BuildHasher> TextureCache<K, S> {
         Ok(TextureCache::over(cache))
     }
 
-    /// A new frame: what was used before may go from now on.
+    /// A new frame: what was used before may go from now on. Before the first new frame nothing gives way: all that is held
+    /// is used in it.
     pub fn begin_frame(&mut self) {
         self.cache.begin_frame()
     }
@@ -337,9 +348,18 @@ impl<K: Copy + Eq + Hash, S: BuildHasher> TextureCache<K, S> {
         self.cache.peek(&key).map(place_of)
     }
 
-    /// A place for a key, which is used in this frame: the one that it has, if it is held, or a new one. What was done to
-    /// other keys and to pages is told by `next_change`, also after `FrameFull` and after an error: follow it before the
-    /// place is used.
+    /// A place for a key, which is used in this frame. A key that is held keeps its place, and is the most recently used
+    /// from now on, which counts as no hit; asked with another size, be it empty or too large, it is refused with
+    /// `OtherSize`, and nothing changes. A new key comes on the first page with room for its size, in pixels, with the
+    /// padding. Where none has, a page grows: its lesser side doubles, the width of equal ones, and no further than the
+    /// largest page. Where none can, one is added; and where all are there, the least recently used entry goes that lies on
+    /// a page and that this frame didn't use; and so on.
+    ///
+    /// A new key with an empty size, of which a side is 0 or below, becomes a blank entry: `Placed` with a place that is
+    /// empty. It takes no room, so that no page changes and nothing goes, and it never goes for another key's room.
+    ///
+    /// What was done to other keys and to pages is told by `next_change`, also after `FrameFull` and after an error: follow
+    /// it before the place is used.
     pub fn insert(&mut self, key: K, size: Size) -> Result<Inserted, CacheError> {
         let size = convert::library_size(size);
         let inserted = self.cache.insert(key, size, &mut self.changes)?;
@@ -378,10 +398,10 @@ impl<K: Copy + Eq + Hash, S: BuildHasher> TextureCache<K, S> {
         Ok(self.cache.shrink(&mut self.changes)?)
     }
 
-    /// Places the keys of a page anew, the largest first, so that what is free comes together; whether there is such a
-    /// page. Each of its keys is told by a change, as moved, also where it stays, or as evicted, where it found no
-    /// room. A place that a key moves to can overlap one that a later change moves from: copy all pixels from the page
-    /// as it was.
+    /// Places the keys of a page anew, the largest first, and of one area the one that was used last, so that what is free
+    /// comes together; whether there is such a page. Each of its keys is told by a change, as moved, also where it stays, or
+    /// as evicted, where it found no room. A place that a key moves to can overlap one that a later change moves from: copy
+    /// all pixels from the page as it was.
     pub fn repack(&mut self, page: u32) -> Result<bool, CacheError> {
         Ok(self.cache.repack(page, &mut self.changes)?)
     }
@@ -395,7 +415,7 @@ impl<K: Copy + Eq + Hash, S: BuildHasher> TextureCache<K, S> {
             .unusable_area(page, convert::library_size(size))?)
     }
 
-    /// Takes memory for so many more entries.
+    /// Takes memory for so many more entries. An insertion still asks for memory for slots of a page and for changes.
     pub fn reserve(&mut self, additional: usize) -> Result<(), CacheError> {
         Ok(self.cache.reserve(additional)?)
     }

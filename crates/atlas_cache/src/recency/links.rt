@@ -1,6 +1,6 @@
 //! A ring of links through entries, and the calls that change it.
 ghost use Rattle.std.specs.Prelude.{◌≡◌, ◌≢◌, ◌⊎◌, ◌<◌, ◌≤◌, ℕ, List, ◌∷◌, length};
-ghost use Rattle.atlas_cache.specs.Orders.{times_in, without_first};
+ghost use Rattle.atlas_search.specs.Numbers.{occurs, without};
 ghost use Rattle.atlas_cache.specs.Rings.{IsInRing, IsRing, IsOutsideRing, at_once, next_at, no_entry, previous_at};
 
 /// The entries before and after an entry, by their numbers.
@@ -84,10 +84,10 @@ fn set_previous(links: &mut [Link], ends: &mut Link, at: u32, previous: u32)
 pub fn unlink(links: &mut [Link], ends: &mut Link, at: u32)
     requires listed { IsInRing links.old ends.old at }
     requires short { length links.old ≤ no_entry }
-    ensures ring { (xs : List ℕ) → IsRing links.old ends.old xs → 0 < times_in at xs
-        → IsRing links.new ends.new (without_first at xs) }
-    ensures others { (xs : List ℕ) (k : ℕ) → IsRing links.old ends.old xs → 0 < times_in at xs → k ≢ no_entry
-        → times_in k xs ≡ 0 → next_at links.new ends.new k ≡ next_at links.old ends.old k }
+    ensures ring { (xs : List ℕ) → IsRing links.old ends.old xs → 0 < occurs at xs
+        → IsRing links.new ends.new (without at xs) }
+    ensures others { (xs : List ℕ) (k : ℕ) → IsRing links.old ends.old xs → 0 < occurs at xs → k ≢ no_entry
+        → occurs k xs ≡ 0 → next_at links.new ends.new k ≡ next_at links.old ends.old k }
     ensures size { length links.new ≡ length links.old }
 {
     let own = own_link(links, at);
@@ -100,7 +100,7 @@ pub fn push_front(links: &mut [Link], ends: &mut Link, at: u32)
     requires inside { at < length links.old }
     requires unlisted { IsOutsideRing links.old ends.old at }
     requires short { length links.old ≤ no_entry }
-    ensures ring { (xs : List ℕ) → IsRing links.old ends.old xs → times_in at xs ≡ 0
+    ensures ring { (xs : List ℕ) → IsRing links.old ends.old xs → occurs at xs ≡ 0
         → IsRing links.new ends.new (at ∷ xs) }
     ensures others { (k : ℕ) → k ≢ no_entry → k ≢ at
         → next_at links.new ends.new k ≡ next_at links.old ends.old k }

@@ -1,4 +1,5 @@
 use Rattle.std.proofs.Common.{◌≡◌, ◌+◌, ap, length, refl, subst, sym, ◌∙◌, ◌∷◌, ◌++◌, [], arith, rules}
+use Rattle.std.proofs.Common.{vec_capacity, vec_len}
 use Rattle.atlas_cache.specs.Caches.{CacheState, entries_of}
 use Rattle.atlas_cache.specs.Changes.{Uses}
 use Rattle.atlas_cache.specs.Entries.{without_number}
@@ -13,7 +14,7 @@ use Rattle.guillotiere.specs.Pixels.{size_of}
 use Rattle.atlas_cache.specs.Asking.{bordered}
 use Rattle.atlas_cache.specs.Caches.{HasNoPageFor}
 use Rattle.atlas_cache.proofs.BlankLemmas.{length-less}
-use Rattle.atlas_cache.proofs.ReadyLemmas.{blank_full, blank_reserves, one_fewer, reserves_left}
+use Rattle.atlas_cache.proofs.ReadyLemmas.{blank_full, blank_reserves, one_fewer, one_reserved, reserves_left}
 use Rattle.atlas_cache.proofs.RoomLemmas.Reserving.{none_used}
 use Rattle.atlas_cache.proofs.cache.TextureCache.insert.Goals as goal
 
@@ -206,3 +207,15 @@ returns-clause-reserves g c = λ n had keeps.
     let is : c.in-Some-asked.asked ≡ size_of (bordered c.args.self.now.options c.args.size) = rw (← c.self.view_is) asked in
     c.insert_new.ensures.reserves n had (λ none.
     keeps stands.positive (subst (λ (asked : Size). HasNoPageFor asked c.args.self.now) is none))
+
+pub returns-then-not-is_positive-clause-one : goal.returns-then-not-is_positive-clause-one
+returns-then-not-is_positive-clause-one g c = λ some slots room keeps. c.add_blank.ensures.memory some
+
+pub returns-clause-one : goal.returns-clause-one
+returns-clause-one g c = λ some slots room keeps.
+    let stands = c.in-Some-asked.ensures.0 in
+    let asked = rw c.options-2.ensures.options at c.in-Some-asked.ensures.1 in
+    let is : c.in-Some-asked.asked ≡ size_of (bordered c.args.self.now.options c.args.size) = rw (← c.self.view_is) asked in
+    let had = one_reserved (vec_capacity c.args.changes.now) (vec_len c.args.changes.now) c.args.self.now some slots room in
+    (c.insert_new.ensures.reserves 0 had (λ none.
+        keeps stands.positive (subst (λ (asked : Size). HasNoPageFor asked c.args.self.now) is none))).0

@@ -1,6 +1,7 @@
 use Rattle.std.proofs.Common.{◌<◌, ◌∙◌, List, ap, sym, subst}
 use Rattle.atlas_cache.specs.declared.recency.links.Link.{Link}
-use Rattle.atlas_cache.specs.Orders.{times_in, Order}
+use Rattle.atlas_cache.specs.Orders.{Order}
+use Rattle.atlas_search.specs.Numbers.{occurs}
 use Rattle.atlas_cache.specs.Rings.{run, IsRing, previous_at}
 use Rattle.atlas_cache.proofs.SpareLemmas.{newer-none, newer-some, previous-entry}
 use Rattle.atlas_cache.proofs.recency.Recency.newer.Goals as goal
@@ -23,5 +24,5 @@ pub returns-clause-entry : goal.returns-clause-entry
 returns-clause-entry g c =
     let r = c.self.inside in
     let at = c.read_link-own.ensures.previous ∙ ap (λ (l : List Link). previous_at l r.ends c.args.number) c.deref.ensures.value in
-    let l : 0 < times_in c.args.number (run r.links.items r.ends r.count) = subst (λ (o : Order). 0 < times_in c.args.number o.entries) (sym c.self.view_is) c.requires in
-    rw at (subst (λ (o : Order). 0 < times_in (previous_at r.links.items r.ends c.args.number) o.entries) c.self.view_is (previous-entry r.links.items r.ends c.args.number _ c.self.invariant.0.ring l (λ q. c.if-own.false (at ∙ q))))
+    let l : 0 < occurs c.args.number (run r.links.items r.ends r.count) = subst (λ (o : Order). 0 < occurs c.args.number o.entries) (sym c.self.view_is) c.requires in
+    rw at (subst (λ (o : Order). 0 < occurs (previous_at r.links.items r.ends c.args.number) o.entries) c.self.view_is (previous-entry r.links.items r.ends c.args.number _ c.self.invariant.0.ring l (λ q. c.if-own.false (at ∙ q))))

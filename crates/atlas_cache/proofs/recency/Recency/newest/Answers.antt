@@ -1,5 +1,6 @@
 use Rattle.std.proofs.Common.{◌∙◌, ◌<◌, ap, subst}
-use Rattle.atlas_cache.specs.Orders.{Order, newest_of, times_in}
+use Rattle.atlas_cache.specs.Orders.{Order, newest_of}
+use Rattle.atlas_search.specs.Numbers.{occurs}
 use Rattle.atlas_cache.proofs.SpareLemmas.{first-none, first-some, first-entry}
 use Rattle.atlas_cache.proofs.recency.Recency.newest.Goals as goal
 
@@ -13,4 +14,4 @@ returns-clause-first g c =
 
 pub returns-clause-entry : goal.returns-clause-entry
 returns-clause-entry g c =
-    subst (λ (o : Order). 0 < times_in c.self.inside.ends.next o.entries) c.self.view_is (first-entry _ _ _ c.self.invariant.0.ring c.if-ends.false)
+    subst (λ (o : Order). 0 < occurs c.self.inside.ends.next o.entries) c.self.view_is (first-entry _ _ _ c.self.invariant.0.ring c.if-ends.false)

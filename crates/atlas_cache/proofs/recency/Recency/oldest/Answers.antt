@@ -1,5 +1,6 @@
 use Rattle.std.proofs.Common.{◌∙◌, ◌<◌, ap, subst}
-use Rattle.atlas_cache.specs.Orders.{Order, oldest_of, times_in}
+use Rattle.atlas_cache.specs.Orders.{Order, oldest_of}
+use Rattle.atlas_search.specs.Numbers.{occurs}
 use Rattle.atlas_cache.proofs.SpareLemmas.{last-none, last-some, last-entry}
 use Rattle.atlas_cache.proofs.recency.Recency.oldest.Goals as goal
 
@@ -13,4 +14,4 @@ returns-clause-last g c =
 
 pub returns-clause-entry : goal.returns-clause-entry
 returns-clause-entry g c =
-    subst (λ (o : Order). 0 < times_in c.self.inside.ends.previous o.entries) c.self.view_is (last-entry _ _ _ c.self.invariant.0.ring c.if-ends.false)
+    subst (λ (o : Order). 0 < occurs c.self.inside.ends.previous o.entries) c.self.view_is (last-entry _ _ _ c.self.invariant.0.ring c.if-ends.false)

@@ -1,6 +1,7 @@
 use Rattle.std.proofs.Common.{arith, ◌∙◌, ◌-◌, ◌<◌, ap, sym, subst}
 use Rattle.std.proofs.lemmas.List.{with_items_is}
-use Rattle.atlas_cache.specs.Orders.{Order, times_in, gone}
+use Rattle.atlas_cache.specs.Orders.{Order, gone}
+use Rattle.atlas_search.specs.Numbers.{occurs}
 use Rattle.atlas_cache.specs.Rings.{IsRecency, run}
 use Rattle.atlas_cache.proofs.Moves.{IsGiven, IsRecency-given, given-is, stored}
 use Rattle.atlas_cache.proofs.recency.Recency.remove.Goals as goal
@@ -12,7 +13,7 @@ invariant_of-self g c =
     let last = c.give_back.new.ends in
     let i = c.args.number in
     let w : IsGiven r.links.items r.ends new last i r.unused = subst (λ l. IsGiven l r.ends new last i r.unused) c.deref_mut.ensures.value (record { ring = c.give_back.ensures.ring; own = c.give_back.ensures.own; others = c.give_back.ensures.others; size = c.give_back.ensures.size }) in
-    let l : 0 < times_in i (run r.links.items r.ends r.count) = subst (λ (o : Order). 0 < times_in i o.entries) (sym c.self.view_is) c.requires in
+    let l : 0 < occurs i (run r.links.items r.ends r.count) = subst (λ (o : Order). 0 < occurs i o.entries) (sym c.self.view_is) c.requires in
     let e = with_items_is r.links new (w.size ∙ sym r.links.ok.0) in (
       subst (λ l. IsRecency l last i (r.count - 1)) (sym e) (IsRecency-given r.links.items new r.ends last r.unused r.count i c.self.invariant.0 l w),
       omega (arith, c.self.invariant.1),
@@ -25,6 +26,6 @@ returns g c =
     let last = c.give_back.new.ends in
     let i = c.args.number in
     let w : IsGiven r.links.items r.ends new last i r.unused = subst (λ l. IsGiven l r.ends new last i r.unused) c.deref_mut.ensures.value (record { ring = c.give_back.ensures.ring; own = c.give_back.ensures.own; others = c.give_back.ensures.others; size = c.give_back.ensures.size }) in
-    let l : 0 < times_in i (run r.links.items r.ends r.count) = subst (λ (o : Order). 0 < times_in i o.entries) (sym c.self.view_is) c.requires in
+    let l : 0 < occurs i (run r.links.items r.ends r.count) = subst (λ (o : Order). 0 < occurs i o.entries) (sym c.self.view_is) c.requires in
     let e = with_items_is r.links new (w.size ∙ sym r.links.ok.0) in
     ap (λ l. stored l last (r.count - 1) r.reserved) e ∙ given-is r.links.items new r.ends last r.unused r.count i c.self.invariant.0 l r.reserved w ∙ ap (gone i) c.self.view_is

@@ -1,6 +1,7 @@
 use Rattle.std.proofs.Common.{◌∙◌, ◌<◌, ap, sym, subst}
 use Rattle.std.proofs.lemmas.List.{with_items_is}
-use Rattle.atlas_cache.specs.Orders.{Order, times_in, used}
+use Rattle.atlas_cache.specs.Orders.{Order, used}
+use Rattle.atlas_search.specs.Numbers.{occurs}
 use Rattle.atlas_cache.specs.Rings.{IsRecency, run}
 use Rattle.atlas_cache.proofs.Moves.{IsTouched, IsRecency-touched, touched-is, stored}
 use Rattle.atlas_cache.proofs.recency.Recency.touch.Goals as goal
@@ -12,7 +13,7 @@ invariant_of-self g c =
     let last = c.move_to_front.new.ends in
     let i = c.args.number in
     let w : IsTouched r.links.items r.ends new last i = subst (λ l. IsTouched l r.ends new last i) c.deref_mut.ensures.value (record { ring = c.move_to_front.ensures.ring; others = c.move_to_front.ensures.others; size = c.move_to_front.ensures.size }) in
-    let l : 0 < times_in i (run r.links.items r.ends r.count) = subst (λ (o : Order). 0 < times_in i o.entries) (sym c.self.view_is) c.requires in
+    let l : 0 < occurs i (run r.links.items r.ends r.count) = subst (λ (o : Order). 0 < occurs i o.entries) (sym c.self.view_is) c.requires in
     let e = with_items_is r.links new (w.size ∙ sym r.links.ok.0) in (
       subst (λ l. IsRecency l last r.unused r.count) (sym e) (IsRecency-touched r.links.items new r.ends last r.unused r.count i c.self.invariant.0 l w),
       c.self.invariant.1,
@@ -25,6 +26,6 @@ returns g c =
     let last = c.move_to_front.new.ends in
     let i = c.args.number in
     let w : IsTouched r.links.items r.ends new last i = subst (λ l. IsTouched l r.ends new last i) c.deref_mut.ensures.value (record { ring = c.move_to_front.ensures.ring; others = c.move_to_front.ensures.others; size = c.move_to_front.ensures.size }) in
-    let l : 0 < times_in i (run r.links.items r.ends r.count) = subst (λ (o : Order). 0 < times_in i o.entries) (sym c.self.view_is) c.requires in
+    let l : 0 < occurs i (run r.links.items r.ends r.count) = subst (λ (o : Order). 0 < occurs i o.entries) (sym c.self.view_is) c.requires in
     let e = with_items_is r.links new (w.size ∙ sym r.links.ok.0) in
     ap (λ l. stored l last r.count r.reserved) e ∙ touched-is r.links.items new r.ends last r.unused r.count i c.self.invariant.0 l r.reserved w ∙ ap (used i) c.self.view_is
