@@ -3,6 +3,7 @@ use Rattle.std.proofs.Common.{ℕ, ◌+◌, ◌<◌, ◌≤◌, ◌≡◌, List,
 use Rattle.std.proofs.lemmas.Bool.{cases_eq, cond_both, eqb-true, eqb-false, eq-eqb, ne_eqb, cond-true, cond-false}
 use Rattle.atlas_cache.specs.Orders.{oldest_of}
 use Rattle.atlas_search.specs.Numbers.{same, occurs, without}
+use Rattle.atlas_search.proofs.Occurrences.{same-self, same-ne, ne-from_occurs}
 use Rattle.atlas_cache.specs.Rings.{RunsThrough, RunsForward, line, at_once, no_entry}
 
 pub at_once-here : (x y : ℕ) (f : ℕ → ℕ) (k : ℕ) → k ≡ x → at_once x y f k ≡ y
