@@ -412,7 +412,8 @@ export interface SheetOptions {
   sheets?: Sheets;
   /** Pixels between two sprites, and between a sprite and the border: at most 65535. 0. */
   padding?: number;
-  /** Each place, with the padding at its left and above, begins on multiples of these sides. 1 and 1. */
+  /** Each place, with the padding at its left and above, begins on multiples of these sides and takes multiples of them, also at
+   * the right and lower border. 1 and 1. */
   alignment?: Size;
   /** Whether a sprite may lie turned by 90 degrees. false. */
   turn?: boolean;

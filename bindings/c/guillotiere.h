@@ -227,7 +227,7 @@ typedef struct guillotiere_sheet_options {
     int32_t greatest;
     uint32_t padding;         /* pixels between two sprites, and between a sprite and the border: at most 65535 */
     int32_t alignment_width;  /* each place, with the padding at its left and above, begins on multiples of these sides, */
-    int32_t alignment_height; /* which are at least 1 */
+    int32_t alignment_height; /* which are at least 1, and takes multiples of them, also at the right and lower border */
     uint32_t turn;            /* 0, or a sprite may lie turned by 90 degrees */
     uint32_t effort;          /* how many more orders of the sprites are tried: 0 for none, 20000 for a second or so */
     uint64_t seed;            /* for these orders; the same input has the same sheet on every machine */
@@ -570,7 +570,9 @@ uint32_t guillotiere_cache_statistics(const guillotiere_cache *cache, guillotier
  * to be freed. Sprites may be none: then the sheet is the least.
  * NO_ROOM if not even the greatest sheet took all sprites; BAD_CALL if `allowed` is no kind of sheets or the padding is
  * above 65535; SHORT if places_len is below sprites_len; EMPTY_SHEET; EMPTY_RANGE; EMPTY_ALIGNMENT; EMPTY_SPRITE and
- * GREAT_SPRITE, and then `sprite` has the number of the sprite, counted from 0, and is else as before; MEMORY. */
+ * GREAT_SPRITE, and then `sprite` has the number of the first such sprite, counted from 0, and otherwise it stays as before;
+ * MEMORY. Faults are looked for in this order; of powers of two and of one width the least side is 1, so a greatest side of 0
+ * is EMPTY_RANGE. Sprites that count alike keep their order: in another order there may be another sheet, or none. */
 uint32_t guillotiere_pack(const guillotiere_size *sprites, size_t sprites_len, const guillotiere_sheet_options *options,
                           guillotiere_placed *places, size_t places_len, guillotiere_size *size, size_t *sprite);
 

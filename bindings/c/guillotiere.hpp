@@ -128,7 +128,7 @@ struct sheet_options {
     std::int32_t least = 1;
     std::int32_t greatest = 4096;
     std::uint32_t padding = 0;
-    std::int32_t alignment_width = 1;
+    std::int32_t alignment_width = 1; // a place takes multiples of these, also at the right and lower border
     std::int32_t alignment_height = 1;
     bool turn = false;
     std::uint32_t effort = 0;

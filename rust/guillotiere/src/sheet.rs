@@ -51,7 +51,8 @@ pub struct SheetOptions {
     pub allowed: Allowed,
     /// How many pixels at least lie between two sprites, and between a sprite and the border.
     pub padding: u16,
-    /// Each place, with the padding at its left and above, begins on multiples of these sides; both are above 0.
+    /// Each place, with the padding at its left and above, begins on multiples of these sides and takes multiples of them, also
+    /// at the right and lower border; both are above 0.
     pub alignment: Size,
     /// Whether a sprite may lie turned by 90 degrees.
     pub turn: bool,
