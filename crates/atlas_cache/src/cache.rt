@@ -127,9 +127,10 @@ impl<K: Copy + Eq + Hash, S: BuildHasher, A: Allocator + Copy> TextureCache<K, S
         self.frame = count(self.frame);
     }
 
-    /// How many entries there are.
+    /// How many entries there are, at most 4,294,967,295.
     pub fn len(&self) -> usize
-        ensures { result ≡ length self.now.entries }
+        ensures len { result ≡ length self.now.entries }
+        ensures few { result ≤ 4294967295 }
     {
         self.entries.len()
     }

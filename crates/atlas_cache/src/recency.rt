@@ -128,9 +128,10 @@ impl<A: Allocator> Recency<A> {
         }
     }
 
-    /// How many entries there are.
+    /// How many entries there are, at most 4,294,967,295.
     pub fn len(&self) -> usize
-        ensures { result ≡ length self.now.entries }
+        ensures len { result ≡ length self.now.entries }
+        ensures few { result ≤ 4294967295 }
     {
         self.count
     }

@@ -31,7 +31,7 @@ settle_all-requires-clause-is g c =
 pub overflow_sub-gone : goal.overflow_sub-gone
 overflow_sub-gone g c = omega (
   arith,
-  c.len-2.ensures,
+  c.len-2.ensures.len,
   c.len-before.ensures,
   shorter c.self.inside.entries.entries c.settle_all.new.entries.entries (become c.args.page (renewed_by c.deref.result.now)) c.settle_all.ensures.entries,
 )
@@ -65,7 +65,7 @@ returns-clause-repacks g c = λ _.
     (rw c.in_ok-held.ensures.held (entries-name c.args.page c.self.inside.rooms.pages es off c.self.invariant.held)) in
     let evictions : c.saturating_add-self-inside.result
     ≡ min (it.counts.evictions + (length (entries_of it.entries.entries) - length (entries_of c.settle_all.new.entries.entries))) 18446744073709551615 =
-    omega (arith, c.saturating_add-self-inside.ensures, c.len-2.ensures, c.len-before.ensures, length-listed it.entries.entries, length-listed c.settle_all.new.entries.entries) in
+    omega (arith, c.saturating_add-self-inside.ensures, c.len-2.ensures.len, c.len-before.ensures.len, length-listed it.entries.entries, length-listed c.settle_all.new.entries.entries) in
     rw (← c.self.view_is) (record {
       renewed = renewed_by cs;
       same = renewed_same cs;

@@ -50,7 +50,7 @@ store-requires-clause-room g c = λ last.
     let fresh = c.in_ok-number.ensures.new in
     let made = c.self.invariant.0.made in
     let all = fresh.dense (omega (arith, fresh.next, made, last, ap length c.make_room.ensures.items)) in
-    c.in_ok-make_room.ensures.room (omega (arith, all, fresh.next, last, ap length c.make_room.ensures.items, c.len.ensures))
+    c.in_ok-make_room.ensures.room (omega (arith, all, fresh.next, last, ap length c.make_room.ensures.items, c.len.ensures.len))
 
 pub invariant_of-self-2 : goal.invariant_of-self-2
 invariant_of-self-2 g c =
@@ -121,7 +121,7 @@ pub returns-in_err-make_room-clause-memory : goal.returns-in_err-make_room-claus
 returns-in_err-make_room-clause-memory g c = λ some is.
     let s = c.self.inside in
     let left : 0 < s.recency.reserved = subst (λ (t : Table g.row.K.Denot). 0 < t.reserved) (sym c.self.view_is) some in
-    false≢true (c.in_err-make_room.ensures.memory (omega (arith, left, c.self.invariant.1.items, c.len.ensures)))
+    false≢true (c.in_err-make_room.ensures.memory (omega (arith, left, c.self.invariant.1.items, c.len.ensures.len)))
 
 pub returns-in_err-number-clause-memory : goal.returns-in_err-number-clause-memory
 returns-in_err-number-clause-memory g c = λ some is.
