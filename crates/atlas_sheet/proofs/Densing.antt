@@ -1,7 +1,9 @@
 -- Sheets with no whole cuts, beside the best one so far.
-use Rattle.std.proofs.Common.{◌≡◌, ◌≤◌, List, map, All, Option, Some, None, IfNone, IfSome, MatchOption, false, ap, inl, sym, subst, ◌∙◌, ℕ, arith}
+use Rattle.std.proofs.Common.{◌≡◌, ◌≤◌, List, length, map, All, Option, Some, None, IfNone, IfSome, MatchOption, false, ap, inl, sym, subst, ◌∙◌, ℕ, arith}
 use Rattle.std.specs.List.{AllZip}
+use Rattle.std.proofs.lemmas.List.{length-map}
 use Rattle.std.proofs.lemmas.List.Elements.{All-weaker}
+use Rattle.std.proofs.lemmas.Slice.Zip.{AllZip-long}
 use Rattle.guillotiere.specs.declared.Size.{Size}
 use Rattle.guillotiere.specs.Boxes.{AreDisjoint, IsWithin, Sides, box_sides}
 use Rattle.guillotiere.specs.Pixels.{box_of, sides_of}
@@ -12,11 +14,13 @@ use Rattle.atlas_sheet.specs.declared.ways.TheConstants.{WAYS}
 use Rattle.atlas_sheet.specs.Allowances.{IsAllowed, pixels}
 use Rattle.atlas_sheet.specs.Dense.{AreAllPlaced, ArePaddedApart, IsNoLargerThanWays, IsWhole, NoWayFinds}
 use Rattle.atlas_sheet.specs.Turnings.{AreLaid, InEach, turnings}
-use Rattle.atlas_sheet.specs.Lying.{IsShown, areas_of}
+use Rattle.atlas_sheet.specs.Lying.{IsPlacedFor, IsShown, areas_of}
+use Rattle.atlas_sheet.specs.Orders.{IsOrder}
 use Rattle.atlas_sheet.specs.Settings.{spacing_of}
 use Rattle.atlas_sheet.specs.Sheets.{used_area}
 use Rattle.atlas_sheet.specs.Packings.{IsNoLarger, NoneIsFound}
 use Rattle.atlas_sheet.proofs.Arranging.{no_larger}
+use Rattle.atlas_sheet.proofs.Numbering.{shown_order}
 use Rattle.atlas_sheet.proofs.Showing.{counts, inside_each, upright_each}
 
 each_weaker : (o : SheetOptions) (sprites : List Size) (P Q : List Size → Type 0) → ((l : List Size) → P l → Q l) → InEach o sprites P
@@ -47,15 +51,16 @@ newer_none P None best next is q = subst (λ o. IfNone o P) (sym is) q
 newer_none P (Some t) best next is q = subst (λ o. IfNone o P) (sym is) tt
 
 pub whole_sheet : (o : SheetOptions) (sprites : List Size) (size : Size) (opts : List (Option Placed)) (places : List Placed)
-    (now areas : List (Option Rectangle)) (used : ℕ) → map Some places ≡ opts → areas ≡ areas_of opts → now ≡ areas
-    → used ≡ used_area now → IsAllowed o.allowed (sides_of size) → AreAllPlaced o (sides_of size) sprites opts
+    (now areas : List (Option Rectangle)) (used : ℕ) (given order : List ℕ) → map Some places ≡ opts → areas ≡ areas_of opts → now ≡ areas
+    → used ≡ used_area now → order ≡ given → IsOrder (length sprites) given → IsAllowed o.allowed (sides_of size) → AreAllPlaced o (sides_of size) sprites opts
     → ArePaddedApart (spacing_of o) opts → IsNoLargerThanWays o sprites (sides_of size)
-    → IsWhole o sprites size places used
-whole_sheet o sprites size opts places now areas used somes found same area allowed each apart larger = record {
+    → IsWhole o sprites size places used order
+whole_sheet o sprites size opts places now areas used given order somes found same area copied numbers allowed each apart larger = record {
   allowed = allowed;
   each = subst (AreAllPlaced o (sides_of size) sprites) (sym somes) each;
   apart = subst (ArePaddedApart (spacing_of o)) (sym somes) apart;
   area = area ∙ ap used_area (same ∙ found) ∙ ap (λ ps. used_area (areas_of ps)) (sym somes);
+  numbers = subst (IsOrder (length sprites)) (sym copied) numbers;
   larger = larger;
 }
 
@@ -66,17 +71,24 @@ pub whole_packed : {T : Type 0} (o : SheetOptions) (sprites : List Size) (size_o
     → IfSome found (λ t. IsShown (sides_of (size_of t)) (spacing_of o) o.turn sprites (order_of t) (map Some (places_of t)))
     → IfSome found (λ t. used_of t ≡ used_area (areas_of (map Some (places_of t))))
     → IfSome found (λ t. IsNoLargerThanWays o sprites (sides_of (size_of t)))
-    → IfSome found (λ t. IsWhole o sprites (size_of t) (places_of t) (used_of t))
+    → IfSome found (λ t. IsWhole o sprites (size_of t) (places_of t) (used_of t) (order_of t))
 whole_packed o sprites size_of order_of places_of used_of None allowed shown area larger = tt
 whole_packed o sprites size_of order_of places_of used_of (Some t) allowed shown area larger = record {
   allowed = allowed;
   each = shown.each;
   apart = shown.arranged.good.apart;
   area = area;
+  numbers = shown_order (sides_of (size_of t)) (spacing_of o) o.turn sprites (order_of t) (map Some (places_of t)) shown;
   larger = larger;
 }
 
-module _ (o : SheetOptions) (sprites : List Size) (size : Size) (places : List Placed) (used : ℕ) (whole : IsWhole o sprites size places used) where
+module _ (o : SheetOptions) (sprites : List Size) (size : Size) (places : List Placed) (used : ℕ) (order : List ℕ)
+    (whole : IsWhole o sprites size places used order) where
+  pub whole_count : length places ≡ length sprites
+  whole_count =
+      sym (length-map places Some)
+      ∙ AllZip-long (λ sprite p. IfSome p (IsPlacedFor (sides_of size) (spacing_of o) o.turn sprite)) sprites (map Some places) whole.each
+
   pub whole_inside : All (λ p. IsWithin (sides_of size) (box_of p.area)) places
   whole_inside = inside_each (sides_of size) (spacing_of o) o.turn sprites places whole.each
 

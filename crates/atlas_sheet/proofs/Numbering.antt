@@ -1,11 +1,16 @@
 -- Numbered sprites: each number once.
-use Rattle.std.proofs.Common.{◌≡◌, ◌==◌, ◌+◌, ◌<◌, ◌≤◌, ℕ, Bool, true, false, List, [], ◌∷◌, length, All, IsPermutation, refl, arith}
-use Rattle.std.specs.List.{enumerate_from, count_by}
+use Rattle.std.proofs.Common.{◌≡◌, ◌==◌, ◌+◌, ◌<◌, ◌≤◌, ℕ, Bool, true, false, List, [], ◌∷◌, length, map, All, Option, IsPermutation, refl, ap, sym, subst, arith}
+use Rattle.std.specs.List.{enumerate_from, count_by, range_with_len}
 use Rattle.std.proofs.lemmas.Bool.{eqb-true}
 use Rattle.std.proofs.lemmas.List.Elements.{All-nil, All-cons, All-head, All-tail}
-use Rattle.std.proofs.lemmas.List.Sorted.{All-permutation}
+use Rattle.std.proofs.lemmas.List.Sorted.{All-permutation, IsPermutation-map}
+use Rattle.std.proofs.lemmas.Slice.Zip.{AllZip-long}
 use Rattle.guillotiere.specs.declared.Size.{Size}
-use Rattle.atlas_sheet.specs.Orders.{AreNumberedOnce}
+use Rattle.guillotiere.specs.Boxes.{Sides}
+use Rattle.atlas_sheet.specs.declared.options.Spacing.{Spacing}
+use Rattle.atlas_sheet.specs.declared.placed.Placed.{Placed}
+use Rattle.atlas_sheet.specs.Lying.{IsShown, MayLie}
+use Rattle.atlas_sheet.specs.Orders.{AreNumberedOnce, IsOrder}
 use Rattle.guillotiere.proofs.TreeLemmas.TreeBasics.{one_if}
 use Rattle.guillotiere.proofs.ListLemmas.Counting.{count_by-cons}
 use Rattle.guillotiere.proofs.ListLemmas.CallerLemmas.{count_by-permutation}
@@ -60,3 +65,28 @@ module _ (sprites : List Size) (order : List (ℕ × Size)) (moved : IsPermutati
 
   pub order_all : (P : Size → Type 0) → All P sprites → All (λ s. P s.1) order
   order_all P each = All-permutation (λ s. P s.1) (enumerate_from 0 sprites) order moved (numbered_all P 0 sprites each)
+
+numbers_from : (n : ℕ) (xs : List Size) → map (λ s. s.0) (enumerate_from n xs) ≡ range_with_len n (length xs)
+numbers_from n [] = refl
+numbers_from n (x ∷ xs) = ap (λ ns. n ∷ ns) (numbers_from (n + 1) xs)
+
+-- The numbers of all sprites, in an order of them.
+pub numbers_order : (sprites : List Size) (order : List (ℕ × Size)) → IsPermutation (enumerate_from 0 sprites) order
+    → IsOrder (length sprites) (map (λ s. s.0) order)
+numbers_order sprites order moved =
+    subst (λ ns. IsPermutation ns (map (λ s. s.0) order)) (numbers_from 0 sprites)
+    (IsPermutation-map (λ (s : ℕ × Size). s.0) (enumerate_from 0 sprites) order moved)
+
+pub sorted_order : (sprites : List Size) (numbered order : List (ℕ × Size)) (numbers : List ℕ) → numbered ≡ enumerate_from 0 sprites
+    → IsPermutation numbered order → numbers ≡ map (λ s. s.0) order → IsOrder (length sprites) numbers
+sorted_order sprites numbered order numbers all moved are =
+    subst (IsOrder (length sprites)) (sym are)
+    (numbers_order sprites order (subst (λ xs. IsPermutation xs order) all moved))
+
+-- A sheet shows an order of all its sprites.
+pub shown_order : (sheet : Sides) (spacing : Spacing) (turn : Bool) (sprites : List Size) (order : List ℕ) (placed : List (Option Placed))
+    → IsShown sheet spacing turn sprites order placed → IsOrder (length sprites) order
+shown_order sheet spacing turn sprites order placed shown =
+    let long : length shown.lying ≡ length sprites = AllZip-long (MayLie turn) sprites shown.lying shown.arranged.lies in
+    subst (IsOrder (length sprites)) shown.numbers
+    (subst (λ n. IsOrder n (map (λ s. s.0) shown.numbered)) long (numbers_order shown.lying shown.numbered shown.arranged.permuted))

@@ -1,5 +1,5 @@
 -- Sprites that are placed in a grid of cells, and sheets that are packed so.
-use Rattle.std.specs.Prelude.{◌≡◌, ℕ, ◌*◌, ◌≤◌, List, [], ◌∷◌, ◌++◌, map, All, Option, Some, IfSome}
+use Rattle.std.specs.Prelude.{◌≡◌, ℕ, ◌*◌, ◌≤◌, List, [], ◌∷◌, ◌++◌, length, map, All, Option, Some, IfSome}
 use Rattle.std.specs.List.{AllZip, count_by}
 use Rattle.atlas_maxrects.specs.Placing.{AreApart, Placing}
 use Rattle.guillotiere.specs.declared.Size.{Size}
@@ -13,6 +13,7 @@ use Rattle.atlas_sheet.specs.declared.placed.Placed.{Placed}
 use Rattle.atlas_sheet.specs.declared.ways.TheConstants.{WAYS}
 use Rattle.atlas_sheet.specs.Allowances.{IsAllowed}
 use Rattle.atlas_sheet.specs.Lying.{IsPlacedFor, areas_of}
+use Rattle.atlas_sheet.specs.Orders.{IsOrder}
 use Rattle.atlas_sheet.specs.Packings.{IsNoLarger, NoneIsFound}
 use Rattle.atlas_sheet.specs.Settings.{spacing_of}
 use Rattle.atlas_sheet.specs.Sheets.{asked_sides, covers_place, inner_sides, padded, used_area}
@@ -71,10 +72,13 @@ IsNoLargerThanWays o sprites sheet = InEach o sprites (λ lying. IsNoLarger WAYS
 abbrev pub NoWayFinds : SheetOptions → List Size → Type 0
 NoWayFinds o sprites = InEach o sprites (λ lying. NoneIsFound WAYS o.allowed (spacing_of o) lying)
 
--- An allowed sheet with a place for each sprite, and no more pixels than the first one that a way finds.
-pub record IsWhole (o : SheetOptions) (sprites : List Size) (size : Size) (placed : List Placed) (used : ℕ) : Type 0 where
+-- An allowed sheet with a place for each sprite, an order of all of them, and no more pixels than the first one that a way
+-- finds.
+pub record IsWhole (o : SheetOptions) (sprites : List Size) (size : Size) (placed : List Placed) (used : ℕ)
+    (order : List ℕ) : Type 0 where
   pub allowed : IsAllowed o.allowed (sides_of size)
   pub each : AreAllPlaced o (sides_of size) sprites (map Some placed)
   pub apart : ArePaddedApart (spacing_of o) (map Some placed)
   pub area : used ≡ used_area (areas_of (map Some placed))
+  pub numbers : IsOrder (length sprites) order
   pub larger : IsNoLargerThanWays o sprites (sides_of size)

@@ -1,5 +1,5 @@
 -- The best of several ways to fill a sheet, and what is wrong with what was asked.
-use Rattle.std.specs.Prelude.{◌≡◌, ℕ, pos, ◌/◌, ◌<◌, ◌≤◌, max, min, map, List, length, All, Contains, Option}
+use Rattle.std.specs.Prelude.{◌≡◌, ℕ, pos, ◌/◌, ◌<◌, ◌≤◌, max, min, map, take, List, length, All, Contains, Option}
 use Rattle.std.specs.Prelude.{slice_index_or}
 use Rattle.guillotiere.specs.declared.Size.{Size}
 use Rattle.guillotiere.specs.declared.Rectangle.{Rectangle}
@@ -35,10 +35,11 @@ IsSpriteFault spacing number sprite (error.GreatSprite k) =
     (k ≡ number) × IsPositive (sides_of sprite) × (IsPackable spacing sprite → ⊥)
 IsSpriteFault spacing number sprite _ = ⊥
 
--- One of the sprites has the fault that an error says.
+-- The first sprite that can't be placed has the fault that an error says.
 abbrev pub HasFault : (spacing : Spacing) → List Size → SheetError → Type 0
 HasFault spacing sprites e =
-    (k : ℕ) × (k < length sprites) × IsSpriteFault spacing k (sprite_at sprites k) e
+    (k : ℕ) × (k < length sprites) × All (IsPackable spacing) (take k sprites)
+    × IsSpriteFault spacing k (sprite_at sprites k) e
 
 -- How many of the ways a sheet with so many sprites is filled by: from 1 to 10.
 abbrev pub ways_tried : ℕ → ℕ

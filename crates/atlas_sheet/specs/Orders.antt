@@ -1,6 +1,6 @@
 -- The orders in which sprites are placed, and how they choose among free boxes.
-use Rattle.std.specs.Prelude.{ℕ, ◌*◌, ◌≤◌, ◌==◌, pos, min, max, List, length, count_by}
-use Rattle.std.specs.List.{AllAdjacentBelow}
+use Rattle.std.specs.Prelude.{◌≡◌, ℕ, ◌*◌, ◌≤◌, ◌==◌, pos, min, max, List, length, count_by, IsPermutation}
+use Rattle.std.specs.List.{AllAdjacentBelow, range_with_len}
 use Rattle.guillotiere.specs.declared.Size.{Size}
 use Rattle.guillotiere.specs.Boxes.{Sides}
 use Rattle.guillotiere.specs.Choice.{Options}
@@ -19,10 +19,15 @@ key_of key.LesserSide s = min s.width s.height
 key_of key.GreaterSide s = max s.width s.height
 key_of key.HeightTimesGreaterSide s = s.height * max s.width s.height
 
--- No numbered sprite counts less than one after it.
+-- A numbered sprite counts no less than another; where they count alike its number isn't the greater one.
+abbrev pub MayComeBefore : Key → (s t : ℕ × Size) → Type 0
+MayComeBefore key s t =
+    (key_of key (sides_of t.1) ≤ key_of key (sides_of s.1))
+    × (key_of key (sides_of s.1) ≡ key_of key (sides_of t.1) → s.0 ≤ t.0)
+
+-- No numbered sprite counts less than one after it, and those that count alike keep the order of their numbers.
 abbrev pub AreGreatestFirst : Key → List (ℕ × Size) → Type 0
-AreGreatestFirst key order =
-    AllAdjacentBelow (λ s t. key_of key (sides_of t.1) ≤ key_of key (sides_of s.1)) order (length order)
+AreGreatestFirst key order = AllAdjacentBelow (MayComeBefore key) order (length order)
 
 -- The options of an allocator that chooses so, with the thresholds in pixels.
 abbrev pub choice_options : Spacing → Choice → Options
@@ -30,6 +35,10 @@ choice_options spacing choice.Roomiest =
     record { alignment = sides_of spacing.alignment; small_threshold = pos 0; large_threshold = pos 0 }
 choice_options spacing choice.Tightest =
     record { alignment = sides_of spacing.alignment; small_threshold = pos 0; large_threshold = pos 2147483647 }
+
+-- The numbers from 0 on of so many sprites, each once.
+abbrev pub IsOrder : (count : ℕ) → List ℕ → Type 0
+IsOrder count order = IsPermutation (range_with_len 0 count) order
 
 -- No two of the sprites have one number.
 abbrev pub AreNumberedOnce : List (ℕ × Size) → Type 0

@@ -1,6 +1,6 @@
 //! Sheets that are packed with no whole cuts.
 ghost use Rattle.std.specs.List.{AllZip};
-ghost use Rattle.std.specs.Prelude.{◌≡◌, ◌<◌, ◌≤◌, false, map, All, IfErr, IfNone, IfOk, IfSome, IsOkUnless, IsSome};
+ghost use Rattle.std.specs.Prelude.{◌≡◌, ◌<◌, ◌≤◌, false, length, map, All, IfErr, IfNone, IfOk, IfSome, IsOkUnless, IsSome};
 ghost use Rattle.std.specs.Prelude.{IsTrue, MatchOption, Some};
 ghost use Rattle.guillotiere.specs.Boxes.{AreDisjoint, IsPositive, IsWithin, box_sides};
 ghost use Rattle.guillotiere.specs.Pixels.{box_of, natural, sides_of};
@@ -8,6 +8,7 @@ ghost use Rattle.atlas_sheet.specs.declared.error.SheetError.TheVariants.{Memory
 ghost use Rattle.atlas_sheet.specs.Allowances.{IsAllowed, IsRow, IsUsable, pixels};
 ghost use Rattle.atlas_sheet.specs.Dense.{AreAllPlaced, ArePaddedApart, IsNoLargerThanWays, IsWhole, NoWayFinds};
 ghost use Rattle.atlas_sheet.specs.Lying.{areas_of, placed_area};
+ghost use Rattle.atlas_sheet.specs.Orders.{IsOrder};
 ghost use Rattle.atlas_sheet.specs.Settings.{IsSheetFault, spacing_of};
 ghost use Rattle.atlas_sheet.specs.Sheets.{IsPackable, used_area};
 
@@ -26,6 +27,7 @@ use std::cmp::Reverse;
 
 // The numbers of the sprites: the highest come first, and of those as high the widest.
 fn by_height<A: Allocator + Copy>(alloc: A, sprites: &[Size]) -> Result<Vec<usize, A>, SheetError>
+    ensures order { IfOk result (λ order. IsOrder (length sprites.now) order.items) }
     ensures unless { IsOkUnless result Memory }
 {
     let mut order = numbered(alloc, sprites)?;
@@ -87,9 +89,10 @@ fn sheet_of<A: Allocator + Copy>(
     requires allowed { IsAllowed options.now.allowed (sides_of size) }
     requires each { AreAllPlaced options.now (sides_of size) sprites.now placed.now }
     requires apart { ArePaddedApart (spacing_of options.now) placed.now }
+    requires order { IsOrder (length sprites.now) order.now }
     requires larger { IsNoLargerThanWays options.now sprites.now (sides_of size) }
     ensures whole { IfOk result (λ sheet. IsWhole options.now sprites.now sheet.size sheet.places.items
-        sheet.used_area) }
+        sheet.used_area sheet.order.items) }
     ensures unless { IsOkUnless result Memory }
 {
     let areas = areas(alloc, placed)?;
@@ -122,10 +125,12 @@ fn dense_at<A: Allocator + Copy>(
     requires positive { IsPositive (sides_of size) }
     requires aligned { IsPositive (sides_of options.now.alignment) }
     requires packable { All (IsPackable (spacing_of options.now)) sprites.now }
+    requires order { IsOrder (length sprites.now) order.now }
     requires allowed { IsAllowed options.now.allowed (sides_of size) }
     requires larger { IsNoLargerThanWays options.now sprites.now (sides_of size) }
     ensures whole { IfOk result (λ found. IfSome found (λ sheet.
-        IsWhole options.now sprites.now sheet.size sheet.places.items sheet.used_area)) }
+        IsWhole options.now sprites.now sheet.size sheet.places.items sheet.used_area
+        sheet.order.items)) }
     ensures unless { IsOkUnless result Memory }
 {
     let Some(placed) = topmost_places(alloc, sprites, options, order, size)? else {
@@ -160,12 +165,15 @@ fn denser_at<A: Allocator + Copy>(
     requires positive { IsPositive (sides_of size) }
     requires aligned { IsPositive (sides_of options.now.alignment) }
     requires packable { All (IsPackable (spacing_of options.now)) sprites.now }
+    requires order { IsOrder (length sprites.now) order.now }
     requires allowed { IsAllowed options.now.allowed (sides_of size) }
     requires best { IfSome best.now (λ sheet.
-        IsWhole options.now sprites.now sheet.size sheet.places.items sheet.used_area) }
+        IsWhole options.now sprites.now sheet.size sheet.places.items sheet.used_area
+        sheet.order.items) }
     requires none { IfNone best.now (NoWayFinds options.now sprites.now) }
     ensures whole { IfOk result (λ found. IfSome found (λ sheet.
-        IsWhole options.now sprites.now sheet.size sheet.places.items sheet.used_area)) }
+        IsWhole options.now sprites.now sheet.size sheet.places.items sheet.used_area
+        sheet.order.items)) }
     ensures unless { IsOkUnless result Memory }
 {
     if pixels_of(size) < sprite_pixels(sprites) {
@@ -200,11 +208,14 @@ fn denser_in_row<A: Allocator + Copy>(
     requires row { IsRow options.now.allowed }
     requires aligned { IsPositive (sides_of options.now.alignment) }
     requires packable { All (IsPackable (spacing_of options.now)) sprites.now }
+    requires order { IsOrder (length sprites.now) order.now }
     requires whole { IfSome first (λ sheet.
-        IsWhole options.now sprites.now sheet.size sheet.places.items sheet.used_area) }
+        IsWhole options.now sprites.now sheet.size sheet.places.items sheet.used_area
+        sheet.order.items) }
     requires none { IfNone first (NoWayFinds options.now sprites.now) }
     ensures whole { IfOk result (λ found. IfSome found (λ sheet.
-        IsWhole options.now sprites.now sheet.size sheet.places.items sheet.used_area)) }
+        IsWhole options.now sprites.now sheet.size sheet.places.items sheet.used_area
+        sheet.order.items)) }
     ensures none { IfOk result (λ found. IfNone found
         (NoWayFinds options.now sprites.now)) }
     ensures unless { IsOkUnless result Memory }
@@ -235,7 +246,8 @@ fn next_size<A: Allocator>(
 ) -> Option<Size>
     requires usable { IsUsable options.now.allowed }
     requires best { IfSome best.now (λ sheet.
-        IsWhole options.now sprites.now sheet.size sheet.places.items sheet.used_area) }
+        IsWhole options.now sprites.now sheet.size sheet.places.items sheet.used_area
+        sheet.order.items) }
     ensures allowed { IfSome result (λ size. IsAllowed options.now.allowed (sides_of size)) }
     ensures positive { IfSome result (λ size. IsPositive (sides_of size)) }
 {
@@ -256,11 +268,14 @@ fn denser_powers<A: Allocator + Copy>(
     requires usable { IsUsable options.now.allowed }
     requires aligned { IsPositive (sides_of options.now.alignment) }
     requires packable { All (IsPackable (spacing_of options.now)) sprites.now }
+    requires order { IsOrder (length sprites.now) order.now }
     requires whole { IfSome first (λ sheet.
-        IsWhole options.now sprites.now sheet.size sheet.places.items sheet.used_area) }
+        IsWhole options.now sprites.now sheet.size sheet.places.items sheet.used_area
+        sheet.order.items) }
     requires none { IfNone first (NoWayFinds options.now sprites.now) }
     ensures whole { IfOk result (λ found. IfSome found (λ sheet.
-        IsWhole options.now sprites.now sheet.size sheet.places.items sheet.used_area)) }
+        IsWhole options.now sprites.now sheet.size sheet.places.items sheet.used_area
+        sheet.order.items)) }
     ensures none { IfOk result (λ found. IfNone found
         (NoWayFinds options.now sprites.now)) }
     ensures unless { IsOkUnless result Memory }
@@ -290,10 +305,12 @@ fn denser<A: Allocator + Copy>(
     requires aligned { IsPositive (sides_of options.now.alignment) }
     requires packable { All (IsPackable (spacing_of options.now)) sprites.now }
     requires whole { IfSome first (λ sheet.
-        IsWhole options.now sprites.now sheet.size sheet.places.items sheet.used_area) }
+        IsWhole options.now sprites.now sheet.size sheet.places.items sheet.used_area
+        sheet.order.items) }
     requires none { IfNone first (NoWayFinds options.now sprites.now) }
     ensures whole { IfOk result (λ found. IfSome found (λ sheet.
-        IsWhole options.now sprites.now sheet.size sheet.places.items sheet.used_area)) }
+        IsWhole options.now sprites.now sheet.size sheet.places.items sheet.used_area
+        sheet.order.items)) }
     ensures none { IfOk result (λ found. IfNone found
         (NoWayFinds options.now sprites.now)) }
     ensures unless { IsOkUnless result Memory }
@@ -318,6 +335,7 @@ pub fn pack_dense<A: Allocator + Copy>(
 ) -> Result<Option<Sheet<A>>, SheetError>
     ensures allowed { IfOk result (λ found. IfSome found (λ sheet.
         IsAllowed options.now.allowed (sides_of sheet.size))) }
+    ensures count { IfOk result (λ found. IfSome found (λ sheet. length sheet.places.items ≡ length sprites.now)) }
     ensures each { IfOk result (λ found. IfSome found (λ sheet.
         AreAllPlaced options.now (sides_of sheet.size) sprites.now (map Some sheet.places.items))) }
     ensures padded { IfOk result (λ found. IfSome found (λ sheet.
@@ -330,6 +348,7 @@ pub fn pack_dense<A: Allocator + Copy>(
         AllZip (λ sprite placed. box_sides (box_of placed.area) ≡ sides_of sprite) sprites.now sheet.places.items)) }
     ensures area { IfOk result (λ found. IfSome found (λ sheet.
         sheet.used_area ≡ used_area (areas_of (map Some sheet.places.items)))) }
+    ensures order { IfOk result (λ found. IfSome found (λ sheet. IsOrder (length sprites.now) sheet.order.items)) }
     ensures larger { IfOk result (λ found. IfSome found (λ sheet.
         IsNoLargerThanWays options.now sprites.now (sides_of sheet.size))) }
     ensures none { IfOk result (λ found. IfNone found

@@ -1,5 +1,5 @@
 //! A row of numbers that look random, the same on every machine.
-ghost use Rattle.std.specs.Prelude.{◌<◌};
+ghost use Rattle.std.specs.Prelude.{◌≡◌, ◌<◌};
 
 /// A row of numbers that look random: each follows from the one before it by a product and a sum.
 #[derive(Clone, Copy, Debug, PartialEq, Eq)]
@@ -9,7 +9,9 @@ pub struct Random {
 
 impl Random {
     /// The row that begins at this seed.
-    pub fn new(seed: u64) -> Random {
+    pub fn new(seed: u64) -> Random
+        ensures { result ≡ record { state = seed } }
+    {
         Random { state: seed }
     }
 

@@ -80,7 +80,7 @@ fn nothing_placed(rt: HostRuntime) {
 }
 
 // What `fill` refuses.
-const REFUSED: [(&[Size], Size, SheetError); 6] = [
+const REFUSED: [(&[Size], Size, SheetError); 7] = [
     (
         &[],
         Size {
@@ -145,6 +145,27 @@ const REFUSED: [(&[Size], Size, SheetError); 6] = [
             Size {
                 width: 1,
                 height: 2147483647,
+            },
+        ],
+        Size {
+            width: 9,
+            height: 9,
+        },
+        SheetError::GreatSprite(1),
+    ),
+    (
+        &[
+            Size {
+                width: 1,
+                height: 1,
+            },
+            Size {
+                width: 2147483642,
+                height: 1,
+            },
+            Size {
+                width: 0,
+                height: 1,
             },
         ],
         Size {

@@ -1,5 +1,5 @@
 use Rattle.std.proofs.lemmas.Option.{IfSome_then}
-use Rattle.atlas_sheet.proofs.Densing.{whole_apart, whole_inside, whole_packed, whole_upright}
+use Rattle.atlas_sheet.proofs.Densing.{whole_apart, whole_count, whole_inside, whole_packed, whole_upright}
 use Rattle.atlas_sheet.proofs.dense.pack_dense.Goals as goal
 
 pub denser-requires-clause-whole : goal.denser-requires-clause-whole
@@ -10,6 +10,11 @@ denser-requires-clause-whole g c =
 pub returns-clause-allowed : goal.returns-clause-allowed
 returns-clause-allowed g c = IfSome_then c.in_ok-found.found c.in_ok-found.ensures.whole (λ sheet whole. whole.allowed)
 
+pub returns-clause-count : goal.returns-clause-count
+returns-clause-count g c =
+    IfSome_then c.in_ok-found.found c.in_ok-found.ensures.whole
+    (λ sheet whole. whole_count c.args.options.now c.args.sprites.now sheet.size sheet.places.items sheet.used_area sheet.order.items whole)
+
 pub returns-clause-each : goal.returns-clause-each
 returns-clause-each g c = IfSome_then c.in_ok-found.found c.in_ok-found.ensures.whole (λ sheet whole. whole.each)
 
@@ -19,20 +24,23 @@ returns-clause-padded g c = IfSome_then c.in_ok-found.found c.in_ok-found.ensure
 pub returns-clause-inside : goal.returns-clause-inside
 returns-clause-inside g c =
     IfSome_then c.in_ok-found.found c.in_ok-found.ensures.whole
-    (λ sheet whole. whole_inside c.args.options.now c.args.sprites.now sheet.size sheet.places.items sheet.used_area whole)
+    (λ sheet whole. whole_inside c.args.options.now c.args.sprites.now sheet.size sheet.places.items sheet.used_area sheet.order.items whole)
 
 pub returns-clause-apart : goal.returns-clause-apart
 returns-clause-apart g c =
     IfSome_then c.in_ok-found.found c.in_ok-found.ensures.whole
-    (λ sheet whole. whole_apart c.args.options.now c.args.sprites.now sheet.size sheet.places.items sheet.used_area whole)
+    (λ sheet whole. whole_apart c.args.options.now c.args.sprites.now sheet.size sheet.places.items sheet.used_area sheet.order.items whole)
 
 pub returns-clause-upright : goal.returns-clause-upright
 returns-clause-upright g c off =
     IfSome_then c.in_ok-found.found c.in_ok-found.ensures.whole
-    (λ sheet whole. whole_upright c.args.options.now c.args.sprites.now sheet.size sheet.places.items sheet.used_area whole off)
+    (λ sheet whole. whole_upright c.args.options.now c.args.sprites.now sheet.size sheet.places.items sheet.used_area sheet.order.items whole off)
 
 pub returns-clause-area : goal.returns-clause-area
 returns-clause-area g c = IfSome_then c.in_ok-found.found c.in_ok-found.ensures.whole (λ sheet whole. whole.area)
+
+pub returns-clause-order : goal.returns-clause-order
+returns-clause-order g c = IfSome_then c.in_ok-found.found c.in_ok-found.ensures.whole (λ sheet whole. whole.numbers)
 
 pub returns-clause-larger : goal.returns-clause-larger
 returns-clause-larger g c = IfSome_then c.in_ok-found.found c.in_ok-found.ensures.whole (λ sheet whole. whole.larger)
