@@ -7,8 +7,6 @@
 #[cfg(test)]
 mod atlas_calls;
 #[cfg(test)]
-mod atlas_extremes;
-#[cfg(test)]
 mod atlas_freeing;
 #[cfg(test)]
 mod atlas_grants;
@@ -23,4 +21,8 @@ mod node_kinds;
 #[cfg(test)]
 mod playing;
 #[cfg(test)]
+mod rows;
+#[cfg(test)]
 mod session_rows;
+#[cfg(test)]
+mod walk;
