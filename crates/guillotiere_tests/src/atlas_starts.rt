@@ -4,7 +4,7 @@ use crate::atlas_calls::Step::{
     Allocate, AllocateBeyondLimit, Clear, Deallocate, Free, Get, Grow, GrowBeyondLimit, IsEmpty,
     Live, RefuseEvery, RefuseNone, Reset, Slots,
 };
-use crate::atlas_calls::{Atlas, MOST_SLOTS, Row, Step, look_at};
+use crate::atlas_calls::{Atlas, MOST_SLOTS, Row, Sight, Step, look_at};
 use crate::playing::{created, is_as_before, make_all};
 use guillotiere::{AtlasError, DEFAULT_OPTIONS};
 use std::alloc::Global;
@@ -110,19 +110,33 @@ static COPIED: Row = Row {
 // Calls of the atlas that was copied, after those of the copy.
 static AFTER_COPYING: [Step; 2] = [Allocate((100, 100), None), Get(1, Some((0, 100, 100, 200)))];
 
+fn copied_once<'a>(atlas: &Atlas<'a>) -> Result<Atlas<'a>, AtlasError> {
+    atlas.clone()
+}
+
 // A copy; where memory is refused, nothing that can be seen has changed, and it is asked for again.
+fn copied_or_again<'a>(
+    rt: &impl Abort,
+    heap: &Refusing<Global>,
+    atlas: &Atlas<'a>,
+    before: &Sight,
+) -> Result<Atlas<'a>, AtlasError> {
+    match copied_once(atlas) {
+        Err(AtlasError::Memory) => {
+            is_as_before(rt, heap, atlas, before);
+            copied_once(atlas)
+        }
+        first => first,
+    }
+}
+
 fn copied<'a>(
     rt: &impl Abort,
     heap: &Refusing<Global>,
     atlas: &Atlas<'a>,
 ) -> Result<Atlas<'a>, AtlasError> {
     let before = look_at(atlas);
-    let mut answer = atlas.clone();
-    if matches!(&answer, Err(AtlasError::Memory)) {
-        is_as_before(rt, heap, atlas, &before);
-        answer = atlas.clone();
-    }
-    let copy = answer?;
+    let copy = copied_or_again(rt, heap, atlas, &before)?;
     assert!(rt; look_at(atlas) == before && look_at(&copy) == before);
     Ok(copy)
 }

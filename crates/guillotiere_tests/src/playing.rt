@@ -3,7 +3,7 @@
 
 use crate::atlas_calls::{Atlas, Grant, MOST_SLOTS, Row, Sight, Step, look_at};
 use guillotiere::session::{Call, Reply, step};
-use guillotiere::{AllocId, Allocation, AtlasAllocator, AtlasError, ChangeList, Rectangle};
+use guillotiere::{AllocId, Allocation, AtlasAllocator, AtlasError, Change, Rectangle};
 use std::alloc::Global;
 use std::process::Abort;
 use test_memory::Refusing;
@@ -76,18 +76,20 @@ fn want_of<'a>(made: &Step) -> Answer<'a> {
     }
 }
 
-// Whether what moved and what found no room is this, in this order.
-fn is_list(list: &ChangeList<&Refusing<Global>>, moved: &[(Grant, Grant)], lost: &[Grant]) -> bool {
-    let are_moved = list.changes.iter().zip(moved).all(|(change, (old, new))| {
+/// Whether boxes are these grants, in this order.
+pub fn are_grants(found: &[Allocation], want: &[Grant]) -> bool {
+    let are_equal = found
+        .iter()
+        .zip(want)
+        .all(|(shown, grant)| *shown == allocation(*grant));
+    are_equal && found.len() == want.len()
+}
+
+fn are_changes(found: &[Change], want: &[(Grant, Grant)]) -> bool {
+    let are_equal = found.iter().zip(want).all(|(change, (old, new))| {
         change.old == allocation(*old) && change.new == allocation(*new)
     });
-    let are_lost = list
-        .failures
-        .iter()
-        .zip(lost)
-        .all(|(failure, grant)| *failure == allocation(*grant));
-    let are_counted = list.changes.len() == moved.len() && list.failures.len() == lost.len();
-    are_moved && are_lost && are_counted
+    are_equal && found.len() == want.len()
 }
 
 /// Whether a reply is what a step's call is answered.
@@ -96,7 +98,10 @@ pub fn is_answer(reply: &Answer<'_>, made: &Step) -> bool {
         return *reply == want_of(made);
     };
     match reply {
-        Reply::Changed(list) => is_list(list, moved, lost),
+        Reply::Changed(list) => {
+            are_changes(list.changes.as_slice(), moved)
+                && are_grants(list.failures.as_slice(), lost)
+        }
         _ => false,
     }
 }
@@ -206,14 +211,6 @@ fn are_boxes(found: &[Rectangle], want: &[Corners]) -> bool {
         }
     }
     found.len() == want.len()
-}
-
-fn are_grants(found: &[Allocation], want: &[Grant]) -> bool {
-    let are_equal = found
-        .iter()
-        .zip(want)
-        .all(|(shown, grant)| *shown == allocation(*grant));
-    are_equal && found.len() == want.len()
 }
 
 // A question, and its answer.

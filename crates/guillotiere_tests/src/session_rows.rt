@@ -7,9 +7,7 @@ use crate::atlas_calls::Step::{
 use crate::atlas_calls::{Atlas, MOST_SLOTS, Row, Step, look_at};
 use crate::playing::{Answer, call_of, created, is_answer, is_as_before, make_all};
 use guillotiere::session::{Call, Reply, run};
-use guillotiere::{
-    AllocId, AllocatorOptions, AtlasAllocator, AtlasError, DEFAULT_OPTIONS, Size, size2,
-};
+use guillotiere::{AllocatorOptions, AtlasAllocator, AtlasError, DEFAULT_OPTIONS, Size, size2};
 use std::alloc::Global;
 use std::process::Abort;
 use std::test::Fail;
@@ -104,6 +102,17 @@ fn are_answers(replies: &[Answer<'_>], steps: &[Step]) -> bool {
     are_equal && replies.len() == steps.len()
 }
 
+// Makes the calls of steps as one list.
+fn append<'a>(
+    alloc: Global,
+    atlas: &mut Atlas<'a>,
+    steps: &[Step],
+    replies: &mut Replies<'a>,
+) -> Result<(), AtlasError> {
+    let calls = calls_of(alloc, steps)?;
+    listed(atlas, calls.as_slice(), replies)
+}
+
 // Makes all calls of a row as one list.
 fn play_list(
     rt: &impl Abort,
@@ -113,8 +122,7 @@ fn play_list(
 ) -> Result<(), AtlasError> {
     let mut atlas = created(rt, heap, row)?;
     let mut replies = Vec::new(heap);
-    let calls = calls_of(alloc, row.start)?;
-    listed(&mut atlas, calls.as_slice(), &mut replies)?;
+    append(alloc, &mut atlas, row.start, &mut replies)?;
     assert!(rt; are_answers(replies.as_slice(), row.start));
     make_all(rt, alloc, heap, &mut atlas, row.calls)
 }
@@ -157,15 +165,26 @@ fn run_or_again<'a>(
     }
 }
 
+// Makes a list of each call of steps.
+fn run_each<'a>(
+    rt: &impl Abort,
+    heap: &Refusing<Global>,
+    atlas: &mut Atlas<'a>,
+    steps: &[Step],
+    replies: &mut Replies<'a>,
+) {
+    for made in steps {
+        if let Some(call) = call_of(made) {
+            run_or_again(rt, heap, atlas, call, replies);
+        }
+    }
+}
+
 // Plays a row call by call.
 fn play(rt: &impl Abort, heap: &Refusing<Global>, row: &Row) -> Result<(), AtlasError> {
     let mut atlas = created(rt, heap, row)?;
     let mut replies = Vec::new(heap);
-    for made in row.start {
-        if let Some(call) = call_of(made) {
-            run_or_again(rt, heap, &mut atlas, call, &mut replies);
-        }
-    }
+    run_each(rt, heap, &mut atlas, row.start, &mut replies);
     assert!(rt; are_answers(replies.as_slice(), row.start));
     Ok(())
 }
@@ -220,18 +239,6 @@ fn without_room_for_the_replies_no_call_is_made(rt: HostRuntime) -> Result<(), F
     Ok(())
 }
 
-// The replies to two lists, after the one that was there.
-fn appended(heap: &Refusing<Global>) -> Result<Replies<'_>, AtlasError> {
-    let mut atlas = ten_by_ten(heap)?;
-    let mut replies = Vec::new(heap);
-    replies.push(Reply::BadCall)?;
-    let calls = [Call::Allocate(size2(11, 1)), Call::Clear];
-    listed(&mut atlas, &calls, &mut replies)?;
-    let calls = [Call::Deallocate(AllocId::deserialize(0))];
-    listed(&mut atlas, &calls, &mut replies)?;
-    Ok(replies)
-}
-
 // Of these the first reply was there before.
 static APPENDED: [Step; 4] = [
     BadGrow((9, 9)),
@@ -240,10 +247,20 @@ static APPENDED: [Step; 4] = [
     DeallocateDead(0),
 ];
 
+// The replies to two lists, after the one that was there.
+fn appended(alloc: Global, heap: &Refusing<Global>) -> Result<Replies<'_>, AtlasError> {
+    let mut atlas = ten_by_ten(heap)?;
+    let mut replies = Vec::new(heap);
+    replies.push(Reply::BadCall)?;
+    append(alloc, &mut atlas, &APPENDED[1..3], &mut replies)?;
+    append(alloc, &mut atlas, &APPENDED[3..], &mut replies)?;
+    Ok(replies)
+}
+
 #[test]
 fn replies_are_appended(rt: HostRuntime) -> Result<(), Fail> {
     let heap = Refusing::new(rt.alloc());
-    let replies = appended(&heap)?;
+    let replies = appended(rt.alloc(), &heap)?;
     assert!(rt; are_answers(replies.as_slice(), &APPENDED));
     Ok(())
 }
