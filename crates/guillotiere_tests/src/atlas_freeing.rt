@@ -1,36 +1,24 @@
 //! Freeing: worked rows.
 
-use crate::atlas_calls::Call::{
+use crate::atlas_calls::Step::{
     Allocate, Deallocate, DeallocateAll, DeallocateAllDead, DeallocateDead, Free, Get, IsEmpty,
     Live, RefuseEvery, RefuseNone, Slots,
 };
-use crate::atlas_calls::{Call, MOST_SLOTS, Row};
-use crate::playing::{play_all, play_all_with_refusals};
-use guillotiere::{AllocatorOptions, DEFAULT_OPTIONS, Size};
-use std::test::Fail;
-
-// Every size is a large one.
-const EVERY_SIZE_LARGE: AllocatorOptions = AllocatorOptions {
-    alignment: Size {
-        width: 1,
-        height: 1,
-    },
-    small_size_threshold: -5,
-    large_size_threshold: -1,
-};
+use crate::atlas_calls::{MOST_SLOTS, Row, Step};
+use guillotiere::DEFAULT_OPTIONS;
 
 // Three squares one below the other.
-const COLUMN: [Call; 3] = [
+const COLUMN: [Step; 3] = [
     Allocate((100, 100), Some((0, (0, 0, 100, 100)))),
     Allocate((100, 100), Some((1, (0, 100, 100, 200)))),
     Allocate((100, 100), Some((2, (0, 200, 100, 300)))),
 ];
 
 // One box in a corner.
-const CORNER: [Call; 1] = [Allocate((20, 60), Some((3, (0, 0, 20, 60))))];
+const CORNER: [Step; 1] = [Allocate((20, 60), Some((3, (0, 0, 20, 60))))];
 
 // A shelf and three squares below it.
-const SHELF_AND_TILES: [Call; 4] = [
+pub const SHELF_AND_TILES: [Step; 4] = [
     Allocate((300, 100), Some((0, (0, 0, 300, 100)))),
     Allocate((100, 100), Some((3, (0, 100, 100, 200)))),
     Allocate((100, 100), Some((2, (100, 100, 200, 200)))),
@@ -38,21 +26,14 @@ const SHELF_AND_TILES: [Call; 4] = [
 ];
 
 // Four quarters.
-const QUARTERS: [Call; 4] = [
+const QUARTERS: [Step; 4] = [
     Allocate((50, 50), Some((2, (0, 0, 50, 50)))),
     Allocate((50, 50), Some((3, (50, 0, 100, 50)))),
     Allocate((50, 50), Some((5, (0, 50, 50, 100)))),
     Allocate((50, 50), Some((4, (50, 50, 100, 100)))),
 ];
 
-// A free shelf, an allocated one and free room below them.
-const SHELVES: [Call; 3] = [
-    Allocate((1000, 400), Some((0, (0, 0, 1000, 400)))),
-    Allocate((1000, 50), Some((1, (0, 400, 1000, 450)))),
-    Deallocate(0),
-];
-
-const ROWS: [Row; 20] = [
+pub static ROWS: [Row; 11] = [
     Row {
         size: (100, 300),
         options: DEFAULT_OPTIONS,
@@ -82,17 +63,6 @@ const ROWS: [Row; 20] = [
         ],
     },
     Row {
-        size: (100, 100),
-        options: DEFAULT_OPTIONS,
-        limit: MOST_SLOTS,
-        start: &[],
-        calls: &[
-            Allocate((100, 100), Some((0, (0, 0, 100, 100)))),
-            Deallocate(0),
-            Allocate((100, 100), Some((0, (0, 0, 100, 100)))),
-        ],
-    },
-    Row {
         size: (300, 200),
         options: DEFAULT_OPTIONS,
         limit: MOST_SLOTS,
@@ -104,65 +74,6 @@ const ROWS: [Row; 20] = [
             Deallocate(4),
             Free(&[(0, 100, 300, 200)]),
             Slots(2, 5),
-        ],
-    },
-    // Free boxes of two containers are not joined.
-    Row {
-        size: (100, 100),
-        options: DEFAULT_OPTIONS,
-        limit: MOST_SLOTS,
-        start: &QUARTERS,
-        calls: &[
-            Deallocate(2),
-            Deallocate(5),
-            Free(&[(0, 0, 50, 50), (0, 50, 50, 100)]),
-            Allocate((50, 100), None),
-        ],
-    },
-    Row {
-        size: (1000, 1000),
-        options: DEFAULT_OPTIONS,
-        limit: MOST_SLOTS,
-        start: &SHELVES,
-        calls: &[Allocate((300, 300), Some((5, (0, 450, 300, 750))))],
-    },
-    Row {
-        size: (1000, 1000),
-        options: DEFAULT_OPTIONS,
-        limit: MOST_SLOTS,
-        start: &SHELVES,
-        calls: &[Allocate((100, 100), Some((5, (0, 0, 100, 100))))],
-    },
-    Row {
-        size: (1000, 1000),
-        options: DEFAULT_OPTIONS,
-        limit: MOST_SLOTS,
-        start: &SHELVES,
-        calls: &[Allocate((300, 400), Some((4, (0, 0, 300, 400))))],
-    },
-    // Every size is large.
-    Row {
-        size: (1000, 1000),
-        options: EVERY_SIZE_LARGE,
-        limit: MOST_SLOTS,
-        start: &SHELVES,
-        calls: &[Allocate((100, 100), Some((5, (0, 450, 100, 550))))],
-    },
-    Row {
-        size: (100, 300),
-        options: DEFAULT_OPTIONS,
-        limit: MOST_SLOTS,
-        start: &COLUMN,
-        calls: &[
-            DeallocateDead(4294967295),
-            Live(&[
-                (0, (0, 0, 100, 100)),
-                (1, (0, 100, 100, 200)),
-                (2, (0, 200, 100, 300)),
-            ]),
-            Deallocate(1),
-            DeallocateDead(1),
-            Live(&[(0, (0, 0, 100, 100)), (2, (0, 200, 100, 300))]),
         ],
     },
     // An id of an earlier generation.
@@ -186,39 +97,9 @@ const ROWS: [Row; 20] = [
         start: &COLUMN,
         calls: &[
             Deallocate(0),
-            Deallocate(2),
-            Free(&[(0, 0, 100, 100), (0, 200, 100, 300)]),
-            Deallocate(1),
-            Free(&[(0, 0, 100, 300)]),
-            IsEmpty(true),
-            Allocate((100, 100), Some((0, (0, 0, 100, 100)))),
-            Allocate((100, 100), Some((16777217, (0, 100, 100, 200)))),
-            Allocate((100, 100), Some((16777218, (0, 200, 100, 300)))),
-        ],
-    },
-    Row {
-        size: (100, 300),
-        options: DEFAULT_OPTIONS,
-        limit: MOST_SLOTS,
-        start: &COLUMN,
-        calls: &[
-            Deallocate(0),
             IsEmpty(false),
             Get(0, None),
             Get(1, Some((0, 100, 100, 200))),
-        ],
-    },
-    Row {
-        size: (100, 100),
-        options: DEFAULT_OPTIONS,
-        limit: MOST_SLOTS,
-        start: &[],
-        calls: &[
-            Allocate((100, 100), Some((0, (0, 0, 100, 100)))),
-            Deallocate(0),
-            DeallocateDead(0),
-            Allocate((100, 100), Some((0, (0, 0, 100, 100)))),
-            Deallocate(0),
         ],
     },
     Row {
@@ -300,45 +181,15 @@ const ROWS: [Row; 20] = [
 ];
 
 // Rows that play, in part, with every request for memory refused.
-const ROWS_WITHOUT_MEMORY: [Row; 2] = [
-    // No memory where there were as many slots before.
-    Row {
-        size: (100, 100),
-        options: DEFAULT_OPTIONS,
-        limit: MOST_SLOTS,
-        start: &CORNER,
-        calls: &[
-            RefuseEvery,
-            Deallocate(3),
-            Allocate((20, 60), Some((16777219, (0, 0, 20, 60)))),
-            Deallocate(16777219),
-            RefuseNone,
-            IsEmpty(true),
-        ],
-    },
-    Row {
-        size: (300, 200),
-        options: DEFAULT_OPTIONS,
-        limit: MOST_SLOTS,
-        start: &SHELF_AND_TILES,
-        calls: &[
-            RefuseEvery,
-            DeallocateAll(&[3, 2, 4, 0]),
-            RefuseNone,
-            Free(&[(0, 0, 300, 200)]),
-        ],
-    },
-];
-
-// Each with every request for memory refused in turn, and then with none refused.
-#[test]
-fn rows(rt: HostRuntime) -> Result<(), Fail> {
-    play_all_with_refusals(&rt, rt.alloc(), &ROWS)?;
-    Ok(())
-}
-
-#[test]
-fn rows_without_memory(rt: HostRuntime) -> Result<(), Fail> {
-    play_all(&rt, rt.alloc(), &ROWS_WITHOUT_MEMORY)?;
-    Ok(())
-}
+pub static ROWS_WITHOUT_MEMORY: [Row; 1] = [Row {
+    size: (300, 200),
+    options: DEFAULT_OPTIONS,
+    limit: MOST_SLOTS,
+    start: &SHELF_AND_TILES,
+    calls: &[
+        RefuseEvery,
+        DeallocateAll(&[3, 2, 4, 0]),
+        RefuseNone,
+        Free(&[(0, 0, 300, 200)]),
+    ],
+}];

@@ -1,18 +1,15 @@
 //! Growth: worked rows.
 
-use crate::atlas_calls::Call::{
-    Allocate, Deallocate, Free, Grow, GrowBeyondLimit, IsEmpty, Live, RefuseEvery, RefuseNone,
-    Slots,
+use crate::atlas_calls::Step::{
+    Allocate, Deallocate, Free, Grow, GrowBeyondLimit, IsEmpty, Live, Slots,
 };
-use crate::atlas_calls::{Call, MOST_SLOTS, Row};
-use crate::playing::{play_all, play_all_with_refusals};
+use crate::atlas_calls::{MOST_SLOTS, Row, Step};
 use guillotiere::DEFAULT_OPTIONS;
-use std::test::Fail;
 
 // One box as large as an atlas of 100 by 100.
-const FULL: [Call; 1] = [Allocate((100, 100), Some((0, (0, 0, 100, 100))))];
+const FULL: [Step; 1] = [Allocate((100, 100), Some((0, (0, 0, 100, 100))))];
 
-const ROWS: [Row; 11] = [
+pub static ROWS: [Row; 8] = [
     Row {
         size: (100, 100),
         options: DEFAULT_OPTIONS,
@@ -79,29 +76,6 @@ const ROWS: [Row; 11] = [
             Allocate((150, 60), Some((0, (0, 0, 150, 60)))),
         ],
     },
-    // A small free box becomes a large one.
-    Row {
-        size: (20, 20),
-        options: DEFAULT_OPTIONS,
-        limit: MOST_SLOTS,
-        start: &[],
-        calls: &[
-            Grow((300, 300)),
-            Allocate((290, 290), Some((2, (0, 0, 290, 290)))),
-            Free(&[(290, 0, 300, 290), (0, 290, 300, 300)]),
-        ],
-    },
-    Row {
-        size: (20, 20),
-        options: DEFAULT_OPTIONS,
-        limit: MOST_SLOTS,
-        start: &[],
-        calls: &[
-            Allocate((20, 10), Some((0, (0, 0, 20, 10)))),
-            Grow((20, 300)),
-            Allocate((20, 290), Some((1, (0, 10, 20, 300)))),
-        ],
-    },
     Row {
         size: (100, 100),
         options: DEFAULT_OPTIONS,
@@ -130,17 +104,6 @@ const ROWS: [Row; 11] = [
             Free(&[(20, 0, 100, 100), (0, 60, 20, 100)]),
             Live(&[(3, (0, 0, 20, 60))]),
             Slots(5, 5),
-        ],
-    },
-    Row {
-        size: (1, 1),
-        options: DEFAULT_OPTIONS,
-        limit: MOST_SLOTS,
-        start: &[],
-        calls: &[
-            Allocate((1, 1), Some((0, (0, 0, 1, 1)))),
-            Grow((2147483647, 2147483647)),
-            Free(&[(0, 1, 1, 2147483647), (1, 0, 2147483647, 2147483647)]),
         ],
     },
     // The last member holds others; once they are free it joins the appended strip.
@@ -172,47 +135,3 @@ const ROWS: [Row; 11] = [
         ],
     },
 ];
-
-// Where the slots that it takes were used before, a growth asks for no memory.
-const ROWS_WITHOUT_MEMORY: [Row; 2] = [
-    Row {
-        size: (100, 100),
-        options: DEFAULT_OPTIONS,
-        limit: MOST_SLOTS,
-        start: &[],
-        calls: &[
-            RefuseEvery,
-            Grow((150, 120)),
-            RefuseNone,
-            Free(&[(0, 0, 150, 120)]),
-        ],
-    },
-    Row {
-        size: (100, 100),
-        options: DEFAULT_OPTIONS,
-        limit: MOST_SLOTS,
-        start: &[],
-        calls: &[
-            Allocate((20, 60), Some((3, (0, 0, 20, 60)))),
-            Deallocate(3),
-            RefuseEvery,
-            Allocate((100, 100), Some((0, (0, 0, 100, 100)))),
-            Grow((150, 150)),
-            RefuseNone,
-            Free(&[(0, 100, 100, 150), (100, 0, 150, 150)]),
-        ],
-    },
-];
-
-// Each with every request for memory refused in turn, and then with none refused.
-#[test]
-fn rows(rt: HostRuntime) -> Result<(), Fail> {
-    play_all_with_refusals(&rt, rt.alloc(), &ROWS)?;
-    Ok(())
-}
-
-#[test]
-fn rows_without_memory(rt: HostRuntime) -> Result<(), Fail> {
-    play_all(&rt, rt.alloc(), &ROWS_WITHOUT_MEMORY)?;
-    Ok(())
-}

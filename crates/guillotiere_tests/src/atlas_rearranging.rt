@@ -1,11 +1,7 @@
 //! Rearrangement: worked rows.
 
-use crate::atlas_calls::Call::{
-    Allocate, Deallocate, DeallocateDead, IsEmpty, Live, Rearrange, RearrangeBeyondLimit,
-    ResizeAndRearrange, Slots,
-};
-use crate::atlas_calls::{Call, MOST_SLOTS, Row};
-use crate::playing::play_all_with_refusals;
+use crate::atlas_calls::Step::{Allocate, Live, Rearrange, RearrangeBeyondLimit, Slots};
+use crate::atlas_calls::{Row, Step};
 use guillotiere::{
     AllocId, Allocation, AtlasAllocator, AtlasError, Change, ChangeList, DEFAULT_OPTIONS,
 };
@@ -15,22 +11,14 @@ use std::test::Fail;
 use test_memory::Refusing;
 use test_tables::{rectangle, size};
 
-// Three squares one below the other, of which the middle one is freed.
-const COLUMN: [Call; 4] = [
-    Allocate((100, 100), Some((0, (0, 0, 100, 100)))),
-    Allocate((100, 100), Some((1, (0, 100, 100, 200)))),
-    Allocate((100, 100), Some((2, (0, 200, 100, 300)))),
-    Deallocate(1),
-];
-
 // A wide box above two high ones. The high ones are larger, and leave no room for the wide one.
-const WIDE_ABOVE_HIGH: [Call; 3] = [
+const WIDE_ABOVE_HIGH: [Step; 3] = [
     Allocate((10, 3), Some((0, (0, 0, 10, 3)))),
     Allocate((5, 7), Some((3, (0, 3, 5, 10)))),
     Allocate((5, 7), Some((2, (5, 3, 10, 10)))),
 ];
 
-const WIDE_IS_LOST: Call = Rearrange(
+const WIDE_IS_LOST: Step = Rearrange(
     &[
         ((3, (0, 3, 5, 10)), (3, (0, 0, 5, 7))),
         ((2, (5, 3, 10, 10)), (6, (5, 0, 10, 7))),
@@ -39,82 +27,13 @@ const WIDE_IS_LOST: Call = Rearrange(
 );
 
 // Both stay as they were.
-const WIDE_IS_KEPT: [Call; 3] = [
+const WIDE_IS_KEPT: [Step; 3] = [
     RearrangeBeyondLimit,
     Live(&[(0, (0, 0, 10, 3)), (2, (5, 3, 10, 10)), (3, (0, 3, 5, 10))]),
     Slots(4, 4),
 ];
 
-const ROWS: [Row; 6] = [
-    Row {
-        size: (100, 300),
-        options: DEFAULT_OPTIONS,
-        limit: MOST_SLOTS,
-        start: &COLUMN,
-        calls: &[Rearrange(
-            &[
-                ((2, (0, 200, 100, 300)), (0, (0, 0, 100, 100))),
-                ((0, (0, 0, 100, 100)), (1, (0, 100, 100, 200))),
-            ],
-            &[],
-        )],
-    },
-    Row {
-        size: (100, 300),
-        options: DEFAULT_OPTIONS,
-        limit: MOST_SLOTS,
-        start: &COLUMN,
-        calls: &[ResizeAndRearrange(
-            (100, 150),
-            &[((2, (0, 200, 100, 300)), (0, (0, 0, 100, 100)))],
-            &[(0, (0, 0, 100, 100))],
-        )],
-    },
-    Row {
-        size: (10, 10),
-        options: DEFAULT_OPTIONS,
-        limit: MOST_SLOTS,
-        start: &WIDE_ABOVE_HIGH,
-        calls: &[WIDE_IS_LOST],
-    },
-    Row {
-        size: (10, 10),
-        options: DEFAULT_OPTIONS,
-        limit: MOST_SLOTS,
-        start: &[],
-        calls: &[Rearrange(&[], &[])],
-    },
-    Row {
-        size: (100, 100),
-        options: DEFAULT_OPTIONS,
-        limit: MOST_SLOTS,
-        start: &[Allocate((100, 100), Some((0, (0, 0, 100, 100))))],
-        calls: &[
-            ResizeAndRearrange((50, 50), &[], &[(0, (0, 0, 100, 100))]),
-            IsEmpty(true),
-            DeallocateDead(0),
-        ],
-    },
-    // Both areas count as 2147483647, and the greater slot comes first.
-    Row {
-        size: (100000, 100000),
-        options: DEFAULT_OPTIONS,
-        limit: MOST_SLOTS,
-        start: &[
-            Allocate((100000, 40000), Some((0, (0, 0, 100000, 40000)))),
-            Allocate((100000, 30000), Some((1, (0, 40000, 100000, 70000)))),
-        ],
-        calls: &[Rearrange(
-            &[
-                ((1, (0, 40000, 100000, 70000)), (0, (0, 0, 100000, 30000))),
-                ((0, (0, 0, 100000, 40000)), (1, (0, 30000, 100000, 70000))),
-            ],
-            &[],
-        )],
-    },
-];
-
-const ROWS_WITH_LIMITS: [Row; 4] = [
+pub static ROWS: [Row; 4] = [
     Row {
         size: (10, 10),
         options: DEFAULT_OPTIONS,
@@ -144,14 +63,6 @@ const ROWS_WITH_LIMITS: [Row; 4] = [
         calls: &[WIDE_IS_LOST],
     },
 ];
-
-// Each with every request for memory refused in turn, and then with none refused.
-#[test]
-fn rows(rt: HostRuntime) -> Result<(), Fail> {
-    play_all_with_refusals(&rt, rt.alloc(), &ROWS)?;
-    play_all_with_refusals(&rt, rt.alloc(), &ROWS_WITH_LIMITS)?;
-    Ok(())
-}
 
 // A list of one change and one failure.
 fn one_of_each(alloc: Global, change: Change) -> Result<ChangeList, AtlasError> {

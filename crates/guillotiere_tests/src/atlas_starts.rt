@@ -1,12 +1,12 @@
 //! Starting again and copying: worked rows.
 
-use crate::atlas_calls::Call::{
-    Allocate, Clear, Deallocate, Free, Get, Grow, GrowBeyondLimit, IsEmpty, Live, RefuseEvery,
-    RefuseNone, Reset, Slots,
+use crate::atlas_calls::Step::{
+    Allocate, AllocateBeyondLimit, Clear, Deallocate, Free, Get, Grow, GrowBeyondLimit, IsEmpty,
+    Live, RefuseEvery, RefuseNone, Reset, Slots,
 };
-use crate::atlas_calls::{Atlas, Call, MOST_SLOTS, Row, look_at};
-use crate::playing::{created, is_as_before, make_all, play_all, play_all_with_refusals};
-use guillotiere::{AllocId, AtlasAllocator, AtlasError, DEFAULT_OPTIONS, size2};
+use crate::atlas_calls::{Atlas, MOST_SLOTS, Row, Sight, Step, look_at};
+use crate::playing::{created, is_as_before, make_all};
+use guillotiere::{AtlasError, DEFAULT_OPTIONS};
 use std::alloc::Global;
 use std::process::Abort;
 use std::test::Fail;
@@ -14,16 +14,16 @@ use test_memory::Refusing;
 use test_tables::ALIGNED_TO_8;
 
 // Three squares one below the other.
-const COLUMN: [Call; 3] = [
+const COLUMN: [Step; 3] = [
     Allocate((100, 100), Some((0, (0, 0, 100, 100)))),
     Allocate((100, 100), Some((1, (0, 100, 100, 200)))),
     Allocate((100, 100), Some((2, (0, 200, 100, 300)))),
 ];
 
 // One box in a corner.
-const CORNER: [Call; 1] = [Allocate((20, 60), Some((3, (0, 0, 20, 60))))];
+const CORNER: [Step; 1] = [Allocate((20, 60), Some((3, (0, 0, 20, 60))))];
 
-const ROWS: [Row; 3] = [
+pub static ROWS: [Row; 4] = [
     Row {
         size: (100, 100),
         options: DEFAULT_OPTIONS,
@@ -64,43 +64,39 @@ const ROWS: [Row; 3] = [
             Slots(1, 1),
         ],
     },
+    // A new start keeps the limit; the box would take 5 slots.
+    Row {
+        size: (100, 100),
+        options: DEFAULT_OPTIONS,
+        limit: 4,
+        start: &[],
+        calls: &[
+            AllocateBeyondLimit((20, 60)),
+            Clear,
+            AllocateBeyondLimit((20, 60)),
+            Reset((100, 200), ALIGNED_TO_8),
+            AllocateBeyondLimit((20, 60)),
+        ],
+    },
 ];
 
 // Starting again asks for no memory.
-const ROWS_WITHOUT_MEMORY: [Row; 2] = [
-    Row {
-        size: (100, 100),
-        options: DEFAULT_OPTIONS,
-        limit: MOST_SLOTS,
-        start: &CORNER,
-        calls: &[
-            RefuseEvery,
-            Deallocate(3),
-            Allocate((20, 60), Some((16777219, (0, 0, 20, 60)))),
-            Deallocate(16777219),
-            Clear,
-            Allocate((100, 100), Some((0, (0, 0, 100, 100)))),
-            RefuseNone,
-            IsEmpty(false),
-        ],
-    },
-    Row {
-        size: (100, 100),
-        options: DEFAULT_OPTIONS,
-        limit: MOST_SLOTS,
-        start: &CORNER,
-        calls: &[
-            RefuseEvery,
-            Reset((300, 50), DEFAULT_OPTIONS),
-            Allocate((300, 50), Some((0, (0, 0, 300, 50)))),
-            RefuseNone,
-            IsEmpty(false),
-        ],
-    },
-];
+pub static ROWS_WITHOUT_MEMORY: [Row; 1] = [Row {
+    size: (100, 100),
+    options: DEFAULT_OPTIONS,
+    limit: MOST_SLOTS,
+    start: &CORNER,
+    calls: &[
+        RefuseEvery,
+        Reset((300, 50), DEFAULT_OPTIONS),
+        Allocate((300, 50), Some((0, (0, 0, 300, 50)))),
+        RefuseNone,
+        IsEmpty(false),
+    ],
+}];
 
 // An atlas that is copied, and the calls of the copy: the freed slot stays in its place.
-const COPIED: Row = Row {
+static COPIED: Row = Row {
     size: (100, 300),
     options: DEFAULT_OPTIONS,
     limit: MOST_SLOTS,
@@ -112,34 +108,35 @@ const COPIED: Row = Row {
 };
 
 // Calls of the atlas that was copied, after those of the copy.
-const AFTER_COPYING: [Call; 2] = [Allocate((100, 100), None), Get(1, Some((0, 100, 100, 200)))];
+static AFTER_COPYING: [Step; 2] = [Allocate((100, 100), None), Get(1, Some((0, 100, 100, 200)))];
 
-// Each with every request for memory refused in turn, and then with none refused.
-#[test]
-fn rows(rt: HostRuntime) -> Result<(), Fail> {
-    play_all_with_refusals(&rt, rt.alloc(), &ROWS)?;
-    Ok(())
-}
-
-#[test]
-fn rows_without_memory(rt: HostRuntime) -> Result<(), Fail> {
-    play_all(&rt, rt.alloc(), &ROWS_WITHOUT_MEMORY)?;
-    Ok(())
+fn copied_once<'a>(atlas: &Atlas<'a>) -> Result<Atlas<'a>, AtlasError> {
+    atlas.clone()
 }
 
 // A copy; where memory is refused, nothing that can be seen has changed, and it is asked for again.
+fn copied_or_again<'a>(
+    rt: &impl Abort,
+    heap: &Refusing<Global>,
+    atlas: &Atlas<'a>,
+    before: &Sight,
+) -> Result<Atlas<'a>, AtlasError> {
+    match copied_once(atlas) {
+        Err(AtlasError::Memory) => {
+            is_as_before(rt, heap, atlas, before);
+            copied_once(atlas)
+        }
+        first => first,
+    }
+}
+
 fn copied<'a>(
     rt: &impl Abort,
     heap: &Refusing<Global>,
     atlas: &Atlas<'a>,
 ) -> Result<Atlas<'a>, AtlasError> {
     let before = look_at(atlas);
-    let mut answer = atlas.clone();
-    if matches!(&answer, Err(AtlasError::Memory)) {
-        is_as_before(rt, heap, atlas, &before);
-        answer = atlas.clone();
-    }
-    let copy = answer?;
+    let copy = copied_or_again(rt, heap, atlas, &before)?;
     assert!(rt; look_at(atlas) == before && look_at(&copy) == before);
     Ok(copy)
 }
@@ -167,28 +164,5 @@ fn a_copy_goes_its_own_way(rt: HostRuntime) -> Result<(), Fail> {
         refusals = number;
     }
     assert!(rt; 0 < refusals && refusals < 999);
-    Ok(())
-}
-
-// Of at most 4 slots; one box of 20x60 in a corner would take 5.
-fn is_limited_to_4<'a>(atlas: &mut Atlas<'a>) -> bool {
-    let corner = atlas.allocate(size2(20, 60));
-    atlas.slots().limit == 4 && matches!(&corner, Err(AtlasError::Slots))
-}
-
-fn limited<'a>(rt: &impl Abort, heap: &'a Refusing<Global>) -> Result<(), AtlasError> {
-    let mut atlas = AtlasAllocator::with_slot_limit(heap, size2(100, 100), &DEFAULT_OPTIONS, 4)?;
-    assert!(rt; is_limited_to_4(&mut atlas));
-    atlas.clear()?;
-    assert!(rt; is_limited_to_4(&mut atlas));
-    atlas.reset(size2(100, 200), &ALIGNED_TO_8)?;
-    assert!(rt; is_limited_to_4(&mut atlas));
-    Ok(())
-}
-
-#[test]
-fn a_new_start_keeps_the_limit(rt: HostRuntime) -> Result<(), Fail> {
-    let heap = Refusing::new(rt.alloc());
-    limited(&rt, &heap)?;
     Ok(())
 }

@@ -1,11 +1,9 @@
-//! Rows of calls of an atlas and of sessions, and what they answer. Expected values are worked by hand from the rules,
+//! Rows of calls of an atlas and of sessions, beside those of `recorded_tests`. Expected values are worked by hand from the rules,
 //! or recorded from the Rust crate `guillotiere` 0.7.0; none is an answer of the code under test.
 #![tactic(auto)]
 
 #[cfg(test)]
 mod atlas_calls;
-#[cfg(test)]
-mod atlas_extremes;
 #[cfg(test)]
 mod atlas_freeing;
 #[cfg(test)]
@@ -21,4 +19,8 @@ mod node_kinds;
 #[cfg(test)]
 mod playing;
 #[cfg(test)]
+mod rows;
+#[cfg(test)]
 mod session_rows;
+#[cfg(test)]
+mod walk;

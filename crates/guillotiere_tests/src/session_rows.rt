@@ -1,48 +1,17 @@
-//! Sessions: worked rows, as one list, and call by call with requests for memory refused.
+//! Sessions: worked rows, as one list, and as lists of one call with requests for memory refused.
 
-use crate::atlas_calls::{Atlas, MOST_SLOTS, look_at};
-use crate::playing::is_as_before;
-use guillotiere::session::{Call, Reply, run, step};
-use guillotiere::{
-    AllocId, Allocation, AllocatorOptions, AtlasAllocator, AtlasError, DEFAULT_OPTIONS, Size, size2,
+use crate::atlas_calls::Step::{
+    Allocate, BadGrow, BadReset, BadResize, Clear, Deallocate, DeallocateDead, Grow,
+    GrowBeyondLimit, Live, Rearrange, Reset,
 };
-use std::alloc::{Allocator, Global};
+use crate::atlas_calls::{Atlas, MOST_SLOTS, Row, Step, look_at};
+use crate::playing::{Answer, call_of, created, is_answer, is_as_before, make_all};
+use guillotiere::session::{Call, Reply, run};
+use guillotiere::{AllocatorOptions, AtlasAllocator, AtlasError, DEFAULT_OPTIONS, Size, size2};
+use std::alloc::Global;
 use std::process::Abort;
 use std::test::Fail;
 use test_memory::Refusing;
-use test_tables::{Corners, Sides, rectangle, size};
-
-// A call as a table writes it; ids are serialized.
-enum Line {
-    Allocate(Sides),
-    Deallocate(u32),
-    Grow(Sides),
-    Clear,
-    Reset(Sides, AllocatorOptions),
-    Rearrange,
-    Resize(Sides),
-}
-
-// A reply as a table writes it.
-#[derive(Debug)]
-enum Answer {
-    Allocated(u32, Corners),
-    NoRoom,
-    Done,
-    // A rearrangement of nothing.
-    ChangedNothing,
-    NotLive,
-    Slots,
-    BadCall,
-}
-
-struct Row {
-    size: Sides,
-    limit: u32,
-    lines: &'static [(Line, Answer)],
-    // What is allocated after the last call.
-    live: &'static [(u32, Corners)],
-}
 
 // No width is a multiple of it.
 const ALIGNED_TO_0: AllocatorOptions = AllocatorOptions {
@@ -54,167 +23,122 @@ const ALIGNED_TO_0: AllocatorOptions = AllocatorOptions {
     large_size_threshold: 256,
 };
 
-const ROWS: [Row; 3] = [
+/// The start of each is its list of calls.
+pub static ROWS: [Row; 3] = [
     Row {
         size: (10, 10),
+        options: DEFAULT_OPTIONS,
         limit: MOST_SLOTS,
-        lines: &[
-            (Line::Grow((9, 10)), Answer::BadCall),
-            (Line::Reset((0, 5), DEFAULT_OPTIONS), Answer::BadCall),
-            (Line::Deallocate(7), Answer::NotLive),
-            (Line::Rearrange, Answer::ChangedNothing),
+        start: &[
+            BadGrow((9, 10)),
+            BadReset((0, 5), DEFAULT_OPTIONS),
+            DeallocateDead(7),
+            Rearrange(&[], &[]),
         ],
-        live: &[],
+        calls: &[Live(&[])],
     },
     Row {
         size: (100, 300),
+        options: DEFAULT_OPTIONS,
         limit: MOST_SLOTS,
-        lines: &[
-            (
-                Line::Allocate((100, 100)),
-                Answer::Allocated(0, (0, 0, 100, 100)),
-            ),
-            (
-                Line::Allocate((100, 100)),
-                Answer::Allocated(1, (0, 100, 100, 200)),
-            ),
-            (Line::Deallocate(0), Answer::Done),
-            (Line::Allocate((0, 1)), Answer::NoRoom),
-            (Line::Clear, Answer::Done),
-            (Line::Deallocate(1), Answer::NotLive),
-            (Line::Resize((0, 9)), Answer::BadCall),
-            (Line::Grow((120, 300)), Answer::Done),
-            (
-                Line::Allocate((120, 300)),
-                Answer::Allocated(0, (0, 0, 120, 300)),
-            ),
+        start: &[
+            Allocate((100, 100), Some((0, (0, 0, 100, 100)))),
+            Allocate((100, 100), Some((1, (0, 100, 100, 200)))),
+            Deallocate(0),
+            Allocate((0, 1), None),
+            Clear,
+            DeallocateDead(1),
+            BadResize((0, 9)),
+            Grow((120, 300)),
+            Allocate((120, 300), Some((0, (0, 0, 120, 300)))),
         ],
-        live: &[(0, (0, 0, 120, 300))],
+        calls: &[Live(&[(0, (0, 0, 120, 300))])],
     },
     // The whole atlas, which must not grow on both sides with three slots, and is freed.
     Row {
         size: (100, 100),
+        options: DEFAULT_OPTIONS,
         limit: 3,
-        lines: &[
-            (
-                Line::Allocate((100, 100)),
-                Answer::Allocated(0, (0, 0, 100, 100)),
-            ),
-            (Line::Grow((150, 150)), Answer::Slots),
-            (Line::Grow((100, 99)), Answer::BadCall),
-            (Line::Grow((150, 100)), Answer::Done),
-            (Line::Reset((200, 200), ALIGNED_TO_0), Answer::BadCall),
-            (Line::Resize((-1, 5)), Answer::BadCall),
-            (Line::Reset((200, 200), DEFAULT_OPTIONS), Answer::Done),
-            (
-                Line::Allocate((200, 200)),
-                Answer::Allocated(0, (0, 0, 200, 200)),
-            ),
+        start: &[
+            Allocate((100, 100), Some((0, (0, 0, 100, 100)))),
+            GrowBeyondLimit((150, 150)),
+            BadGrow((100, 99)),
+            Grow((150, 100)),
+            BadReset((200, 200), ALIGNED_TO_0),
+            BadResize((-1, 5)),
+            Reset((200, 200), DEFAULT_OPTIONS),
+            Allocate((200, 200), Some((0, (0, 0, 200, 200)))),
         ],
-        live: &[(0, (0, 0, 200, 200))],
+        calls: &[Live(&[(0, (0, 0, 200, 200))])],
     },
 ];
 
-fn call(line: &Line) -> Call {
-    match line {
-        Line::Allocate(sides) => Call::Allocate(size(*sides)),
-        Line::Deallocate(number) => Call::Deallocate(AllocId::deserialize(*number)),
-        Line::Grow(sides) => Call::Grow(size(*sides)),
-        Line::Clear => Call::Clear,
-        Line::Reset(sides, options) => Call::Reset(size(*sides), *options),
-        Line::Rearrange => Call::Rearrange,
-        Line::Resize(sides) => Call::ResizeAndRearrange(size(*sides)),
-    }
+type Replies<'a> = Vec<Answer<'a>, &'a Refusing<Global>>;
+
+// In a function of its own, since its contract is long.
+fn listed<'a>(
+    atlas: &mut Atlas<'a>,
+    calls: &[Call],
+    replies: &mut Replies<'a>,
+) -> Result<(), AtlasError> {
+    run(atlas, calls, replies)
 }
 
-fn check<A: Allocator + Copy>(rt: &impl Abort, reply: &Reply<A>, answer: &Answer) {
-    let agrees = match (reply, answer) {
-        (Reply::Allocated(allocation), Answer::Allocated(number, corners)) => {
-            *allocation
-                == Allocation {
-                    id: AllocId::deserialize(*number),
-                    rectangle: rectangle(*corners),
-                }
-        }
-        (Reply::Changed(list), Answer::ChangedNothing) => {
-            list.changes.is_empty() && list.failures.is_empty()
-        }
-        (Reply::NoRoom, Answer::NoRoom)
-        | (Reply::Done, Answer::Done)
-        | (Reply::Refused(AtlasError::NotLive), Answer::NotLive)
-        | (Reply::Refused(AtlasError::Slots), Answer::Slots)
-        | (Reply::BadCall, Answer::BadCall) => true,
-        _ => false,
-    };
-    assert!(rt; agrees, "{reply:?} in place of {answer:?}");
-}
-
-fn created<A: Allocator + Copy>(
-    rt: &impl Abort,
-    alloc: A,
-    row: &Row,
-) -> Result<AtlasAllocator<A>, AtlasError> {
-    let size = size(row.size);
-    assert!(rt; !size.is_empty());
-    assert!(rt; 1 <= row.limit && row.limit <= MOST_SLOTS);
-    AtlasAllocator::with_slot_limit(alloc, size, &DEFAULT_OPTIONS, row.limit)
-}
-
-fn is_left(rt: &impl Abort, atlas: &AtlasAllocator, row: &Row) -> Result<(), AtlasError> {
-    let live = atlas.allocations()?;
-    let same = live.iter().zip(row.live).all(|(found, (number, corners))| {
-        found.id.serialize() == *number && found.rectangle == rectangle(*corners)
-    });
-    assert!(rt; same && live.len() == row.live.len());
-    Ok(())
-}
-
-fn calls_of(alloc: Global, row: &Row) -> Result<Vec<Call>, AtlasError> {
+fn calls_of(alloc: Global, steps: &[Step]) -> Result<Vec<Call>, AtlasError> {
     let mut calls = Vec::new(alloc);
-    for (line, _) in row.lines {
-        calls.push(call(line))?;
+    for made in steps {
+        if let Some(call) = call_of(made) {
+            calls.push(call)?;
+        }
     }
     Ok(calls)
 }
 
+fn are_answers(replies: &[Answer<'_>], steps: &[Step]) -> bool {
+    let are_equal = replies
+        .iter()
+        .zip(steps)
+        .all(|(reply, made)| is_answer(reply, made));
+    are_equal && replies.len() == steps.len()
+}
+
+// Makes the calls of steps as one list.
+fn append<'a>(
+    alloc: Global,
+    atlas: &mut Atlas<'a>,
+    steps: &[Step],
+    replies: &mut Replies<'a>,
+) -> Result<(), AtlasError> {
+    let calls = calls_of(alloc, steps)?;
+    listed(atlas, calls.as_slice(), replies)
+}
+
 // Makes all calls of a row as one list.
-fn play_list(rt: &impl Abort, alloc: Global, row: &Row) -> Result<(), AtlasError> {
-    let mut atlas = created(rt, alloc, row)?;
-    let mut replies = Vec::new(alloc);
-    run(&mut atlas, calls_of(alloc, row)?.as_slice(), &mut replies)?;
-    assert!(rt; replies.len() == row.lines.len());
-    for (reply, (_, answer)) in replies.iter().zip(row.lines) {
-        check(rt, reply, answer);
-    }
-    is_left(rt, &atlas, row)
+fn play_list(
+    rt: &impl Abort,
+    alloc: Global,
+    heap: &Refusing<Global>,
+    row: &Row,
+) -> Result<(), AtlasError> {
+    let mut atlas = created(rt, heap, row)?;
+    let mut replies = Vec::new(heap);
+    append(alloc, &mut atlas, row.start, &mut replies)?;
+    assert!(rt; are_answers(replies.as_slice(), row.start));
+    make_all(rt, alloc, heap, &mut atlas, row.calls)
 }
 
 #[test]
 fn rows_as_one_list(rt: HostRuntime) -> Result<(), Fail> {
+    let heap = Refusing::new(rt.alloc());
     for row in &ROWS {
-        play_list(&rt, rt.alloc(), row)?;
+        play_list(&rt, rt.alloc(), &heap, row)?;
     }
     Ok(())
 }
-
-#[test]
-fn rows_step_by_step(rt: HostRuntime) -> Result<(), Fail> {
-    for row in &ROWS {
-        let mut atlas = created(&rt, rt.alloc(), row)?;
-        for (line, answer) in row.lines {
-            let reply = step(&mut atlas, &call(line));
-            check(&rt, &reply, answer);
-        }
-        is_left(&rt, &atlas, row)?;
-    }
-    Ok(())
-}
-
-type Replies<'a> = Vec<Reply<&'a Refusing<Global>>, &'a Refusing<Global>>;
 
 // Makes a list of one call. Returns whether it met a refusal of memory; such a reply is taken out again.
 fn is_refused<'a>(atlas: &mut Atlas<'a>, call: Call, replies: &mut Replies<'a>) -> bool {
-    if run(atlas, &[call], replies) == Err(AtlasError::Memory) {
+    if listed(atlas, &[call], replies) == Err(AtlasError::Memory) {
         return true;
     }
     let refused = replies.last() == Some(&Reply::Refused(AtlasError::Memory));
@@ -241,21 +165,27 @@ fn run_or_again<'a>(
     }
 }
 
+// Makes a list of each call of steps.
+fn run_each<'a>(
+    rt: &impl Abort,
+    heap: &Refusing<Global>,
+    atlas: &mut Atlas<'a>,
+    steps: &[Step],
+    replies: &mut Replies<'a>,
+) {
+    for made in steps {
+        if let Some(call) = call_of(made) {
+            run_or_again(rt, heap, atlas, call, replies);
+        }
+    }
+}
+
 // Plays a row call by call.
 fn play(rt: &impl Abort, heap: &Refusing<Global>, row: &Row) -> Result<(), AtlasError> {
-    let mut atlas = match created(rt, heap, row) {
-        Err(AtlasError::Memory) => created(rt, heap, row)?,
-        first => first?,
-    };
+    let mut atlas = created(rt, heap, row)?;
     let mut replies = Vec::new(heap);
-    for (line, answer) in row.lines {
-        run_or_again(rt, heap, &mut atlas, call(line), &mut replies);
-        let Some(reply) = replies.last() else {
-            panic!(rt; "no reply");
-        };
-        check(rt, reply, answer);
-    }
-    assert!(rt; replies.len() == row.lines.len());
+    run_each(rt, heap, &mut atlas, row.start, &mut replies);
+    assert!(rt; are_answers(replies.as_slice(), row.start));
     Ok(())
 }
 
@@ -277,6 +207,10 @@ fn rows_with_each_request_for_memory_refused_in_turn(rt: HostRuntime) -> Result<
     Ok(())
 }
 
+fn ten_by_ten(heap: &Refusing<Global>) -> Result<Atlas<'_>, AtlasError> {
+    AtlasAllocator::new(heap, size2(10, 10))
+}
+
 // Makes lists of 100 calls and of none, with every request for memory refused.
 fn run_without_memory<'a>(
     rt: &impl Abort,
@@ -287,46 +221,47 @@ fn run_without_memory<'a>(
     let before = look_at(atlas);
     heap.refuse_every();
     let calls = [Call::Clear; 100];
-    let answer = run(atlas, calls.as_slice(), replies);
+    let answer = listed(atlas, calls.as_slice(), replies);
     assert!(rt; answer == Err(AtlasError::Memory) && look_at(atlas) == before);
-    let answer = run(atlas, &[], replies);
+    let answer = listed(atlas, &[], replies);
     assert!(rt; answer == Ok(()) && look_at(atlas) == before);
 }
 
 #[test]
 fn without_room_for_the_replies_no_call_is_made(rt: HostRuntime) -> Result<(), Fail> {
     let heap = Refusing::new(rt.alloc());
-    let mut atlas = AtlasAllocator::new(&heap, size2(10, 10))?;
+    let mut atlas = ten_by_ten(&heap)?;
     let mut replies = Vec::new(&heap);
-    run(&mut atlas, &[Call::Allocate(size2(5, 10))], &mut replies)?;
+    listed(&mut atlas, &[Call::Allocate(size2(5, 10))], &mut replies)?;
     run_without_memory(&rt, &heap, &mut atlas, &mut replies);
     assert!(rt; replies.len() == 1);
     heap.refuse_nth(0);
     Ok(())
 }
 
+// Of these the first reply was there before.
+static APPENDED: [Step; 4] = [
+    BadGrow((9, 9)),
+    Allocate((11, 1), None),
+    Clear,
+    DeallocateDead(0),
+];
+
+// The replies to two lists, after the one that was there.
+fn appended(alloc: Global, heap: &Refusing<Global>) -> Result<Replies<'_>, AtlasError> {
+    let mut atlas = ten_by_ten(heap)?;
+    let mut replies = Vec::new(heap);
+    replies.push(Reply::BadCall)?;
+    append(alloc, &mut atlas, &APPENDED[1..3], &mut replies)?;
+    append(alloc, &mut atlas, &APPENDED[3..], &mut replies)?;
+    Ok(replies)
+}
+
 #[test]
 fn replies_are_appended(rt: HostRuntime) -> Result<(), Fail> {
-    let mut atlas = AtlasAllocator::new(rt.alloc(), size2(10, 10))?;
-    let mut replies = Vec::new(rt.alloc());
-    replies.push(Reply::BadCall)?;
-    run(
-        &mut atlas,
-        &[Call::Allocate(size2(11, 1)), Call::Clear],
-        &mut replies,
-    )?;
-    run(
-        &mut atlas,
-        &[Call::Deallocate(AllocId::deserialize(0))],
-        &mut replies,
-    )?;
-    let want = [
-        Reply::BadCall,
-        Reply::NoRoom,
-        Reply::Done,
-        Reply::Refused(AtlasError::NotLive),
-    ];
-    assert!(rt; replies.as_slice() == want.as_slice());
+    let heap = Refusing::new(rt.alloc());
+    let replies = appended(rt.alloc(), &heap)?;
+    assert!(rt; are_answers(replies.as_slice(), &APPENDED));
     Ok(())
 }
 

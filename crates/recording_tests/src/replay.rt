@@ -103,20 +103,6 @@ pub fn are_equal<A: Allocator + Copy>(one: &Recording<A>, other: &Recording<A>) 
 
 pub const MOVED: &[(u32, Corners)] = &[(0, (0, 100, 100, 200)), (2, (0, 0, 100, 100))];
 
-#[test]
-fn a_session_is_replayed(rt: HostRuntime) -> Result<(), Fail> {
-    let recording = column(rt.alloc())?;
-    assert!(rt; ends(&recording, (3, 1, 1), MOVED) == Ok(true));
-    Ok(())
-}
-
-#[test]
-fn an_idle_session_is_replayed(rt: HostRuntime) -> Result<(), Fail> {
-    let idle = finished(begun(rt.alloc(), (10, 10))?);
-    assert!(rt; ends(&idle, (0, 0, 0), &[]) == Ok(true));
-    Ok(())
-}
-
 // The whole atlas is granted and freed; and, where it is asked for, granted again.
 fn granted(alloc: Global, again: bool) -> Result<Recording<Global>, RecordingError> {
     let mut session = begun(alloc, (100, 100))?;

@@ -1,6 +1,9 @@
-//! Rows of calls of a recording allocator, played with ample memory and with each request for memory refused in turn.
+//! The events of sessions are their calls with their answers, also with each request for memory refused in turn. What a
+//! session shows and answers is compared in `recorded_tests`.
 
-use guillotiere::{AllocId, Allocation, ChangeList, DEFAULT_OPTIONS, Point, Rectangle, Size};
+use guillotiere::{
+    AllocId, Allocation, Change, ChangeList, DEFAULT_OPTIONS, Point, Rectangle, Size,
+};
 use guillotiere_recording::{Event, Recorder, Recording, RecordingAllocator, RecordingError};
 use std::alloc::Global;
 use std::process::Abort;
@@ -16,7 +19,7 @@ type Corners = (i32, i32, i32, i32);
 /// A name, its old box and its new one.
 type Moved = (u32, Corners, Corners);
 
-/// A call and its answer; names are numbers.
+/// A call and its answer, which is compared in its event; names are numbers.
 enum Call {
     /// `allocate`: the name and the box, or none.
     Allocate(Sides, Option<(u32, Corners)>),
@@ -28,47 +31,33 @@ enum Call {
     Rearrange(&'static [Moved], &'static [(u32, Corners)]),
     /// The same of `resize_and_rearrange`.
     Resize(Sides, &'static [Moved], &'static [(u32, Corners)]),
-    /// What `allocations` lists.
-    Live(&'static [(u32, Corners)]),
-    /// What `free_rectangles` lists, where it is one box or none.
-    Free(&'static [Corners]),
 }
 
 // A name is given anew, and never a second time.
-const NAMES: &[Call] = &[
+static NAMES: [Call; 4] = [
     Call::Allocate((20, 60), Some((0, (0, 0, 20, 60)))),
     Call::Deallocate(0),
     Call::DeallocateDead(0),
     Call::Allocate((20, 60), Some((1, (0, 0, 20, 60)))),
-    Call::Live(&[(1, (0, 0, 20, 60))]),
 ];
 
 // Three boxes one below another, and no room for a fourth; what is live is listed by rising name.
-const COLUMN: &[Call] = &[
+static COLUMN: [Call; 11] = [
     Call::Allocate((100, 100), Some((0, (0, 0, 100, 100)))),
     Call::Allocate((100, 100), Some((1, (0, 100, 100, 200)))),
     Call::Allocate((100, 100), Some((2, (0, 200, 100, 300)))),
     Call::Allocate((1, 1), None),
-    Call::Free(&[]),
     Call::Deallocate(1),
-    Call::Free(&[(0, 100, 100, 200)]),
-    Call::Live(&[(0, (0, 0, 100, 100)), (2, (0, 200, 100, 300))]),
     Call::Allocate((0, 5), None),
     Call::Allocate((100, 100), Some((3, (0, 100, 100, 200)))),
     Call::Grow((100, 400)),
     Call::Allocate((100, 100), Some((4, (0, 300, 100, 400)))),
-    Call::Live(&[
-        (0, (0, 0, 100, 100)),
-        (2, (0, 200, 100, 300)),
-        (3, (0, 100, 100, 200)),
-        (4, (0, 300, 100, 400)),
-    ]),
     Call::DeallocateDead(1),
     Call::DeallocateDead(4294967295),
 ];
 
 // Two boxes are placed anew, the one below first; then neither has room.
-const REARRANGED: &[Call] = &[
+static REARRANGED: [Call; 10] = [
     Call::Allocate((100, 100), Some((0, (0, 0, 100, 100)))),
     Call::Allocate((100, 100), Some((1, (0, 100, 100, 200)))),
     Call::Allocate((100, 100), Some((2, (0, 200, 100, 300)))),
@@ -81,14 +70,12 @@ const REARRANGED: &[Call] = &[
         ],
         &[],
     ),
-    Call::Live(&[(0, (0, 100, 100, 200)), (2, (0, 0, 100, 100))]),
     Call::DeallocateDead(1),
     Call::Resize(
         (50, 50),
         &[],
         &[(0, (0, 100, 100, 200)), (2, (0, 0, 100, 100))],
     ),
-    Call::Live(&[]),
     Call::DeallocateDead(0),
     Call::Allocate((50, 50), Some((3, (0, 0, 50, 50)))),
 ];
@@ -114,99 +101,54 @@ fn allocation((name, corners): (u32, Corners)) -> Allocation {
     }
 }
 
-// What can be seen of a session without a request for memory, folded into numbers; free boxes in any order.
-#[derive(Clone, Copy, Debug, PartialEq)]
-struct Sight {
-    sides: Sides,
-    free: u64,
-    live: u64,
+// Each of these makes a call; false where memory was refused.
+
+fn granted(session: &mut Session<'_>, sides: Sides) -> bool {
+    session.allocate(size(sides)) != Err(RecordingError::Memory)
 }
 
-fn folded(area: &Rectangle) -> u64 {
-    let mut sum = 14695981039346656037u64;
-    for side in [area.min.x, area.min.y, area.max.x, area.max.y] {
-        sum = (sum ^ u64::from(side.cast_unsigned())).wrapping_mul(1099511628211);
-    }
-    sum
-}
-
-fn look_at(session: &Session<'_>) -> Sight {
-    let mut free = 0u64;
-    session.for_each_free_rectangle(|area: &Rectangle| free = free.wrapping_add(folded(area)));
-    let mut live = 0u64;
-    session.for_each_allocated_rectangle(|id: AllocId, area: &Rectangle| {
-        live = live
-            .wrapping_mul(31)
-            .wrapping_add(folded(area))
-            .wrapping_add(u64::from(id.serialize()));
-    });
-    Sight {
-        sides: (session.size().width, session.size().height),
-        free,
-        live,
-    }
-}
-
-// Each of these makes a call and compares its answer; false where memory was refused.
-
-fn granted(
-    rt: &impl Abort,
-    session: &mut Session<'_>,
-    sides: Sides,
-    want: Option<(u32, Corners)>,
-) -> bool {
-    let answer = session.allocate(size(sides));
-    if answer == Err(RecordingError::Memory) {
-        return false;
-    }
-    assert!(rt; answer == Ok(want.map(allocation)), "{sides:?}");
-    true
-}
-
-fn freed(
-    rt: &impl Abort,
-    session: &mut Session<'_>,
-    name: u32,
-    want: Result<(), RecordingError>,
-) -> bool {
-    let answer = session.deallocate(AllocId::deserialize(name));
-    if answer == Err(RecordingError::Memory) {
-        return false;
-    }
-    assert!(rt; answer == want, "{name}");
-    true
+fn freed(session: &mut Session<'_>, name: u32) -> bool {
+    session.deallocate(AllocId::deserialize(name)) != Err(RecordingError::Memory)
 }
 
 fn grew(rt: &impl Abort, session: &mut Session<'_>, new_size: Size) -> bool {
     assert!(rt; session.size().width <= new_size.width);
     assert!(rt; session.size().height <= new_size.height);
-    let answer = session.grow(new_size);
-    assert!(rt; matches!(answer, Ok(()) | Err(RecordingError::Memory)));
-    answer.is_ok()
+    session.grow(new_size).is_ok()
 }
 
-fn resized<'a>(
-    rt: &impl Abort,
-    session: &mut Session<'a>,
-    new_size: Size,
-) -> Result<ChangeList<&'a Refusing<Global>>, RecordingError> {
+fn rearranged(session: &mut Session<'_>) -> bool {
+    session.rearrange().is_ok()
+}
+
+fn resized(rt: &impl Abort, session: &mut Session<'_>, new_size: Size) -> bool {
     assert!(rt; !new_size.is_empty());
-    session.resize_and_rearrange(new_size)
+    session.resize_and_rearrange(new_size).is_ok()
 }
 
 fn made(rt: &impl Abort, session: &mut Session<'_>, call: &Call) -> bool {
     match call {
-        Call::Allocate(sides, want) => granted(rt, session, *sides, *want),
-        Call::Deallocate(name) => freed(rt, session, *name, Ok(())),
-        Call::DeallocateDead(name) => freed(rt, session, *name, Err(RecordingError::NotLive)),
+        Call::Allocate(sides, _) => granted(session, *sides),
+        Call::Deallocate(name) | Call::DeallocateDead(name) => freed(session, *name),
         Call::Grow(sides) => grew(rt, session, size(*sides)),
-        Call::Rearrange(changes, failures) => told(rt, session.rearrange(), changes, failures),
-        Call::Resize(sides, changes, failures) => {
-            told(rt, resized(rt, session, size(*sides)), changes, failures)
-        }
-        Call::Live(boxes) => shows_live(rt, session, boxes),
-        Call::Free(boxes) => shows_free(rt, session, boxes),
+        Call::Rearrange(_, _) => rearranged(session),
+        Call::Resize(sides, _, _) => resized(rt, session, size(*sides)),
     }
+}
+
+fn are_changes(found: &[Change], want: &[Moved]) -> bool {
+    let are_equal = found.iter().zip(want).all(|(change, moved)| {
+        change.old == allocation((moved.0, moved.1)) && change.new == allocation((moved.0, moved.2))
+    });
+    are_equal && found.len() == want.len()
+}
+
+fn are_boxes(found: &[Allocation], want: &[(u32, Corners)]) -> bool {
+    let are_equal = found
+        .iter()
+        .zip(want)
+        .all(|(shown, expected)| *shown == allocation(*expected));
+    are_equal && found.len() == want.len()
 }
 
 fn is_list(
@@ -214,58 +156,7 @@ fn is_list(
     changes: &[Moved],
     failures: &[(u32, Corners)],
 ) -> bool {
-    let moved = list.changes.iter().zip(changes).all(|(change, moved)| {
-        change.old == allocation((moved.0, moved.1)) && change.new == allocation((moved.0, moved.2))
-    });
-    let lost = list
-        .failures
-        .iter()
-        .zip(failures)
-        .all(|(failure, lost)| *failure == allocation(*lost));
-    let counted = list.changes.len() == changes.len() && list.failures.len() == failures.len();
-    moved && lost && counted
-}
-
-fn told(
-    rt: &impl Abort,
-    answer: Result<ChangeList<&Refusing<Global>>, RecordingError>,
-    changes: &[Moved],
-    failures: &[(u32, Corners)],
-) -> bool {
-    match answer {
-        Ok(list) => {
-            assert!(rt; is_list(&list, changes, failures));
-            true
-        }
-        Err(error) => {
-            assert!(rt; error == RecordingError::Memory);
-            false
-        }
-    }
-}
-
-fn shows_live(rt: &impl Abort, session: &Session<'_>, boxes: &[(u32, Corners)]) -> bool {
-    let Ok(found) = session.allocations() else {
-        return false;
-    };
-    let same = found
-        .iter()
-        .zip(boxes)
-        .all(|(shown, want)| *shown == allocation(*want));
-    assert!(rt; same && found.len() == boxes.len());
-    true
-}
-
-fn shows_free(rt: &impl Abort, session: &Session<'_>, boxes: &[Corners]) -> bool {
-    let Ok(found) = session.free_rectangles() else {
-        return false;
-    };
-    let same = found
-        .iter()
-        .zip(boxes)
-        .all(|(shown, want)| *shown == rectangle(*want));
-    assert!(rt; same && found.len() == boxes.len());
-    true
+    are_changes(list.changes.as_slice(), changes) && are_boxes(list.failures.as_slice(), failures)
 }
 
 // Whether an event is that of a call.
@@ -286,17 +177,6 @@ fn is_event(event: &Event<&Refusing<Global>>, call: &Call) -> bool {
     }
 }
 
-fn is_recorded(call: &Call) -> bool {
-    matches!(
-        call,
-        Call::Allocate(_, _)
-            | Call::Deallocate(_)
-            | Call::Grow(_)
-            | Call::Rearrange(_, _)
-            | Call::Resize(_, _, _)
-    )
-}
-
 fn begun<'a>(
     rt: &impl Abort,
     heap: &'a Refusing<Global>,
@@ -307,20 +187,11 @@ fn begun<'a>(
     RecordingAllocator::new(heap, whole)
 }
 
-// Makes a call; one that memory is refused for leaves all as before, and is made again.
-fn made_or_again(rt: &impl Abort, heap: &Refusing<Global>, session: &mut Session<'_>, call: &Call) {
-    let before = look_at(session);
-    if !made(rt, session, call) {
-        assert!(rt; heap.is_done() && look_at(session) == before);
-        assert!(rt; made(rt, session, call), "a second refusal");
-    }
-}
-
 // Whether the events are those of the calls that are recorded, and no others.
 fn are_events(events: &[Event<&Refusing<Global>>], calls: &[Call]) -> bool {
     let mut rest = events.iter();
     for call in calls {
-        if is_recorded(call) {
+        if !matches!(call, Call::DeallocateDead(_)) {
             let Some(event) = rest.next() else {
                 return false;
             };
@@ -345,7 +216,10 @@ fn play(
     };
     let mut session = created?;
     for call in calls {
-        made_or_again(rt, heap, &mut session, call);
+        if !made(rt, &mut session, call) {
+            assert!(rt; heap.is_done());
+            assert!(rt; made(rt, &mut session, call), "a second refusal");
+        }
     }
     heap.refuse_every();
     let recording = session.finish();
@@ -353,28 +227,35 @@ fn play(
     Ok(())
 }
 
+// Plays a row with ample memory, and with each request for memory refused in turn.
+fn play_in_turn(
+    rt: &impl Abort,
+    heap: &Refusing<Global>,
+    sides: Sides,
+    calls: &[Call],
+) -> Result<(), Fail> {
+    heap.refuse_nth(0);
+    play(rt, heap, sides, calls)?;
+    let mut refusals = 0u32;
+    for number in 1..1000u32 {
+        let first = heap.requests();
+        heap.refuse_nth(number);
+        play(rt, heap, sides, calls)?;
+        if heap.requests().wrapping_sub(first) < u64::from(number) {
+            break;
+        }
+        refusals = number;
+    }
+    assert!(rt; refusals > 2, "too few requests for memory");
+    Ok(())
+}
+
 #[test]
 fn rows(rt: HostRuntime) -> Result<(), Fail> {
     let heap = Refusing::new(rt.alloc());
-    for (sides, calls) in [
-        ((100, 100), NAMES),
-        ((100, 300), COLUMN),
-        ((100, 300), REARRANGED),
-    ] {
-        heap.refuse_nth(0);
-        play(&rt, &heap, sides, calls)?;
-        let mut refusals = 0u32;
-        for number in 1..1000u32 {
-            let first = heap.requests();
-            heap.refuse_nth(number);
-            play(&rt, &heap, sides, calls)?;
-            if heap.requests().wrapping_sub(first) < u64::from(number) {
-                break;
-            }
-            refusals = number;
-        }
-        assert!(rt; refusals > 2, "too few requests for memory");
-    }
+    play_in_turn(&rt, &heap, (100, 100), &NAMES)?;
+    play_in_turn(&rt, &heap, (100, 300), &COLUMN)?;
+    play_in_turn(&rt, &heap, (100, 300), &REARRANGED)?;
     Ok(())
 }
 

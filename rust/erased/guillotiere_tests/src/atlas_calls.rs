@@ -3,8 +3,9 @@
 
 use test_memory::Refusing;
 use test_tables::{Corners, Sides};
+use wollemigo_core::guillotiere::session::Call;
 use wollemigo_core::guillotiere::{
-    AllocId, AllocatorOptions, AtlasAllocator, Rectangle, SlotCount,
+    AllocId, AllocatorOptions, AtlasAllocator, Rectangle, Size, SlotCount,
 };
 use wollemigo_support::alloc::Global;
 use wollemigo_support::prelude::CastUnsigned;
@@ -15,7 +16,7 @@ pub type Atlas<'a> = AtlasAllocator<&'a Refusing<Global>>;
 pub type Grant = (u32, Corners);
 
 /// A call, or a question, and its answer; ids are serialized.
-pub enum Call {
+pub enum Step {
     /// `allocate`: the id and the box, or none.
     Allocate(Sides, Option<Grant>),
     /// `allocate` of what would need more slots than the limit allows.
@@ -30,15 +31,19 @@ pub enum Call {
     Grow(Sides),
     /// `grow` that would need more slots than the limit allows.
     GrowBeyondLimit(Sides),
+    /// `grow` to a size of which a side is too small.
+    BadGrow(Sides),
     Clear,
     /// `reset` to a size and options.
     Reset(Sides, AllocatorOptions),
+    /// `reset` to an empty size, or with options that aren't valid.
+    BadReset(Sides, AllocatorOptions),
     /// `rearrange`: what moved, each from the first to the second, and what found no room.
     Rearrange(&'static [(Grant, Grant)], &'static [Grant]),
     /// `rearrange` that would need more slots than the limit allows.
     RearrangeBeyondLimit,
-    /// `resize_and_rearrange` to a size: what moved, and what found no room.
-    ResizeAndRearrange(Sides, &'static [(Grant, Grant)], &'static [Grant]),
+    /// `resize_and_rearrange` to an empty size.
+    BadResize(Sides),
     Get(u32, Option<Corners>),
     IsEmpty(bool),
     /// What `free_rectangles` lists, in any order.
@@ -59,8 +64,8 @@ pub struct Row {
     pub options: AllocatorOptions,
     pub limit: u32,
     /// Calls that come first.
-    pub start: &'static [Call],
-    pub calls: &'static [Call],
+    pub start: &'static [Step],
+    pub calls: &'static [Step],
 }
 
 /// As many slots as ids can name.
@@ -69,11 +74,34 @@ pub const MOST_SLOTS: u32 = 16777216;
 /// What can be seen of an atlas without a request for memory; the boxes are folded into two numbers.
 #[derive(Clone, Copy, Debug, PartialEq)]
 pub struct Sight {
-    sides: (i32, i32),
+    size: Size,
     empty: bool,
     slots: SlotCount,
     free: u64,
     live: u64,
+}
+
+// The size that a call gives an atlas; None if it keeps its own.
+fn new_size(call: &Call) -> Option<Size> {
+    match call {
+        Call::Grow(size) | Call::Reset(size, _) | Call::ResizeAndRearrange(size) => Some(*size),
+        _ => None,
+    }
+}
+
+impl Sight {
+    /// Whether this is seen of an empty atlas with this size and this limit.
+    pub fn is_fresh(&self, size: Size, limit: u32) -> bool {
+        self.empty && self.size == size && self.slots.limit == limit
+    }
+
+    /// Whether this may be seen after a call that did something: the limit stays, and the size but where the call gives
+    /// another; after a start nothing is live.
+    pub fn may_follow(&self, before: &Sight, call: &Call) -> bool {
+        let is_start = matches!(call, Call::Clear | Call::Reset(..));
+        let size = new_size(call).unwrap_or(before.size);
+        self.size == size && self.slots.limit == before.slots.limit && (self.empty || !is_start)
+    }
 }
 
 // One number for a box.
@@ -96,7 +124,7 @@ pub fn look_at(atlas: &Atlas<'_>) -> Sight {
             .wrapping_add(u64::from(id.serialize()));
     });
     Sight {
-        sides: (atlas.size().width, atlas.size().height),
+        size: atlas.size(),
         empty: atlas.is_empty(),
         slots: atlas.slots(),
         free,

@@ -1,13 +1,11 @@
 // Erased from crates/guillotiere_tests/src/lib.rt by rust/erase: don't edit.
-//! Rows of calls of an atlas and of sessions, and what they answer. Expected values are worked by hand from the rules,
+//! Rows of calls of an atlas and of sessions, beside those of `recorded_tests`. Expected values are worked by hand from the rules,
 //! or recorded from the Rust crate `guillotiere` 0.7.0; none is an answer of the code under test.
 #![forbid(unsafe_code)]
 #![allow(dead_code, unused_imports, unused_labels, unused_variables)]
 
 #[cfg(test)]
 mod atlas_calls;
-#[cfg(test)]
-mod atlas_extremes;
 #[cfg(test)]
 mod atlas_freeing;
 #[cfg(test)]
@@ -23,4 +21,8 @@ mod node_kinds;
 #[cfg(test)]
 mod playing;
 #[cfg(test)]
+mod rows;
+#[cfg(test)]
 mod session_rows;
+#[cfg(test)]
+mod walk;

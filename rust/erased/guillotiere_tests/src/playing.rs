@@ -1,21 +1,21 @@
 // Erased from crates/guillotiere_tests/src/playing.rt by rust/erase: don't edit.
-//! How rows are played: with ample memory, and with each request for memory refused in turn. Functions are small, since
-//! a function's proof grows with the square of its length.
+//! How rows are played: with ample memory, and with each request for memory refused in turn. One function makes all calls that
+//! a session has. Functions are small, since a function's proof grows with the square of its length.
 
-use crate::atlas_calls::{look_at, Atlas, Call, Grant, Row, Sight, MOST_SLOTS};
+use crate::atlas_calls::{look_at, Atlas, Grant, Row, Sight, Step, MOST_SLOTS};
 use test_memory::Refusing;
-use test_tables::{rectangle, size, Corners, Sides};
+use test_tables::{rectangle, size, Corners};
+use wollemigo_core::guillotiere::session::{step, Call, Reply};
 use wollemigo_core::guillotiere::{
-    AllocId, Allocation, AllocatorOptions, AtlasAllocator, AtlasError, Change, ChangeList,
-    Rectangle, Size, DEFAULT_OPTIONS,
+    AllocId, Allocation, AtlasAllocator, AtlasError, Change, Rectangle,
 };
 use wollemigo_support::alloc::Global;
 use wollemigo_support::prelude::{assert, Vec};
 use wollemigo_support::process::Abort;
 
-type List<'a> = ChangeList<&'a Refusing<Global>>;
+pub type Answer<'a> = Reply<&'a Refusing<Global>>;
 
-/// The atlas of a row, by the shortest constructor; asked for again where memory is refused once.
+/// The atlas of a row; asked for again where memory is refused once.
 pub fn created<'a>(
     rt: &impl Abort,
     heap: &'a Refusing<Global>,
@@ -36,12 +36,80 @@ fn created_once<'a>(
     assert!(rt; !size.is_empty());
     assert!(rt; row.options.is_valid());
     assert!(rt; 1 <= row.limit && row.limit <= MOST_SLOTS);
-    if row.limit < MOST_SLOTS {
-        AtlasAllocator::with_slot_limit(heap, size, &row.options, row.limit)
-    } else if row.options == DEFAULT_OPTIONS {
-        AtlasAllocator::new(heap, size)
-    } else {
-        AtlasAllocator::with_options(heap, size, &row.options)
+    AtlasAllocator::with_slot_limit(heap, size, &row.options, row.limit)
+}
+
+/// The call that a step makes; None if it is none that a session has.
+pub fn call_of(made: &Step) -> Option<Call> {
+    Some(match made {
+        Step::Allocate(sides, _) | Step::AllocateBeyondLimit(sides) => Call::Allocate(size(*sides)),
+        Step::Deallocate(number) | Step::DeallocateDead(number) => {
+            Call::Deallocate(AllocId::deserialize(*number))
+        }
+        Step::Grow(sides) | Step::GrowBeyondLimit(sides) | Step::BadGrow(sides) => {
+            Call::Grow(size(*sides))
+        }
+        Step::Clear => Call::Clear,
+        Step::Reset(sides, options) | Step::BadReset(sides, options) => {
+            Call::Reset(size(*sides), *options)
+        }
+        Step::Rearrange(..) | Step::RearrangeBeyondLimit => Call::Rearrange,
+        Step::BadResize(sides) => Call::ResizeAndRearrange(size(*sides)),
+        _ => return None,
+    })
+}
+
+fn allocation((id, corners): Grant) -> Allocation {
+    Allocation {
+        id: AllocId::deserialize(id),
+        rectangle: rectangle(corners),
+    }
+}
+
+// What a step's call is answered, but for a rearrangement's list.
+fn want_of<'a>(made: &Step) -> Answer<'a> {
+    match made {
+        Step::Allocate(_, Some(grant)) => Reply::Allocated(allocation(*grant)),
+        Step::Allocate(_, None) => Reply::NoRoom,
+        Step::DeallocateDead(_) => Reply::Refused(AtlasError::NotLive),
+        Step::AllocateBeyondLimit(_) | Step::GrowBeyondLimit(_) | Step::RearrangeBeyondLimit => {
+            Reply::Refused(AtlasError::Slots)
+        }
+        Step::BadGrow(_) | Step::BadReset(..) | Step::BadResize(_) => Reply::BadCall,
+        _ => Reply::Done,
+    }
+}
+
+/// Whether boxes are these grants, in this order.
+pub fn are_grants(found: &[Allocation], want: &[Grant]) -> bool {
+    let are_equal = found
+        .iter()
+        .zip(want)
+        .all(|(shown, grant)| *shown == allocation(*grant));
+    are_equal && found.len() == want.len()
+}
+
+fn are_changes(found: &[Change], want: &[(Grant, Grant)]) -> bool {
+    let are_equal = found.iter().zip(want).all(|(change, (old, new))| {
+        change.old == allocation(*old) && change.new == allocation(*new)
+    });
+    are_equal && found.len() == want.len()
+}
+
+/// Whether a reply is what a step's call is answered.
+pub fn is_answer(reply: &Answer<'_>, made: &Step) -> bool {
+    let (moved, lost) = match made {
+        Step::Rearrange(moved, lost) => (moved, lost),
+        _ => {
+            return *reply == want_of(made);
+        }
+    };
+    match reply {
+        Reply::Changed(list) => {
+            are_changes(list.changes.as_slice(), moved)
+                && are_grants(list.failures.as_slice(), lost)
+        }
+        _ => false,
     }
 }
 
@@ -54,210 +122,44 @@ pub fn is_as_before(rt: &impl Abort, heap: &Refusing<Global>, atlas: &Atlas<'_>,
     );
 }
 
-fn allocation((id, corners): Grant) -> Allocation {
-    Allocation {
-        id: AllocId::deserialize(id),
-        rectangle: rectangle(corners),
-    }
+fn answered_once<'a>(atlas: &mut Atlas<'a>, call: &Call) -> Answer<'a> {
+    step(atlas, call)
 }
 
-fn allocate_once(atlas: &mut Atlas<'_>, sides: Sides) -> Result<Option<Allocation>, AtlasError> {
-    atlas.allocate(size(sides))
-}
-
-// `allocate`; what grants nothing changes nothing that can be seen.
-fn allocate(
-    rt: &impl Abort,
-    heap: &Refusing<Global>,
-    atlas: &mut Atlas<'_>,
-    sides: Sides,
-) -> Result<Option<Allocation>, AtlasError> {
-    let before = look_at(atlas);
-    let mut answer = allocate_once(atlas, sides);
-    if answer == Err(AtlasError::Memory) {
-        is_as_before(rt, heap, atlas, &before);
-        answer = allocate_once(atlas, sides);
-    }
-    if !matches!(answer, Ok(Some(_))) {
-        assert!(rt; look_at(atlas) == before, "{sides:?}");
-    }
-    answer
-}
-
-// A request, and what it is answered.
-fn granted(rt: &impl Abort, heap: &Refusing<Global>, atlas: &mut Atlas<'_>, call: &Call) {
-    match call {
-        Call::Allocate(sides, want) => {
-            let answer = allocate(rt, heap, atlas, *sides);
-            assert!(rt; answer == Ok(want.map(allocation)), "{sides:?}");
-        }
-        Call::AllocateBeyondLimit(sides) => {
-            let answer = allocate(rt, heap, atlas, *sides);
-            assert!(rt; answer == Err(AtlasError::Slots), "{sides:?}");
-        }
-        _ => {}
-    }
-}
-
-fn grow_once(rt: &impl Abort, atlas: &mut Atlas<'_>, new_size: Size) -> Result<(), AtlasError> {
-    assert!(rt; atlas.size().width <= new_size.width);
-    assert!(rt; atlas.size().height <= new_size.height);
-    atlas.grow(new_size)
-}
-
-// `grow`; a refusal changes nothing that can be seen.
-fn grow(
-    rt: &impl Abort,
-    heap: &Refusing<Global>,
-    atlas: &mut Atlas<'_>,
-    new_size: Size,
-) -> Result<(), AtlasError> {
-    let before = look_at(atlas);
-    let mut answer = grow_once(rt, atlas, new_size);
-    if answer == Err(AtlasError::Memory) {
-        is_as_before(rt, heap, atlas, &before);
-        answer = grow_once(rt, atlas, new_size);
-    }
-    if answer.is_err() {
-        assert!(rt; look_at(atlas) == before);
-    }
-    answer
-}
-
-// A growth, and what it is answered.
-fn grown(rt: &impl Abort, heap: &Refusing<Global>, atlas: &mut Atlas<'_>, call: &Call) {
-    match call {
-        Call::Grow(sides) => {
-            let answer = grow(rt, heap, atlas, size(*sides));
-            assert!(rt;
-                answer == Ok(()) && atlas.size() == size(*sides),
-                "{sides:?}"
-            );
-        }
-        Call::GrowBeyondLimit(sides) => {
-            let answer = grow(rt, heap, atlas, size(*sides));
-            assert!(rt; answer == Err(AtlasError::Slots), "{sides:?}");
-        }
-        _ => {}
-    }
-}
-
-fn cleared(rt: &impl Abort, atlas: &mut Atlas<'_>) {
-    let size = atlas.size();
-    let answer = atlas.clear();
-    assert!(rt; answer == Ok(()) && atlas.size() == size);
-}
-
-fn reset(rt: &impl Abort, atlas: &mut Atlas<'_>, size: Size, options: &AllocatorOptions) {
-    assert!(rt; !size.is_empty());
-    assert!(rt; options.is_valid());
-    let answer = atlas.reset(size, options);
-    assert!(rt; answer == Ok(()) && atlas.size() == size);
-}
-
-// `clear` and `reset`, which never fail.
-fn started(rt: &impl Abort, atlas: &mut Atlas<'_>, call: &Call) {
-    match call {
-        Call::Clear => cleared(rt, atlas),
-        Call::Reset(sides, options) => reset(rt, atlas, size(*sides), options),
-        _ => {}
-    }
-    assert!(rt; atlas.is_empty());
-}
-
-fn rearrange_once<'a>(
-    rt: &impl Abort,
-    atlas: &mut Atlas<'a>,
-    sides: Option<Sides>,
-) -> Result<List<'a>, AtlasError> {
-    let sides = match sides {
-        Some(sides) => sides,
-        _ => {
-            return atlas.rearrange();
-        }
-    };
-    let new_size = size(sides);
-    assert!(rt; !new_size.is_empty());
-    atlas.resize_and_rearrange(new_size)
-}
-
-// `rearrange`, or `resize_and_rearrange` to a size; a refusal changes nothing that can be seen.
-fn rearrange<'a>(
+// What a call is answered; one that is refused memory is made again.
+fn answered<'a>(
     rt: &impl Abort,
     heap: &Refusing<Global>,
     atlas: &mut Atlas<'a>,
-    sides: Option<Sides>,
-) -> Result<List<'a>, AtlasError> {
-    let before = look_at(atlas);
-    let mut answer = rearrange_once(rt, atlas, sides);
-    if matches!(&answer, Err(AtlasError::Memory)) {
-        is_as_before(rt, heap, atlas, &before);
-        answer = rearrange_once(rt, atlas, sides);
-    }
-    if answer.is_err() {
-        assert!(rt; look_at(atlas) == before);
-    }
-    answer
-}
-
-fn allocations(alloc: Global, grants: &[Grant]) -> Result<Vec<Allocation>, AtlasError> {
-    let mut found = Vec::new(alloc);
-    for grant in grants {
-        found.push(allocation(*grant))?;
-    }
-    Ok(found)
-}
-
-fn changes(alloc: Global, moved: &[(Grant, Grant)]) -> Result<Vec<Change>, AtlasError> {
-    let mut found = Vec::new(alloc);
-    for (old, new) in moved {
-        found.push(Change {
-            old: allocation(*old),
-            new: allocation(*new),
-        })?;
-    }
-    Ok(found)
-}
-
-// What moved and what found no room is this, in this order.
-fn list_is(
-    rt: &impl Abort,
-    alloc: Global,
-    list: &List<'_>,
-    moved: &[(Grant, Grant)],
-    lost: &[Grant],
-) -> Result<(), AtlasError> {
-    assert!(rt; list.changes.as_slice() == changes(alloc, moved)?.as_slice());
-    assert!(rt; list.failures.as_slice() == allocations(alloc, lost)?.as_slice());
-    Ok(())
-}
-
-// A call that rearranges, and what it answers.
-fn rearranged(
-    rt: &impl Abort,
-    alloc: Global,
-    heap: &Refusing<Global>,
-    atlas: &mut Atlas<'_>,
     call: &Call,
-) -> Result<(), AtlasError> {
-    let (sides, moved, lost) = match call {
-        Call::Rearrange(moved, lost) => (None, *moved, *lost),
-        Call::ResizeAndRearrange(sides, moved, lost) => (Some(*sides), *moved, *lost),
-        _ => {
-            let answer = rearrange(rt, heap, atlas, None);
-            assert!(rt; matches!(&answer, Err(AtlasError::Slots)));
-            return Ok(());
-        }
-    };
-    let list = rearrange(rt, heap, atlas, sides)?;
-    if let Some(sides) = sides {
-        assert!(rt; atlas.size() == size(sides));
+    before: &Sight,
+) -> Answer<'a> {
+    let reply = answered_once(atlas, call);
+    if reply == Reply::Refused(AtlasError::Memory) {
+        is_as_before(rt, heap, atlas, before);
+        return answered_once(atlas, call);
     }
-    list_is(rt, alloc, &list, moved, lost)
+    reply
 }
 
-fn deallocate(atlas: &mut Atlas<'_>, number: u32) -> Result<(), AtlasError> {
-    atlas.deallocate(AllocId::deserialize(number))
+// Makes a call; what grants nothing and does nothing changes nothing that can be seen.
+fn called(
+    rt: &impl Abort,
+    heap: &Refusing<Global>,
+    atlas: &mut Atlas<'_>,
+    made: &Step,
+    call: &Call,
+) {
+    let before = look_at(atlas);
+    let reply = answered(rt, heap, atlas, call, &before);
+    assert!(rt; is_answer(&reply, made), "{reply:?} to {call:?}");
+    let after = look_at(atlas);
+    match reply {
+        Reply::Allocated(_) | Reply::Done | Reply::Changed(_) => {
+            assert!(rt; after.may_follow(&before, call), "{call:?}");
+        }
+        _ => assert!(rt; after == before, "{call:?}"),
+    }
 }
 
 fn deallocate_all(alloc: Global, atlas: &mut Atlas<'_>, numbers: &[u32]) -> Result<(), AtlasError> {
@@ -268,22 +170,17 @@ fn deallocate_all(alloc: Global, atlas: &mut Atlas<'_>, numbers: &[u32]) -> Resu
     atlas.deallocate_all(ids.as_slice())
 }
 
-// A call that frees, and what it answers; an error changes nothing that can be seen.
-fn freed(rt: &impl Abort, alloc: Global, atlas: &mut Atlas<'_>, call: &Call) {
+// Frees several boxes; an error changes nothing that can be seen.
+fn freed(
+    rt: &impl Abort,
+    alloc: Global,
+    atlas: &mut Atlas<'_>,
+    numbers: &[u32],
+    want: Result<(), AtlasError>,
+) {
     let before = look_at(atlas);
-    let answer = match call {
-        Call::Deallocate(number) | Call::DeallocateDead(number) => deallocate(atlas, *number),
-        Call::DeallocateAll(numbers) | Call::DeallocateAllDead(numbers) => {
-            deallocate_all(alloc, atlas, numbers)
-        }
-        _ => Ok(()),
-    };
-    if matches!(call, Call::DeallocateDead(_) | Call::DeallocateAllDead(_)) {
-        assert!(rt; answer == Err(AtlasError::NotLive));
-        assert!(rt; look_at(atlas) == before);
-    } else {
-        assert!(rt; answer == Ok(()));
-    }
+    assert!(rt; deallocate_all(alloc, atlas, numbers) == want);
+    assert!(rt; want.is_ok() || look_at(atlas) == before);
 }
 
 // The lists of free and of allocated boxes, asked for again where memory is refused.
@@ -326,67 +223,54 @@ fn are_boxes(found: &[Rectangle], want: &[Corners]) -> bool {
 // A question, and its answer.
 fn seen(
     rt: &impl Abort,
-    alloc: Global,
     heap: &Refusing<Global>,
     atlas: &Atlas<'_>,
-    call: &Call,
+    asked: &Step,
 ) -> Result<bool, AtlasError> {
-    Ok(match call {
-        Call::Get(number, want) => atlas.get(AllocId::deserialize(*number)) == want.map(rectangle),
-        Call::IsEmpty(want) => atlas.is_empty() == *want,
-        Call::Slots(used, kept) => {
+    Ok(match asked {
+        Step::Get(number, want) => atlas.get(AllocId::deserialize(*number)) == want.map(rectangle),
+        Step::IsEmpty(want) => atlas.is_empty() == *want,
+        Step::Slots(used, kept) => {
             let slots = atlas.slots();
             slots.used == *used && slots.kept == *kept
         }
-        Call::Free(want) => are_boxes(free_list(rt, heap, atlas)?.as_slice(), want),
-        Call::Live(want) => {
-            live_list(rt, heap, atlas)?.as_slice() == allocations(alloc, want)?.as_slice()
-        }
+        Step::Free(want) => are_boxes(free_list(rt, heap, atlas)?.as_slice(), want),
+        Step::Live(want) => are_grants(live_list(rt, heap, atlas)?.as_slice(), want),
         _ => true,
     })
 }
 
-// Makes a call; one that is refused memory once is made again.
-fn make(
+// Makes a step that isn't a call of a session.
+fn done_beside(
     rt: &impl Abort,
     alloc: Global,
     heap: &Refusing<Global>,
     atlas: &mut Atlas<'_>,
-    call: &Call,
+    made: &Step,
 ) -> Result<(), AtlasError> {
-    match call {
-        Call::Allocate(..) | Call::AllocateBeyondLimit(_) => granted(rt, heap, atlas, call),
-        Call::Grow(_) | Call::GrowBeyondLimit(_) => grown(rt, heap, atlas, call),
-        Call::Clear | Call::Reset(..) => started(rt, atlas, call),
-        Call::Rearrange(..) | Call::RearrangeBeyondLimit | Call::ResizeAndRearrange(..) => {
-            return rearranged(rt, alloc, heap, atlas, call)
+    match made {
+        Step::DeallocateAll(numbers) => freed(rt, alloc, atlas, numbers, Ok(())),
+        Step::DeallocateAllDead(numbers) => {
+            freed(rt, alloc, atlas, numbers, Err(AtlasError::NotLive))
         }
-        Call::RefuseEvery => heap.refuse_every(),
-        Call::RefuseNone => heap.refuse_nth(0),
-        _ => freed(rt, alloc, atlas, call),
+        Step::RefuseEvery => heap.refuse_every(),
+        Step::RefuseNone => heap.refuse_nth(0),
+        _ => assert!(rt; seen(rt, heap, atlas, made)?),
     }
     Ok(())
 }
 
-// Whether a call asks for no memory, whatever was used before.
-fn is_free_of_requests(call: &Call) -> bool {
-    match call {
-        Call::Allocate(_, want) => want.is_none(),
-        Call::Grow(_)
-        | Call::Rearrange(..)
-        | Call::RearrangeBeyondLimit
-        | Call::ResizeAndRearrange(..)
-        | Call::Free(_)
-        | Call::Live(_) => false,
+// Whether a step asks for no memory, whatever was used before.
+fn is_free_of_requests(made: &Step) -> bool {
+    match made {
+        Step::Allocate(_, want) => want.is_none(),
+        Step::Grow(_)
+        | Step::Rearrange(..)
+        | Step::RearrangeBeyondLimit
+        | Step::Free(_)
+        | Step::Live(_) => false,
         _ => true,
     }
-}
-
-fn is_question(call: &Call) -> bool {
-    matches!(
-        call,
-        Call::Get(..) | Call::IsEmpty(_) | Call::Free(_) | Call::Live(_) | Call::Slots(..)
-    )
 }
 
 /// Makes calls of an atlas; one that is refused memory once is made again.
@@ -395,35 +279,21 @@ pub fn make_all(
     alloc: Global,
     heap: &Refusing<Global>,
     atlas: &mut Atlas<'_>,
-    calls: &[Call],
+    steps: &[Step],
 ) -> Result<(), AtlasError> {
-    for (at, call) in calls.iter().enumerate() {
+    for (at, made) in steps.iter().enumerate() {
         let requests = heap.requests();
-        if is_question(call) {
-            assert!(rt; seen(rt, alloc, heap, atlas, call)?, "question {at}");
-        } else {
-            make(rt, alloc, heap, atlas, call)?;
+        match call_of(made) {
+            Some(call) => called(rt, heap, atlas, made, &call),
+            None => done_beside(rt, alloc, heap, atlas, made)?,
         }
         let no_request = heap.requests() == requests;
         assert!(rt;
-            no_request || !is_free_of_requests(call),
-            "call {at} asked for memory"
+            no_request || !is_free_of_requests(made),
+            "step {at} asked for memory"
         );
     }
     Ok(())
-}
-
-// The size that an atlas has after calls.
-fn size_after(size: Sides, calls: &[Call]) -> Sides {
-    let mut last = size;
-    for call in calls {
-        if let Call::Grow(sides) | Call::Reset(sides, _) | Call::ResizeAndRearrange(sides, _, _) =
-            call
-        {
-            last = *sides;
-        }
-    }
-    last
 }
 
 // Makes the calls of a row; one that is refused memory once is made again.
@@ -435,15 +305,12 @@ fn play(
 ) -> Result<(), AtlasError> {
     let mut atlas = created(rt, heap, row)?;
     assert!(rt;
-        atlas.is_empty() && atlas.slots().limit == row.limit,
+        look_at(&atlas).is_fresh(size(row.size), row.limit),
         "{:?}",
         row.size
     );
     make_all(rt, alloc, heap, &mut atlas, row.start)?;
-    make_all(rt, alloc, heap, &mut atlas, row.calls)?;
-    let last = size_after(size_after(row.size, row.start), row.calls);
-    assert!(rt; atlas.size() == size(last));
-    Ok(())
+    make_all(rt, alloc, heap, &mut atlas, row.calls)
 }
 
 // Plays a row with each request for memory refused in turn, up to the first time that none is.
