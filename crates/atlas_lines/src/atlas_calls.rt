@@ -1,8 +1,7 @@
 //! The calls of an atlas, each answered by a reply.
-ghost use Rattle.std.specs.Prelude.{◌↔◌, IsTrue, IfOk, IsOkUnless};
+ghost use Rattle.std.specs.Prelude.{IfOk, IsOkUnless};
 ghost use Rattle.std.specs.Result.{ForOk};
 ghost use Rattle.guillotiere.specs.declared.AtlasError.TheVariants as error;
-ghost use Rattle.guillotiere.specs.Boxes.{Fits, IsPositive};
 ghost use Rattle.guillotiere.specs.Pixels.{sides_of};
 ghost use Rattle.guillotiere.specs.Rearranging.{AreExactChanges, change_reply};
 ghost use Rattle.guillotiere.specs.Steps.AtlasCall.{Allocate, Deallocate, Grow, Clear, Rearrange, ResizeAndRearrange};
@@ -14,21 +13,6 @@ ghost use Rattle.atlas_lines.specs.Machine.{HoldsHoles};
 use crate::replies::{Answer, Reply};
 use guillotiere::{AllocId, AtlasAllocator, AtlasError, ChangeList, Rectangle, Size};
 use std::alloc::Allocator;
-
-/// Whether both sides are above 0.
-pub fn is_positive(size: Size) -> bool
-    ensures { IsTrue result ↔ IsPositive (sides_of size) }
-{
-    size.width > 0 && size.height > 0
-}
-
-// Whether neither side of the atlas is greater than that of a size.
-fn shrinks_no_side<A: Allocator + Copy>(atlas: &AtlasAllocator<A>, new_size: Size) -> bool
-    ensures { IsTrue result ↔ Fits (state_of atlas.now).size (sides_of new_size) }
-{
-    let size = atlas.size();
-    size.width <= new_size.width && size.height <= new_size.height
-}
 
 // The free rectangles from above to below and from left to right.
 fn ordered_holes<A: Allocator + Copy>(
@@ -78,7 +62,7 @@ pub fn give_back<A: Allocator + Copy>(atlas: &mut AtlasAllocator<A>, id: AllocId
 pub fn grow<A: Allocator + Copy>(atlas: &mut AtlasAllocator<A>, new_size: Size) -> Reply
     ensures { AnswersCall (state_of atlas.old) (Grow (sides_of new_size)) result (state_of atlas.new) }
 {
-    if !shrinks_no_side(atlas, new_size) {
+    if !atlas.can_grow_to(new_size) {
         return Reply::Invalid;
     }
     match atlas.grow(new_size) {
@@ -109,7 +93,7 @@ pub fn resize<A: Allocator + Copy>(atlas: &mut AtlasAllocator<A>, new_size: Size
     ensures { AnswersRearranging (state_of atlas.old) (ResizeAndRearrange (sides_of new_size)) (shown_by result)
         (state_of atlas.new) }
 {
-    if !is_positive(new_size) {
+    if !new_size.is_positive() {
         return Answer::OneLine(Reply::Invalid);
     }
     answer_changes(atlas.resize_and_rearrange(new_size))

@@ -1,6 +1,6 @@
 //! The calls of a recorded session, each answered by a reply.
-ghost use Rattle.std.specs.Prelude.{◌≡◌, ⊤, ◌↔◌, IsTrue, IfOk, IsOkUnless};
-ghost use Rattle.guillotiere.specs.Boxes.{Fits, IsPositive};
+ghost use Rattle.std.specs.Prelude.{◌≡◌, ⊤, IfOk, IsOkUnless};
+ghost use Rattle.guillotiere.specs.Boxes.{IsPositive};
 ghost use Rattle.guillotiere.specs.Pixels.{sides_of};
 ghost use Rattle.guillotiere.specs.Steps.AtlasCall.{Rearrange, ResizeAndRearrange};
 ghost use Rattle.guillotiere_recording.specs.declared.error.RecordingError.TheVariants as error;
@@ -9,7 +9,6 @@ ghost use Rattle.atlas_lines.specs.Answers.{shown_by};
 ghost use Rattle.atlas_lines.specs.Machine.{RecordsRequest, RecordsFreeing, RecordsGrowth, RecordsRearranging};
 ghost use Rattle.atlas_lines.specs.Machine.{ShowsNames, ShowsHoles, HoldsHoles, ShowsReplay, session_in, declined_line};
 
-use crate::atlas_calls::is_positive;
 use crate::replies::{Answer, ReplayCounts, Reply};
 use guillotiere::{AllocId, AtlasError, Rectangle, Size};
 use guillotiere_recording::{RecordingAllocator, RecordingError};
@@ -25,14 +24,6 @@ pub fn declined(error: RecordingError) -> Reply
         RecordingError::NotLive => Reply::Declined(AtlasError::NotLive),
         RecordingError::Names => Reply::NoNames,
     }
-}
-
-// Whether neither side of the session's atlas is greater than that of a size.
-fn shrinks_no_side<A: Allocator + Copy>(session: &RecordingAllocator<A>, new_size: Size) -> bool
-    ensures { IsTrue result ↔ Fits (session_in session.now).named.state.size (sides_of new_size) }
-{
-    let size = session.size();
-    size.width <= new_size.width && size.height <= new_size.height
 }
 
 // The free rectangles from above to below and from left to right.
@@ -72,7 +63,7 @@ pub fn give_back<A: Allocator + Copy>(session: &mut RecordingAllocator<A>, name:
 pub fn grow<A: Allocator + Copy>(session: &mut RecordingAllocator<A>, new_size: Size) -> Reply
     ensures { RecordsGrowth (session_in session.old) new_size result (session_in session.new) }
 {
-    if !shrinks_no_side(session, new_size) {
+    if !session.can_grow_to(new_size) {
         return Reply::Invalid;
     }
     match session.grow(new_size) {
@@ -98,7 +89,7 @@ pub fn resize<A: Allocator + Copy>(session: &mut RecordingAllocator<A>, new_size
         (IsPositive (sides_of new_size)) (EventValue.ResizeAndRearrange new_size) (shown_by result)
         (session_in session.new) }
 {
-    if !is_positive(new_size) {
+    if !new_size.is_positive() {
         return Answer::OneLine(Reply::Invalid);
     }
     match session.resize_and_rearrange(new_size) {

@@ -13,7 +13,6 @@ ghost use Rattle.atlas_lines.specs.Machine.{RecordsFreeing, RecordsGrowth, Recor
 ghost use Rattle.atlas_lines.specs.Machine.{ShowsNames, ShowsHoles, ShowsSize, ShowsEmpty, SaysNoAtlas, atlas_of};
 ghost use Rattle.atlas_lines.specs.Machine.{simple_in, standing_in, tool_state_of};
 
-use crate::atlas_calls::is_positive;
 use crate::listing::{Waiting, send};
 use crate::replies::{Answer, Reply};
 use crate::standing::Standing;
@@ -149,7 +148,7 @@ impl<'a, A: Allocator> Tool<'a, A> {
         ensures { CreatesAtlas (tool_state_of self.old) (sides_of size) (options_of options.now) result
             (tool_state_of self.new) }
     {
-        if !is_positive(size) {
+        if !size.is_positive() {
             return Reply::Invalid;
         }
         if !options.is_valid() {
@@ -167,7 +166,7 @@ impl<'a, A: Allocator> Tool<'a, A> {
     fn begin_session(&mut self, size: Size) -> Reply
         ensures { BeginsSession (tool_state_of self.old) size result (tool_state_of self.new) }
     {
-        if !is_positive(size) {
+        if !size.is_positive() {
             return Reply::Invalid;
         }
         match RecordingAllocator::new(self.alloc, size) {

@@ -1,4 +1,4 @@
--- Numbers of entries, and lists of them. No public clause cites this module.
+-- Numbers of entries, and lists of them.
 use Rattle.std.specs.Prelude.{ℕ, ◌+◌, ◌==◌, List, [], ◌∷◌, if◌then◌else◌}
 
 -- The number of no entry.

@@ -95,3 +95,10 @@ front_in orientation.Vertical e r = record r { max = record r.max { y = r.min.y 
 abbrev pub back_in : Orientation → (e : ℤ) → Rectangle → Rectangle
 back_in orientation.Horizontal e r = record r { min = record r.min { x = r.min.x +ℤ e } }
 back_in orientation.Vertical e r = record r { min = record r.min { y = r.min.y +ℤ e } }
+
+-- What lies beyond a rectangle along an axis, to the far corner of a size.
+abbrev pub beyond_in : Orientation → Rectangle → Size → Rectangle
+beyond_in orientation.Horizontal r s =
+    record { min = record { x = r.max.x; y = r.min.y }; max = record { x = s.width; y = s.height } }
+beyond_in orientation.Vertical r s =
+    record { min = record { x = r.min.x; y = r.max.y }; max = record { x = s.width; y = s.height } }

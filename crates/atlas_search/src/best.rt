@@ -3,7 +3,7 @@ ghost use Rattle.std.specs.Prelude.{◌≡◌, ◌≢◌, ◌/◌, ◌<◌, ◌�
 ghost use Rattle.std.specs.Prelude.{◌≤ℤ◌, ◌↔◌, IsTrue, IfSome, None};
 ghost use Rattle.atlas_model.specs.Boxes.{IsNonempty, IsPositive, Sides};
 ghost use Rattle.atlas_model.specs.Pixels.{box_of, natural, sides_of};
-ghost use Rattle.atlas_search.specs.Ranks.{corner_of, no_corner, no_rank, rank_of};
+ghost use Rattle.atlas_search.specs.Ranks.{corner_of, no_rank, rank_of};
 ghost use Rattle.atlas_search.specs.Rectangles.{IsUnsigned};
 
 use crate::choice::margin_in;

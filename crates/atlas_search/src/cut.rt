@@ -3,8 +3,8 @@ ghost use Rattle.std.specs.Prelude.{◌≡◌, ◌≤ℤ◌, ◌*◌, [], ◌∷
 ghost use Rattle.atlas_model.specs.Boxes.{Box, IsPositive, box_at, box_sides};
 ghost use Rattle.atlas_model.specs.Cuts.{cap, cut_axis};
 ghost use Rattle.atlas_model.specs.Pixels.{IsMeasurable, box_of, natural, rectangle_of, sides_of};
-ghost use Rattle.atlas_search.specs.Rectangles.{FitsInto, IsRestOf, IsSolid, IsUnsigned, Tile, axis_of, back_in, flipped};
-ghost use Rattle.atlas_search.specs.Rectangles.{front_in, granted_in, length_in, measured, rest_in};
+ghost use Rattle.atlas_search.specs.Rectangles.{FitsInto, IsRestOf, IsSolid, IsUnsigned, Tile, axis_of, back_in};
+ghost use Rattle.atlas_search.specs.Rectangles.{beyond_in, flipped, front_in, granted_in, length_in, measured, rest_in};
 
 use atlas_model::{Point, Rectangle, Size};
 
@@ -153,6 +153,27 @@ pub fn back(area: Rectangle, axis: Orientation, extent: i32) -> Rectangle
             max,
         },
     }
+}
+
+/// What lies beyond a rectangle along an axis, to the far corner of a size.
+pub fn beyond(area: Rectangle, axis: Orientation, size: Size) -> Rectangle
+    ensures { result ≡ beyond_in axis area size }
+{
+    let min = match axis {
+        Orientation::Horizontal => Point {
+            x: area.max.x,
+            y: area.min.y,
+        },
+        Orientation::Vertical => Point {
+            x: area.min.x,
+            y: area.max.y,
+        },
+    };
+    let max = Point {
+        x: size.width,
+        y: size.height,
+    };
+    Rectangle { min, max }
 }
 
 // What is left along an axis: the leftover is cut from the strip beside the split.

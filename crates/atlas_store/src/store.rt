@@ -102,8 +102,8 @@ impl<A: Allocator> Store<A> {
         enlist(&mut self.slots, &mut self.lists, &self.options, at);
     }
 
-    /// Takes an unused slot, the one given back last, or else a new one at the end. It is claimed.
-    pub fn take(&mut self) -> Link
+    // Takes an unused slot, the one given back last, or else a new one at the end. It is claimed.
+    fn take(&mut self) -> Link
         requires { (h : Holding) × (claimed : ℕ → ℕ) × HoldsWith claimed (shelf_of self.old) h
             × HasSlotsFor 1 self.old h }
         ensures { IsSlotTaken self.old self.new result.number }

@@ -1,7 +1,6 @@
 //! Sessions: lists of calls of an atlas, and their replies.
-ghost use Rattle.std.specs.Prelude.{◌≡◌, ◌↔◌, ◌+◌, ◌≤◌, true, All, take, drop, length, vec_len, vec_capacity};
-ghost use Rattle.std.specs.Prelude.{IsTrue, IfOk, Ok, OnOk, OnErr, IsOkUnless};
-ghost use Rattle.atlas_model.specs.Boxes.{Fits, IsPositive};
+ghost use Rattle.std.specs.Prelude.{◌≡◌, ◌+◌, ◌≤◌, true, All, take, drop, length, vec_len, vec_capacity};
+ghost use Rattle.std.specs.Prelude.{IfOk, Ok, OnOk, OnErr, IsOkUnless};
 ghost use Rattle.atlas_model.specs.Pixels.{sides_of, options_of};
 ghost use Rattle.atlas_model.specs.Steps.{Step};
 ghost use Rattle.atlas_model.specs.Laws.StepLaws.{is_refusal};
@@ -55,21 +54,6 @@ pub enum Reply<A: Allocator + Copy = Global> {
     BadCall,
 }
 
-// Whether both sides are above 0.
-fn is_positive(size: Size) -> bool
-    ensures { IsTrue result ↔ IsPositive (sides_of size) }
-{
-    size.width > 0 && size.height > 0
-}
-
-// Whether neither side of the atlas is greater than that of a size.
-fn shrinks_no_side<A: Allocator + Copy>(atlas: &AtlasAllocator<A>, new_size: Size) -> bool
-    ensures { IsTrue result ↔ Fits (state_of atlas.now).size (sides_of new_size) }
-{
-    let size = atlas.size();
-    size.width <= new_size.width && size.height <= new_size.height
-}
-
 // What a call answers that gives nothing back.
 fn done<A: Allocator + Copy>(answer: Result<(), AtlasError>) -> Reply<A>
     ensures reply { reply_of result ≡ done_reply answer }
@@ -112,7 +96,7 @@ fn deallocate<A: Allocator + Copy>(atlas: &mut AtlasAllocator<A>, id: AllocId) -
 fn grow<A: Allocator + Copy>(atlas: &mut AtlasAllocator<A>, size: Size) -> Reply<A>
     ensures { IsAnswered atlas.old (Grow (sides_of size)) result atlas.new }
 {
-    if !shrinks_no_side(atlas, size) {
+    if !atlas.can_grow_to(size) {
         return Reply::BadCall;
     }
     done(atlas.grow(size))
@@ -125,7 +109,7 @@ fn reset<A: Allocator + Copy>(
 ) -> Reply<A>
     ensures { IsAnswered atlas.old (Reset (sides_of size) (options_of options.now)) result atlas.new }
 {
-    if !is_positive(size) || !options.is_valid() {
+    if !size.is_positive() || !options.is_valid() {
         return Reply::BadCall;
     }
     done(atlas.reset(size, options))
@@ -134,7 +118,7 @@ fn reset<A: Allocator + Copy>(
 fn resize<A: Allocator + Copy>(atlas: &mut AtlasAllocator<A>, size: Size) -> Reply<A>
     ensures { IsAnswered atlas.old (ResizeAndRearrange (sides_of size)) result atlas.new }
 {
-    if !is_positive(size) {
+    if !size.is_positive() {
         return Reply::BadCall;
     }
     changed(atlas.resize_and_rearrange(size))

@@ -53,9 +53,6 @@ slot-is link some = ap not (ne_eqb link.number no_slot some)
 pub no_slot-is : (link : Link) → link.number ≡ no_slot → is_slot link ≡ false
 no_slot-is link none = ap not (eq-eqb link.number no_slot none)
 
-places_apart : (i j k l : ℕ) → j < 52 → l < 52 → (k ≢ i) ⊎ (l ≢ j) → 52 * k + l ≢ 52 * i + j
-places_apart i j k l p q h e = grind arith
-
 or_both : (a b c d : Bool) → a ≡ c → b ≡ d → (a || b) ≡ (c || d)
 or_both a b c d p q = ap (λ t. t || b) p ∙ ap (λ t. c || t) q
 

@@ -8,7 +8,6 @@ use Rattle.atlas_store.specs.declared.slots.Node.{Node}
 use Rattle.atlas_store.specs.declared.slots.NodeKind.{NodeKind}
 use Rattle.atlas_store.specs.declared.slots.NodeKind.TheVariants as kind
 use Rattle.atlas_model.specs.declared.geometry.Size.{Size}
-use Rattle.atlas_model.specs.declared.geometry.Rectangle.{Rectangle}
 use Rattle.atlas_search.specs.declared.cut.Orientation.{Orientation}
 use Rattle.atlas_search.specs.declared.cut.Orientation.TheVariants as orientation
 use Rattle.atlas_model.specs.Boxes.{Axis, Sides, other, side, sized, box_at}
@@ -18,6 +17,7 @@ use Rattle.atlas_model.specs.Trees.{total}
 use Rattle.atlas_store.specs.Slots.SlotCalls.{CanAppendTo}
 use Rattle.atlas_store.specs.Slots.{nodes, node_at, blank_node, use_count, axis_of, KeepsUse}
 use Rattle.atlas_search.specs.Numbers.{no_slot, same}
+use Rattle.atlas_search.specs.Rectangles.{beyond_in}
 use Rattle.atlas_store.specs.Slots.Numbered.{Numbered, weigh, tally, erase, first_slot, End, Free, Alloc, Seq}
 use Rattle.atlas_store.specs.Slots.Standing.{Sequence, Standing, Stands, IsLinkedIn, inside, member_box, spot}
 use Rattle.atlas_store.specs.Slots.Growing.{last_after, last_slot, stretched, appended, stretched_area, Reaches}
@@ -129,28 +129,20 @@ module _ (ns ms : List Node) (i : ℕ) (size : Size) (exact : size ≡ size_of (
         numbered = λ x. omega (arith, weigh-stretched (same x) d n, used_after x, h.numbered x);
       }
 
--- What lies beyond a rectangle along an axis.
-abbrev beyond_area : Axis → Rectangle → Size → Rectangle
-beyond_area Horizontal area size = stretched_area (record area { min = record { x = area.max.x; y = area.min.y } }) size
-beyond_area Vertical area size = stretched_area (record area { min = record { x = area.min.x; y = area.max.y } }) size
-
-pub is-beyond : (o : Orientation) (area : Rectangle) (size : Size) (r : Rectangle)
-    → (o ≡ orientation.Horizontal → r ≡ beyond_area Horizontal area size)
-    → (o ≡ orientation.Vertical → r ≡ beyond_area Vertical area size) → r ≡ beyond_area (axis_of o) area size
-is-beyond orientation.Horizontal area size r h v = h refl
-is-beyond orientation.Vertical area size r h v = v refl
-
 -- Beyond a member lies the next one.
-box-beyond : (s : Sequence) (p e q d : ℕ) (size : Size) → size ≡ size_of (sides_of size) → p + e ≡ q
-    → Reaches (sides_of size) s (q + d)
-    → beyond_area s.axis (rectangle_of (member_box s p e)) size ≡ rectangle_of (member_box s q d)
-box-beyond s p e q d size exact ends far = rw exact (along s.axis s.start s.width p e q d (sides_of size) ends far.0 far.1)
+box-beyond : (o : Orientation) (s : Sequence) (p e q d : ℕ) (size : Size) → axis_of o ≡ s.axis
+    → size ≡ size_of (sides_of size) → p + e ≡ q → Reaches (sides_of size) s (q + d)
+    → beyond_in o (rectangle_of (member_box s p e)) size ≡ rectangle_of (member_box s q d)
+box-beyond o s p e q d size axis exact ends far =
+    rw exact (along o s.axis s.start s.width p e q d (sides_of size) axis ends far.0 far.1)
   where
-    along : (a : Axis) (start width p e q d : ℕ) (size : Sides) → p + e ≡ q → q + d ≡ side a size
-        → start + width ≡ side (other a) size
-        → beyond_area a (rectangle_of (box_at (spot a p start) (sized a e width))) (size_of size) ≡ rectangle_of (box_at (spot a q start) (sized a d width))
-    along Horizontal start width p e q d size x y z = rw (x, y, z) refl
-    along Vertical start width p e q d size x y z = rw (x, y, z) refl
+    along : (o : Orientation) (a : Axis) (start width p e q d : ℕ) (size : Sides) → axis_of o ≡ a → p + e ≡ q
+        → q + d ≡ side a size → start + width ≡ side (other a) size
+        → beyond_in o (rectangle_of (box_at (spot a p start) (sized a e width))) (size_of size) ≡ rectangle_of (box_at (spot a q start) (sized a d width))
+    along orientation.Horizontal Horizontal start width p e q d size axis x y z = rw (x, y, z) refl
+    along orientation.Vertical Vertical start width p e q d size axis x y z = rw (x, y, z) refl
+    along orientation.Horizontal Vertical start width p e q d size axis x y z = cc
+    along orientation.Vertical Horizontal start width p e q d size axis x y z = cc
 
 pub weigh-appended : (w : ℕ → ℕ) (k d : ℕ) (n : Numbered) → weigh w (appended k d n) ≡ weigh w n + w k
 weigh-appended w k d End = omega arith
@@ -165,7 +157,7 @@ strip_node last before size unused =
       parent = last.parent;
       previous = before;
       next = record { number = no_slot };
-      area = beyond_area (axis_of last.axis) last.area size;
+      area = beyond_in last.axis last.area size;
       kind = kind.Free;
       axis = last.axis;
       generation = unused.generation;
@@ -215,7 +207,7 @@ module _ (ns ms : List Node) (at fresh : Link) (size : Size) (exact : size ≡ s
       → Standing ms s b p (Free k d End)
   strip_stands s d b p is f far = (
     rw w.strip (record { parent = f.parent; previous = sym is; next = refl; kind = refl; axis = f.axis }),
-    rw (w.strip, f.axis, f.area) (box-beyond s f.start f.extent p d size exact f.ends far),
+    rw (w.strip, f.area) (box-beyond (node_at ns i).axis s f.start f.extent p d size f.axis exact f.ends far),
     tt,
   )
 

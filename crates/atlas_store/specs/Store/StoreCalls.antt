@@ -35,10 +35,6 @@ use Rattle.atlas_store.specs.Store.Holdings.{
 abbrev pub IsDetached : {A : Type 0} → Store A → (i : ℕ) → Type 0
 IsDetached s i = (h : Holding) × IsDetachedLeaf (shelf_of s) i h
 
--- Slot i is a detached leaf, and n slots can be taken.
-abbrev pub IsReadyFor : {A : Type 0} → (n : ℕ) → Store A → (i : ℕ) → Type 0
-IsReadyFor n s i = (h : Holding) × IsDetachedLeaf (shelf_of s) i h × HasSlotsFor n s h
-
 -- Slot i is unused.
 pub record IsUnusedSlot {A : Type 0} (s : Store A) (i : ℕ) : Type 0 where
   pub unused : (node_in (shelf_of s) i).kind ≡ kind.Unused

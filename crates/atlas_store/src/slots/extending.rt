@@ -2,16 +2,14 @@
 //! or the sequence is put into a new one along the other axis. They leave the lists alone.
 ghost use Rattle.std.specs.Prelude.{◌≡◌, ◌<◌, length};
 ghost use Rattle.atlas_store.specs.declared.slots.NodeKind.TheVariants.{Free};
-ghost use Rattle.atlas_search.specs.declared.cut.Orientation.TheVariants.{Horizontal, Vertical};
 ghost use Rattle.atlas_model.specs.Pixels.{sides_of, size_of};
 ghost use Rattle.atlas_store.specs.Slots.{nodes, node_at};
-ghost use Rattle.atlas_store.specs.Slots.Growing.{stretched_area};
 ghost use Rattle.atlas_store.specs.Slots.SlotCalls.{CanAppendTo, CanWrapTop, HasFirst};
 ghost use Rattle.atlas_store.specs.Slots.SlotCalls.{IsLeafAppended, IsLeafStretched, IsTopHung, IsTopWrapped};
 
 use crate::slots::{Node, NodeKind, Slot, read_node, write_node};
 use atlas_model::{Rectangle, Size, point2};
-use atlas_search::cut::{Orientation, across};
+use atlas_search::cut::{across, beyond};
 use atlas_search::link::{Link, NO_SLOT};
 
 /// The free leaf at `at` reaches to the far corner of a size.
@@ -24,21 +22,6 @@ pub fn stretch_leaf(slots: &mut [Slot], at: Link, size: Size)
     let mut leaf = read_node(slots, at);
     leaf.area.max = point2(size.width, size.height);
     write_node(slots, at, leaf);
-}
-
-// What lies beyond a rectangle along an axis, to the far corner of a size.
-fn beyond(area: Rectangle, axis: Orientation, size: Size) -> Rectangle
-    ensures horizontal { axis ≡ Horizontal
-        → result ≡ stretched_area (record area { min = record { x = area.max.x; y = area.min.y } }) size }
-    ensures vertical { axis ≡ Vertical
-        → result ≡ stretched_area (record area { min = record { x = area.min.x; y = area.max.y } }) size }
-{
-    let min = match axis {
-        Orientation::Horizontal => point2(area.max.x, area.min.y),
-        Orientation::Vertical => point2(area.min.x, area.max.y),
-    };
-    let max = point2(size.width, size.height);
-    Rectangle { min, max }
 }
 
 /// The unused slot `fresh` becomes a free leaf after the last member of the top sequence, and reaches to the far corner

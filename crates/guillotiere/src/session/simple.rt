@@ -1,16 +1,13 @@
 //! Lists of calls of a simple allocator, and their replies.
-ghost use Rattle.std.specs.Prelude.{◌≡◌, ◌↔◌, ◌+◌, ◌<◌, All, take, drop, length, vec_capacity, vec_len, IsTrue};
+ghost use Rattle.std.specs.Prelude.{◌≡◌, ◌+◌, ◌<◌, All, take, drop, length, vec_capacity, vec_len};
 ghost use Rattle.std.specs.Prelude.{OnOk, OnErr, IsOkUnless};
-ghost use Rattle.atlas_model.specs.Boxes.{Fits};
 ghost use Rattle.atlas_model.specs.Pixels.{sides_of, options_of};
 ghost use Rattle.atlas_model.specs.Simple.{simple_done};
 ghost use Rattle.atlas_model.specs.Simple.SimpleAtlasCall.{Allocate, Grow, Reset};
 ghost use Rattle.guillotiere.specs.SimpleSessions.{simple_call_of, simple_answer_of, GrantsExact};
 ghost use Rattle.guillotiere.specs.SimpleSessions.{IsSimpleSession, IsSimplyAnswered};
-ghost use Rattle.guillotiere.specs.SimpleStored.{simple_state_of};
 ghost use Rattle.atlas_store.specs.Stored.{state_of};
 
-use super::is_positive;
 use crate::simple::SimpleAtlasAllocator;
 use atlas_allocator::AtlasAllocator;
 use atlas_model::{AllocatorOptions, AtlasError, Rectangle, Size};
@@ -46,14 +43,6 @@ pub enum SimpleReply {
     BadCall,
 }
 
-// Whether neither side of the allocator is greater than that of a size.
-fn shrinks_no_side<A: Allocator + Copy>(simple: &SimpleAtlasAllocator<A>, new_size: Size) -> bool
-    ensures { IsTrue result ↔ Fits (simple_state_of simple.now).size (sides_of new_size) }
-{
-    let size = simple.size();
-    size.width <= new_size.width && size.height <= new_size.height
-}
-
 // What a call answers that gives nothing back.
 fn done(answer: Result<(), AtlasError>) -> SimpleReply
     ensures reply { simple_answer_of result ≡ simple_done answer }
@@ -78,7 +67,7 @@ fn allocate<A: Allocator + Copy>(simple: &mut SimpleAtlasAllocator<A>, size: Siz
 fn grow<A: Allocator + Copy>(simple: &mut SimpleAtlasAllocator<A>, size: Size) -> SimpleReply
     ensures { IsSimplyAnswered simple.old (Grow (sides_of size)) result simple.new }
 {
-    if !shrinks_no_side(simple, size) {
+    if !simple.can_grow_to(size) {
         return SimpleReply::BadCall;
     }
     done(simple.grow(size))
@@ -91,7 +80,7 @@ fn reset<A: Allocator + Copy>(
 ) -> SimpleReply
     ensures { IsSimplyAnswered simple.old (Reset (sides_of size) (options_of options.now)) result simple.new }
 {
-    if !is_positive(size) || !options.is_valid() {
+    if !size.is_positive() || !options.is_valid() {
         return SimpleReply::BadCall;
     }
     done(simple.reset(size, options))

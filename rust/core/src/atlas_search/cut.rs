@@ -125,6 +125,26 @@ pub fn back(area: Rectangle, axis: Orientation, extent: i32) -> Rectangle {
     }
 }
 
+/// What lies beyond a rectangle along an axis, to the far corner of a size.
+#[inline]
+pub fn beyond(area: Rectangle, axis: Orientation, size: Size) -> Rectangle {
+    let min = match axis {
+        Orientation::Horizontal => Point {
+            x: area.max.x,
+            y: area.min.y,
+        },
+        Orientation::Vertical => Point {
+            x: area.min.x,
+            y: area.max.y,
+        },
+    };
+    let max = Point {
+        x: size.width,
+        y: size.height,
+    };
+    Rectangle { min, max }
+}
+
 // What is left along an axis: the leftover is cut from the strip beside the split.
 #[inline]
 fn rest_along(orientation: Orientation, chosen: Rectangle, size: Size) -> Rest {

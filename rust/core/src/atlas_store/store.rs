@@ -76,9 +76,9 @@ impl<A: Allocator> Store<A> {
         enlist(&mut self.slots, &mut self.lists, &self.options, at);
     }
 
-    /// Takes an unused slot, the one given back last, or else a new one at the end. It is claimed.
+    // Takes an unused slot, the one given back last, or else a new one at the end. It is claimed.
     #[inline]
-    pub fn take(&mut self) -> Link {
+    fn take(&mut self) -> Link {
         take_slot(&mut self.slots, &mut self.unused)
     }
 

@@ -46,19 +46,6 @@ pub enum Reply<A: Allocator + Copy = Global> {
     BadCall,
 }
 
-// Whether both sides are above 0.
-#[inline]
-fn is_positive(size: Size) -> bool {
-    size.width > 0 && size.height > 0
-}
-
-// Whether neither side of the atlas is greater than that of a size.
-#[inline]
-fn shrinks_no_side<A: Allocator + Copy>(atlas: &AtlasAllocator<A>, new_size: Size) -> bool {
-    let size = atlas.size();
-    size.width <= new_size.width && size.height <= new_size.height
-}
-
 // What a call answers that gives nothing back.
 #[inline]
 fn done<A: Allocator + Copy>(answer: Result<(), AtlasError>) -> Reply<A> {
@@ -93,7 +80,7 @@ fn deallocate<A: Allocator + Copy>(atlas: &mut AtlasAllocator<A>, id: AllocId) -
 
 #[inline]
 fn grow<A: Allocator + Copy>(atlas: &mut AtlasAllocator<A>, size: Size) -> Reply<A> {
-    if !shrinks_no_side(atlas, size) {
+    if !atlas.can_grow_to(size) {
         return Reply::BadCall;
     }
     done(atlas.grow(size))
@@ -105,7 +92,7 @@ fn reset<A: Allocator + Copy>(
     size: Size,
     options: &AllocatorOptions,
 ) -> Reply<A> {
-    if !is_positive(size) || !options.is_valid() {
+    if !size.is_positive() || !options.is_valid() {
         return Reply::BadCall;
     }
     done(atlas.reset(size, options))
@@ -113,7 +100,7 @@ fn reset<A: Allocator + Copy>(
 
 #[inline]
 fn resize<A: Allocator + Copy>(atlas: &mut AtlasAllocator<A>, size: Size) -> Reply<A> {
-    if !is_positive(size) {
+    if !size.is_positive() {
         return Reply::BadCall;
     }
     changed(atlas.resize_and_rearrange(size))

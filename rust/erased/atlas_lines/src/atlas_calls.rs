@@ -8,17 +8,6 @@ use wollemigo_core::guillotiere::{
 use wollemigo_support::alloc::Allocator;
 use wollemigo_support::prelude::Vec;
 
-/// Whether both sides are above 0.
-pub fn is_positive(size: Size) -> bool {
-    size.width > 0 && size.height > 0
-}
-
-// Whether neither side of the atlas is greater than that of a size.
-fn shrinks_no_side<A: Allocator + Copy>(atlas: &AtlasAllocator<A>, new_size: Size) -> bool {
-    let size = atlas.size();
-    size.width <= new_size.width && size.height <= new_size.height
-}
-
 // The free rectangles from above to below and from left to right.
 fn ordered_holes<A: Allocator + Copy>(
     atlas: &AtlasAllocator<A>,
@@ -55,7 +44,7 @@ pub fn give_back<A: Allocator + Copy>(atlas: &mut AtlasAllocator<A>, id: AllocId
 
 /// Makes the atlas larger.
 pub fn grow<A: Allocator + Copy>(atlas: &mut AtlasAllocator<A>, new_size: Size) -> Reply {
-    if !shrinks_no_side(atlas, new_size) {
+    if !atlas.can_grow_to(new_size) {
         return Reply::Invalid;
     }
     match atlas.grow(new_size) {
@@ -79,7 +68,7 @@ pub fn rearrange<A: Allocator + Copy>(atlas: &mut AtlasAllocator<A>) -> Answer<A
 
 /// Places what is allocated anew in this size.
 pub fn resize<A: Allocator + Copy>(atlas: &mut AtlasAllocator<A>, new_size: Size) -> Answer<A> {
-    if !is_positive(new_size) {
+    if !new_size.is_positive() {
         return Answer::OneLine(Reply::Invalid);
     }
     answer_changes(atlas.resize_and_rearrange(new_size))

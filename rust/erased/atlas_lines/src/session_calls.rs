@@ -1,7 +1,6 @@
 // Erased from crates/atlas_lines/src/session_calls.rt by rust/erase: don't edit.
 //! The calls of a recorded session, each answered by a reply.
 
-use crate::atlas_calls::is_positive;
 use crate::replies::{Answer, ReplayCounts, Reply};
 use wollemigo_core::guillotiere::{AllocId, AtlasError, Rectangle, Size};
 use wollemigo_core::guillotiere_recording::{RecordingAllocator, RecordingError};
@@ -16,12 +15,6 @@ pub fn declined(error: RecordingError) -> Reply {
         RecordingError::NotLive => Reply::Declined(AtlasError::NotLive),
         RecordingError::Names => Reply::NoNames,
     }
-}
-
-// Whether neither side of the session's atlas is greater than that of a size.
-fn shrinks_no_side<A: Allocator + Copy>(session: &RecordingAllocator<A>, new_size: Size) -> bool {
-    let size = session.size();
-    size.width <= new_size.width && size.height <= new_size.height
 }
 
 // The free rectangles from above to below and from left to right.
@@ -52,7 +45,7 @@ pub fn give_back<A: Allocator + Copy>(session: &mut RecordingAllocator<A>, name:
 
 /// Makes the session's atlas larger.
 pub fn grow<A: Allocator + Copy>(session: &mut RecordingAllocator<A>, new_size: Size) -> Reply {
-    if !shrinks_no_side(session, new_size) {
+    if !session.can_grow_to(new_size) {
         return Reply::Invalid;
     }
     match session.grow(new_size) {
@@ -74,7 +67,7 @@ pub fn resize<A: Allocator + Copy>(
     session: &mut RecordingAllocator<A>,
     new_size: Size,
 ) -> Answer<A> {
-    if !is_positive(new_size) {
+    if !new_size.is_positive() {
         return Answer::OneLine(Reply::Invalid);
     }
     match session.resize_and_rearrange(new_size) {

@@ -1,7 +1,6 @@
 // Erased from crates/atlas_lines/src/tool.rt by rust/erase: don't edit.
 //! The tool between its lines: what it holds, and how it carries out a command.
 
-use crate::atlas_calls::is_positive;
 use crate::listing::{send, Waiting};
 use crate::replies::{Answer, Reply};
 use crate::standing::Standing;
@@ -115,7 +114,7 @@ impl<'a, A: Allocator> Tool<'a, A> {
     }
 
     fn create_atlas(&mut self, size: Size, options: &AllocatorOptions) -> Reply {
-        if !is_positive(size) {
+        if !size.is_positive() {
             return Reply::Invalid;
         }
         if !options.is_valid() {
@@ -131,7 +130,7 @@ impl<'a, A: Allocator> Tool<'a, A> {
     }
 
     fn begin_session(&mut self, size: Size) -> Reply {
-        if !is_positive(size) {
+        if !size.is_positive() {
             return Reply::Invalid;
         }
         match RecordingAllocator::new(self.alloc, size) {

@@ -3,7 +3,7 @@
 //! or the sequence is put into a new one along the other axis. They leave the lists alone.
 
 use crate::atlas_model::{point2, Rectangle, Size};
-use crate::atlas_search::cut::{across, Orientation};
+use crate::atlas_search::cut::{across, beyond};
 use crate::atlas_search::link::{Link, NO_SLOT};
 use crate::atlas_store::slots::{read_node, write_node, Node, NodeKind, Slot};
 
@@ -13,17 +13,6 @@ pub fn stretch_leaf(slots: &mut [Slot], at: Link, size: Size) {
     let mut leaf = read_node(slots, at);
     leaf.area.max = point2(size.width, size.height);
     write_node(slots, at, leaf);
-}
-
-// What lies beyond a rectangle along an axis, to the far corner of a size.
-#[inline]
-fn beyond(area: Rectangle, axis: Orientation, size: Size) -> Rectangle {
-    let min = match axis {
-        Orientation::Horizontal => point2(area.max.x, area.min.y),
-        Orientation::Vertical => point2(area.min.x, area.max.y),
-    };
-    let max = point2(size.width, size.height);
-    Rectangle { min, max }
 }
 
 /// The unused slot `fresh` becomes a free leaf after the last member of the top sequence, and reaches to the far corner

@@ -1,7 +1,6 @@
 // Erased from crates/guillotiere/src/session/simple.rt by rust/erase: don't edit.
 //! Lists of calls of a simple allocator, and their replies.
 
-use super::is_positive;
 use crate::atlas_allocator::AtlasAllocator;
 use crate::atlas_model::{AllocatorOptions, AtlasError, Rectangle, Size};
 use crate::guillotiere::simple::SimpleAtlasAllocator;
@@ -38,13 +37,6 @@ pub enum SimpleReply {
     BadCall,
 }
 
-// Whether neither side of the allocator is greater than that of a size.
-#[inline]
-fn shrinks_no_side<A: Allocator + Copy>(simple: &SimpleAtlasAllocator<A>, new_size: Size) -> bool {
-    let size = simple.size();
-    size.width <= new_size.width && size.height <= new_size.height
-}
-
 // What a call answers that gives nothing back.
 #[inline]
 fn done(answer: Result<(), AtlasError>) -> SimpleReply {
@@ -65,7 +57,7 @@ fn allocate<A: Allocator + Copy>(simple: &mut SimpleAtlasAllocator<A>, size: Siz
 
 #[inline]
 fn grow<A: Allocator + Copy>(simple: &mut SimpleAtlasAllocator<A>, size: Size) -> SimpleReply {
-    if !shrinks_no_side(simple, size) {
+    if !simple.can_grow_to(size) {
         return SimpleReply::BadCall;
     }
     done(simple.grow(size))
@@ -77,7 +69,7 @@ fn reset<A: Allocator + Copy>(
     size: Size,
     options: &AllocatorOptions,
 ) -> SimpleReply {
-    if !is_positive(size) || !options.is_valid() {
+    if !size.is_positive() || !options.is_valid() {
         return SimpleReply::BadCall;
     }
     done(simple.reset(size, options))

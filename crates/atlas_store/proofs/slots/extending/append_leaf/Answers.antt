@@ -1,8 +1,8 @@
-use Rattle.std.proofs.Common.{rules, ◌<◌, ◌∙◌, ap, length, refl}
+use Rattle.std.proofs.Common.{◌<◌, ◌∙◌, ap, length, refl}
 use Rattle.std.proofs.lemmas.List.{length-map}
 use Rattle.atlas_store.specs.Slots.{nodes}
 use Rattle.atlas_search.specs.Numbers.{no_slot}
-use Rattle.atlas_store.proofs.SlotLemmas.Stretching.{is-beyond, appended-by, keeps-appended, Stands-appended, last-inside}
+use Rattle.atlas_store.proofs.SlotLemmas.Stretching.{appended-by, keeps-appended, Stands-appended, last-inside}
 use Rattle.atlas_store.proofs.slots.extending.append_leaf.Goals as goal
 
 pub read_node-leaf-requires : goal.read_node-leaf-requires
@@ -17,9 +17,8 @@ returns c =
     let short : length ns < no_slot = simp length-map c.requires.short in
     let there : c.args.fresh.number < length ns = simp length-map c.requires.inside in
     let leaf = c.read_node-leaf.result in
-    let area = is-beyond leaf.axis leaf.area c.args.size c.beyond.result (λ x. search (rules, c.beyond.ensures.horizontal x)) (λ x. search (rules, c.beyond.ensures.vertical x)) in
     let w = appended-by ns _ (nodes c.write_node-2.new.slots) c.args.last c.args.fresh c.args.size leaf c.read_node-unused.result _ _
-    short there c.requires.ready c.read_node-leaf.ensures c.read_node-unused.ensures refl (rw area refl)
+    short there c.requires.ready c.read_node-leaf.ensures c.read_node-unused.ensures refl (rw c.beyond.ensures refl)
     c.write_node.ensures.written c.write_node-2.ensures.written in
     record {
       tree = Stands-appended _ _ _ _ _ c.requires.exact w;
