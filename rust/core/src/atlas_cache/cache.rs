@@ -61,14 +61,14 @@ impl<K: Copy + Eq + Hash, S: BuildHasher, A: Allocator + Copy> TextureCache<K, S
 }
 
 impl<K: Copy + Eq + Hash, S: BuildHasher, A: Allocator + Copy> TextureCache<K, S, A> {
-    /// A new frame: what was used before may go from now on. Frames are counted up to
-    /// 2^64 - 1; after that one no other begins.
+    /// A new frame: what was used before may go from now on. Before the first new frame nothing gives way: all that is held
+    /// is used in it. Frames are counted up to 2^64 - 1; after that one no other begins.
     #[inline]
     pub fn begin_frame(&mut self) {
         self.frame = count(self.frame);
     }
 
-    /// How many entries there are.
+    /// How many entries there are, at most 4,294,967,295.
     #[inline]
     pub fn len(&self) -> usize {
         self.entries.len()

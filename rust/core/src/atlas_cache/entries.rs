@@ -105,7 +105,7 @@ impl<K: Copy + Eq + Hash, S: BuildHasher, A: Allocator + Copy> Entries<K, S, A> 
         }
     }
 
-    /// How many entries there are.
+    /// How many entries there are, at most 4,294,967,295.
     #[inline]
     pub fn len(&self) -> usize {
         self.recency.len()

@@ -73,7 +73,7 @@ impl<A: Allocator> Recency<A> {
         }
     }
 
-    /// How many entries there are.
+    /// How many entries there are, at most 4,294,967,295.
     #[inline]
     pub fn len(&self) -> usize {
         self.count

@@ -233,6 +233,7 @@ mod tests {
         match run(alloc, &mut lines.as_bytes(), &mut output, &mut progress) {
             Ok(_) => output,
             Err(error) => {
+                assert!(rt; output.is_empty(), "{lines}");
                 let told = format!(in alloc; "{error}").expect_in(rt, "memory");
                 Vec::from_slice(alloc, told.as_bytes()).expect_in(rt, "memory")
             }

@@ -9,6 +9,7 @@ mod asked;
 mod back;
 mod blanks;
 mod boxes;
+mod cards;
 mod first;
 mod frames;
 mod glyphs;

@@ -137,3 +137,19 @@ pub fn two_spaces<A: Allocator + Copy>(
     prove!(!matches!(&two, Err(CacheError::Memory)));
     Ok(())
 }
+
+/// A glyph for which memory was taken first, where each page is there and at its largest: other glyphs may go for it, but it
+/// isn't refused for memory.
+pub fn one_glyph<A: Allocator + Copy>(
+    cache: &mut TextureCache<u64, DefaultHasher, A>,
+    key: u64,
+    size: Size,
+    changes: &mut Changes<u64, A>,
+) -> Result<(), CacheError> {
+    cache.reserve(1)?;
+    cache.reserve_slots(4)?;
+    changes.reserve(cache.len() + 1)?;
+    let placed = cache.insert(key, size, changes);
+    prove!(!matches!(&placed, Err(CacheError::Memory)));
+    Ok(())
+}

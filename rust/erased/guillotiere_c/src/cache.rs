@@ -128,7 +128,8 @@ fn write_inserted(answer: Result<Inserted, CacheError>, place: &mut PlainPlace) 
 /// A place for a key, which is used in this frame, as `TextureCache::insert` finds it. `DONE` of a new key, whose pixels
 /// are to be written there; a key with an empty size has none, and its place is empty. `HELD` of one that was held, and then
 /// the place is written too; `FRAME_FULL` if each entry on a page is used in this frame and no page has room; `NEVER_FITS`
-/// if the size passes the largest page; `OTHER_SIZE` if the key is held with another size; `NUMBERS`, `SLOTS`, `MEMORY`.
+/// if the size passes the largest page, with the padding and rounded up to the alignment; `OTHER_SIZE` if the key is held with
+/// another size; `NUMBERS`, `SLOTS`, `MEMORY`.
 /// What was done is told by `guillotiere_cache_next_change`, also after `FRAME_FULL` and after an error.
 #[no_mangle]
 pub extern "C" fn guillotiere_cache_insert(

@@ -234,6 +234,22 @@ fn told() -> Result<(), Fail> {
     Ok(())
 }
 
+// A sprite of 4 x 1 has no room in 3 x 3 whatever the order, so no size is told.
+#[test]
+fn told_of_none() -> Result<(), Fail> {
+    let rt = HostRuntime;
+    let options = SheetOptions {
+        effort: 20,
+        ..SheetOptions::new(Allowed::One(size2(3, 3)))
+    };
+    let mut sizes = Vec::new(rt.alloc());
+    let found = pack_telling(rt.alloc(), &[size2(4, 1)], &options, |size| {
+        let _ = sizes.push(size);
+    })?;
+    assert!(rt; found.is_none() && sizes.is_empty());
+    Ok(())
+}
+
 // Whether each size has fewer pixels than the one before it.
 fn are_falling(sizes: &[Size]) -> bool {
     sizes

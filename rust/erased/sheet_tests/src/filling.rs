@@ -88,7 +88,7 @@ fn nothing_placed() {
 }
 
 // What `fill` refuses.
-const REFUSED: [(&[Size], Size, SheetError); 6] = [
+const REFUSED: [(&[Size], Size, SheetError); 7] = [
     (
         &[],
         Size {
@@ -153,6 +153,27 @@ const REFUSED: [(&[Size], Size, SheetError); 6] = [
             Size {
                 width: 1,
                 height: 2147483647,
+            },
+        ],
+        Size {
+            width: 9,
+            height: 9,
+        },
+        SheetError::GreatSprite(1),
+    ),
+    (
+        &[
+            Size {
+                width: 1,
+                height: 1,
+            },
+            Size {
+                width: 2147483642,
+                height: 1,
+            },
+            Size {
+                width: 0,
+                height: 1,
             },
         ],
         Size {
