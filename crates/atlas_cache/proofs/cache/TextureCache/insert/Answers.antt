@@ -218,4 +218,4 @@ returns-clause-one g c = λ some slots room keeps.
     let is : c.in-Some-asked.asked ≡ size_of (bordered c.args.self.now.options c.args.size) = rw (← c.self.view_is) asked in
     let had = one_reserved (vec_capacity c.args.changes.now) (vec_len c.args.changes.now) c.args.self.now some slots room in
     (c.insert_new.ensures.reserves 0 had (λ none.
-        keeps stands.positive (subst (λ (asked : Size). HasNoPageFor asked c.args.self.now) is none))).0
+    keeps stands.positive (subst (λ (asked : Size). HasNoPageFor asked c.args.self.now) is none))).0
