@@ -34,17 +34,19 @@ pub record AreUsable (o : CacheOptions) : Type 0 where
   pub atlas : AreValid (options_of o.atlas)
   pub room : CanStand o one_pixel
 
--- A new page isn't empty, and fits the largest one; then, that there are pages; then, that the padding isn't below 0; and
--- then, that the atlas's options are valid.
+-- A new page isn't empty, and fits the largest one.
 abbrev pub HasGoodSizes : CacheOptions → Type 0
 HasGoodSizes o = IsPositive (sides_of o.page) × Fits (sides_of o.page) (sides_of o.largest_page)
 
+-- And there are pages.
 abbrev pub HasGoodPages : CacheOptions → Type 0
 HasGoodPages o = HasGoodSizes o × (0 < o.pages)
 
+-- And the padding isn't below 0.
 abbrev pub HasGoodPadding : CacheOptions → Type 0
 HasGoodPadding o = HasGoodPages o × (pos 0 ≤ℤ o.padding)
 
+-- And the atlas's options are valid.
 abbrev pub HasGoodAtlas : CacheOptions → Type 0
 HasGoodAtlas o = HasGoodPadding o × AreValid (options_of o.atlas)
 
