@@ -1,5 +1,6 @@
 #!/usr/bin/env python3
-"""Gives guillotiere-sheet bad words, bad files and too little room: each has its one line and its status, and no file is left.
+"""Gives guillotiere-sheet bad words, bad files, too little room and devices that fail: each has its one line and its status, and no
+file is left.
 
     rust/sheet/seen/faults.py PROGRAM
 
@@ -7,6 +8,7 @@ The last line is 'N passed, M failed'."""
 import os
 import re
 import resource
+import shutil
 import signal
 import struct
 import subprocess
@@ -32,16 +34,29 @@ def png(wide, high, value=7):
     return (b'\x89PNG\r\n\x1a\n' + head + chunk(b'IDAT', zlib.compress((b'\0' + bytes([value]) * wide) * high)) + chunk(b'IEND', b''))
 
 
+class Link(bytes):
+    """A link to this path."""
+
+
 def put(folder, files):
     for name, data in files.items():
         path = os.path.join(os.fsencode(folder), name if isinstance(name, bytes) else name.encode())
         os.makedirs(os.path.dirname(path), exist_ok=True)
+        if isinstance(data, Link):
+            os.symlink(data, path)
+            continue
         with open(path, 'wb') as file:
             file.write(data)
 
 
 GOOD = {'a.png': png(8, 8), 'b.png': png(9, 4)}
 WHOLE = png(8, 8)
+# The head of a JPEG of 65535 by 65535.
+GREAT_JPEG = b'\xff\xd8\xff\xc0\0\x11\x08' + b'\xff' * 4 + b'\3\1\x11\0\2\x11\0\3\x11\0'
+# A WebP of one pixel, on a canvas of 65536 by 65535.
+GREAT_WEBP = (b'RIFF\x2c\0\0\0WEBPVP8X\x0a\0\0\0' + bytes(4) + b'\xff\xff\0\xfe\xff\0'
+              + b'VP8L\x0d\0\0\0\x2f\0\0\0\x10\7\x10\x11\x11\x88\x88\xfe\7\0')
+NOT_THERE = r'No such file or directory \(os error 2\)'
 CASES = [
     # What, files, words (F is the folder, O the sheet), status, lines.
     ('no words', GOOD, [], 2, [r'FOLDER and OUT are needed; --help tells more']),
@@ -65,6 +80,9 @@ CASES = [
     ('turn', GOOD, ['F', 'O', '--turn', '--form', 'godot'], 2, [r"--turn doesn't go with --form godot: .*"]),
     *(('name ' + out, GOOD, ['F', out], 2, [r'OUT is the name of the sheet, without its ending'])
       for out in ('O/', 'O/.', 'O/..', 'O/./', 'O/.png', 'O/..png')),
+    ('OUT not UTF-8', GOOD, ['F', 'O/a\udcff'], 2, [r"OUT isn't UTF-8"]),
+    ('.png not UTF-8', GOOD, ['F', 'O/\udcff.png'], 2, [r"OUT isn't UTF-8"]),
+    ('control in OUT', GOOD, ['F', 'O/a\nb'], 2, [r'OUT has a control character']),
     ('inside', GOOD, ['F', 'F/sheet'], 2, [r'.*it lies in the folder of pictures.*']),
     ('no folder', GOOD, ['F/none', 'O'], 1, [r'.*none: .*']),
     ('a file', GOOD, ['F/a.png', 'O'], 1, [r".*a\.png: it isn't a folder"]),
@@ -77,11 +95,20 @@ CASES = [
      [r'.*a\.png: the file is damaged \(CRC error: .*\)']),
     ('no sides', {'a.png': b'\x89PNG\r\n\x1a\n' + chunk(b'IHDR', bytes(8) + b'\x08\0\0\0\0')}, ['F', 'O'], 1, [r'.*a\.png: .*']),
     ('great', {'a.png': b'\x89PNG\r\n\x1a\n' + chunk(b'IHDR', b'\x7f\xff\xff\xff' * 2 + b'\x08\6\0\0\0') + WHOLE[33:]}, ['F', 'O'], 1,
-     [r'.*a\.png: .*']),
+     [r'.*a\.png: it is too large']),
+    ('great JPEG', {**GOOD, 'c.jpg': GREAT_JPEG}, ['F', 'O'], 1, [r'.*c\.jpg: it is too large']),
+    ('great WebP', {**GOOD, 'c.webp': GREAT_WEBP}, ['F', 'O'], 1, [r'.*c\.webp: it is too large']),
+    ('link to nowhere', {**GOOD, 'c.png': Link(b'none.png')}, ['F', 'O'], 1, [r'.*/c\.png: ' + NOT_THERE]),
+    ('links in a loop', {**GOOD, 'c.png': Link(b'd.png'), 'd.png': Link(b'c.png')}, ['F', 'O'], 1,
+     [r'.*/%s\.png: Too many levels of symbolic links .*' % name for name in 'cd']),
+    ('link to above', {**GOOD, 'new/up': Link(b'..')}, ['F', 'O'], 1, [r'File system loop found: .*/new/up points to an ancestor .*/in']),
     ('not UTF-8', {**GOOD, b'\xff.png': WHOLE}, ['F', 'O'], 1, [r".*its name isn't UTF-8"]),
     ('control', {**GOOD, 'x\ny.png': WHOLE}, ['F', 'O'], 1, [r'.*x\\ny\.png.*its name has a control character']),
     ('same name', {'a.png': WHOLE, 'a.jpg': WHOLE}, ['F', 'O', '--drop-extension'], 1, [r'.*a\.jpg and .*a\.png have the same name.*']),
     ('colon', {'a:b.png': WHOLE}, ['F', 'O', '--form', 'libgdx'], 2, [r'"a:b\.png": a name in an \.atlas has no colon.*']),
+    ('space', {'a .png': WHOLE}, ['F', 'O', '--form', 'libgdx', '--drop-extension'], 2, [r'"a ": a name in an \.atlas has .* no space .*']),
+    ('no XML', {'a\uffff.png': WHOLE, 'b.png': WHOLE}, ['F', 'O', '--form', 'starling'], 2,
+     [r'"a\\u\{ffff\}\.png": XML can\'t have U\+FFFE and U\+FFFF']),
     ('classes', {'a b.png': WHOLE, 'a-b.png': WHOLE}, ['F', 'O', '--form', 'css'], 2, [r'.*have the same class in CSS, .*']),
     ('too large', {**GOOD, 'c.png': png(100, 3), 'd.png': png(3, 64)}, ['F', 'O', '--size', '64', '64'], 3,
      [r"c\.png: 100x3 with padding 1 doesn't fit a sheet of 64x64", r"d\.png: 3x64 .*"]),
@@ -93,7 +120,10 @@ CASES = [
     ('no room in one', {'%d/%d.png' % (n // 3, n): png(30, 30, n) for n in range(9)}, ['F', 'O', '--size', '64', '64', '--group'], 3,
      [r'one sheet takes not all pictures, .* more --pages, a larger sheet or --leave-out would help']),
     ('a folder', GOOD, ['F', 'O'], 1, [r'.*sheet\.json: it is a folder']),
+    ('a folder for the picture', GOOD, ['F', 'O'], 1, [r'.*sheet\.png: it is a folder']),
 ]
+# What lies in OUT's folder before.
+BEFORE = {'a folder': ['sheet.json'], 'a folder for the picture': ['sheet.png']}
 
 
 def written(folder):
@@ -117,10 +147,9 @@ def case(what, files, words, status, lines):
         folder, out = os.path.join(room, 'in'), os.path.join(room, 'out')
         put(folder, files)
         os.mkdir(out)
-        before = []
-        if what == 'a folder':
-            os.mkdir(os.path.join(out, 'sheet.json'))
-            before = ['sheet.json']
+        before = BEFORE.get(what, [])
+        for name in before:
+            os.mkdir(os.path.join(out, name))
         given = written(folder)
         places = {'F': folder, 'O': os.path.join(out, 'sheet'), 'O/': out + '/'}
         done = run([places.get(word) or re.sub(r'^([FO])/', lambda m: {'F': folder, 'O': out}[m.group(1)] + '/', word) for word in words])
@@ -171,6 +200,55 @@ def no_space():
               (done.returncode, done.stderr, sorted(after)))
 
 
+def no_permission():
+    """A file, a folder of pictures or OUT's folder that is closed. Root opens them all, so another user runs it there."""
+    user = {'user': 65534, 'group': 65534, 'extra_groups': []} if os.geteuid() == 0 else {}
+    denied = r'Permission denied \(os error 13\)'
+    for closed, mode, line in (('in/c.png', 0, r'.*/in/c\.png: ' + denied), ('in/new', 0, r'.*/in/new: ' + denied),
+                               ('out', 0o555, r".*/out/sheet\.png: it can't be written there: " + denied)):
+        with tempfile.TemporaryDirectory() as room:
+            put(room + '/in', {**GOOD, 'c.png': WHOLE, 'new/d.png': WHOLE})
+            os.mkdir(room + '/out')
+            # That user may not come to PROGRAM.
+            program = shutil.copy(PROGRAM, room + '/program')
+            for path in ('', '/in', '/in/new', '/out', '/program'):
+                os.chmod(room + path, 0o777)
+            os.chmod(room + '/' + closed, mode)
+            done = run([room + '/in', room + '/out/sheet'], executable=program, **user)
+            os.chmod(room + '/' + closed, 0o777)
+            is_told = re.fullmatch('guillotiere-sheet: ' + line + '\n', done.stderr)
+            check('no permission: ' + closed, done.returncode == 1 and done.stdout == '' and is_told and written(room + '/out') == [],
+                  (done.returncode, done.stderr, written(room + '/out')))
+
+
+def devices():
+    """Where standard output fails the sheets are there, and a line tells it; where standard error fails nothing can."""
+    full = r'guillotiere-sheet: standard output: No space left on device .*\n'
+    for what, to, more, status, line in (('closed', '>&-', [], 0, ''), ('full', '>/dev/full', [], 1, full),
+                                         ('closed errors', '2>&-', ['--effort', '9'], 0, ''),
+                                         ('full errors', '2>/dev/full', ['--effort', '9'], 0, '')):
+        with tempfile.TemporaryDirectory() as room:
+            put(room + '/in', GOOD)
+            os.mkdir(room + '/out')
+            done = run(['-c', '"$0" "$@" ' + to, PROGRAM, room + '/in', room + '/out/sheet'] + more, executable='/bin/sh')
+            check('device: ' + what, done.returncode == status and re.fullmatch(line, done.stderr)
+                  and written(room + '/out') == ['sheet.json', 'sheet.png'], (done.returncode, done.stderr, written(room + '/out')))
+    with open('/dev/full', 'w') as device:
+        for what, words, status, line in (('help', ['--help'], 1, full), ('version', ['--version'], 1, full)):
+            done = subprocess.run([PROGRAM] + words, stdout=device, stderr=subprocess.PIPE, text=True)
+            check('device: ' + what, done.returncode == status and re.fullmatch(line, done.stderr), (done.returncode, done.stderr))
+        done = subprocess.run([PROGRAM], stdout=subprocess.PIPE, stderr=device)
+        check('device: a fault', done.returncode == 2 and done.stdout == b'', done.returncode)
+    with tempfile.TemporaryDirectory() as room:
+        put(room + '/in', GOOD)
+        reader, writer = os.pipe()
+        os.close(reader)
+        done = subprocess.run([PROGRAM, room + '/in', room + '/sheet'], stdout=writer, stderr=subprocess.PIPE, text=True)
+        os.close(writer)
+        check('device: no reader', done.returncode == 1 and os.path.exists(room + '/sheet.json')
+              and re.fullmatch(r'guillotiere-sheet: standard output: Broken pipe .*\n', done.stderr), (done.returncode, done.stderr))
+
+
 def wait_for(has_come, seconds=30):
     end = time.time() + seconds
     while time.time() < end:
@@ -212,6 +290,8 @@ for each in CASES:
 left_out()
 told()
 no_space()
+no_permission()
+devices()
 watched()
 print('%d passed, %d failed' % (Count.passed, Count.failed))
 sys.exit(1 if Count.failed else 0)

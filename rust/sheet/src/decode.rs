@@ -8,6 +8,7 @@ use std::io::Cursor;
 const PNG: [u8; 8] = [0x89, b'P', b'N', b'G', 13, 10, 26, 10];
 // More than any sheet has.
 const GREATEST: usize = 1 << 31;
+const TOO_LARGE: &str = "it is too large";
 
 /// A picture and what its file says of colours, or why there is none.
 pub fn decoded(bytes: &[u8]) -> Result<(Picture, Colour), String> {
@@ -27,6 +28,7 @@ pub fn decoded(bytes: &[u8]) -> Result<(Picture, Colour), String> {
     reader.limits(limits);
     let pixels = reader.decode().map_err(|error| match error {
         ImageError::Decoding(_) | ImageError::IoError(_) => damaged(&error),
+        ImageError::Limits(_) => TOO_LARGE.to_string(),
         error => one_line(&error.to_string()),
     })?;
     let has_profile = bytes.windows(profile.len()).any(|window| window == profile);
@@ -61,11 +63,12 @@ fn from_png(bytes: &[u8]) -> Result<Picture, String> {
     decoder.set_transformations(png::Transformations::normalize_to_color8());
     let told = |error: png::DecodingError| match error {
         png::DecodingError::Format(_) | png::DecodingError::IoError(_) => damaged(&error),
+        png::DecodingError::LimitsExceeded => TOO_LARGE.to_string(),
         error => one_line(&error.to_string()),
     };
     let mut reader = decoder.read_info().map_err(told)?;
     if reader.output_buffer_size() > GREATEST {
-        return Err("it is too large".to_string());
+        return Err(TOO_LARGE.to_string());
     }
     let mut buffer = vec![0; reader.output_buffer_size()];
     let info = reader.next_frame(&mut buffer).map_err(told)?;

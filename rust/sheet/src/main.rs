@@ -139,8 +139,13 @@ pub fn run(words: &Words) -> Result<Done, Fault> {
 
 fn tell(notes: &[String]) {
     for note in notes {
-        eprintln!("guillotiere-sheet: {}", note);
+        output::note(note);
     }
+}
+
+fn tell_fault(fault: &Fault) -> u8 {
+    tell(&fault.lines);
+    fault.status
 }
 
 /// Tells what was done, and gives the status.
@@ -148,29 +153,25 @@ pub fn told(result: &Result<Done, Fault>) -> u8 {
     match result {
         Ok(done) => {
             tell(&done.notes);
-            for line in &done.lines {
-                println!("{}", line);
-            }
-            if done.has_left_out {
-                LEFT_OUT
-            } else {
-                0
+            let lines: String = done
+                .lines
+                .iter()
+                .map(|line| format!("{}\n", line))
+                .collect();
+            match output::say(&lines) {
+                Ok(()) if done.has_left_out => LEFT_OUT,
+                Ok(()) => 0,
+                Err(fault) => tell_fault(&fault),
             }
         }
-        Err(fault) => {
-            tell(&fault.lines);
-            fault.status
-        }
+        Err(fault) => tell_fault(fault),
     }
 }
 
 fn main() -> ExitCode {
     let words = match words::words(std::env::args_os()) {
         Ok(words) => words,
-        Err(fault) => {
-            tell(&fault.lines);
-            return ExitCode::from(fault.status);
-        }
+        Err(fault) => return ExitCode::from(tell_fault(&fault)),
     };
     if words.watch {
         return ExitCode::from(told(&watch::watch(&words)));

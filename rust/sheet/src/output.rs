@@ -1,10 +1,25 @@
-//! Files that are wholly written or not at all.
+//! Files that are wholly written or not at all, and what is told.
 use crate::colour::Chunk;
-use crate::fault::Fault;
+use crate::fault::{Fault, FILES};
 use crate::forms::File;
 use crate::picture::Picture;
 use std::fs;
+use std::io::{stderr, stdout, Write};
 use std::path::{Path, PathBuf};
+
+/// Writes to standard output.
+pub fn say(text: &str) -> Result<(), Fault> {
+    let mut output = stdout();
+    output
+        .write_all(text.as_bytes())
+        .and_then(|()| output.flush())
+        .map_err(|error| Fault::new(FILES, format!("standard output: {}", error)))
+}
+
+/// Writes a line to standard error. Where that fails, nothing more can be told.
+pub fn note(line: &str) {
+    let _ = writeln!(stderr(), "guillotiere-sheet: {}", line);
+}
 
 /// The bytes of a PNG.
 pub fn png(picture: &Picture, chunks: &[Chunk]) -> Result<Vec<u8>, String> {

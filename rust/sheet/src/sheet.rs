@@ -1,6 +1,7 @@
 //! From pictures to sheets.
 use crate::fault::{Fault, ROOM};
 use crate::forms;
+use crate::output::note;
 use crate::packing::{fits, greatest, pages, Pages, Place, Ways};
 use crate::picture::{Lie, Part, Picture};
 use crate::scale::Scale;
@@ -199,13 +200,13 @@ fn packed(
     // With an effort it may take long.
     let progress = |size: Size| {
         if words.effort > 0 {
-            eprintln!(
-                "guillotiere-sheet: {}{}: so far a sheet of {}x{} takes all pictures",
+            note(&format!(
+                "{}{}: so far a sheet of {}x{} takes all pictures",
                 words.stem(),
                 scale.suffix(),
                 size.width,
                 size.height
-            );
+            ));
         }
     };
     let ways = Ways {

@@ -1,6 +1,7 @@
 //! The words of the command line.
 use crate::fault::{Fault, WORDS};
 use crate::forms::Form;
+use crate::output::say;
 use crate::scale::Scale;
 use clap::error::{ContextKind, ErrorKind};
 use clap::Parser;
@@ -200,11 +201,11 @@ impl Words {
 pub fn words(given: impl IntoIterator<Item = std::ffi::OsString>) -> Result<Words, Fault> {
     let mut words = Words::try_parse_from(given).map_err(|error| match error.kind() {
         ErrorKind::DisplayHelp | ErrorKind::DisplayVersion => {
-            print!("{}", error);
-            Fault {
+            let told = Fault {
                 status: 0,
                 lines: Vec::new(),
-            }
+            };
+            say(&error.to_string()).err().unwrap_or(told)
         }
         ErrorKind::MissingRequiredArgument => {
             Fault::new(WORDS, "FOLDER and OUT are needed; --help tells more")
