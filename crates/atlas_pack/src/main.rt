@@ -1,4 +1,4 @@
-//! Packs the sprites that lines name into one sheet, and writes where each lies (docs/PACK.md).
+//! Packs the sprites that lines name into one sheet or several, and writes where each lies (docs/PACK.md).
 #![tactic(auto)]
 
 mod packing;

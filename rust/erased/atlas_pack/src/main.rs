@@ -1,5 +1,5 @@
 // Erased from crates/atlas_pack/src/main.rt by rust/erase: don't edit.
-//! Packs the sprites that lines name into one sheet, and writes where each lies (docs/PACK.md).
+//! Packs the sprites that lines name into one sheet or several, and writes where each lies (docs/PACK.md).
 #![forbid(unsafe_code)]
 #![allow(dead_code, unused_imports, unused_labels, unused_variables)]
 
