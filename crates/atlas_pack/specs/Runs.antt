@@ -78,7 +78,7 @@ left_of sprites places = flat_map left_in (zip sprites places)
 
 -- The text of a sheet, as JSON or as lines.
 abbrev pub written : (json : Bool) → Size → List Frame → (left : List Sprite) → List ℕ
-written json sheet frames left = if json then json_of sheet frames else text_of sheet frames left
+written json sheet frames left = if json then json_of sheet frames left else text_of sheet frames left
 
 -- What `pack` answers: an allowed sheet with a place for each sprite, no larger than what the ways find; without effort it is that which
 -- they find.

@@ -48,7 +48,7 @@ fn written(
     ensures { IfOk result (λ text. text.items ≡ written json sheet frames.now left.now) }
 {
     if json {
-        return sheet_json(alloc, sheet, frames);
+        return sheet_json(alloc, sheet, frames, left);
     }
     sheet_lines(alloc, sheet, frames, left)
 }

@@ -4,6 +4,7 @@ use Rattle.std.specs.Fmt.{signed_decimal}
 use Rattle.atlas_model.specs.declared.geometry.Point.{Point}
 use Rattle.atlas_model.specs.declared.geometry.Size.{Size}
 use Rattle.pack_lines.specs.declared.frames.Frame.{Frame}
+use Rattle.pack_lines.specs.declared.sprites.Sprite.{Sprite}
 
 -- A byte of a name: a quotation mark and a backslash have a backslash before them.
 abbrev pub escaped_byte : ℕ → List ℕ
@@ -42,11 +43,25 @@ members_text [] = []
 members_text (p ∷ others) = member_text p ++ flat_map next_member_text others
 
 -- The size of the sheet.
-abbrev pub meta_text : Size → List ℕ
-meta_text sheet =
+abbrev pub size_text : Size → List ℕ
+size_text sheet =
     codes "\n},\"meta\":{\"size\":{\"w\":"
-    ++ (signed_decimal sheet.width ++ (codes ",\"h\":" ++ (signed_decimal sheet.height ++ codes "}}}\n")))
+    ++ (signed_decimal sheet.width ++ (codes ",\"h\":" ++ (signed_decimal sheet.height ++ codes "}")))
+
+-- A name after another.
+abbrev pub next_name_text : Sprite → List ℕ
+next_name_text sprite = codes "," ++ quoted (string_bytes sprite.name)
+
+-- The names of the sprites that found no place, in order; nothing where there are none.
+abbrev pub left_names_text : (left : List Sprite) → List ℕ
+left_names_text [] = []
+left_names_text (sprite ∷ others) =
+    codes ",\"left\":[" ++ (quoted (string_bytes sprite.name) ++ (flat_map next_name_text others ++ codes "]"))
+
+-- What is said of the sheet.
+abbrev pub meta_text : Size → (left : List Sprite) → List ℕ
+meta_text sheet left = size_text sheet ++ (left_names_text left ++ codes "}}\n")
 
 -- One object: the frames by name, and the sheet.
-abbrev pub json_of : Size → List Frame → List ℕ
-json_of sheet frames = codes "{\"frames\":{\n" ++ (members_text frames ++ meta_text sheet)
+abbrev pub json_of : Size → List Frame → (left : List Sprite) → List ℕ
+json_of sheet frames left = codes "{\"frames\":{\n" ++ (members_text frames ++ meta_text sheet left)

@@ -1,9 +1,10 @@
 //! A sheet as JSON.
 ghost use Rattle.std.specs.Prelude.{◌≡◌, ◌++◌, IfOk, codes, flat_map, string_bytes};
-ghost use Rattle.pack_lines.specs.Json.{corner_text, member_text, members_text, next_member_text, json_of, meta_text, quoted};
-ghost use Rattle.pack_lines.specs.Json.{rotated_text, sides_text};
+ghost use Rattle.pack_lines.specs.Json.{corner_text, json_of, left_names_text, member_text, members_text, meta_text};
+ghost use Rattle.pack_lines.specs.Json.{next_member_text, next_name_text, quoted, rotated_text, sides_text, size_text};
 
 use crate::frames::Frame;
+use crate::sprites::Sprite;
 use atlas_model::{Point, Size};
 use std::alloc::{AllocError, Global};
 
@@ -93,23 +94,79 @@ fn frames_json(alloc: Global, frames: &[Frame]) -> Result<Vec<u8>, AllocError>
     Ok(text)
 }
 
-// The size of the sheet, and the end.
-fn meta(alloc: Global, sheet: Size) -> Result<String, AllocError>
-    ensures { IfOk result (λ text. string_bytes text ≡ meta_text sheet) }
+// The size of the sheet.
+fn size_json(alloc: Global, sheet: Size) -> Result<String, AllocError>
+    ensures { IfOk result (λ text. string_bytes text ≡ size_text sheet) }
 {
     let Size { width, height } = sheet;
-    format!(in alloc; "\n}},\"meta\":{{\"size\":{{\"w\":{width},\"h\":{height}}}}}}}\n")
+    format!(in alloc; "\n}},\"meta\":{{\"size\":{{\"w\":{width},\"h\":{height}}}")
+}
+
+// A name after another.
+fn next_name(alloc: Global, sprite: &Sprite) -> Result<Vec<u8>, AllocError>
+    ensures { IfOk result (λ text. text.items ≡ next_name_text sprite.now) }
+{
+    let mut text = Vec::from_slice(alloc, b",")?;
+    let name = quote(alloc, sprite.name.as_str())?;
+    text.extend_from_slice(&name)?;
+    Ok(text)
+}
+
+// Names after another, in order.
+fn other_names(alloc: Global, others: &[Sprite]) -> Result<Vec<u8>, AllocError>
+    ensures { IfOk result (λ text. text.items ≡ flat_map next_name_text others.now) }
+{
+    let mut text = Vec::new(alloc);
+    for next in others {
+        let name = next_name(alloc, next)?;
+        text.extend_from_slice(&name)?;
+    }
+    Ok(text)
+}
+
+// The names of the sprites that found no place, in order; nothing where there are none.
+fn left_names(alloc: Global, left: &[Sprite]) -> Result<Vec<u8>, AllocError>
+    ensures { IfOk result (λ text. text.items ≡ left_names_text left.now) }
+{
+    let Some((first, others)) = left.split_first() else {
+        return Ok(Vec::new(alloc));
+    };
+    let mut text = Vec::from_slice(alloc, b",\"left\":[")?;
+    let name = quote(alloc, first.name.as_str())?;
+    text.extend_from_slice(&name)?;
+    let others = other_names(alloc, others)?;
+    text.extend_from_slice(&others)?;
+    text.push(b']')?;
+    Ok(text)
+}
+
+// What is said of the sheet, and the end.
+fn meta(alloc: Global, sheet: Size, left: &[Sprite]) -> Result<Vec<u8>, AllocError>
+    ensures { IfOk result (λ text. text.items ≡ meta_text sheet left.now) }
+{
+    let size = size_json(alloc, sheet)?;
+    let mut text = Vec::from_slice(alloc, size.as_bytes())?;
+    let names = left_names(alloc, left)?;
+    text.extend_from_slice(&names)?;
+    text.extend_from_slice(b"}}\n")?;
+    Ok(text)
 }
 
 /// A sheet as a JSON object: `frames` by the names of the sprites, in order, each with its `frame` (`x`, `y`, `w`, `h`)
-/// and `rotated`; and `meta` with the `size` of the sheet (`w`, `h`). It takes memory for the text.
-pub fn sheet_json(alloc: Global, sheet: Size, frames: &[Frame]) -> Result<Vec<u8>, AllocError>
-    ensures { IfOk result (λ text. text.items ≡ json_of sheet frames.now) }
+/// and `rotated`; and `meta` with the `size` of the sheet (`w`, `h`) and, where some found no place, `left`, their names
+/// in order. It takes memory for the text.
+pub fn sheet_json(
+    alloc: Global,
+    sheet: Size,
+    frames: &[Frame],
+    left: &[Sprite],
+) -> Result<Vec<u8>, AllocError>
+    ensures { IfOk result (λ text. text.items ≡ json_of sheet frames.now left.now) }
 {
     let mut text = Vec::from_slice(alloc, b"{\"frames\":{\n")?;
     let frames = frames_json(alloc, frames)?;
     text.extend_from_slice(&frames)?;
-    let meta = meta(alloc, sheet)?;
-    text.extend_from_slice(meta.as_bytes())?;
+    let meta = meta(alloc, sheet, left)?;
+    text.extend_from_slice(&meta)?;
     Ok(text)
 }

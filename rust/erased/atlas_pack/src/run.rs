@@ -39,7 +39,7 @@ fn written(
     left: &[Sprite],
 ) -> Result<Vec<u8>, AllocError> {
     if json {
-        return sheet_json(alloc, sheet, frames);
+        return sheet_json(alloc, sheet, frames, left);
     }
     sheet_lines(alloc, sheet, frames, left)
 }

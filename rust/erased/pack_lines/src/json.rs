@@ -2,6 +2,7 @@
 //! A sheet as JSON.
 
 use crate::frames::Frame;
+use crate::sprites::Sprite;
 use wollemigo_core::atlas_model::{Point, Size};
 use wollemigo_support::alloc::{AllocError, Global};
 use wollemigo_support::prelude::{format, String, Vec};
@@ -83,19 +84,70 @@ fn frames_json(alloc: Global, frames: &[Frame]) -> Result<Vec<u8>, AllocError> {
     Ok(text)
 }
 
-// The size of the sheet, and the end.
-fn meta(alloc: Global, sheet: Size) -> Result<String, AllocError> {
+// The size of the sheet.
+fn size_json(alloc: Global, sheet: Size) -> Result<String, AllocError> {
     let Size { width, height } = sheet;
-    format!(in alloc; "\n}},\"meta\":{{\"size\":{{\"w\":{width},\"h\":{height}}}}}}}\n")
+    format!(in alloc; "\n}},\"meta\":{{\"size\":{{\"w\":{width},\"h\":{height}}}")
+}
+
+// A name after another.
+fn next_name(alloc: Global, sprite: &Sprite) -> Result<Vec<u8>, AllocError> {
+    let mut text = Vec::from_slice(alloc, b",")?;
+    let name = quote(alloc, sprite.name.as_str())?;
+    text.extend_from_slice(&name)?;
+    Ok(text)
+}
+
+// Names after another, in order.
+fn other_names(alloc: Global, others: &[Sprite]) -> Result<Vec<u8>, AllocError> {
+    let mut text = Vec::new(alloc);
+    for next in others {
+        let name = next_name(alloc, next)?;
+        text.extend_from_slice(&name)?;
+    }
+    Ok(text)
+}
+
+// The names of the sprites that found no place, in order; nothing where there are none.
+fn left_names(alloc: Global, left: &[Sprite]) -> Result<Vec<u8>, AllocError> {
+    let (first, others) = match left.split_first() {
+        Some((first, others)) => (first, others),
+        _ => {
+            return Ok(Vec::new(alloc));
+        }
+    };
+    let mut text = Vec::from_slice(alloc, b",\"left\":[")?;
+    let name = quote(alloc, first.name.as_str())?;
+    text.extend_from_slice(&name)?;
+    let others = other_names(alloc, others)?;
+    text.extend_from_slice(&others)?;
+    text.push(b']')?;
+    Ok(text)
+}
+
+// What is said of the sheet, and the end.
+fn meta(alloc: Global, sheet: Size, left: &[Sprite]) -> Result<Vec<u8>, AllocError> {
+    let size = size_json(alloc, sheet)?;
+    let mut text = Vec::from_slice(alloc, size.as_bytes())?;
+    let names = left_names(alloc, left)?;
+    text.extend_from_slice(&names)?;
+    text.extend_from_slice(b"}}\n")?;
+    Ok(text)
 }
 
 /// A sheet as a JSON object: `frames` by the names of the sprites, in order, each with its `frame` (`x`, `y`, `w`, `h`)
-/// and `rotated`; and `meta` with the `size` of the sheet (`w`, `h`). It takes memory for the text.
-pub fn sheet_json(alloc: Global, sheet: Size, frames: &[Frame]) -> Result<Vec<u8>, AllocError> {
+/// and `rotated`; and `meta` with the `size` of the sheet (`w`, `h`) and, where some found no place, `left`, their names
+/// in order. It takes memory for the text.
+pub fn sheet_json(
+    alloc: Global,
+    sheet: Size,
+    frames: &[Frame],
+    left: &[Sprite],
+) -> Result<Vec<u8>, AllocError> {
     let mut text = Vec::from_slice(alloc, b"{\"frames\":{\n")?;
     let frames = frames_json(alloc, frames)?;
     text.extend_from_slice(&frames)?;
-    let meta = meta(alloc, sheet)?;
-    text.extend_from_slice(meta.as_bytes())?;
+    let meta = meta(alloc, sheet, left)?;
+    text.extend_from_slice(&meta)?;
     Ok(text)
 }

@@ -55,6 +55,17 @@ const NO_JSON: &str = "{\"frames\":{
 },\"meta\":{\"size\":{\"w\":1,\"h\":1}}}
 ";
 
+const ONE_LEFT: &str = "{\"frames\":{
+
+},\"meta\":{\"size\":{\"w\":2,\"h\":3},\"left\":[\"c\"]}}
+";
+
+const THREE_LEFT: &str = "{\"frames\":{
+\"a.png\":{\"frame\":{\"x\":1,\"y\":0,\"w\":5,\"h\":6},\"rotated\":false},
+\"b\\\"\\\\\":{\"frame\":{\"x\":6,\"y\":2,\"w\":7,\"h\":3},\"rotated\":true}
+},\"meta\":{\"size\":{\"w\":10,\"h\":10},\"left\":[\"c\",\"d \\\"\\\\\",\"e\"]}}
+";
+
 #[test]
 fn lines() {
     let rt = HostRuntime;
@@ -69,10 +80,25 @@ fn lines() {
 fn json() {
     let rt = HostRuntime;
     let frames = frames(rt.alloc(), &rt);
-    let text = sheet_json(rt.alloc(), size2(10, 10), &frames).expect_in(&rt, "memory");
+    let text = sheet_json(rt.alloc(), size2(10, 10), &frames, &[]).expect_in(&rt, "memory");
     assert!(&rt; text.as_slice() == JSON.as_bytes());
-    let none = sheet_json(rt.alloc(), size2(1, 1), &[]).expect_in(&rt, "memory");
+    let none = sheet_json(rt.alloc(), size2(1, 1), &[], &[]).expect_in(&rt, "memory");
     assert!(&rt; none.as_slice() == NO_JSON.as_bytes());
+}
+
+#[test]
+fn json_of_those_left_out() {
+    let rt = HostRuntime;
+    let mut left = left(rt.alloc(), &rt);
+    let one = sheet_json(rt.alloc(), size2(2, 3), &[], &left).expect_in(&rt, "memory");
+    assert!(&rt; one.as_slice() == ONE_LEFT.as_bytes());
+    let second = sprite(rt.alloc(), "d \"\\", 9, 9, &rt);
+    left.push(second).expect_in(&rt, "memory");
+    let third = sprite(rt.alloc(), "e", 9, 9, &rt);
+    left.push(third).expect_in(&rt, "memory");
+    let frames = frames(rt.alloc(), &rt);
+    let three = sheet_json(rt.alloc(), size2(10, 10), &frames, &left).expect_in(&rt, "memory");
+    assert!(&rt; three.as_slice() == THREE_LEFT.as_bytes());
 }
 
 #[test]
