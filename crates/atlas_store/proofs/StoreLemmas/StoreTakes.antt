@@ -36,6 +36,7 @@ use Rattle.atlas_store.specs.Store.StoreCalls.{AreSlotsTaken, IsPlaceable, IsSlo
 use Rattle.atlas_store.proofs.SlotLemmas.Frames.{same-self, same-ne}
 use Rattle.atlas_store.proofs.StoreLemmas.Filing.{with_count-same, with_count-other}
 use Rattle.atlas_store.proofs.StoreLemmas.StoreSteps.{holds-claimed, claimed-back, length-nodes, length-rings}
+use Rattle.atlas_store.proofs.StoreLemmas.TakenOnce.{only-takes}
 
 -- Nothing is claimed once the taken slot is used.
 pub used-taken : (v : Shelf) (fresh : ℕ) (claimed : ℕ → ℕ) (h : Holding) → claimed fresh ≡ 0
@@ -75,10 +76,7 @@ none-taken v = record {
   was_unused = λ k l. absurd (omega (arith, l));
   fresh = λ k l. absurd (omega (arith, l));
   others = λ j z. refl;
-  options = refl;
-  capacity = refl;
-  once = λ f. f;
-  turns = refl;
+  takes = record { context = record { options = refl; capacity = refl; turns = refl }; once = λ f. f };
 }
 
 -- Another one can be taken.
@@ -129,10 +127,7 @@ more-taken {A} {v0} {v} {v'} {k} {ks} m w l h0 holds0 room0 step =
       ];
       others = λ j z. step.others j (λ e. absurd (omega (arith, z, ap (same j) e, same-self j)))
           ∙ w.others j (omega (arith, z));
-      options = step.options ∙ w.options;
-      capacity = step.capacity ∙ w.capacity;
-      once = λ f. step.once (w.once f);
-      turns = step.turns ∙ w.turns;
+      takes = only-takes w.takes step.takes;
     }
 
 -- The same where the slots are those of a plan.

@@ -1,6 +1,5 @@
-use Rattle.std.proofs.Common.{◌∙◌}
+use Rattle.std.proofs.Common.{◌∙◌, arith}
 use Rattle.atlas_tree.proofs.PlanLemmas.GrownSlots.{whole-ready, whole-list, whole-grown}
-use Rattle.atlas_store.proofs.StoreLemmas.Turning.{keeps-room}
 use Rattle.atlas_tree.proofs.growth.grow_whole.Goals as goal
 
 pub stretch_whole-requires-clause-ready : goal.stretch_whole-requires-clause-ready
@@ -12,9 +11,6 @@ list-requires g c = whole-list c.requires.tree.2 c.requires.tree.3 c.unlist.ensu
 pub returns : goal.returns
 returns g c = record {
   grown = λ h before t alone. whole-grown t alone c.unlist.ensures c.stretch_whole.ensures c.list.ensures c.requires.positive;
-  room =
-      keeps-room c.args.store.now c.stretch_whole.new.self c.list.new.self
-      (keeps-room c.args.store.now c.unlist.new.self c.stretch_whole.new.self c.unlist.ensures.room c.stretch_whole.ensures.room)
-      c.list.ensures.room;
-  turns = c.list.ensures.turns ∙ c.stretch_whole.ensures.turns ∙ c.unlist.ensures.turns;
+  room = grind arith;
+  turns = c.list.ensures.takes.context.turns ∙ c.stretch_whole.ensures.turns ∙ c.unlist.ensures.takes.context.turns;
 }

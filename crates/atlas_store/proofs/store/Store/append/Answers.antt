@@ -42,7 +42,7 @@ returns g c =
         rest-length h.unused_list,
       );
       free = append.free;
-      options = append.room.options ∙ take.options;
-      capacity = append.room.capacity ∙ take.capacity;
-      turns = append.turns ∙ take.turns;
+      options = append.room.options ∙ take.takes.context.options;
+      capacity = append.room.capacity ∙ take.takes.context.capacity;
+      turns = append.turns ∙ take.takes.context.turns;
     }
