@@ -80,7 +80,7 @@ pub record KeepsRoom {A : Type 0} (old new : Store A) : Type 0 where
   pub capacity : vec_capacity new.slots ≡ vec_capacity old.slots
   pub options : new.options ≡ old.options
 
--- What is beside slots and lists stays: the options, the memory and the turns.
+-- The context of slots and lists stays: the options, the memory and the turns.
 pub record KeepsContext {A : Type 0} (old new : Store A) : Type 0 where
   pub options : new.options ≡ old.options
   pub capacity : vec_capacity new.slots ≡ vec_capacity old.slots
@@ -90,7 +90,7 @@ pub record KeepsContext {A : Type 0} (old new : Store A) : Type 0 where
 abbrev pub IsTakenOnce : {A : Type 0} → Store A → Type 0
 IsTakenOnce s = AreTakenOnce (nodes s.slots.items) s.unused
 
--- It stays too. Slots may be taken, and none is given back or taken again.
+-- Slots may be taken, and none is given back or taken again; the context stays.
 pub record OnlyTakes {A : Type 0} (old new : Store A) : Type 0 where
   pub context : KeepsContext old new
   pub once : IsTakenOnce old → IsTakenOnce new
