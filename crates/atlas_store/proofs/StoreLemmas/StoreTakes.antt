@@ -76,7 +76,7 @@ none-taken v = record {
   was_unused = λ k l. absurd (omega (arith, l));
   fresh = λ k l. absurd (omega (arith, l));
   others = λ j z. refl;
-  takes = record { context = record { options = refl; capacity = refl; turns = refl }; once = λ f. f };
+  takes = record { options = refl; capacity = refl; turns = refl; once = λ f. f };
 }
 
 -- Another one can be taken.

@@ -80,19 +80,15 @@ pub record KeepsRoom {A : Type 0} (old new : Store A) : Type 0 where
   pub capacity : vec_capacity new.slots ≡ vec_capacity old.slots
   pub options : new.options ≡ old.options
 
--- The context of slots and lists stays: the options, the memory and the turns.
-pub record KeepsContext {A : Type 0} (old new : Store A) : Type 0 where
-  pub options : new.options ≡ old.options
-  pub capacity : vec_capacity new.slots ≡ vec_capacity old.slots
-  pub turns : new.turns ≡ old.turns
-
 -- Each slot was taken once.
 abbrev pub IsTakenOnce : {A : Type 0} → Store A → Type 0
 IsTakenOnce s = AreTakenOnce (nodes s.slots.items) s.unused
 
--- Slots may be taken, and none is given back or taken again; the context stays.
+-- Slots may be taken, and none is given back or taken again. Options, memory and turns stay.
 pub record OnlyTakes {A : Type 0} (old new : Store A) : Type 0 where
-  pub context : KeepsContext old new
+  pub options : new.options ≡ old.options
+  pub capacity : vec_capacity new.slots ≡ vec_capacity old.slots
+  pub turns : new.turns ≡ old.turns
   pub once : IsTakenOnce old → IsTakenOnce new
 
 -- The first unused slot is gone, if there was one.

@@ -67,7 +67,7 @@ unlisted-sharpened {A} {v} {u} {v'} {r} p w one two = record {
       let now : Holding = with_detached p.at.number true (with_free_lists left.0 h) in (
         left.0,
         two.kept now left.1
-            (chosen-low (shelf_of v) (shelf_of u) r p w one.nodes one.takes.context.options now (with_mark-same h.detached p.at.number true)),
+            (chosen-low (shelf_of v) (shelf_of u) r p w one.nodes one.takes.options now (with_mark-same h.detached p.at.number true)),
       );
   nodes = ap (λ s. nodes s.items) two.slots ∙ one.nodes;
   slots = grind arith;

@@ -12,5 +12,5 @@ pub returns : goal.returns
 returns g c = record {
   grown = λ h before t alone. whole-grown t alone c.unlist.ensures c.stretch_whole.ensures c.list.ensures c.requires.positive;
   room = grind arith;
-  turns = c.list.ensures.takes.context.turns ∙ c.stretch_whole.ensures.turns ∙ c.unlist.ensures.takes.context.turns;
+  turns = c.list.ensures.takes.turns ∙ c.stretch_whole.ensures.turns ∙ c.unlist.ensures.takes.turns;
 }

@@ -29,9 +29,9 @@ list-requires-else-is_free g c =
 pub returns-then-is_free : goal.returns-then-is_free
 returns-then-is_free g c = record {
   kept = λ h d n s. stretch-lengthened s (c.is_free.ensures.0 c.if-is_free.true) c.unlist.ensures c.stretch.ensures c.list.ensures;
-  options = c.list.ensures.takes.context.options ∙ c.stretch.ensures.room.options ∙ c.unlist.ensures.takes.context.options;
-  capacity = c.list.ensures.takes.context.capacity ∙ c.stretch.ensures.room.capacity ∙ c.unlist.ensures.takes.context.capacity;
-  turns = c.list.ensures.takes.context.turns ∙ c.stretch.ensures.turns ∙ c.unlist.ensures.takes.context.turns;
+  options = c.list.ensures.takes.options ∙ c.stretch.ensures.room.options ∙ c.unlist.ensures.takes.options;
+  capacity = c.list.ensures.takes.capacity ∙ c.stretch.ensures.room.capacity ∙ c.unlist.ensures.takes.capacity;
+  turns = c.list.ensures.takes.turns ∙ c.stretch.ensures.turns ∙ c.unlist.ensures.takes.turns;
 }
 
 pub returns-else-is_free : goal.returns-else-is_free
@@ -39,7 +39,7 @@ returns-else-is_free g c =
     let busy : (node_in (shelf_of c.args.store.now) c.args.last.number).kind ≡ Free → ⊥ = (λ f. true≢false (sym (c.is_free.ensures.1 f) ∙ c.if-is_free.false)) in
     record {
       kept = λ h d n s. append-lengthened s busy c.append-strip.ensures c.list-else-is_free.ensures;
-      options = c.list-else-is_free.ensures.takes.context.options ∙ c.append-strip.ensures.options;
-      capacity = c.list-else-is_free.ensures.takes.context.capacity ∙ c.append-strip.ensures.capacity;
-      turns = c.list-else-is_free.ensures.takes.context.turns ∙ c.append-strip.ensures.turns;
+      options = c.list-else-is_free.ensures.takes.options ∙ c.append-strip.ensures.options;
+      capacity = c.list-else-is_free.ensures.takes.capacity ∙ c.append-strip.ensures.capacity;
+      turns = c.list-else-is_free.ensures.takes.turns ∙ c.append-strip.ensures.turns;
     }

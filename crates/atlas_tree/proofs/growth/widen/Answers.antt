@@ -11,7 +11,7 @@ list-requires g c = nest-list c.requires.ready.2 c.nest.ensures
 pub returns : goal.returns
 returns g c = record {
   kept = λ h d s. nest-widened s c.nest.ensures c.list.ensures;
-  options = c.list.ensures.takes.context.options ∙ c.nest.ensures.options;
-  capacity = c.list.ensures.takes.context.capacity ∙ c.nest.ensures.capacity;
-  turns = c.list.ensures.takes.context.turns ∙ c.nest.ensures.turns;
+  options = c.list.ensures.takes.options ∙ c.nest.ensures.options;
+  capacity = c.list.ensures.takes.capacity ∙ c.nest.ensures.capacity;
+  turns = c.list.ensures.takes.turns ∙ c.nest.ensures.turns;
 }

@@ -85,7 +85,7 @@ returns-clause-slots g c = record {
       (Allocated (grant_of c.grant.result))
       (subst (λ w. IsSound (state_of w)) c.self.view_is c.self.invariant.sound) (returns-clause-step g c);
   capacity =
-      omega (arith, ap (λ v. v.capacity) c.self.view_is, c.make_room.ensures.same.capacity, c.grant.ensures.takes.context.capacity);
+      omega (arith, ap (λ v. v.capacity) c.self.view_is, c.make_room.ensures.same.capacity, c.grant.ensures.takes.capacity);
 }
 
 pub returns-in_err-make_room-clause-memory : goal.returns-in_err-make_room-clause-memory

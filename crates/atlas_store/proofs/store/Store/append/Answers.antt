@@ -42,7 +42,7 @@ returns g c =
         rest-length h.unused_list,
       );
       free = append.free;
-      options = append.room.options ∙ take.takes.context.options;
-      capacity = append.room.capacity ∙ take.takes.context.capacity;
-      turns = append.turns ∙ take.takes.context.turns;
+      options = append.room.options ∙ take.takes.options;
+      capacity = append.room.capacity ∙ take.takes.capacity;
+      turns = append.turns ∙ take.takes.turns;
     }

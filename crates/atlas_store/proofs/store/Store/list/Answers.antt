@@ -33,5 +33,5 @@ returns g c =
           );
       nodes = same;
       slots = long-over _ _ _ _ slots;
-      takes = record { context = record { options = refl; capacity = refl; turns = refl }; once = once-same same };
+      takes = record { options = refl; capacity = refl; turns = refl; once = once-same same };
     }

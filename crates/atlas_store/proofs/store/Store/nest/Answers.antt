@@ -112,7 +112,7 @@ returns g c =
             omega (arith, rest-length (tail_of h.unused_list), rest-length h.unused_list),
           );
       free = append.free;
-      options = append.room.options ∙ wrap.room.options ∙ container.takes.context.options ∙ strip.takes.context.options;
-      capacity = append.room.capacity ∙ wrap.room.capacity ∙ container.takes.context.capacity ∙ strip.takes.context.capacity;
-      turns = append.turns ∙ wrap.turns ∙ container.takes.context.turns ∙ strip.takes.context.turns;
+      options = append.room.options ∙ wrap.room.options ∙ container.takes.options ∙ strip.takes.options;
+      capacity = append.room.capacity ∙ wrap.room.capacity ∙ container.takes.capacity ∙ strip.takes.capacity;
+      turns = append.turns ∙ wrap.turns ∙ container.takes.turns ∙ strip.takes.turns;
     }

@@ -69,5 +69,5 @@ returns g c =
       granted = placed-granted ns _ at p t placed;
       left = placed-left ns _ at p t placed;
       apart = left-once p t can.once;
-      takes = only-takes took.takes (record { context = record { options = refl; capacity = refl; turns = refl }; once = once-kept kept });
+      takes = only-takes took.takes (record { options = refl; capacity = refl; turns = refl; once = once-kept kept });
     }

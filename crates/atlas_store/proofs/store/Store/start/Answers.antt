@@ -26,8 +26,8 @@ returns g c =
         slots = c.list.ensures.nodes ∙ search rules;
         one = c.list.ensures.slots ∙ search rules;
         once = c.list.ensures.takes.once (once-whole c.args.size (search rules) refl);
-        options = c.list.ensures.takes.context.options ∙ c.set.ensures;
+        options = c.list.ensures.takes.options ∙ c.set.ensures;
       };
-      capacity = c.list.ensures.takes.context.capacity ∙ search rules;
-      turns = c.list.ensures.takes.context.turns;
+      capacity = c.list.ensures.takes.capacity ∙ search rules;
+      turns = c.list.ensures.takes.turns;
     }
