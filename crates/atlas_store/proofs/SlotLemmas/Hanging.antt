@@ -1,5 +1,6 @@
 -- The members of the top sequence get another holder, one after the other.
-use Rattle.std.proofs.Common.{ℕ, ◌+◌, ◌<◌, ◌≤◌, ◌≡◌, ◌≢◌, List, refl, ap, ◌∙◌, arith, length, set, length-set, pos}
+use Rattle.std.proofs.Common.{ℕ, ◌+◌, ◌<◌, ◌≤◌, ◌≡◌, ◌≢◌, List, refl, sym, ap, ◌∙◌, arith, length, set, length-set, pos}
+use Rattle.std.proofs.lemmas.Bool.{cases_eq}
 use Rattle.std.proofs.lemmas.List.{length-map}
 use Rattle.atlas_search.specs.declared.link.Link.{Link}
 use Rattle.atlas_store.specs.declared.slots.Node.{Node}
@@ -11,19 +12,20 @@ use Rattle.atlas_model.specs.declared.geometry.Rectangle.{Rectangle}
 use Rattle.atlas_model.specs.declared.geometry.Size.{Size}
 use Rattle.atlas_model.specs.Boxes.{other}
 use Rattle.atlas_model.specs.Pixels.{rectangle_of, sides_of, size_of}
-use Rattle.atlas_search.specs.Rectangles.{flipped}
+use Rattle.atlas_search.specs.Rectangles.{beyond_in, flipped}
 use Rattle.atlas_model.specs.Trees.{total}
 use Rattle.atlas_store.specs.Slots.{nodes, node_at, use_count, axis_of, KeepsUse}
 use Rattle.atlas_search.specs.Numbers.{no_slot, same}
 use Rattle.atlas_store.specs.Slots.Numbered.{Numbered, erase, tally, first_slot, End, Free, Alloc, Seq}
 use Rattle.atlas_store.specs.Slots.Standing.{Sequence, Standing, Stands, IsLinkedIn, inside, member_box}
-use Rattle.atlas_store.specs.Slots.Growing.{Reaches, held_by, top_along}
-use Rattle.atlas_store.specs.Slots.SlotCalls.{BeginsAt}
+use Rattle.atlas_store.specs.Slots.Growing.{Reaches, IsWider, held_by, nested, top_along}
+use Rattle.atlas_store.specs.Slots.SlotCalls.{BeginsAt, CanNestTop}
 use Rattle.atlas_store.proofs.WalkLemmas.Observing.{nonempty-total}
 use Rattle.atlas_store.proofs.SlotLemmas.Frames.{Standing-same, IsWritten, IsWritten-by, same-self, same-ne, keeps-same, used-le, ne-from_same, ne-from_count}
 use Rattle.atlas_store.proofs.SlotLemmas.JoiningWrites.{none-unused}
 use Rattle.atlas_model.proofs.TreeLemmas.TreeBasics.{other_twice}
 use Rattle.atlas_store.proofs.SlotLemmas.Placing.{axis_of-flipped}
+use Rattle.atlas_store.proofs.SlotLemmas.Stretching.{box-beyond}
 use Rattle.atlas_store.proofs.SlotLemmas.Reading.{first-axis}
 use Rattle.atlas_store.proofs.SlotLemmas.Following.{outermost, outermost-few, followers, followers-outermost, begins-inside}
 use Rattle.atlas_store.proofs.SlotLemmas.Closing.{begins-none}
@@ -159,58 +161,102 @@ pub uses-from : (n m l : Node) → KeepsUse n m → KeepsUse m l → KeepsUse n 
 uses-from n m l a b = grind arith
 
 -- The rectangle of this size at the origin.
-abbrev pub from_origin : Size → Rectangle
+abbrev from_origin : Size → Rectangle
 from_origin size = record { min = record { x = pos 0; y = pos 0 }; max = record { x = size.width; y = size.height } }
 
--- Inside the slot that holds it, the sequence is what it was.
-inside-held : (s : Sequence) (c length : ℕ) → s.start ≡ 0
-    → inside (top_along (other s.axis) length) c 0 s.width ≡ held_by c s
-inside-held s c length e = grind (arith, other_twice)
-
--- That slot fills the size that the sequence spans.
-rectangle-spanned : (s : Sequence) (size : Size) (length : ℕ) → size ≡ size_of (sides_of size) → s.start ≡ 0
-    → Reaches (sides_of size) s length
-    → rectangle_of (member_box (top_along (other s.axis) length) 0 s.width) ≡ from_origin size
-rectangle-spanned s size length exact e r = grind arith
-
--- The node of a slot that holds a whole sequence of this size.
-abbrev pub top_node : Orientation → Size → (generation : ℕ) → Node
-top_node axis size g =
+-- The node of a slot that holds a whole sequence of this size, and that slot k follows.
+abbrev pub top_node : Orientation → Size → (k : Link) → (generation : ℕ) → Node
+top_node axis size k g =
     record {
       parent = record { number = no_slot };
       previous = record { number = no_slot };
-      next = record { number = no_slot };
+      next = k;
       area = from_origin size;
       kind = kind.Container;
       axis = axis;
       generation = g;
     }
 
--- The top sequence hangs in slot c, which is written after that.
-pub Stands-topped : (ns ms ks : List Node) (i c g : ℕ) (size : Size) (s : Sequence) (n : Numbered)
-    → (node_at ns c).kind ≡ kind.Unused
-    → size ≡ size_of (sides_of size) → ((k : ℕ) → KeepsUse (node_at ns k) (node_at ms k))
-    → IsWritten ms ks c (top_node (flipped (node_at ns i).axis) size g)
-    → BeginsAt ns i s n → s.start ≡ 0 → Reaches (sides_of size) s (total (erase n))
-    → Standing ms (held_by c s) no_slot 0 n
-    → Stands ks (top_along (other s.axis) (total (erase n))) (Seq c s.width n End)
-Stands-topped ns ms ks i c g size s n unused exact uses w h start reach hung =
-    let length = total (erase n) in
-    let first : axis_of (node_at ns i).axis ≡ s.axis =
-    rw (← h.begins) (first-axis ns s no_slot 0 n h.stands.standing (nonempty-total n h.some)) in
-    let axis = axis_of-flipped (node_at ns i).axis ∙ ap other first in
-    let none : tally c n ≡ 0 = h.stands.numbered c ∙ ap use_count unused in
+-- The node of the free leaf that follows slot c, as far as the far corner of the other size.
+abbrev pub last_node : Orientation → (inner size : Size) → (c : Link) → (generation : ℕ) → Node
+last_node axis inner size c g =
     record {
-      standing = grind (arith, rectangle-spanned, inside-held, Standing-same, ne-from_count);
-      numbered = grind (arith, same-self, same-ne);
+      parent = record { number = no_slot };
+      previous = c;
+      next = record { number = no_slot };
+      area = beyond_in axis (from_origin inner) size;
+      kind = kind.Free;
+      axis = axis;
+      generation = g;
     }
 
-pub topped-by : (ms ks : List Node) (c g : ℕ) (size : Size) (a b : Orientation) (area : Rectangle) → a ≡ b
-    → area ≡ from_origin size → ks ≡ set ms c (record (top_node a size g) { area = area }) → c < length ms
-    → IsWritten ms ks c (top_node b size g)
-topped-by ms ks c g size a b area e r w l = IsWritten-by ms ks c (record (top_node a size g) { area = area }) (top_node b size g) w (rw (e, r) refl) l
+-- Where the members hang already, slots c and k are written: the node that holds them, and the leaf after it.
+pub record IsNestWritten (ns ms ks : List Node) (i : ℕ) (c k : Link) (inner size : Size) : Type 0 where
+  pub uses : (x : ℕ) → KeepsUse (node_at ns x) (node_at ms x)
+  pub container : node_at ks c.number
+      ≡ top_node (flipped (node_at ns i).axis) inner k (node_at ns c.number).generation
+  pub strip : node_at ks k.number
+      ≡ last_node (flipped (node_at ns i).axis) inner size c (node_at ns k.number).generation
+  pub others : (x : ℕ) → x ≢ c.number → x ≢ k.number → node_at ks x ≡ node_at ms x
 
-pub uses-written : (ns ms ks : List Node) (c : ℕ) (m : Node) → ((k : ℕ) → KeepsUse (node_at ns k) (node_at ms k))
-    → IsWritten ms ks c m
-    → (k : ℕ) → k ≢ c → KeepsUse (node_at ns k) (node_at ks k)
-uses-written ns ms ks c m uses w k ne = rw (w.others k ne) (uses k)
+pub nest-written : (ns ms xs ks : List Node) (i : ℕ) (c k : Link) (inner size : Size) (outer leaf : Node)
+    → CanNestTop ns i c.number k.number → c.number < length ms → k.number < length ms
+    → ((x : ℕ) → KeepsUse (node_at ns x) (node_at ms x))
+    → outer ≡ top_node (flipped (node_at ns i).axis) inner k (node_at ns c.number).generation
+    → leaf ≡ last_node (flipped (node_at ns i).axis) inner size c (node_at ns k.number).generation
+    → xs ≡ set ms c.number outer → ks ≡ set xs k.number leaf → IsNestWritten ns ms ks i c k inner size
+nest-written ns ms xs ks i c k inner size outer leaf can lc lk uses eo el e1 e2 =
+    grind (arith, IsWritten-by ms xs c.number, IsWritten-by xs ks k.number, length-set ms c.number)
+
+module _ (ns ms ks : List Node) (i : ℕ) (c k : Link) (inner size : Size) (can : CanNestTop ns i c.number k.number)
+    (w : IsNestWritten ns ms ks i c k inner size) where
+  pub nested-others : (x : ℕ) → x ≢ c.number → x ≢ k.number → KeepsUse (node_at ns x) (node_at ks x)
+  nested-others x nc nk = rw (w.others x nc nk) (w.uses x)
+
+  nested_use : (x : ℕ) → use_count (node_at ks x).kind ≡ same x c.number + (same x k.number + use_count (node_at ns x).kind)
+  nested_use x = grind (arith, cases_eq x c.number, cases_eq x k.number, same-self, same-ne, nested-others)
+
+  module _ (exact_inner : inner ≡ size_of (sides_of inner)) (exact : size ≡ size_of (sides_of size)) (s : Sequence) (n : Numbered) (d : ℕ)
+      (h : BeginsAt ns i s n) (start : s.start ≡ 0) (reach : Reaches (sides_of inner) s (total (erase n)))
+      (wider : IsWider s.axis (sides_of inner) (sides_of size) d) where
+    abbrev outside : Sequence
+    outside = top_along (other s.axis) (total (erase n))
+
+    axis_outside : axis_of (flipped (node_at ns i).axis) ≡ other s.axis
+    axis_outside =
+        let first : axis_of (node_at ns i).axis ≡ s.axis =
+        rw (← h.begins) (first-axis ns s no_slot 0 n h.stands.standing (nonempty-total n h.some)) in
+        axis_of-flipped (node_at ns i).axis ∙ ap other first
+
+    -- The container fills the size that the sequence spans.
+    spanned : rectangle_of (member_box outside 0 s.width) ≡ from_origin inner
+    spanned = grind arith
+
+    -- And the leaf the rest.
+    reaches_far : Reaches (sides_of size) outside (0 + s.width + d)
+    reaches_far = grind (arith, other_twice)
+
+    -- Inside the container the sequence is what it was.
+    inside_held : inside outside c.number 0 s.width ≡ held_by c.number s
+    inside_held = grind (arith, other_twice)
+
+    away : (x : ℕ) → 0 < tally x n → node_at ks x ≡ node_at ms x
+    away x l = w.others x (λ e. absurd (omega (arith, ap (λ y. tally y n) e, h.stands.numbered c.number, ap use_count can.container)))
+        (λ e. absurd (omega (arith, ap (λ y. tally y n) e, h.stands.numbered k.number, ap use_count can.strip)))
+
+    pub Stands-nested : Standing ms (held_by c.number s) no_slot 0 n
+        → Stands ks outside (nested c.number k.number s.width d n)
+    Stands-nested hung =
+        record {
+          standing = (
+            rw w.container (record { parent = refl; previous = refl; next = refl; kind = refl; axis = axis_outside }),
+            rw w.container (sym spanned),
+            rw inside_held (Standing-same ms ks (held_by c.number s) no_slot 0 n away hung),
+            (
+              rw w.strip (record { parent = refl; previous = refl; next = refl; kind = refl; axis = axis_outside }),
+              rw (w.strip, ← spanned) (box-beyond _ outside 0 s.width (0 + s.width) d size axis_outside exact refl reaches_far),
+              tt,
+            ),
+          );
+          numbered = λ x. omega (arith, nested_use x, h.stands.numbered x);
+        }
