@@ -1,5 +1,5 @@
 -- The members of the top sequence get another holder, one after the other.
-use Rattle.std.proofs.Common.{ℕ, ◌+◌, ◌<◌, ◌≤◌, ◌≡◌, ◌≢◌, List, refl, sym, ap, ◌∙◌, arith, length, set, length-set, pos}
+use Rattle.std.proofs.Common.{ℕ, ◌+◌, ◌<◌, ◌≤◌, ◌≡◌, ◌≢◌, List, refl, sym, ◌∙◌, arith, length, set, length-set, pos}
 use Rattle.std.proofs.lemmas.Bool.{cases_eq}
 use Rattle.std.proofs.lemmas.List.{length-map}
 use Rattle.atlas_search.specs.declared.link.Link.{Link}
@@ -7,7 +7,6 @@ use Rattle.atlas_store.specs.declared.slots.Node.{Node}
 use Rattle.atlas_store.specs.declared.slots.NodeKind.{NodeKind}
 use Rattle.atlas_store.specs.declared.slots.NodeKind.TheVariants as kind
 use Rattle.atlas_store.specs.declared.slots.Slot.{Slot}
-use Rattle.atlas_search.specs.declared.cut.Orientation.{Orientation}
 use Rattle.atlas_model.specs.declared.geometry.Rectangle.{Rectangle}
 use Rattle.atlas_model.specs.declared.geometry.Size.{Size}
 use Rattle.atlas_model.specs.Boxes.{other}
@@ -164,69 +163,57 @@ uses-from n m l a b = grind arith
 abbrev from_origin : Size → Rectangle
 from_origin size = record { min = record { x = pos 0; y = pos 0 }; max = record { x = size.width; y = size.height } }
 
--- The node of a slot that holds a whole sequence of this size, and that slot k follows.
-abbrev pub top_node : Orientation → Size → (k : Link) → (generation : ℕ) → Node
-top_node axis size k g =
+-- The node of an unused slot once it holds a whole sequence of this size, whose first member is given; slot k follows.
+abbrev pub top_node : (first unused : Node) → Size → (k : Link) → Node
+top_node first unused size k =
     record {
       parent = record { number = no_slot };
       previous = record { number = no_slot };
       next = k;
       area = from_origin size;
       kind = kind.Container;
-      axis = axis;
-      generation = g;
+      axis = flipped first.axis;
+      generation = unused.generation;
     }
 
--- The node of the free leaf that follows slot c, as far as the far corner of the other size.
-abbrev pub last_node : Orientation → (inner size : Size) → (c : Link) → (generation : ℕ) → Node
-last_node axis inner size c g =
-    record {
-      parent = record { number = no_slot };
+-- The node of an unused slot once it is a free leaf that follows slot c, as far as the far corner of a size.
+abbrev pub last_node : (top unused : Node) → Size → (c : Link) → Node
+last_node top unused size c =
+    record top {
       previous = c;
       next = record { number = no_slot };
-      area = beyond_in axis (from_origin inner) size;
+      area = beyond_in top.axis top.area size;
       kind = kind.Free;
-      axis = axis;
-      generation = g;
+      generation = unused.generation;
     }
 
--- Where the members hang already, slots c and k are written: the node that holds them, and the leaf after it.
-pub record IsNestWritten (ns ms ks : List Node) (i : ℕ) (c k : Link) (inner size : Size) : Type 0 where
-  pub uses : (x : ℕ) → KeepsUse (node_at ns x) (node_at ms x)
-  pub container : node_at ks c.number
-      ≡ top_node (flipped (node_at ns i).axis) inner k (node_at ns c.number).generation
-  pub strip : node_at ks k.number
-      ≡ last_node (flipped (node_at ns i).axis) inner size c (node_at ns k.number).generation
-  pub others : (x : ℕ) → x ≢ c.number → x ≢ k.number → node_at ks x ≡ node_at ms x
+-- The members hang in slot c; then that is written, and slot k after it.
+module _ (ns ms xs ks : List Node) (i : ℕ) (c k : Link) (inner size : Size) (can : CanNestTop ns i c.number k.number)
+    (uses : (x : ℕ) → KeepsUse (node_at ns x) (node_at ms x))
+    (w1 : IsWritten ms xs c.number (top_node (node_at ns i) (node_at ns c.number) inner k))
+    (w2 : IsWritten xs ks k.number
+    (last_node (top_node (node_at ns i) (node_at ns c.number) inner k) (node_at ns k.number) size c)) where
+  pub nested-top : node_at ks c.number ≡ top_node (node_at ns i) (node_at ns c.number) inner k
+  nested-top = w2.others c.number can.apart ∙ w1.there
 
-pub nest-written : (ns ms xs ks : List Node) (i : ℕ) (c k : Link) (inner size : Size) (outer leaf : Node)
-    → CanNestTop ns i c.number k.number → c.number < length ms → k.number < length ms
-    → ((x : ℕ) → KeepsUse (node_at ns x) (node_at ms x))
-    → outer ≡ top_node (flipped (node_at ns i).axis) inner k (node_at ns c.number).generation
-    → leaf ≡ last_node (flipped (node_at ns i).axis) inner size c (node_at ns k.number).generation
-    → xs ≡ set ms c.number outer → ks ≡ set xs k.number leaf → IsNestWritten ns ms ks i c k inner size
-nest-written ns ms xs ks i c k inner size outer leaf can lc lk uses eo el e1 e2 =
-    grind (arith, IsWritten-by ms xs c.number, IsWritten-by xs ks k.number, length-set ms c.number)
+  stays_hung : (x : ℕ) → x ≢ c.number → x ≢ k.number → node_at ks x ≡ node_at ms x
+  stays_hung x nc nk = w2.others x nk ∙ w1.others x nc
 
-module _ (ns ms ks : List Node) (i : ℕ) (c k : Link) (inner size : Size) (can : CanNestTop ns i c.number k.number)
-    (w : IsNestWritten ns ms ks i c k inner size) where
   pub nested-others : (x : ℕ) → x ≢ c.number → x ≢ k.number → KeepsUse (node_at ns x) (node_at ks x)
-  nested-others x nc nk = rw (w.others x nc nk) (w.uses x)
+  nested-others x nc nk = rw (stays_hung x nc nk) (uses x)
 
-  nested_use : (x : ℕ) → use_count (node_at ks x).kind ≡ same x c.number + (same x k.number + use_count (node_at ns x).kind)
-  nested_use x = grind (arith, cases_eq x c.number, cases_eq x k.number, same-self, same-ne, nested-others)
+  nested_use : (x : ℕ)
+      → use_count (node_at ks x).kind ≡ same x c.number + (same x k.number + use_count (node_at ns x).kind)
+  nested_use x = grind (arith, cases_eq x c.number, cases_eq x k.number, same-self, same-ne, nested-top, nested-others)
 
-  module _ (exact_inner : inner ≡ size_of (sides_of inner)) (exact : size ≡ size_of (sides_of size)) (s : Sequence) (n : Numbered) (d : ℕ)
-      (h : BeginsAt ns i s n) (start : s.start ≡ 0) (reach : Reaches (sides_of inner) s (total (erase n)))
-      (wider : IsWider s.axis (sides_of inner) (sides_of size) d) where
+  module _ (exact_inner : inner ≡ size_of (sides_of inner)) (exact : size ≡ size_of (sides_of size)) (s : Sequence)
+      (n : Numbered) (d : ℕ) (h : BeginsAt ns i s n) (start : s.start ≡ 0)
+      (reach : Reaches (sides_of inner) s (total (erase n))) (wider : IsWider s.axis (sides_of inner) (sides_of size) d) where
     abbrev outside : Sequence
     outside = top_along (other s.axis) (total (erase n))
 
     axis_outside : axis_of (flipped (node_at ns i).axis) ≡ other s.axis
-    axis_outside =
-        let first : axis_of (node_at ns i).axis ≡ s.axis =
-        rw (← h.begins) (first-axis ns s no_slot 0 n h.stands.standing (nonempty-total n h.some)) in
-        axis_of-flipped (node_at ns i).axis ∙ ap other first
+    axis_outside = grind (arith, axis_of-flipped, first-axis ns s no_slot 0 n h.stands.standing, nonempty-total)
 
     -- The container fills the size that the sequence spans.
     spanned : rectangle_of (member_box outside 0 s.width) ≡ from_origin inner
@@ -241,20 +228,20 @@ module _ (ns ms ks : List Node) (i : ℕ) (c k : Link) (inner size : Size) (can 
     inside_held = grind (arith, other_twice)
 
     away : (x : ℕ) → 0 < tally x n → node_at ks x ≡ node_at ms x
-    away x l = w.others x (λ e. absurd (omega (arith, ap (λ y. tally y n) e, h.stands.numbered c.number, ap use_count can.container)))
-        (λ e. absurd (omega (arith, ap (λ y. tally y n) e, h.stands.numbered k.number, ap use_count can.strip)))
+    away x l = grind (arith, stays_hung, ne-from_count)
 
     pub Stands-nested : Standing ms (held_by c.number s) no_slot 0 n
         → Stands ks outside (nested c.number k.number s.width d n)
     Stands-nested hung =
         record {
           standing = (
-            rw w.container (record { parent = refl; previous = refl; next = refl; kind = refl; axis = axis_outside }),
-            rw w.container (sym spanned),
+            rw nested-top (record { parent = refl; previous = refl; next = refl; kind = refl; axis = axis_outside }),
+            rw nested-top (sym spanned),
             rw inside_held (Standing-same ms ks (held_by c.number s) no_slot 0 n away hung),
             (
-              rw w.strip (record { parent = refl; previous = refl; next = refl; kind = refl; axis = axis_outside }),
-              rw (w.strip, ← spanned) (box-beyond _ outside 0 s.width (0 + s.width) d size axis_outside exact refl reaches_far),
+              rw w2.there (record { parent = refl; previous = refl; next = refl; kind = refl; axis = axis_outside }),
+              rw (w2.there, ← spanned)
+                  (box-beyond _ outside 0 s.width (0 + s.width) d size axis_outside exact refl reaches_far),
               tt,
             ),
           );

@@ -1,66 +1,55 @@
 -- The calls that extend the top sequence keep what is held: from what the calls on nodes ensure.
-use Rattle.std.proofs.Common.{ℕ, ◌+◌, ◌<◌, ◌≡◌, ◌≢◌, ◌^◌, List, [], ◌∷◌, refl, ap, arith, Bool, true, FitsSigned, w32}
+use Rattle.std.proofs.Common.{ℕ, ◌+◌, ◌<◌, ◌≡◌, ◌≢◌, ◌^◌, List, [], ◌∷◌, length, refl, ap, arith, Bool, true, FitsSigned, w32}
 use Rattle.std.proofs.lemmas.Bool.{cases_eq}
 use Rattle.atlas_store.specs.declared.slots.Slot.{Slot}
-use Rattle.atlas_search.specs.declared.link.Link.{Link}
 use Rattle.atlas_store.specs.declared.slots.Node.{Node}
-use Rattle.atlas_store.specs.declared.slots.Ring.{Ring}
 use Rattle.atlas_store.specs.declared.slots.NodeKind.TheVariants as kind
-use Rattle.atlas_search.specs.declared.table.ListHead.{ListHead}
 use Rattle.atlas_model.specs.declared.geometry.Size.{Size}
 use Rattle.atlas_model.specs.Boxes.{Axis, Sides, other, side, IsPositive}
 use Rattle.atlas_model.specs.Boxes.Axis.{Horizontal, Vertical}
-use Rattle.atlas_model.specs.Choice.{Options}
-use Rattle.atlas_model.specs.Pixels.{sides_of, options_of}
+use Rattle.atlas_model.specs.Pixels.{sides_of}
 use Rattle.atlas_model.specs.Trees.{IsCut, total}
-use Rattle.atlas_store.specs.Slots.{nodes, rings, node_at, use_count, KeepsUse}
+use Rattle.atlas_store.specs.Slots.{nodes, rings, node_at, use_count}
 use Rattle.atlas_search.specs.Numbers.{no_slot, occurs, same}
 use Rattle.atlas_store.specs.Slots.Numbered.{Numbered, erase, tally}
 use Rattle.atlas_store.specs.Slots.Standing.{Sequence, Stands}
-use Rattle.atlas_store.specs.Slots.Lists.{AreFiled, Places}
 use Rattle.atlas_store.specs.Slots.Links.{with_mark}
-use Rattle.atlas_store.specs.Slots.SlotCalls.{BeginsAt, CanAppendTo, CanNestTop, IsLeafStretched, IsLeafAppended, IsTopNested}
-use Rattle.atlas_store.specs.Stored.{Shelf, Holding, Holds, HoldsWith, places_of}
-use Rattle.atlas_store.specs.Store.Holdings.{shelf_of, node_in, HasSlotsFor, IsDetachedLeaf, with_unused_list}
+use Rattle.atlas_store.specs.Slots.SlotCalls.{CanAppendTo, CanNestTop, IsLeafStretched, IsLeafAppended, IsTopNested}
+use Rattle.atlas_store.specs.Stored.{Shelf, Holding, Holds, HoldsWith}
+use Rattle.atlas_store.specs.Store.Holdings.{shelf_of, HasSlotsFor, IsDetachedLeaf, with_unused_list}
 use Rattle.atlas_store.specs.Store.StoreCalls.{AreSlotsTaken}
-use Rattle.atlas_store.specs.Store.TopCalls.{IsNestable}
+use Rattle.atlas_store.specs.Store.TopCalls.{IsExtendable, IsNestable}
 use Rattle.atlas_store.specs.declared.store.Store.{Store}
-use Rattle.atlas_store.specs.Slots.Growing.{IsEnd, IsLone, IsSpanning, IsWider, Reaches, last_slot, after_stretch, after_whole, after_append, after_nest}
+use Rattle.atlas_store.specs.Slots.Growing.{IsEnd, IsLone, Reaches, last_slot, top_along, stretched, appended, nested, after_stretch, after_whole, after_append, after_nest}
 use Rattle.atlas_store.proofs.SlotLemmas.Frames.{same-self, same-ne}
 use Rattle.atlas_store.proofs.StoreLemmas.Filing.{with_mark-same, with_mark-other}
 use Rattle.atlas_store.proofs.StoreLemmas.Taking.{AreFiled-moved, StaysOrIsOut}
 use Rattle.atlas_store.proofs.StoreLemmas.Sizes.{natural-fits}
 use Rattle.atlas_store.proofs.StoreLemmas.StoreTakes.{taken-once}
-use Rattle.atlas_store.proofs.StoreLemmas.StoreSteps.{AreSlots, short-mid, filed-before, stands-before, node-before, moved-kept, use-kept}
+use Rattle.atlas_store.proofs.StoreLemmas.StoreSteps.{AreSlots, over-shelf, long-over, moved-kept, use-kept}
 use Rattle.atlas_store.proofs.WalkLemmas.Observing.{nonempty-total}
-use Rattle.atlas_store.proofs.StoreLemmas.ExtendedTrees.{other-other, total-stretched, cut-stretched, total-appended, cut-appended, last-member}
+use Rattle.atlas_store.proofs.StoreLemmas.ExtendedTrees.{total-stretched, cut-stretched, total-appended, cut-appended, last-member}
 
 -- Extents are positive, and no box passes what an `i32` holds.
-record IsInBounds (h : Holding) : Type 0 where
-  pub cut : IsCut h.sequence.width (erase h.tree)
-  pub wide : 0 < h.sequence.width
-  pub across : h.sequence.start + h.sequence.width < 2 ^ 31
-  pub along : total (erase h.tree) < 2 ^ 31
-
--- What is held once the slots changed, and the tree and its sequence with them; nothing is claimed any more.
-held_anew : (claimed : ℕ → ℕ) (v : Shelf) (old mid new : List Slot) (h k : Holding) → AreSlots v.slots old mid new
-    → HoldsWith claimed v h → k.sequence.parent ≡ no_slot → Stands (nodes mid) k.sequence k.tree
-    → AreFiled (options_of v.options) (nodes mid) (rings mid) v.heads v.unused (places_of (λ i. 0) k)
-    → IsInBounds k → Holds (record v { slots = new }) k
-held_anew claimed v old mid new h k a holds top stands filed bounds = grind (arith, short-mid)
+record IsInBounds (s : Sequence) (n : Numbered) : Type 0 where
+  pub cut : IsCut s.width (erase n)
+  pub wide : 0 < s.width
+  pub across : s.start + s.width < 2 ^ 31
+  pub along : total (erase n) < 2 ^ 31
 
 -- Slots that are claimed are used, and the others keep their use.
-record AreUsed (ns ms : List Node) (claimed : ℕ → ℕ) (detached detached' : ℕ → Bool) : Type 0 where
-  pub moved : (i : ℕ) → StaysOrIsOut (node_at ns i) (node_at ms i) (detached i) (detached' i)
-  pub counted : (i : ℕ) → use_count (node_at ms i).kind ≡ claimed i + use_count (node_at ns i).kind
+record AreUsed (old new : List Slot) (claimed : ℕ → ℕ) (detached detached' : ℕ → Bool) : Type 0 where
+  pub moved : (i : ℕ) → StaysOrIsOut (node_at (nodes old) i) (node_at (nodes new) i) (detached i) (detached' i)
+  pub counted : (i : ℕ) → use_count (node_at (nodes new) i).kind ≡ claimed i + use_count (node_at (nodes old) i).kind
+  pub same_rings : rings new ≡ rings old
 
--- The lists stay in order then.
-filed-used : (claimed : ℕ → ℕ) (v : Shelf) (old mid : List Slot) (h : Holding) (detached' : ℕ → Bool)
-    → old ≡ v.slots → rings mid ≡ rings old → AreUsed (nodes old) (nodes mid) claimed h.detached detached'
-    → HoldsWith claimed v h
-    → AreFiled (options_of v.options) (nodes mid) (rings mid) v.heads v.unused
-    (record { unused_list = h.unused_list; free_lists = h.free_lists; claimed = λ i. 0; detached = detached' })
-filed-used claimed v old mid h detached' e same used holds = grind (arith, AreFiled-moved, filed-before)
+-- What is held then, where the slots stand for the tree n in the top sequence s.
+held_anew : (claimed : ℕ → ℕ) (v : Shelf) (new : List Slot) (h : Holding) (s : Sequence) (n : Numbered)
+    (detached : ℕ → Bool) → length new ≡ length v.slots
+    → HoldsWith claimed v h → AreUsed v.slots new claimed h.detached detached → s.parent ≡ no_slot
+    → Stands (nodes new) s n → IsInBounds s n
+    → Holds (record v { slots = new }) (record h { sequence = s; tree = n; detached = detached })
+held_anew claimed v new h s n detached long holds used top stands bounds = grind (arith, AreFiled-moved)
 
 -- Each side of a size is what an `i32` holds.
 pub sides-fit : (size : Size) → FitsSigned w32 size.width → FitsSigned w32 size.height → (a : Axis)
@@ -68,14 +57,10 @@ pub sides-fit : (size : Size) → FitsSigned w32 size.width → FitsSigned w32 s
 sides-fit size wide high Horizontal = omega (arith, natural-fits size.width wide)
 sides-fit size wide high Vertical = omega (arith, natural-fits size.height high)
 
--- The lists stay in order where a detached leaf changes.
-filed-leaf : (v : Shelf) (old mid : List Slot) (at : ℕ) (size : Size) (h : Holding) → old ≡ v.slots
-    → IsLeafStretched old mid at size
-    → IsDetachedLeaf v at h
-    → AreFiled (options_of v.options) (nodes mid) (rings mid) v.heads v.unused (places_of (λ i. 0) h)
-filed-leaf v old mid at size h given w leaf =
-    let used : AreUsed (nodes old) (nodes mid) (λ i. 0) h.detached h.detached = grind (arith, cases_eq) in
-    filed-used (λ i. 0) v old mid h h.detached given w.same_rings used leaf.holds
+-- A detached leaf changes, and stays in use.
+used-leaf : (old new : List Slot) (at : ℕ) (size : Size) (detached : ℕ → Bool) → IsLeafStretched old new at size
+    → (node_at (nodes old) at).kind ≡ kind.Free → detached at ≡ true → AreUsed old new (λ i. 0) detached detached
+used-leaf old new at size detached w free out = grind (arith, cases_eq)
 
 -- A sequence of this length ends at the far corner.
 reaches-end : (size : Sides) (d last : ℕ) (h : Holding) → IsEnd size d last h
@@ -88,9 +73,10 @@ pub stretched-holds : (v : Shelf) (old mid new : List Slot) (at : ℕ) (size : S
     → (h : Holding) (d : ℕ) → IsDetachedLeaf v at h → IsEnd (sides_of size) d at h
     → Holds (record v { slots = new }) (after_stretch d h)
 stretched-holds v old mid new at size a fit w h d leaf end =
-    held_anew (λ i. 0) v old mid new h (after_stretch d h) a leaf.holds leaf.holds.top
-    (w.longer h.sequence h.tree d (stands-before (λ i. 0) v old h a.given leaf.holds) end.ends (reaches-end (sides_of size) d at h end))
-    (filed-leaf v old mid at size h a.given w leaf) (record {
+    let own = over-shelf (λ x y. IsLeafStretched x y at size) _ _ _ _ a w in
+    held_anew (λ i. 0) v new h h.sequence (stretched d h.tree) h.detached (long-over _ _ _ _ a) leaf.holds
+    (used-leaf v.slots new at size h.detached own leaf.kind leaf.detached) leaf.holds.top
+    (own.longer h.sequence h.tree d leaf.holds.stands end.ends (reaches-end (sides_of size) d at h end)) (record {
       cut = cut-stretched d h.sequence.width h.tree leaf.holds.cut;
       wide = leaf.holds.wide;
       across = leaf.holds.across;
@@ -102,7 +88,9 @@ pub whole-holds : (v : Shelf) (old mid new : List Slot) (at : ℕ) (size : Size)
     → ((a : Axis) → side a (sides_of size) < 2 ^ 31) → IsPositive (sides_of size) → IsLeafStretched old mid at size
     → (h : Holding) → IsDetachedLeaf v at h → IsLone at h
     → Holds (record v { slots = new }) (after_whole (sides_of size) at h)
-whole-holds v old mid new at size a fit positive w h leaf lone = grind (arith, held_anew, stands-before, filed-leaf)
+whole-holds v old mid new at size a fit positive w h leaf lone =
+    let own = over-shelf (λ x y. IsLeafStretched x y at size) _ _ _ _ a w in
+    grind (arith, held_anew, used-leaf v.slots new at size h.detached own, long-over v.slots old mid new a)
 
 -- The last slot of a tree is used.
 last-used : (ns : List Node) (s : Sequence) (n : Numbered) (last : ℕ) → Stands ns s n → 0 < total (erase n)
@@ -111,78 +99,72 @@ last-used ns s n last stands some ends unused =
     let here : 0 < tally last n = rw (← ends) (last-member n (nonempty-total n some)) in
     omega (arith, stands.numbered last, ap use_count unused)
 
--- A leaf can come last in a slot that was taken.
-pub appendable-slots : (v : Shelf) (old : List Slot) (size : Sides) (d last fresh : ℕ) (claimed : ℕ → ℕ)
-    (unused_list : List ℕ) (h : Holding) → old ≡ v.slots
-    → (node_in v fresh).kind ≡ kind.Unused → IsEnd size d last h
-    → HoldsWith claimed v (with_unused_list unused_list h) → CanAppendTo (nodes old) last fresh
-appendable-slots v old size d last fresh claimed unused_list h e unused end holds =
-    record {
-      used = last-used (nodes old) h.sequence h.tree last (stands-before claimed v old (with_unused_list unused_list h) e holds) end.some end.ends;
-      unused = node-before (λ n. n.kind ≡ kind.Unused) v old fresh e unused;
-    }
+-- A slot was taken, in which a leaf is to come last.
+module _ {A : Type 0} {old mid : Store A} {k : ℕ} (took : AreSlotsTaken old mid (k ∷ [])) where
+  pub can-append : (size : Sides) (last d : ℕ) (h : Holding) → IsExtendable (shelf_of old) size last d h
+      → HasSlotsFor 1 old h → CanAppendTo (nodes mid.slots.items) last k
+  can-append size last d h ready slots = record {
+    used = last-used (nodes mid.slots.items) h.sequence h.tree last (took.taken h 0 ready.holds slots).1.stands
+        ready.end.some ready.end.ends;
+    unused = (took.fresh k (omega (arith, same-self k))).unused;
+  }
 
--- It does.
-pub appended-holds : (v : Shelf) (old mid new : List Slot) (last fresh : ℕ) (size : Size) → AreSlots v.slots old mid new
-    → ((a : Axis) → side a (sides_of size) < 2 ^ 31) → (node_in v fresh).kind ≡ kind.Unused
-    → IsLeafAppended old mid last fresh size
-    → (h : Holding) (unused_list : List ℕ) (d : ℕ) → IsEnd (sides_of size) d last h → 0 < d
-    → HoldsWith (λ i. occurs i (fresh ∷ [])) v (with_unused_list unused_list h)
-    → Holds (record v { slots = new }) (with_unused_list unused_list (after_append fresh d h))
-appended-holds v old mid new last fresh size a fit unused_v w h unused_list d end more holds =
-    let claimed : ℕ → ℕ = λ i. occurs i (fresh ∷ []) in
-    let unused : (node_at (nodes old) fresh).kind ≡ kind.Unused = node-before (λ n. n.kind ≡ kind.Unused) v old fresh a.given unused_v in
-    let used : AreUsed (nodes old) (nodes mid) claimed h.detached (with_mark h.detached fresh true) =
-    grind (arith, cases_eq, same-self, same-ne, moved-kept, use-kept, with_mark-same, with_mark-other) in
-    held_anew claimed v old mid new (with_unused_list unused_list h) (with_unused_list unused_list (after_append fresh d h)) a holds holds.top
-    (w.tree h.sequence h.tree d (stands-before claimed v old (with_unused_list unused_list h) a.given holds) end.ends (reaches-end (sides_of size) d last h end))
-    (filed-used claimed v old mid (with_unused_list unused_list h) (with_mark h.detached fresh true) a.given w.same_rings used holds) (record {
-      cut = cut-appended fresh d h.sequence.width h.tree more holds.cut;
-      wide = holds.wide;
-      across = holds.across;
-      along = omega (arith, total-appended fresh d h.tree, end.along, fit h.sequence.axis);
-    })
+  pub appended-holds : (given left new : List Slot) (last : ℕ) (size : Size)
+      → AreSlots mid.slots.items given left new
+      → ((a : Axis) → side a (sides_of size) < 2 ^ 31) → IsLeafAppended given left last k size
+      → (h : Holding) (unused_list : List ℕ) (d : ℕ) → IsExtendable (shelf_of old) (sides_of size) last d h
+      → HoldsWith (λ i. occurs i (k ∷ [])) (shelf_of mid) (with_unused_list unused_list h)
+      → Holds (record (shelf_of mid) { slots = new }) (with_unused_list unused_list (after_append k d h))
+  appended-holds given left new last size a fit w h unused_list d ready holds =
+      let own = over-shelf (λ x y. IsLeafAppended x y last k size) _ _ _ _ a w in
+      let unused = (took.fresh k (omega (arith, same-self k))).unused in
+      let marks = with_mark h.detached k true in
+      let used : AreUsed mid.slots.items new (λ i. occurs i (k ∷ [])) h.detached marks =
+      grind (arith, cases_eq, same-self, same-ne, moved-kept, use-kept, with_mark-same, with_mark-other) in
+      held_anew (λ i. occurs i (k ∷ [])) (shelf_of mid) new (with_unused_list unused_list h) h.sequence
+      (appended k d h.tree) marks (long-over _ _ _ _ a) holds used holds.top
+      (own.tree h.sequence h.tree d holds.stands ready.end.ends (reaches-end (sides_of size) d last h ready.end))
+      (record {
+        cut = cut-appended k d h.sequence.width h.tree ready.more holds.cut;
+        wide = holds.wide;
+        across = holds.across;
+        along = omega (arith, total-appended k d h.tree, ready.end.along, fit h.sequence.axis);
+      })
 
--- The top sequence can be put into a new one, in slots that were taken.
-pub nestable-slots : {A : Type 0} {old mid : Store A} {c k : ℕ} (given : List Slot) (inner size : Sides) (first d : ℕ)
-    (h : Holding) → given ≡ mid.slots.items → AreSlotsTaken old mid (c ∷ k ∷ [])
-    → IsNestable (shelf_of old) inner size first d h → HasSlotsFor 2 old h → CanNestTop (nodes given) first c k
-nestable-slots {A} {old} {mid} {c} {k} given inner size first d h e took can slots =
-    let got = took.taken h 0 can.holds slots in
-    record {
-      tree = (
-        h.sequence,
-        h.tree,
-        record {
-          stands = stands-before _ (shelf_of mid) given (with_unused_list got.0 h) e got.1;
-          begins = can.spans.begins;
-          some = can.spans.some;
-        },
-      );
-      container = node-before (λ n. n.kind ≡ kind.Unused) (shelf_of mid) given c e (took.fresh c (omega (arith, same-self c))).unused;
-      strip = node-before (λ n. n.kind ≡ kind.Unused) (shelf_of mid) given k e (took.fresh k (omega (arith, same-self k))).unused;
-      apart = λ x. absurd (omega (arith, taken-once took got.1 c, same-self c, ap (same c) x));
-    }
+-- Two slots were taken: one for a container of the top sequence, and one for the leaf after it.
+module _ {A : Type 0} {old mid : Store A} {c k : ℕ} (took : AreSlotsTaken old mid (c ∷ k ∷ [])) where
+  pub can-nest : (inner size : Sides) (first d : ℕ) (h : Holding) → IsNestable (shelf_of old) inner size first d h
+      → HasSlotsFor 2 old h → CanNestTop (nodes mid.slots.items) first c k
+  can-nest inner size first d h ready slots =
+      let held = (took.taken h 0 ready.holds slots).1 in
+      record {
+        tree = (
+          h.sequence,
+          h.tree,
+          record { stands = held.stands; begins = ready.spans.begins; some = ready.spans.some },
+        );
+        container = (took.fresh c (omega (arith, same-self c))).unused;
+        strip = (took.fresh k (omega (arith, same-self k))).unused;
+        apart = λ x. absurd (omega (arith, taken-once took held c, same-self c, ap (same c) x));
+      }
 
--- It is.
-pub nested-holds : (v : Shelf) (old mid new : List Slot) (first c k : ℕ) (inner size : Size)
-    → AreSlots v.slots old mid new
-    → ((a : Axis) → side a (sides_of size) < 2 ^ 31) → CanNestTop (nodes old) first c k
-    → IsTopNested old mid first c k inner size
-    → (h : Holding) (unused_list : List ℕ) (d : ℕ) → IsSpanning (sides_of inner) first h
-    → IsWider h.sequence.axis (sides_of inner) (sides_of size) d → 0 < d
-    → HoldsWith (λ i. occurs i (c ∷ k ∷ [])) v (with_unused_list unused_list h)
-    → Holds (record v { slots = new }) (with_unused_list unused_list (after_nest c k d h))
-nested-holds v old mid new first c k inner size a fit can w h unused_list d spans wider more holds =
-    let claimed : ℕ → ℕ = λ i. occurs i (c ∷ k ∷ []) in
-    let begins : BeginsAt (nodes old) first h.sequence h.tree = record {
-      stands = stands-before claimed v old (with_unused_list unused_list h) a.given holds;
-      begins = spans.begins;
-      some = spans.some;
-    } in
-    let used : AreUsed (nodes old) (nodes mid) claimed h.detached (with_mark h.detached k true) =
-    grind (arith, cases_eq, same-self, same-ne, moved-kept, use-kept, with_mark-same, with_mark-other) in
-    held_anew claimed v old mid new (with_unused_list unused_list h) (with_unused_list unused_list (after_nest c k d h)) a holds refl
-    (w.tree h.sequence h.tree d begins spans.start (spans.along, omega (arith, spans.start, spans.across)) wider)
-    (filed-used claimed v old mid (with_unused_list unused_list h) (with_mark h.detached k true) a.given w.same_rings used holds)
-    (grind (arith, fit (other h.sequence.axis)))
+  pub nested-holds : (given left new : List Slot) (first : ℕ) (inner size : Size)
+      → AreSlots mid.slots.items given left new
+      → ((a : Axis) → side a (sides_of size) < 2 ^ 31) → CanNestTop (nodes mid.slots.items) first c k
+      → IsTopNested given left first c k inner size
+      → (h : Holding) (unused_list : List ℕ) (d : ℕ)
+      → IsNestable (shelf_of old) (sides_of inner) (sides_of size) first d h
+      → HoldsWith (λ i. occurs i (c ∷ k ∷ [])) (shelf_of mid) (with_unused_list unused_list h)
+      → Holds (record (shelf_of mid) { slots = new }) (with_unused_list unused_list (after_nest c k d h))
+  nested-holds given left new first inner size a fit can w h unused_list d ready holds =
+      let own = over-shelf (λ x y. IsTopNested x y first c k inner size) _ _ _ _ a w in
+      let marks = with_mark h.detached k true in
+      let used : AreUsed mid.slots.items new (λ i. occurs i (c ∷ k ∷ [])) h.detached marks =
+      grind (arith, cases_eq, same-self, same-ne, moved-kept, use-kept, with_mark-same, with_mark-other) in
+      let spans = ready.spans in
+      held_anew (λ i. occurs i (c ∷ k ∷ [])) (shelf_of mid) new (with_unused_list unused_list h)
+      (top_along (other h.sequence.axis) (total (erase h.tree))) (nested c k h.sequence.width d h.tree) marks
+      (long-over _ _ _ _ a) holds used refl
+      (own.tree h.sequence h.tree d (record { stands = holds.stands; begins = spans.begins; some = spans.some })
+      spans.start (spans.along, omega (arith, spans.start, spans.across)) ready.wider)
+      (grind (arith, fit (other h.sequence.axis)))

@@ -1,24 +1,5 @@
 -- A slot is taken and put to use at once.
-use Rattle.std.proofs.Common.{
-  ℕ,
-  ◌+◌,
-  ◌-◌,
-  ◌≤◌,
-  ◌≡◌,
-  ◌≢◌,
-  [],
-  ◌∷◌,
-  List,
-  refl,
-  sym,
-  ap,
-  subst,
-  ◌∙◌,
-  inl,
-  inr,
-  arith,
-  length,
-}
+use Rattle.std.proofs.Common.{ℕ, ◌+◌, ◌-◌, ◌≤◌, ◌≡◌, [], ◌∷◌, List, refl, sym, ap, subst, ◌∙◌, inl, inr, arith, length}
 use Rattle.std.proofs.lemmas.Bool.{cases_eq, cases_lt}
 use Rattle.atlas_store.specs.declared.store.Store.{Store}
 use Rattle.atlas_store.specs.declared.slots.Node.{Node}
@@ -30,7 +11,7 @@ use Rattle.atlas_store.specs.Slots.Placing.{across_of, slots_of, taken_by, CanPl
 use Rattle.atlas_store.specs.Slots.Reading.{extent_of}
 use Rattle.atlas_store.specs.Slots.Links.{with_count, tail_of}
 use Rattle.atlas_search.specs.Numbers.{occurs, same}
-use Rattle.atlas_store.specs.Stored.{Shelf, Holding, Holds, HoldsWith}
+use Rattle.atlas_store.specs.Stored.{Holding, Holds, HoldsWith}
 use Rattle.atlas_store.specs.Store.Holdings.{shelf_of, node_in, HasSlotsFor, KeepsRoom, with_unused_list}
 use Rattle.atlas_store.specs.Store.StoreCalls.{AreSlotsTaken, IsPlaceable, IsSlotTaken, IsUnusedSlot, TakesSlots}
 use Rattle.atlas_store.proofs.SlotLemmas.Frames.{same-self, same-ne}
@@ -119,11 +100,15 @@ more-taken {A} {v0} {v} {v'} {k} {ks} m w l h0 holds0 room0 step =
       turns = step.turns ∙ w.turns;
     }
 
--- Two are: k, and then c.
+-- One is, of so many; or two are: k, and then c.
+pub one-taken : {A : Type 0} {v0 v : Store A} {k : ℕ} (m : ℕ) (h : Holding) → Holds (shelf_of v0) h
+    → HasSlotsFor (m + 1) v0 h → IsSlotTaken v0 v k → AreSlotsTaken v0 v (k ∷ [])
+one-taken {A} {v0} m h holds room step = more-taken (m + 1) (none-taken v0) (omega arith) h holds room step
+
 pub two-taken : {A : Type 0} {v0 v1 v : Store A} {k c : ℕ} (h : Holding) → Holds (shelf_of v0) h → HasSlotsFor 2 v0 h
     → IsSlotTaken v0 v1 k → IsSlotTaken v1 v c → AreSlotsTaken v0 v (c ∷ k ∷ [])
-two-taken {A} {v0} h holds room first second =
-    more-taken 2 (more-taken 2 (none-taken v0) (omega arith) h holds room first) (omega arith) h holds room second
+two-taken h holds room first second =
+    more-taken 2 (one-taken 1 h holds room first) (omega arith) h holds room second
 
 -- Each was taken once.
 pub taken-once : {A : Type 0} {old mid : Store A} {ks : List ℕ} {h : Holding} → AreSlotsTaken old mid ks

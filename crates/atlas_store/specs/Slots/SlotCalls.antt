@@ -12,8 +12,8 @@ use Rattle.atlas_search.specs.Numbers.{no_slot}
 use Rattle.atlas_store.specs.Slots.Numbered.{Numbered, marked, joined, lifted}
 use Rattle.atlas_store.specs.Slots.Numbered.{End, Free, erase, first_slot}
 use Rattle.atlas_store.specs.Slots.Standing.{Sequence, Standing, Stands}
-use Rattle.atlas_store.specs.Slots.Growing.{Reaches, IsWider, last_slot, stretched, appended, nested, held_by, top_along}
-use Rattle.atlas_store.specs.Slots.Growing.{stretched_area, whole_sequence}
+use Rattle.atlas_store.specs.Slots.Growing.{Reaches, IsWider, last_slot, stretched, appended, nested, held_by}
+use Rattle.atlas_store.specs.Slots.Growing.{stretched_area, top_along, whole_sequence}
 use Rattle.atlas_store.specs.Slots.Calm.{IsCalmAt, IsCalmBut}
 use Rattle.atlas_store.specs.Slots.Parts.{joined_node}
 

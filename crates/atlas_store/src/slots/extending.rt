@@ -63,9 +63,9 @@ fn hang(slots: &mut [Slot], first: Link, container: Link)
     }
 }
 
-/// The top sequence, which spans the size `inner` and whose first member is at `first`, becomes the first member of a new
-/// one along the other axis: the unused slot `container` holds it. The unused slot `strip` becomes a free leaf after
-/// that, and reaches to the far corner of `size`. One pass along the sequence; each node is written once.
+/// The top sequence, which begins at `first` and spans the size `inner`, becomes the first of two members of a new one
+/// along the other axis: the unused slot `container` holds it. The unused slot `strip` becomes the second, a free leaf
+/// that reaches to the far corner of `size`. One pass along the sequence; each node is written once.
 pub fn nest_top(
     slots: &mut [Slot],
     first: Link,
