@@ -33,6 +33,10 @@ pub record IsLoneLeaf (ns : List Node) (i : ℕ) : Type 0 where
 abbrev pub ChangesTree : (old new : List Slot) → (Sequence → Numbered → Numbered) → Type 0
 ChangesTree old new f = (s : Sequence) (n : Numbered) → Stands (nodes old) s n → Stands (nodes new) s (f s n)
 
+-- Each slot keeps its generation.
+abbrev pub KeepGenerations : (old new : List Slot) → Type 0
+KeepGenerations old new = (k : ℕ) → (node_at (nodes new) k).generation ≡ (node_at (nodes old) k).generation
+
 -- The granted leaf of slot i is free.
 pub record IsLeafFreed (old new : List Slot) (i : ℕ) : Type 0 where
   pub tree : ChangesTree old new (λ s. marked i)
@@ -98,6 +102,7 @@ pub record IsLeafStretched (old new : List Slot) (i : ℕ) (size : Size) : Type 
   pub leaf : node_at (nodes new) i
       ≡ record (node_at (nodes old) i) { area = stretched_area (node_at (nodes old) i).area size }
   pub others : (k : ℕ) → k ≢ i → node_at (nodes new) k ≡ node_at (nodes old) k
+  pub generations : KeepGenerations old new
   pub same_rings : rings new ≡ rings old
 
 -- The unused slot k is a free leaf after the last member, of slot i.
@@ -105,6 +110,7 @@ pub record IsLeafAppended (old new : List Slot) (i k : ℕ) (size : Size) : Type
   pub tree : ExtendsTree old new size i (appended k)
   pub free : (node_at (nodes new) k).kind ≡ kind.Free
   pub others : (j : ℕ) → j ≢ k → KeepsUse (node_at (nodes old) j) (node_at (nodes new) j)
+  pub generations : KeepGenerations old new
   pub same_rings : rings new ≡ rings old
 
 -- Slot c is the parent of the tree's members.
@@ -123,4 +129,5 @@ pub record IsTopNested (old new : List Slot) (i c k : ℕ) (inner size : Size) :
   pub container : (node_at (nodes new) c).kind ≡ kind.Container
   pub free : (node_at (nodes new) k).kind ≡ kind.Free
   pub others : (j : ℕ) → j ≢ c → j ≢ k → KeepsUse (node_at (nodes old) j) (node_at (nodes new) j)
+  pub generations : KeepGenerations old new
   pub same_rings : rings new ≡ rings old

@@ -1,5 +1,5 @@
-use Rattle.std.proofs.Common.{◌∙◌, arith}
 use Rattle.atlas_tree.proofs.PlanLemmas.GrownSlots.{whole-ready, whole-list, whole-grown}
+use Rattle.atlas_store.proofs.StoreLemmas.TakenOnce.{only-takes}
 use Rattle.atlas_tree.proofs.growth.grow_whole.Goals as goal
 
 pub stretch_whole-requires-clause-ready : goal.stretch_whole-requires-clause-ready
@@ -11,6 +11,5 @@ list-requires g c = whole-list c.requires.tree.2 c.requires.tree.3 c.unlist.ensu
 pub returns : goal.returns
 returns g c = record {
   grown = λ h before t alone. whole-grown t alone c.unlist.ensures c.stretch_whole.ensures c.list.ensures c.requires.positive;
-  room = grind arith;
-  turns = c.list.ensures.takes.turns ∙ c.stretch_whole.ensures.turns ∙ c.unlist.ensures.takes.turns;
+  takes = only-takes (only-takes c.unlist.ensures.takes c.stretch_whole.ensures.takes) c.list.ensures.takes;
 }
