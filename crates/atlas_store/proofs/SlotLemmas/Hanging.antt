@@ -1,5 +1,5 @@
 -- The members of the top sequence get another holder, one after the other.
-use Rattle.std.proofs.Common.{ℕ, ◌+◌, ◌<◌, ◌≤◌, ◌≡◌, ◌≢◌, List, refl, sym, ◌∙◌, arith, length, set, length-set, pos}
+use Rattle.std.proofs.Common.{ℕ, ◌+◌, ◌<◌, ◌≤◌, ◌≡◌, ◌≢◌, List, refl, ◌∙◌, arith, length, set, length-set, pos}
 use Rattle.std.proofs.lemmas.Bool.{cases_eq}
 use Rattle.std.proofs.lemmas.List.{length-map}
 use Rattle.atlas_search.specs.declared.link.Link.{Link}
@@ -7,16 +7,15 @@ use Rattle.atlas_store.specs.declared.slots.Node.{Node}
 use Rattle.atlas_store.specs.declared.slots.NodeKind.{NodeKind}
 use Rattle.atlas_store.specs.declared.slots.NodeKind.TheVariants as kind
 use Rattle.atlas_store.specs.declared.slots.Slot.{Slot}
-use Rattle.atlas_model.specs.declared.geometry.Rectangle.{Rectangle}
 use Rattle.atlas_model.specs.declared.geometry.Size.{Size}
 use Rattle.atlas_model.specs.Boxes.{other}
-use Rattle.atlas_model.specs.Pixels.{rectangle_of, sides_of, size_of}
+use Rattle.atlas_model.specs.Pixels.{sides_of, size_of}
 use Rattle.atlas_search.specs.Rectangles.{beyond_in, flipped}
 use Rattle.atlas_model.specs.Trees.{total}
 use Rattle.atlas_store.specs.Slots.{nodes, node_at, use_count, axis_of, KeepsUse}
 use Rattle.atlas_search.specs.Numbers.{no_slot, same}
 use Rattle.atlas_store.specs.Slots.Numbered.{Numbered, erase, tally, first_slot, End, Free, Alloc, Seq}
-use Rattle.atlas_store.specs.Slots.Standing.{Sequence, Standing, Stands, IsLinkedIn, inside, member_box}
+use Rattle.atlas_store.specs.Slots.Standing.{Sequence, Standing, Stands, IsLinkedIn, inside}
 use Rattle.atlas_store.specs.Slots.Growing.{Reaches, IsWider, held_by, nested, top_along}
 use Rattle.atlas_store.specs.Slots.SlotCalls.{BeginsAt, CanNestTop}
 use Rattle.atlas_store.proofs.WalkLemmas.Observing.{nonempty-total}
