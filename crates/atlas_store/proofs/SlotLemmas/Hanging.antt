@@ -1,5 +1,5 @@
 -- The members of the top sequence get another holder, one after the other.
-use Rattle.std.proofs.Common.{ℕ, ◌+◌, ◌<◌, ◌≤◌, ◌≡◌, ◌≢◌, List, refl, sym, ◌∙◌, arith, length, set, length-set, pos}
+use Rattle.std.proofs.Common.{ℕ, ◌+◌, ◌<◌, ◌≤◌, ◌≡◌, ◌≢◌, List, refl, ◌∙◌, arith, length, set, length-set, pos}
 use Rattle.std.proofs.lemmas.Bool.{cases_eq}
 use Rattle.std.proofs.lemmas.List.{length-map}
 use Rattle.atlas_search.specs.declared.link.Link.{Link}
@@ -7,16 +7,15 @@ use Rattle.atlas_store.specs.declared.slots.Node.{Node}
 use Rattle.atlas_store.specs.declared.slots.NodeKind.{NodeKind}
 use Rattle.atlas_store.specs.declared.slots.NodeKind.TheVariants as kind
 use Rattle.atlas_store.specs.declared.slots.Slot.{Slot}
-use Rattle.atlas_model.specs.declared.geometry.Rectangle.{Rectangle}
 use Rattle.atlas_model.specs.declared.geometry.Size.{Size}
 use Rattle.atlas_model.specs.Boxes.{other}
-use Rattle.atlas_model.specs.Pixels.{rectangle_of, sides_of, size_of}
+use Rattle.atlas_model.specs.Pixels.{sides_of, size_of}
 use Rattle.atlas_search.specs.Rectangles.{beyond_in, flipped}
 use Rattle.atlas_model.specs.Trees.{total}
 use Rattle.atlas_store.specs.Slots.{nodes, node_at, use_count, axis_of, KeepsUse}
 use Rattle.atlas_search.specs.Numbers.{no_slot, same}
 use Rattle.atlas_store.specs.Slots.Numbered.{Numbered, erase, tally, first_slot, End, Free, Alloc, Seq}
-use Rattle.atlas_store.specs.Slots.Standing.{Sequence, Standing, Stands, IsLinkedIn, inside, member_box}
+use Rattle.atlas_store.specs.Slots.Standing.{Sequence, Standing, Stands, IsLinkedIn, inside}
 use Rattle.atlas_store.specs.Slots.Growing.{Reaches, IsWider, held_by, nested, top_along}
 use Rattle.atlas_store.specs.Slots.SlotCalls.{BeginsAt, CanNestTop}
 use Rattle.atlas_store.proofs.WalkLemmas.Observing.{nonempty-total}
@@ -159,10 +158,6 @@ module _ (ns ms : List Node) (at : ℕ) (c : Link) (w : IsHung ns ms at c) where
 pub uses-from : (n m l : Node) → KeepsUse n m → KeepsUse m l → KeepsUse n l
 uses-from n m l a b = grind arith
 
--- The rectangle of this size at the origin.
-abbrev from_origin : Size → Rectangle
-from_origin size = record { min = record { x = pos 0; y = pos 0 }; max = record { x = size.width; y = size.height } }
-
 -- The node of an unused slot once it holds a whole sequence of this size, whose first member is given; slot k follows.
 abbrev pub top_node : (first unused : Node) → Size → (k : Link) → Node
 top_node first unused size k =
@@ -170,7 +165,7 @@ top_node first unused size k =
       parent = record { number = no_slot };
       previous = record { number = no_slot };
       next = k;
-      area = from_origin size;
+      area = record { min = record { x = pos 0; y = pos 0 }; max = record { x = size.width; y = size.height } };
       kind = kind.Container;
       axis = flipped first.axis;
       generation = unused.generation;
@@ -215,17 +210,9 @@ module _ (ns ms xs ks : List Node) (i : ℕ) (c k : Link) (inner size : Size) (c
     axis_outside : axis_of (flipped (node_at ns i).axis) ≡ other s.axis
     axis_outside = grind (arith, axis_of-flipped, first-axis ns s no_slot 0 n h.stands.standing, nonempty-total)
 
-    -- The container fills the size that the sequence spans.
-    spanned : rectangle_of (member_box outside 0 s.width) ≡ from_origin inner
-    spanned = grind arith
-
-    -- And the leaf the rest.
+    -- The leaf ends at the far corner.
     reaches_far : Reaches (sides_of size) outside (0 + s.width + d)
     reaches_far = grind (arith, other_twice)
-
-    -- Inside the container the sequence is what it was.
-    inside_held : inside outside c.number 0 s.width ≡ held_by c.number s
-    inside_held = grind (arith, other_twice)
 
     away : (x : ℕ) → 0 < tally x n → node_at ks x ≡ node_at ms x
     away x l = grind (arith, stays_hung, ne-from_count)
@@ -233,17 +220,6 @@ module _ (ns ms xs ks : List Node) (i : ℕ) (c k : Link) (inner size : Size) (c
     pub Stands-nested : Standing ms (held_by c.number s) no_slot 0 n
         → Stands ks outside (nested c.number k.number s.width d n)
     Stands-nested hung =
-        record {
-          standing = (
-            rw nested-top (record { parent = refl; previous = refl; next = refl; kind = refl; axis = axis_outside }),
-            rw nested-top (sym spanned),
-            rw inside_held (Standing-same ms ks (held_by c.number s) no_slot 0 n away hung),
-            (
-              rw w2.there (record { parent = refl; previous = refl; next = refl; kind = refl; axis = axis_outside }),
-              rw (w2.there, ← spanned)
-                  (box-beyond _ outside 0 s.width (0 + s.width) d size axis_outside exact refl reaches_far),
-              tt,
-            ),
-          );
-          numbered = λ x. omega (arith, nested_use x, h.stands.numbered x);
-        }
+        let beyond = box-beyond _ outside 0 s.width (0 + s.width) d size axis_outside exact refl reaches_far in
+        let held = Standing-same ms ks (held_by c.number s) no_slot 0 n away hung in
+        grind (arith, nested-top, axis_outside, other_twice, nested_use)
