@@ -197,6 +197,9 @@ module _ (ns ms xs ks : List Node) (i : ℕ) (c k : Link) (inner size : Size) (c
   pub nested-others : (x : ℕ) → x ≢ c.number → x ≢ k.number → KeepsUse (node_at ns x) (node_at ks x)
   nested-others x nc nk = rw (stays_hung x nc nk) (uses x)
 
+  pub nested-generations : (x : ℕ) → (node_at ks x).generation ≡ (node_at ns x).generation
+  nested-generations x = grind (arith, cases_eq x c.number, cases_eq x k.number, nested-top, nested-others)
+
   nested_use : (x : ℕ)
       → use_count (node_at ks x).kind ≡ same x c.number + (same x k.number + use_count (node_at ns x).kind)
   nested_use x = grind (arith, cases_eq x c.number, cases_eq x k.number, same-self, same-ne, nested-top, nested-others)

@@ -129,4 +129,5 @@ IsOneBox s at = (h : Holding) × (size : Sides) × IsTreeOf (shelf_of s) size at
 pub record IsBoxGrown {A : Type 0} (old new : Store A) (size : Sides) (at : ℕ) : Type 0 where
   pub grown : (h : Holding) (before : Sides) → IsTreeOf (shelf_of old) before at h → IsLone at h
       → (h' : Holding) × IsGrownHolding (shelf_of new) before size at 0 h h'
+  pub slots : length new.slots.items ≡ length old.slots.items
   pub takes : OnlyTakes old new

@@ -1,9 +1,8 @@
 use Rattle.std.proofs.Common.{◌∙◌, ap, arith, refl}
-use Rattle.std.proofs.lemmas.Bool.{cases_eq}
 use Rattle.std.proofs.lemmas.List.{length-map}
 use Rattle.atlas_store.specs.Slots.{nodes, node_at}
 use Rattle.atlas_store.proofs.SlotLemmas.Frames.{IsWritten-by}
-use Rattle.atlas_store.proofs.SlotLemmas.Hanging.{top_node, last_node, nested-top, nested-others, Stands-nested}
+use Rattle.atlas_store.proofs.SlotLemmas.Hanging.{top_node, last_node, nested-top, nested-others, nested-generations, Stands-nested}
 use Rattle.atlas_store.proofs.slots.extending.nest_top.Goals as goal
 
 pub returns : goal.returns
@@ -29,13 +28,6 @@ returns c =
       container = ap (λ n. n.kind) (nested-top _ _ _ _ _ _ _ _ _ can hung.uses w1 w2);
       free = ap (λ n. n.kind) w2.there;
       others = nested-others _ _ _ _ _ _ _ _ _ can hung.uses w1 w2;
-      generations = λ j. grind (
-        arith,
-        cases_eq j c.args.container.number,
-        cases_eq j c.args.strip.number,
-        nested-top _ _ _ _ _ _ _ _ _ can hung.uses w1 w2,
-        nested-others _ _ _ _ _ _ _ _ _ can hung.uses w1 w2 j,
-        w2.there,
-      );
+      generations = nested-generations _ _ _ _ _ _ _ _ _ can hung.uses w1 w2;
       same_rings = c.write_node-2.ensures.same_rings ∙ c.write_node.ensures.same_rings ∙ hung.same_rings;
     }
