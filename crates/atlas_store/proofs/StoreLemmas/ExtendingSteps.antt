@@ -124,7 +124,12 @@ module _ {A : Type 0} {old mid : Store A} {k : ℕ} (took : AreSlotsTaken old mi
       held_anew (λ i. occurs i (k ∷ [])) (shelf_of mid) new (with_unused_list unused_list h) h.sequence
       (appended k d h.tree) marks (long-over _ _ _ _ a) holds used holds.top
       (own.tree h.sequence h.tree d holds.stands ready.end.ends (reaches-end (sides_of size) d last h ready.end))
-      (grind (arith, cut-appended, total-appended, fit h.sequence.axis))
+      (record {
+        cut = cut-appended k d h.sequence.width h.tree ready.more holds.cut;
+        wide = holds.wide;
+        across = holds.across;
+        along = omega (arith, total-appended k d h.tree, ready.end.along, fit h.sequence.axis);
+      })
 
 -- Two slots were taken: one for a container of the top sequence, and one for the leaf after it.
 module _ {A : Type 0} {old mid : Store A} {c k : ℕ} (took : AreSlotsTaken old mid (c ∷ k ∷ [])) where
