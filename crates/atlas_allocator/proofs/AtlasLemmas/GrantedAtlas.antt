@@ -261,7 +261,7 @@ module _ (v : Stored) (a : IsAtlas v) (request : Sides) (size : Size) (sized : C
       grant-done new allocation told =
           let u : Shelf = shelf_of new in
           let got = told.granted (rounded (options_of v.shelf.options) request) a.holding grantable_here in
-          let same_options : u.options ≡ v.shelf.options = told.options ∙ ap (λ s. s.options) same in
+          let same_options : u.options ≡ v.shelf.options = told.takes.options ∙ ap (λ s. s.options) same in
           let few : v.used + slots_of plan ≤ v.limit = omega (arith, ok.0, is_needed) in
           let cut : Box = box v a request p chosen_here sized.0.positive plan line_here u allocation got.0 got.1 got.2 same_options few in
           let there : allocation.rectangle ≡ rectangle_of cut = area-placed v a request p chosen_here sized.0.positive plan line_here u allocation got.0 got.1 got.2 same_options few in

@@ -192,7 +192,7 @@ module _ (v : Stored) (a : IsAtlas v) where
                   let got = told.grown a.holding n growable-here in
                   let w : IsGrownHolding u (sides_of v.size) (sides_of size) link.number n a.holding got.0 =
                   subst (λ s. IsGrownHolding u (sides_of v.size) s link.number n a.holding got.0) to-is (subst (λ s. IsGrownHolding u s (sides_of p.to) link.number n a.holding got.0) from-is got.1) in
-                  let same_options : u.options ≡ v.shelf.options = told.options ∙ ap (λ s. s.options) same in
+                  let same_options : u.options ≡ v.shelf.options = told.takes.options ∙ ap (λ s. s.options) same in
                   let few : nodes_grown now (sides_of size) ≤ v.limit = omega (arith, ok.0, grown-nodes) in
                   record {
                     atlas = atlas-after u link.number n got.0 w same_options need-here link refl few;

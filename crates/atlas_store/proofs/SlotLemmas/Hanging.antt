@@ -1,29 +1,29 @@
 -- The members of the top sequence get another holder, one after the other.
-use Rattle.std.proofs.Common.{ℕ, ◌+◌, ◌<◌, ◌≤◌, ◌≡◌, ◌≢◌, List, refl, ap, ◌∙◌, arith, length, set, length-set, pos}
+use Rattle.std.proofs.Common.{ℕ, ◌+◌, ◌<◌, ◌≤◌, ◌≡◌, ◌≢◌, List, refl, ◌∙◌, arith, length, set, length-set, pos}
+use Rattle.std.proofs.lemmas.Bool.{cases_eq}
 use Rattle.std.proofs.lemmas.List.{length-map}
 use Rattle.atlas_search.specs.declared.link.Link.{Link}
 use Rattle.atlas_store.specs.declared.slots.Node.{Node}
 use Rattle.atlas_store.specs.declared.slots.NodeKind.{NodeKind}
 use Rattle.atlas_store.specs.declared.slots.NodeKind.TheVariants as kind
 use Rattle.atlas_store.specs.declared.slots.Slot.{Slot}
-use Rattle.atlas_search.specs.declared.cut.Orientation.{Orientation}
-use Rattle.atlas_model.specs.declared.geometry.Rectangle.{Rectangle}
 use Rattle.atlas_model.specs.declared.geometry.Size.{Size}
 use Rattle.atlas_model.specs.Boxes.{other}
-use Rattle.atlas_model.specs.Pixels.{rectangle_of, sides_of, size_of}
-use Rattle.atlas_search.specs.Rectangles.{flipped}
+use Rattle.atlas_model.specs.Pixels.{sides_of, size_of}
+use Rattle.atlas_search.specs.Rectangles.{beyond_in, flipped}
 use Rattle.atlas_model.specs.Trees.{total}
 use Rattle.atlas_store.specs.Slots.{nodes, node_at, use_count, axis_of, KeepsUse}
 use Rattle.atlas_search.specs.Numbers.{no_slot, same}
 use Rattle.atlas_store.specs.Slots.Numbered.{Numbered, erase, tally, first_slot, End, Free, Alloc, Seq}
-use Rattle.atlas_store.specs.Slots.Standing.{Sequence, Standing, Stands, IsLinkedIn, inside, member_box}
-use Rattle.atlas_store.specs.Slots.Growing.{Reaches, held_by, top_along}
-use Rattle.atlas_store.specs.Slots.SlotCalls.{BeginsAt}
+use Rattle.atlas_store.specs.Slots.Standing.{Sequence, Standing, Stands, IsLinkedIn, inside}
+use Rattle.atlas_store.specs.Slots.Growing.{Reaches, IsWider, held_by, nested, top_along}
+use Rattle.atlas_store.specs.Slots.SlotCalls.{BeginsAt, CanNestTop}
 use Rattle.atlas_store.proofs.WalkLemmas.Observing.{nonempty-total}
 use Rattle.atlas_store.proofs.SlotLemmas.Frames.{Standing-same, IsWritten, IsWritten-by, same-self, same-ne, keeps-same, used-le, ne-from_same, ne-from_count}
 use Rattle.atlas_store.proofs.SlotLemmas.JoiningWrites.{none-unused}
 use Rattle.atlas_model.proofs.TreeLemmas.TreeBasics.{other_twice}
 use Rattle.atlas_store.proofs.SlotLemmas.Placing.{axis_of-flipped}
+use Rattle.atlas_store.proofs.SlotLemmas.Stretching.{box-beyond}
 use Rattle.atlas_store.proofs.SlotLemmas.Reading.{first-axis}
 use Rattle.atlas_store.proofs.SlotLemmas.Following.{outermost, outermost-few, followers, followers-outermost, begins-inside}
 use Rattle.atlas_store.proofs.SlotLemmas.Closing.{begins-none}
@@ -158,59 +158,71 @@ module _ (ns ms : List Node) (at : ℕ) (c : Link) (w : IsHung ns ms at c) where
 pub uses-from : (n m l : Node) → KeepsUse n m → KeepsUse m l → KeepsUse n l
 uses-from n m l a b = grind arith
 
--- The rectangle of this size at the origin.
-abbrev pub from_origin : Size → Rectangle
-from_origin size = record { min = record { x = pos 0; y = pos 0 }; max = record { x = size.width; y = size.height } }
-
--- Inside the slot that holds it, the sequence is what it was.
-inside-held : (s : Sequence) (c length : ℕ) → s.start ≡ 0
-    → inside (top_along (other s.axis) length) c 0 s.width ≡ held_by c s
-inside-held s c length e = grind (arith, other_twice)
-
--- That slot fills the size that the sequence spans.
-rectangle-spanned : (s : Sequence) (size : Size) (length : ℕ) → size ≡ size_of (sides_of size) → s.start ≡ 0
-    → Reaches (sides_of size) s length
-    → rectangle_of (member_box (top_along (other s.axis) length) 0 s.width) ≡ from_origin size
-rectangle-spanned s size length exact e r = grind arith
-
--- The node of a slot that holds a whole sequence of this size.
-abbrev pub top_node : Orientation → Size → (generation : ℕ) → Node
-top_node axis size g =
+-- The node of an unused slot once it holds a whole sequence of this size, whose first member is given; slot k follows.
+abbrev pub top_node : (first unused : Node) → Size → (k : Link) → Node
+top_node first unused size k =
     record {
       parent = record { number = no_slot };
       previous = record { number = no_slot };
-      next = record { number = no_slot };
-      area = from_origin size;
+      next = k;
+      area = record { min = record { x = pos 0; y = pos 0 }; max = record { x = size.width; y = size.height } };
       kind = kind.Container;
-      axis = axis;
-      generation = g;
+      axis = flipped first.axis;
+      generation = unused.generation;
     }
 
--- The top sequence hangs in slot c, which is written after that.
-pub Stands-topped : (ns ms ks : List Node) (i c g : ℕ) (size : Size) (s : Sequence) (n : Numbered)
-    → (node_at ns c).kind ≡ kind.Unused
-    → size ≡ size_of (sides_of size) → ((k : ℕ) → KeepsUse (node_at ns k) (node_at ms k))
-    → IsWritten ms ks c (top_node (flipped (node_at ns i).axis) size g)
-    → BeginsAt ns i s n → s.start ≡ 0 → Reaches (sides_of size) s (total (erase n))
-    → Standing ms (held_by c s) no_slot 0 n
-    → Stands ks (top_along (other s.axis) (total (erase n))) (Seq c s.width n End)
-Stands-topped ns ms ks i c g size s n unused exact uses w h start reach hung =
-    let length = total (erase n) in
-    let first : axis_of (node_at ns i).axis ≡ s.axis =
-    rw (← h.begins) (first-axis ns s no_slot 0 n h.stands.standing (nonempty-total n h.some)) in
-    let axis = axis_of-flipped (node_at ns i).axis ∙ ap other first in
-    let none : tally c n ≡ 0 = h.stands.numbered c ∙ ap use_count unused in
-    record {
-      standing = grind (arith, rectangle-spanned, inside-held, Standing-same, ne-from_count);
-      numbered = grind (arith, same-self, same-ne);
+-- The node of an unused slot once it is a free leaf that follows slot c, as far as the far corner of a size.
+abbrev pub last_node : (top unused : Node) → Size → (c : Link) → Node
+last_node top unused size c =
+    record top {
+      previous = c;
+      next = record { number = no_slot };
+      area = beyond_in top.axis top.area size;
+      kind = kind.Free;
+      generation = unused.generation;
     }
 
-pub topped-by : (ms ks : List Node) (c g : ℕ) (size : Size) (a b : Orientation) (area : Rectangle) → a ≡ b
-    → area ≡ from_origin size → ks ≡ set ms c (record (top_node a size g) { area = area }) → c < length ms
-    → IsWritten ms ks c (top_node b size g)
-topped-by ms ks c g size a b area e r w l = IsWritten-by ms ks c (record (top_node a size g) { area = area }) (top_node b size g) w (rw (e, r) refl) l
+-- The members hang in slot c; then that is written, and slot k after it.
+module _ (ns ms xs ks : List Node) (i : ℕ) (c k : Link) (inner size : Size) (can : CanNestTop ns i c.number k.number)
+    (uses : (x : ℕ) → KeepsUse (node_at ns x) (node_at ms x))
+    (w1 : IsWritten ms xs c.number (top_node (node_at ns i) (node_at ns c.number) inner k))
+    (w2 : IsWritten xs ks k.number
+    (last_node (top_node (node_at ns i) (node_at ns c.number) inner k) (node_at ns k.number) size c)) where
+  pub nested-top : node_at ks c.number ≡ top_node (node_at ns i) (node_at ns c.number) inner k
+  nested-top = w2.others c.number can.apart ∙ w1.there
 
-pub uses-written : (ns ms ks : List Node) (c : ℕ) (m : Node) → ((k : ℕ) → KeepsUse (node_at ns k) (node_at ms k))
-    → IsWritten ms ks c m
-    → (k : ℕ) → k ≢ c → KeepsUse (node_at ns k) (node_at ks k)
-uses-written ns ms ks c m uses w k ne = rw (w.others k ne) (uses k)
+  stays_hung : (x : ℕ) → x ≢ c.number → x ≢ k.number → node_at ks x ≡ node_at ms x
+  stays_hung x nc nk = w2.others x nk ∙ w1.others x nc
+
+  pub nested-others : (x : ℕ) → x ≢ c.number → x ≢ k.number → KeepsUse (node_at ns x) (node_at ks x)
+  nested-others x nc nk = rw (stays_hung x nc nk) (uses x)
+
+  pub nested-generations : (x : ℕ) → (node_at ks x).generation ≡ (node_at ns x).generation
+  nested-generations x = grind (arith, cases_eq x c.number, cases_eq x k.number, nested-top, nested-others)
+
+  nested_use : (x : ℕ)
+      → use_count (node_at ks x).kind ≡ same x c.number + (same x k.number + use_count (node_at ns x).kind)
+  nested_use x = grind (arith, cases_eq x c.number, cases_eq x k.number, same-self, same-ne, nested-top, nested-others)
+
+  module _ (exact_inner : inner ≡ size_of (sides_of inner)) (exact : size ≡ size_of (sides_of size)) (s : Sequence)
+      (n : Numbered) (d : ℕ) (h : BeginsAt ns i s n) (start : s.start ≡ 0)
+      (reach : Reaches (sides_of inner) s (total (erase n))) (wider : IsWider s.axis (sides_of inner) (sides_of size) d) where
+    abbrev outside : Sequence
+    outside = top_along (other s.axis) (total (erase n))
+
+    axis_outside : axis_of (flipped (node_at ns i).axis) ≡ other s.axis
+    axis_outside = grind (arith, axis_of-flipped, first-axis ns s no_slot 0 n h.stands.standing, nonempty-total)
+
+    -- The leaf ends at the far corner.
+    reaches_far : Reaches (sides_of size) outside (0 + s.width + d)
+    reaches_far = grind (arith, other_twice)
+
+    away : (x : ℕ) → 0 < tally x n → node_at ks x ≡ node_at ms x
+    away x l = grind (arith, stays_hung, ne-from_count)
+
+    pub Stands-nested : Standing ms (held_by c.number s) no_slot 0 n
+        → Stands ks outside (nested c.number k.number s.width d n)
+    Stands-nested hung =
+        let beyond = box-beyond _ outside 0 s.width (0 + s.width) d size axis_outside exact refl reaches_far in
+        let held = Standing-same ms ks (held_by c.number s) no_slot 0 n away hung in
+        grind (arith, nested-top, axis_outside, other_twice, nested_use)

@@ -130,7 +130,7 @@ module _ (ns ms : List Node) (i : ℕ) (size : Size) (exact : size ≡ size_of (
       }
 
 -- Beyond a member lies the next one.
-box-beyond : (o : Orientation) (s : Sequence) (p e q d : ℕ) (size : Size) → axis_of o ≡ s.axis
+pub box-beyond : (o : Orientation) (s : Sequence) (p e q d : ℕ) (size : Size) → axis_of o ≡ s.axis
     → size ≡ size_of (sides_of size) → p + e ≡ q → Reaches (sides_of size) s (q + d)
     → beyond_in o (rectangle_of (member_box s p e)) size ≡ rectangle_of (member_box s q d)
 box-beyond o s p e q d size axis exact ends far =

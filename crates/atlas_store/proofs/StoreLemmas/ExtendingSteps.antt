@@ -1,73 +1,55 @@
 -- The calls that extend the top sequence keep what is held: from what the calls on nodes ensure.
-use Rattle.std.proofs.Common.{ℕ, ◌+◌, ◌<◌, ◌≡◌, ◌≢◌, ◌^◌, List, ap, arith, Bool, true, FitsSigned, w32, rules}
+use Rattle.std.proofs.Common.{ℕ, ◌+◌, ◌<◌, ◌≡◌, ◌≢◌, ◌^◌, List, [], ◌∷◌, length, refl, ap, arith, Bool, true, FitsSigned, w32}
+use Rattle.std.proofs.lemmas.Bool.{cases_eq}
 use Rattle.atlas_store.specs.declared.slots.Slot.{Slot}
-use Rattle.atlas_search.specs.declared.link.Link.{Link}
 use Rattle.atlas_store.specs.declared.slots.Node.{Node}
-use Rattle.atlas_store.specs.declared.slots.Ring.{Ring}
 use Rattle.atlas_store.specs.declared.slots.NodeKind.TheVariants as kind
-use Rattle.atlas_search.specs.declared.table.ListHead.{ListHead}
 use Rattle.atlas_model.specs.declared.geometry.Size.{Size}
-use Rattle.atlas_model.specs.Boxes.{Axis, Sides, side, IsPositive}
+use Rattle.atlas_model.specs.Boxes.{Axis, Sides, other, side, IsPositive}
 use Rattle.atlas_model.specs.Boxes.Axis.{Horizontal, Vertical}
-use Rattle.atlas_model.specs.Choice.{Options}
-use Rattle.atlas_model.specs.Pixels.{sides_of, options_of}
+use Rattle.atlas_model.specs.Pixels.{sides_of}
 use Rattle.atlas_model.specs.Trees.{IsCut, total}
-use Rattle.atlas_store.specs.Slots.{nodes, rings, node_at, use_count, KeepsUse}
-use Rattle.atlas_search.specs.Numbers.{no_slot}
-use Rattle.atlas_store.specs.Slots.Numbered.{Numbered, erase}
+use Rattle.atlas_store.specs.Slots.{nodes, rings, node_at, use_count}
+use Rattle.atlas_search.specs.Numbers.{no_slot, occurs, same}
+use Rattle.atlas_store.specs.Slots.Numbered.{Numbered, erase, tally}
 use Rattle.atlas_store.specs.Slots.Standing.{Sequence, Stands}
-use Rattle.atlas_store.specs.Slots.Lists.{AreFiled, Places}
-use Rattle.atlas_store.specs.Slots.Links.{with_mark, with_count}
-use Rattle.atlas_store.specs.Slots.SlotCalls.{BeginsAt, CanAppendTo, CanWrapTop, IsLeafStretched, IsLeafAppended, IsTopWrapped}
-use Rattle.atlas_store.specs.Store.TopCalls.{IsAppendable, IsWrappable}
-use Rattle.atlas_store.specs.Stored.{Shelf, Holding, Holds, HoldsWith, places_of}
-use Rattle.atlas_store.specs.Store.Holdings.{node_in, IsDetachedLeaf, after_take}
-use Rattle.atlas_store.specs.Slots.Growing.{IsEnd, IsLone, IsSpanning, IsWider, Reaches, last_slot, after_stretch, after_whole, after_append, after_wrap_top}
-use Rattle.atlas_store.proofs.SlotLemmas.Frames.{keeps-same}
-use Rattle.atlas_store.proofs.StoreLemmas.Filing.{with_mark-same, with_mark-other, with_count-same, with_count-other}
+use Rattle.atlas_store.specs.Slots.Links.{with_mark}
+use Rattle.atlas_store.specs.Slots.SlotCalls.{CanAppendTo, CanNestTop, IsLeafStretched, IsLeafAppended, IsTopNested}
+use Rattle.atlas_store.specs.Stored.{Shelf, Holding, Holds, HoldsWith}
+use Rattle.atlas_store.specs.Store.Holdings.{shelf_of, HasSlotsFor, IsDetachedLeaf, with_unused_list}
+use Rattle.atlas_store.specs.Store.StoreCalls.{AreSlotsTaken}
+use Rattle.atlas_store.specs.Store.TopCalls.{IsExtendable, IsNestable}
+use Rattle.atlas_store.specs.declared.store.Store.{Store}
+use Rattle.atlas_store.specs.Slots.Growing.{IsEnd, IsLone, Reaches, last_slot, top_along, stretched, appended, nested, after_stretch, after_whole, after_append, after_nest}
+use Rattle.atlas_store.proofs.SlotLemmas.Frames.{same-self, same-ne}
+use Rattle.atlas_store.proofs.StoreLemmas.Filing.{with_mark-same, with_mark-other}
 use Rattle.atlas_store.proofs.StoreLemmas.Taking.{AreFiled-moved, StaysOrIsOut}
 use Rattle.atlas_store.proofs.StoreLemmas.Sizes.{natural-fits}
-use Rattle.atlas_store.proofs.StoreLemmas.StoreSteps.{AreSlots, short-mid, filed-before, stands-before, node-before, moved-kept, use-kept}
+use Rattle.atlas_store.proofs.StoreLemmas.StoreTakes.{taken-once}
+use Rattle.atlas_store.proofs.StoreLemmas.StoreSteps.{AreSlots, over-shelf, long-over, moved-kept, use-kept}
 use Rattle.atlas_store.proofs.WalkLemmas.Observing.{nonempty-total}
-use Rattle.atlas_store.proofs.StoreLemmas.ExtendedTrees.{other-other, total-stretched, cut-stretched, total-appended, cut-appended, last-member}
+use Rattle.atlas_store.proofs.StoreLemmas.ExtendedTrees.{total-stretched, cut-stretched, total-appended, cut-appended, last-member}
 
 -- Extents are positive, and no box passes what an `i32` holds.
-record IsInBounds (h : Holding) : Type 0 where
-  pub cut : IsCut h.sequence.width (erase h.tree)
-  pub wide : 0 < h.sequence.width
-  pub across : h.sequence.start + h.sequence.width < 2 ^ 31
-  pub along : total (erase h.tree) < 2 ^ 31
+record IsInBounds (s : Sequence) (n : Numbered) : Type 0 where
+  pub cut : IsCut s.width (erase n)
+  pub wide : 0 < s.width
+  pub across : s.start + s.width < 2 ^ 31
+  pub along : total (erase n) < 2 ^ 31
 
--- What is held once the slots changed, and the tree and its sequence with them.
-held_anew : (claimed claimed' : ℕ → ℕ) (v : Shelf) (old mid new : List Slot) (h k : Holding)
-    → AreSlots v.slots old mid new
-    → HoldsWith claimed v h → k.sequence.parent ≡ no_slot → Stands (nodes mid) k.sequence k.tree
-    → AreFiled (options_of v.options) (nodes mid) (rings mid) v.heads v.unused (places_of claimed' k)
-    → IsInBounds k → HoldsWith claimed' (record v { slots = new }) k
-held_anew claimed claimed' v old mid new h k a holds top stands filed bounds = grind (arith, short-mid)
+-- Slots that are claimed are used, and the others keep their use.
+record AreUsed (old new : List Slot) (claimed : ℕ → ℕ) (detached detached' : ℕ → Bool) : Type 0 where
+  pub moved : (i : ℕ) → StaysOrIsOut (node_at (nodes old) i) (node_at (nodes new) i) (detached i) (detached' i)
+  pub counted : (i : ℕ) → use_count (node_at (nodes new) i).kind ≡ claimed i + use_count (node_at (nodes old) i).kind
+  pub same_rings : rings new ≡ rings old
 
--- One slot changes, and the others keep their use, their place claimed and their mark.
-record ChangesOne (ns ms : List Node) (i : ℕ) (claimed claimed' : ℕ → ℕ) (detached detached' : ℕ → Bool) : Type 0 where
-  pub moved : StaysOrIsOut (node_at ns i) (node_at ms i) (detached i) (detached' i)
-  pub counted : claimed' i + use_count (node_at ms i).kind ≡ claimed i + use_count (node_at ns i).kind
-  pub hands : (k : ℕ) → k ≢ i → claimed' k ≡ claimed k
-  pub marks : (k : ℕ) → k ≢ i → detached' k ≡ detached k
-  pub others : (k : ℕ) → k ≢ i → KeepsUse (node_at ns k) (node_at ms k)
-
--- The lists stay in order where one slot changes.
-filed-change : (o : Options) (ns ms : List Node) (rs ts : List Ring) (heads : List ListHead) (unused : Link) (p : Places) (claimed' : ℕ → ℕ) (detached' : ℕ → Bool) (i : ℕ)
-    → ts ≡ rs → ChangesOne ns ms i p.claimed claimed' p.detached detached'
-    → AreFiled o ns rs heads unused p
-    → AreFiled o ms ts heads unused (record p { claimed = claimed'; detached = detached' })
-filed-change o ns ms rs ts heads unused p claimed' detached' i same c filed =
-    grind (arith, moved-kept, use-kept, AreFiled-moved)
-
--- The same of the lists of a holding.
-filed-after : (claimed claimed' : ℕ → ℕ) (v : Shelf) (old mid : List Slot) (h : Holding) (detached' : ℕ → Bool) (i : ℕ)
-    → old ≡ v.slots → rings mid ≡ rings old → ChangesOne (nodes old) (nodes mid) i claimed claimed' h.detached detached'
-    → HoldsWith claimed v h
-    → AreFiled (options_of v.options) (nodes mid) (rings mid) v.heads v.unused (record { unused_list = h.unused_list; free_lists = h.free_lists; claimed = claimed'; detached = detached' })
-filed-after claimed claimed' v old mid h detached' i e same c holds = grind (arith, filed-change, filed-before)
+-- What is held then, where the slots stand for the tree n in the top sequence s.
+held_anew : (claimed : ℕ → ℕ) (v : Shelf) (new : List Slot) (h : Holding) (s : Sequence) (n : Numbered)
+    (detached : ℕ → Bool) → length new ≡ length v.slots
+    → HoldsWith claimed v h → AreUsed v.slots new claimed h.detached detached → s.parent ≡ no_slot
+    → Stands (nodes new) s n → IsInBounds s n
+    → Holds (record v { slots = new }) (record h { sequence = s; tree = n; detached = detached })
+held_anew claimed v new h s n detached long holds used top stands bounds = grind (arith, AreFiled-moved)
 
 -- Each side of a size is what an `i32` holds.
 pub sides-fit : (size : Size) → FitsSigned w32 size.width → FitsSigned w32 size.height → (a : Axis)
@@ -75,12 +57,10 @@ pub sides-fit : (size : Size) → FitsSigned w32 size.width → FitsSigned w32 s
 sides-fit size wide high Horizontal = omega (arith, natural-fits size.width wide)
 sides-fit size wide high Vertical = omega (arith, natural-fits size.height high)
 
--- The lists stay in order where a detached leaf changes.
-filed-leaf : (v : Shelf) (old mid : List Slot) (at : ℕ) (size : Size) (h : Holding) → old ≡ v.slots
-    → IsLeafStretched old mid at size
-    → IsDetachedLeaf v at h
-    → AreFiled (options_of v.options) (nodes mid) (rings mid) v.heads v.unused (places_of (λ i. 0) h)
-filed-leaf v old mid at size h given w leaf = grind (arith, keeps-same, filed-after)
+-- A detached leaf changes, and stays in use.
+used-leaf : (old new : List Slot) (at : ℕ) (size : Size) (detached : ℕ → Bool) → IsLeafStretched old new at size
+    → (node_at (nodes old) at).kind ≡ kind.Free → detached at ≡ true → AreUsed old new (λ i. 0) detached detached
+used-leaf old new at size detached w free out = grind (arith, cases_eq)
 
 -- A sequence of this length ends at the far corner.
 reaches-end : (size : Sides) (d last : ℕ) (h : Holding) → IsEnd size d last h
@@ -93,9 +73,10 @@ pub stretched-holds : (v : Shelf) (old mid new : List Slot) (at : ℕ) (size : S
     → (h : Holding) (d : ℕ) → IsDetachedLeaf v at h → IsEnd (sides_of size) d at h
     → Holds (record v { slots = new }) (after_stretch d h)
 stretched-holds v old mid new at size a fit w h d leaf end =
-    held_anew (λ i. 0) (λ i. 0) v old mid new h (after_stretch d h) a leaf.holds leaf.holds.top
-    (w.longer h.sequence h.tree d (stands-before (λ i. 0) v old h a.given leaf.holds) end.ends (reaches-end (sides_of size) d at h end))
-    (filed-leaf v old mid at size h a.given w leaf) (record {
+    let own = over-shelf (λ x y. IsLeafStretched x y at size) _ _ _ _ a w in
+    held_anew (λ i. 0) v new h h.sequence (stretched d h.tree) h.detached (long-over _ _ _ _ a) leaf.holds
+    (used-leaf v.slots new at size h.detached own leaf.kind leaf.detached) leaf.holds.top
+    (own.longer h.sequence h.tree d leaf.holds.stands end.ends (reaches-end (sides_of size) d at h end)) (record {
       cut = cut-stretched d h.sequence.width h.tree leaf.holds.cut;
       wide = leaf.holds.wide;
       across = leaf.holds.across;
@@ -107,81 +88,83 @@ pub whole-holds : (v : Shelf) (old mid new : List Slot) (at : ℕ) (size : Size)
     → ((a : Axis) → side a (sides_of size) < 2 ^ 31) → IsPositive (sides_of size) → IsLeafStretched old mid at size
     → (h : Holding) → IsDetachedLeaf v at h → IsLone at h
     → Holds (record v { slots = new }) (after_whole (sides_of size) at h)
-whole-holds v old mid new at size a fit positive w h leaf lone = grind (arith, held_anew, stands-before, filed-leaf)
+whole-holds v old mid new at size a fit positive w h leaf lone =
+    let own = over-shelf (λ x y. IsLeafStretched x y at size) _ _ _ _ a w in
+    grind (arith, held_anew, used-leaf v.slots new at size h.detached own, long-over v.slots old mid new a)
 
--- The last slot of a tree is used, and inside.
+-- The last slot of a tree is used.
+last-used : (ns : List Node) (s : Sequence) (n : Numbered) (last : ℕ) → Stands ns s n → 0 < total (erase n)
+    → last_slot n ≡ last → (node_at ns last).kind ≢ kind.Unused
+last-used ns s n last stands some ends unused =
+    let here : 0 < tally last n = rw (← ends) (last-member n (nonempty-total n some)) in
+    omega (arith, stands.numbered last, ap use_count unused)
 
-last-use : (ns : List Node) (s : Sequence) (n : Numbered) → Stands ns s n → 0 < total (erase n)
-    → 0 < use_count (node_at ns (last_slot n)).kind
-last-use ns s n stands some = omega (arith, stands.numbered (last_slot n), last-member n (nonempty-total n some))
+-- A slot was taken, in which a leaf is to come last.
+module _ {A : Type 0} {old mid : Store A} {k : ℕ} (took : AreSlotsTaken old mid (k ∷ [])) where
+  pub can-append : (size : Sides) (last d : ℕ) (h : Holding) → IsExtendable (shelf_of old) size last d h
+      → HasSlotsFor 1 old h → CanAppendTo (nodes mid.slots.items) last k
+  can-append size last d h ready slots = record {
+    used = last-used (nodes mid.slots.items) h.sequence h.tree last (took.taken h 0 ready.holds slots).1.stands
+        ready.end.some ready.end.ends;
+    unused = (took.fresh k (omega (arith, same-self k))).unused;
+  }
 
-end-use : (claimed : ℕ → ℕ) (v : Shelf) (old : List Slot) (size : Sides) (d last : ℕ) (h : Holding) → old ≡ v.slots
-    → HoldsWith claimed v h → IsEnd size d last h
-    → 0 < use_count (node_at (nodes old) last).kind
-end-use claimed v old size d last h e holds end = grind (arith, last-use, stands-before)
+  pub appended-holds : (given left new : List Slot) (last : ℕ) (size : Size)
+      → AreSlots mid.slots.items given left new
+      → ((a : Axis) → side a (sides_of size) < 2 ^ 31) → IsLeafAppended given left last k size
+      → (h : Holding) (unused_list : List ℕ) (d : ℕ) → IsExtendable (shelf_of old) (sides_of size) last d h
+      → HoldsWith (λ i. occurs i (k ∷ [])) (shelf_of mid) (with_unused_list unused_list h)
+      → Holds (record (shelf_of mid) { slots = new }) (with_unused_list unused_list (after_append k d h))
+  appended-holds given left new last size a fit w h unused_list d ready holds =
+      let own = over-shelf (λ x y. IsLeafAppended x y last k size) _ _ _ _ a w in
+      let unused = (took.fresh k (omega (arith, same-self k))).unused in
+      let marks = with_mark h.detached k true in
+      let used : AreUsed mid.slots.items new (λ i. occurs i (k ∷ [])) h.detached marks =
+      grind (arith, cases_eq, same-self, same-ne, moved-kept, use-kept, with_mark-same, with_mark-other) in
+      held_anew (λ i. occurs i (k ∷ [])) (shelf_of mid) new (with_unused_list unused_list h) h.sequence
+      (appended k d h.tree) marks (long-over _ _ _ _ a) holds used holds.top
+      (own.tree h.sequence h.tree d holds.stands ready.end.ends (reaches-end (sides_of size) d last h ready.end))
+      (record {
+        cut = cut-appended k d h.sequence.width h.tree ready.more holds.cut;
+        wide = holds.wide;
+        across = holds.across;
+        along = omega (arith, total-appended k d h.tree, ready.end.along, fit h.sequence.axis);
+      })
 
-end-used : (claimed : ℕ → ℕ) (v : Shelf) (old : List Slot) (size : Sides) (d last : ℕ) (h : Holding) → old ≡ v.slots
-    → HoldsWith claimed v h → IsEnd size d last h
-    → (node_at (nodes old) last).kind ≢ kind.Unused
-end-used claimed v old size d last h e holds end unused = omega (arith, end-use claimed v old size d last h e holds end, ap use_count unused)
+-- Two slots were taken: one for a container of the top sequence, and one for the leaf after it.
+module _ {A : Type 0} {old mid : Store A} {c k : ℕ} (took : AreSlotsTaken old mid (c ∷ k ∷ [])) where
+  pub can-nest : (inner size : Sides) (first d : ℕ) (h : Holding) → IsNestable (shelf_of old) inner size first d h
+      → HasSlotsFor 2 old h → CanNestTop (nodes mid.slots.items) first c k
+  can-nest inner size first d h ready slots =
+      let held = (took.taken h 0 ready.holds slots).1 in
+      record {
+        tree = (
+          h.sequence,
+          h.tree,
+          record { stands = held.stands; begins = ready.spans.begins; some = ready.spans.some },
+        );
+        container = (took.fresh c (omega (arith, same-self c))).unused;
+        strip = (took.fresh k (omega (arith, same-self k))).unused;
+        apart = λ x. absurd (omega (arith, taken-once took held c, same-self c, ap (same c) x));
+      }
 
-pub appendable-slots : (claimed : ℕ → ℕ) (v : Shelf) (old : List Slot) (size : Sides) (d last fresh : ℕ) (h : Holding)
-    → old ≡ v.slots
-    → (node_in v fresh).kind ≡ kind.Unused → IsAppendable claimed v size last fresh d h
-    → CanAppendTo (nodes old) last fresh
-appendable-slots claimed v old size d last fresh h e unused can = search (rules, end-used, node-before)
-
--- The claimed slot becomes a leaf that comes last.
-pub appended-holds : (v : Shelf) (old mid new : List Slot) (last fresh : ℕ) (size : Size) → AreSlots v.slots old mid new
-    → ((a : Axis) → side a (sides_of size) < 2 ^ 31) → (node_in v fresh).kind ≡ kind.Unused
-    → IsLeafAppended old mid last fresh size
-    → (h : Holding) (claimed : ℕ → ℕ) (d : ℕ) → IsAppendable claimed v (sides_of size) last fresh d h
-    → HoldsWith (with_count claimed fresh 0) (record v { slots = new }) (after_append fresh d h)
-appended-holds v old mid new last fresh size a fit unused_v w h claimed d can =
-    let unused : (node_at (nodes old) fresh).kind ≡ kind.Unused = node-before (λ n. n.kind ≡ kind.Unused) v old fresh a.given unused_v in
-    let one : ChangesOne (nodes old) (nodes mid) fresh claimed (with_count claimed fresh 0) h.detached (with_mark h.detached fresh true) =
-    grind (arith, with_mark-same, with_count-same, with_count-other, with_mark-other) in
-    held_anew claimed (with_count claimed fresh 0) v old mid new h (after_append fresh d h) a can.holds can.holds.top
-    (w.tree h.sequence h.tree d (stands-before claimed v old h a.given can.holds) can.end.ends (reaches-end (sides_of size) d last h can.end))
-    (filed-after claimed (with_count claimed fresh 0) v old mid h (with_mark h.detached fresh true) fresh a.given w.same_rings one can.holds) (record {
-      cut = cut-appended fresh d h.sequence.width h.tree can.more can.holds.cut;
-      wide = can.holds.wide;
-      across = can.holds.across;
-      along = omega (arith, total-appended fresh d h.tree, can.end.along, fit h.sequence.axis);
-    })
-
--- The slots before the call hold a tree that begins there.
-begins-before : (claimed : ℕ → ℕ) (v : Shelf) (old : List Slot) (first : ℕ) (size : Sides) (h : Holding) → old ≡ v.slots
-    → HoldsWith claimed v h → IsSpanning size first h → BeginsAt (nodes old) first h.sequence h.tree
-begins-before claimed v old first size h e holds span = grind (arith, stands-before)
-
-pub wrappable-slots : (claimed : ℕ → ℕ) (v : Shelf) (old : List Slot) (size : Sides) (first container : ℕ) (h : Holding)
-    → old ≡ v.slots
-    → (node_in v container).kind ≡ kind.Unused → IsWrappable claimed v size first container h
-    → CanWrapTop (nodes old) first container
-wrappable-slots claimed v old size first container h e unused can = grind (arith, begins-before, node-before)
-
--- The claimed slot holds what was the top sequence.
-pub topped-holds : (v : Shelf) (old mid new : List Slot) (first container : ℕ) (size : Size)
-    → AreSlots v.slots old mid new
-    → (node_in v container).kind ≡ kind.Unused → IsTopWrapped old mid first container size
-    → (h : Holding) (claimed : ℕ → ℕ) → IsWrappable claimed v (sides_of size) first container h
-    → HoldsWith (with_count claimed container 0) (record v { slots = new }) (after_wrap_top container h)
-topped-holds v old mid new first container size a unused_v w h claimed can =
-    grind (arith, node-before, with_count-same, with_count-other, held_anew, begins-before, filed-after)
-
--- What is said of the top sequence stays where a slot is taken.
-
-pub end-taken : (size : Sides) (d last : ℕ) (h : Holding) → IsEnd size d last h → IsEnd size d last (after_take h)
-end-taken size d last h end = record { start = end.start; ends = end.ends; some = end.some; along = end.along; across = end.across }
-
-pub spanning-taken : (size : Sides) (first : ℕ) (h : Holding) → IsSpanning size first h
-    → IsSpanning size first (after_take h)
-spanning-taken size first h span = record { start = span.start; begins = span.begins; some = span.some; along = span.along; across = span.across }
-
--- The container of what was the top sequence comes last.
-pub end-topped : (inner size : Sides) (d first container : ℕ) (claimed : ℕ → ℕ) (v : Shelf) (h : Holding)
-    → HoldsWith claimed v h
-    → IsSpanning inner first h → IsWider h.sequence.axis inner size d
-    → IsEnd size d container (after_wrap_top container h)
-end-topped inner size d first container claimed v h holds span wider = grind (arith, other-other)
+  pub nested-holds : (given left new : List Slot) (first : ℕ) (inner size : Size)
+      → AreSlots mid.slots.items given left new
+      → ((a : Axis) → side a (sides_of size) < 2 ^ 31) → CanNestTop (nodes mid.slots.items) first c k
+      → IsTopNested given left first c k inner size
+      → (h : Holding) (unused_list : List ℕ) (d : ℕ)
+      → IsNestable (shelf_of old) (sides_of inner) (sides_of size) first d h
+      → HoldsWith (λ i. occurs i (c ∷ k ∷ [])) (shelf_of mid) (with_unused_list unused_list h)
+      → Holds (record (shelf_of mid) { slots = new }) (with_unused_list unused_list (after_nest c k d h))
+  nested-holds given left new first inner size a fit can w h unused_list d ready holds =
+      let own = over-shelf (λ x y. IsTopNested x y first c k inner size) _ _ _ _ a w in
+      let marks = with_mark h.detached k true in
+      let used : AreUsed mid.slots.items new (λ i. occurs i (c ∷ k ∷ [])) h.detached marks =
+      grind (arith, cases_eq, same-self, same-ne, moved-kept, use-kept, with_mark-same, with_mark-other) in
+      let spans = ready.spans in
+      held_anew (λ i. occurs i (c ∷ k ∷ [])) (shelf_of mid) new (with_unused_list unused_list h)
+      (top_along (other h.sequence.axis) (total (erase h.tree))) (nested c k h.sequence.width d h.tree) marks
+      (long-over _ _ _ _ a) holds used refl
+      (own.tree h.sequence h.tree d (record { stands = holds.stands; begins = spans.begins; some = spans.some })
+      spans.start (spans.along, omega (arith, spans.start, spans.across)) ready.wider)
+      (grind (arith, fit (other h.sequence.axis)))

@@ -1,24 +1,5 @@
 -- A slot is taken and put to use at once.
-use Rattle.std.proofs.Common.{
-  ℕ,
-  ◌+◌,
-  ◌-◌,
-  ◌≤◌,
-  ◌≡◌,
-  ◌≢◌,
-  [],
-  ◌∷◌,
-  List,
-  refl,
-  sym,
-  ap,
-  subst,
-  ◌∙◌,
-  inl,
-  inr,
-  arith,
-  length,
-}
+use Rattle.std.proofs.Common.{ℕ, ◌+◌, ◌-◌, ◌≤◌, ◌≡◌, [], ◌∷◌, List, refl, sym, ap, subst, ◌∙◌, inl, inr, arith, length}
 use Rattle.std.proofs.lemmas.Bool.{cases_eq, cases_lt}
 use Rattle.atlas_store.specs.declared.store.Store.{Store}
 use Rattle.atlas_store.specs.declared.slots.Node.{Node}
@@ -30,18 +11,13 @@ use Rattle.atlas_store.specs.Slots.Placing.{across_of, slots_of, taken_by, CanPl
 use Rattle.atlas_store.specs.Slots.Reading.{extent_of}
 use Rattle.atlas_store.specs.Slots.Links.{with_count, tail_of}
 use Rattle.atlas_search.specs.Numbers.{occurs, same}
-use Rattle.atlas_store.specs.Stored.{Shelf, Holding, Holds, HoldsWith}
+use Rattle.atlas_store.specs.Stored.{Holding, Holds, HoldsWith}
 use Rattle.atlas_store.specs.Store.Holdings.{shelf_of, node_in, HasSlotsFor, KeepsRoom, with_unused_list}
-use Rattle.atlas_store.specs.Store.StoreCalls.{AreSlotsTaken, IsPlaceable, IsSlotTaken, IsUnusedSlot}
+use Rattle.atlas_store.specs.Store.StoreCalls.{AreSlotsTaken, IsPlaceable, IsSlotTaken, IsUnusedSlot, TakesSlots}
 use Rattle.atlas_store.proofs.SlotLemmas.Frames.{same-self, same-ne}
 use Rattle.atlas_store.proofs.StoreLemmas.Filing.{with_count-same, with_count-other}
-use Rattle.atlas_store.proofs.StoreLemmas.StoreSteps.{holds-claimed, claimed-back, length-nodes, length-rings}
-
--- Nothing is claimed once the taken slot is used.
-pub used-taken : (v : Shelf) (fresh : ℕ) (claimed : ℕ → ℕ) (h : Holding) → claimed fresh ≡ 0
-    → HoldsWith (with_count (with_count claimed fresh 1) fresh 0) v h → HoldsWith claimed v h
-used-taken v fresh claimed h none holds = holds-claimed (with_count (with_count claimed fresh 1) fresh 0) claimed v h
-    (λ i. sym (claimed-back claimed fresh 1 none i)) holds
+use Rattle.atlas_store.proofs.StoreLemmas.StoreSteps.{holds-claimed, length-nodes, length-rings}
+use Rattle.atlas_store.proofs.StoreLemmas.TakenOnce.{only-takes}
 
 -- As many slots can be taken as before.
 pub slots-kept : {A : Type 0} (old new : Store A) (n : ℕ) (h : Holding) → KeepsRoom old new
@@ -52,16 +28,6 @@ slots-kept old new n h r slots = grind arith
 pub rest-length : (xs : List ℕ) → length (tail_of xs) ≡ length xs - 1
 rest-length [] = refl
 rest-length (x ∷ xs) = omega arith
-
--- Two slots are taken: b, and then f. Both are claimed, and no other is.
-abbrev pub two_claimed : (b f : ℕ) → ℕ → ℕ
-two_claimed b f = with_count (with_count (λ i. 0) b 1) f 1
-
-pub second-claimed : (b f : ℕ) → f ≢ b → with_count (two_claimed b f) f 0 b ≡ 1
-second-claimed b f apart = grind (arith, with_count-other, with_count-same)
-
-pub none-claimed : (b f : ℕ) (i : ℕ) → 0 ≡ with_count (with_count (two_claimed b f) f 0) b 0 i
-none-claimed b f i = grind (arith, with_count-same, with_count-other)
 
 -- Slots are taken one after another.
 
@@ -75,10 +41,7 @@ none-taken v = record {
   was_unused = λ k l. absurd (omega (arith, l));
   fresh = λ k l. absurd (omega (arith, l));
   others = λ j z. refl;
-  options = refl;
-  capacity = refl;
-  once = λ f. f;
-  turns = refl;
+  takes = record { options = refl; capacity = refl; turns = refl; once = λ f. f };
 }
 
 -- Another one can be taken.
@@ -129,11 +92,38 @@ more-taken {A} {v0} {v} {v'} {k} {ks} m w l h0 holds0 room0 step =
       ];
       others = λ j z. step.others j (λ e. absurd (omega (arith, z, ap (same j) e, same-self j)))
           ∙ w.others j (omega (arith, z));
-      options = step.options ∙ w.options;
-      capacity = step.capacity ∙ w.capacity;
-      once = λ f. step.once (w.once f);
-      turns = step.turns ∙ w.turns;
+      takes = only-takes w.takes step.takes;
     }
+
+-- One is, of so many; or two are: k, and then c.
+pub one-taken : {A : Type 0} {v0 v : Store A} {k : ℕ} (m : ℕ) (h : Holding) → Holds (shelf_of v0) h
+    → HasSlotsFor (m + 1) v0 h → IsSlotTaken v0 v k → AreSlotsTaken v0 v (k ∷ [])
+one-taken {A} {v0} m h holds room step = more-taken (m + 1) (none-taken v0) (omega arith) h holds room step
+
+pub two-taken : {A : Type 0} {v0 v1 v : Store A} {k c : ℕ} (h : Holding) → Holds (shelf_of v0) h → HasSlotsFor 2 v0 h
+    → IsSlotTaken v0 v1 k → IsSlotTaken v1 v c → AreSlotsTaken v0 v (c ∷ k ∷ [])
+two-taken h holds room first second =
+    more-taken 2 (one-taken 1 h holds room first) (omega arith) h holds room second
+
+-- Each was taken once.
+pub taken-once : {A : Type 0} {old mid : Store A} {ks : List ℕ} {h : Holding} → AreSlotsTaken old mid ks
+    → HoldsWith (λ i. occurs i ks) (shelf_of mid) h → (i : ℕ) → occurs i ks ≤ 1
+taken-once {A} {old} {mid} {ks} {h} took holds i = elim (cases_lt 0 (occurs i ks)) [
+  | inl l ↦ omega (arith, holds.filed.each i (omega (arith, (took.fresh i l).inside, length-rings mid.slots.items)))
+  | inr z ↦ omega (arith, z)
+]
+
+-- They are put to use by one write.
+pub takes-slots : {A : Type 0} (old mid new : Store A) (ks : List ℕ) (before : Holding → Type 0)
+    (after : Holding → Holding) → AreSlotsTaken old mid ks → KeepsRoom mid new
+    → ((h : Holding) → before h → Holds (shelf_of old) h)
+    → ((h : Holding) (unused_list : List ℕ) → before h
+    → HoldsWith (λ i. occurs i ks) (shelf_of mid) (with_unused_list unused_list h)
+    → Holds (shelf_of new) (with_unused_list unused_list (after h)))
+    → TakesSlots old new (length ks) before after
+takes-slots old mid new ks before after took room held written h n b slots =
+    let got = took.taken h n (held h b) slots in
+    (got.0, written h got.0 b got.1, slots-kept mid new n (with_unused_list got.0 h) room got.2, got.3)
 
 -- The same where the slots are those of a plan.
 abbrev pub HasSlotsOf : {A : Type 0} → Plan → Store A → Type 0
@@ -186,12 +176,5 @@ module _ {A : Type 0} {old mid : Store A} (at : ℕ) (p : Plan) (t : Parts)
     feasible = subst (λ n. IsFeasible p (extent_of n) (across_of n)) (sym leaf_same) ready.feasible;
     unused = λ i l. (taken.fresh i l).unused;
     inside = λ i l. omega (arith, (taken.fresh i l).inside, length-nodes mid.slots.items);
-    once = λ i. elim (cases_lt 0 (occurs i (taken_by p t))) [
-      | inl l ↦ omega (
-        arith,
-        held-taken.1.filed.each i
-            (omega (arith, (taken.fresh i l).inside, length-rings mid.slots.items)),
-      )
-      | inr z ↦ omega (arith, z)
-    ];
+    once = taken-once taken held-taken.1;
   }

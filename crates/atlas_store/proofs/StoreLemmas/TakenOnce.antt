@@ -4,12 +4,14 @@ use Rattle.std.proofs.lemmas.Bool.{cases_lt}
 use Rattle.std.proofs.lemmas.List.{get_or_past}
 use Rattle.std.proofs.lemmas.List.Elements.{All-from_get_or, All-get_or}
 use Rattle.atlas_search.specs.declared.link.Link.{Link}
+use Rattle.atlas_store.specs.declared.store.Store.{Store}
 use Rattle.atlas_store.specs.declared.slots.Node.{Node}
 use Rattle.atlas_store.specs.declared.slots.Slot.{Slot}
 use Rattle.atlas_model.specs.declared.geometry.Size.{Size}
 use Rattle.atlas_store.specs.Generations.{AreFirstGenerations}
 use Rattle.atlas_store.specs.Slots.{nodes, node_at, blank_node, AreTakenOnce}
 use Rattle.atlas_search.specs.Numbers.{no_slot}
+use Rattle.atlas_store.specs.Store.Holdings.{OnlyTakes}
 use Rattle.atlas_store.specs.Store.Starts.{one_free_slot}
 use Rattle.atlas_store.specs.Stored.{AtlasValue, Shelf}
 
@@ -23,6 +25,10 @@ once-same {ns} {ms} {u} same = once-kept (λ k. ap (λ (xs : List Node). (node_a
 
 pub once-shelf : (v w : Shelf) → w ≡ v → AreTakenOnce (nodes v.slots) v.unused → AreTakenOnce (nodes w.slots) w.unused
 once-shelf v w same = subst (λ (s : Shelf). AreTakenOnce (nodes s.slots) s.unused) (sym same)
+
+-- Calls that only take slots, one after another.
+pub only-takes : {A : Type 0} {a b c : Store A} → OnlyTakes a b → OnlyTakes b c → OnlyTakes a c
+only-takes {A} {a} {b} {c} x y = grind arith
 
 -- An atlas of one free slot.
 whole-first : (size : Size) (k : ℕ) → (node_at (nodes (one_free_slot size ∷ [])) k).generation ≡ 0

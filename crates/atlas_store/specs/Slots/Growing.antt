@@ -35,6 +35,10 @@ appended k d (Free i e rest) = Free i e (appended k d rest)
 appended k d (Alloc i g e rest) = Alloc i g e (appended k d rest)
 appended k d (Seq i e inner rest) = Seq i e inner (appended k d rest)
 
+-- A container of slot c and of extent e holds the members, and a free leaf of extent d at slot k comes after it.
+abbrev pub nested : (c k e d : ℕ) → Numbered → Numbered
+nested c k e d n = Seq c e n (Free k d End)
+
 -- A sequence of this length ends at the far corner of a size.
 abbrev pub Reaches : Sides → Sequence → (length : ℕ) → Type 0
 Reaches size s length = (length ≡ side s.axis size) × (s.start + s.width ≡ side (other s.axis) size)
@@ -94,14 +98,11 @@ after_whole size at h =
 abbrev pub after_append : (k d : ℕ) → Holding → Holding
 after_append k d h = record h { tree = appended k d h.tree; detached = with_mark h.detached k true }
 
--- Slot c holds what was the top sequence, the only member of the new one.
-abbrev pub after_wrap_top : (c : ℕ) → Holding → Holding
-after_wrap_top c h =
+-- Slot c holds what was the top sequence, and slot k a detached leaf of extent d that comes after it.
+abbrev pub after_nest : (c k d : ℕ) → Holding → Holding
+after_nest c k d h =
     record h {
       sequence = top_along (other h.sequence.axis) (total (erase h.tree));
-      tree = Seq c h.sequence.width h.tree End;
+      tree = nested c k h.sequence.width d h.tree;
+      detached = with_mark h.detached k true;
     }
-
--- And after it comes a detached leaf of extent d in slot k.
-abbrev pub after_nest : (c k d : ℕ) → Holding → Holding
-after_nest c k d h = after_append k d (after_wrap_top c h)

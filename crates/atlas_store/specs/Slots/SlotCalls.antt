@@ -10,10 +10,10 @@ use Rattle.atlas_model.specs.Trees.{total}
 use Rattle.atlas_store.specs.Slots.{nodes, rings, node_at, KeepsUse}
 use Rattle.atlas_search.specs.Numbers.{no_slot}
 use Rattle.atlas_store.specs.Slots.Numbered.{Numbered, marked, joined, lifted}
-use Rattle.atlas_store.specs.Slots.Numbered.{End, Free, Seq, erase, first_slot}
+use Rattle.atlas_store.specs.Slots.Numbered.{End, Free, erase, first_slot}
 use Rattle.atlas_store.specs.Slots.Standing.{Sequence, Standing, Stands}
-use Rattle.atlas_store.specs.Slots.Growing.{Reaches, last_slot, stretched, appended, held_by, top_along}
-use Rattle.atlas_store.specs.Slots.Growing.{stretched_area, whole_sequence}
+use Rattle.atlas_store.specs.Slots.Growing.{Reaches, IsWider, last_slot, stretched, appended, nested, held_by}
+use Rattle.atlas_store.specs.Slots.Growing.{stretched_area, top_along, whole_sequence}
 use Rattle.atlas_store.specs.Slots.Calm.{IsCalmAt, IsCalmBut}
 use Rattle.atlas_store.specs.Slots.Parts.{joined_node}
 
@@ -32,6 +32,10 @@ pub record IsLoneLeaf (ns : List Node) (i : ℕ) : Type 0 where
 -- The tree that the slots hold, in a sequence s, is changed by `f s`.
 abbrev pub ChangesTree : (old new : List Slot) → (Sequence → Numbered → Numbered) → Type 0
 ChangesTree old new f = (s : Sequence) (n : Numbered) → Stands (nodes old) s n → Stands (nodes new) s (f s n)
+
+-- Each slot keeps its generation.
+abbrev pub KeepGenerations : (old new : List Slot) → Type 0
+KeepGenerations old new = (k : ℕ) → (node_at (nodes new) k).generation ≡ (node_at (nodes old) k).generation
 
 -- The granted leaf of slot i is free.
 pub record IsLeafFreed (old new : List Slot) (i : ℕ) : Type 0 where
@@ -77,10 +81,12 @@ pub record BeginsAt (ns : List Node) (i : ℕ) (s : Sequence) (n : Numbered) : T
 abbrev pub HasFirst : List Node → (i : ℕ) → Type 0
 HasFirst ns i = (s : Sequence) × (n : Numbered) × BeginsAt ns i s n
 
--- The same, and slot k is unused.
-pub record CanWrapTop (ns : List Node) (i k : ℕ) : Type 0 where
+-- The same, and slots c and k are unused, each another one.
+pub record CanNestTop (ns : List Node) (i c k : ℕ) : Type 0 where
   pub tree : HasFirst ns i
-  pub unused : (node_at ns k).kind ≡ kind.Unused
+  pub container : (node_at ns c).kind ≡ kind.Unused
+  pub strip : (node_at ns k).kind ≡ kind.Unused
+  pub apart : c ≢ k
 
 -- The tree whose last member is that of slot i is changed by `f d`, where d more comes to the far corner of a size.
 abbrev pub ExtendsTree : (old new : List Slot) (size : Size) (i : ℕ) → (ℕ → Numbered → Numbered) → Type 0
@@ -96,6 +102,7 @@ pub record IsLeafStretched (old new : List Slot) (i : ℕ) (size : Size) : Type 
   pub leaf : node_at (nodes new) i
       ≡ record (node_at (nodes old) i) { area = stretched_area (node_at (nodes old) i).area size }
   pub others : (k : ℕ) → k ≢ i → node_at (nodes new) k ≡ node_at (nodes old) k
+  pub generations : KeepGenerations old new
   pub same_rings : rings new ≡ rings old
 
 -- The unused slot k is a free leaf after the last member, of slot i.
@@ -103,6 +110,7 @@ pub record IsLeafAppended (old new : List Slot) (i k : ℕ) (size : Size) : Type
   pub tree : ExtendsTree old new size i (appended k)
   pub free : (node_at (nodes new) k).kind ≡ kind.Free
   pub others : (j : ℕ) → j ≢ k → KeepsUse (node_at (nodes old) j) (node_at (nodes new) j)
+  pub generations : KeepGenerations old new
   pub same_rings : rings new ≡ rings old
 
 -- Slot c is the parent of the tree's members.
@@ -112,11 +120,14 @@ pub record IsTopHung (old new : List Slot) (i c : ℕ) : Type 0 where
   pub uses : (k : ℕ) → KeepsUse (node_at (nodes old) k) (node_at (nodes new) k)
   pub same_rings : rings new ≡ rings old
 
--- The unused slot c is a container of the whole tree, which spanned a size.
-pub record IsTopWrapped (old new : List Slot) (i c : ℕ) (size : Size) : Type 0 where
-  pub tree : (s : Sequence) (n : Numbered) → BeginsAt (nodes old) i s n → s.start ≡ 0
-      → Reaches (sides_of size) s (total (erase n))
-      → Stands (nodes new) (top_along (other s.axis) (total (erase n))) (Seq c s.width n End)
+-- The unused slot c is a container of the whole tree, which spanned the size `inner`, and the unused slot k a free leaf
+-- after it, which reaches to the far corner of the other size.
+pub record IsTopNested (old new : List Slot) (i c k : ℕ) (inner size : Size) : Type 0 where
+  pub tree : (s : Sequence) (n : Numbered) (d : ℕ) → BeginsAt (nodes old) i s n → s.start ≡ 0
+      → Reaches (sides_of inner) s (total (erase n)) → IsWider s.axis (sides_of inner) (sides_of size) d
+      → Stands (nodes new) (top_along (other s.axis) (total (erase n))) (nested c k s.width d n)
   pub container : (node_at (nodes new) c).kind ≡ kind.Container
-  pub others : (k : ℕ) → k ≢ c → KeepsUse (node_at (nodes old) k) (node_at (nodes new) k)
+  pub free : (node_at (nodes new) k).kind ≡ kind.Free
+  pub others : (j : ℕ) → j ≢ c → j ≢ k → KeepsUse (node_at (nodes old) j) (node_at (nodes new) j)
+  pub generations : KeepGenerations old new
   pub same_rings : rings new ≡ rings old

@@ -2,7 +2,6 @@
 use Rattle.std.specs.Prelude.{ℕ, ◌+◌, ◌≡◌, ◌≤◌, ◌⊎◌, Bool, true, false, List, ◌∷◌, length, vec_capacity}
 use Rattle.atlas_store.specs.declared.store.Store.{Store}
 use Rattle.atlas_store.specs.declared.store.turns.Turns.{Turns}
-use Rattle.atlas_model.specs.declared.options.AllocatorOptions.{AllocatorOptions}
 use Rattle.atlas_store.specs.declared.slots.Node.{Node}
 use Rattle.atlas_store.specs.declared.slots.placing.Parts.{Parts}
 use Rattle.atlas_store.specs.declared.slots.placing.Plan.{Plan}
@@ -28,10 +27,6 @@ capacity_in s = vec_capacity s.slots
 -- The turns that were taken.
 abbrev pub turns_in : {A : Type 0} → Store A → Turns
 turns_in s = s.turns
-
--- The options by which free slots are listed.
-abbrev pub options_in : {A : Type 0} → Store A → AllocatorOptions
-options_in s = s.options
 
 -- Slot i is detached, or isn't.
 abbrev pub with_detached : (i : ℕ) → Bool → Holding → Holding
@@ -84,9 +79,12 @@ pub record KeepsRoom {A : Type 0} (old new : Store A) : Type 0 where
 abbrev pub IsTakenOnce : {A : Type 0} → Store A → Type 0
 IsTakenOnce s = AreTakenOnce (nodes s.slots.items) s.unused
 
--- Slots may be taken, and none is given back or taken again.
-abbrev pub KeepsTakenOnce : {A : Type 0} → (old new : Store A) → Type 0
-KeepsTakenOnce old new = IsTakenOnce old → IsTakenOnce new
+-- Slots may be taken, and none is given back or taken again. Options, memory and turns stay.
+pub record OnlyTakes {A : Type 0} (old new : Store A) : Type 0 where
+  pub options : new.options ≡ old.options
+  pub capacity : vec_capacity new.slots ≡ vec_capacity old.slots
+  pub turns : new.turns ≡ old.turns
+  pub once : IsTakenOnce old → IsTakenOnce new
 
 -- The first unused slot is gone, if there was one.
 abbrev pub after_take : Holding → Holding

@@ -1,5 +1,5 @@
 -- What each call of the store does, in one word. No public clause cites this module.
-use Rattle.std.specs.Prelude.{ℕ, ◌+◌, ◌-◌, ◌<◌, ◌≤◌, ◌≡◌, ◌≢◌, ◌⊎◌, List, [], ◌∷◌, length, true, false, vec_capacity}
+use Rattle.std.specs.Prelude.{ℕ, ◌+◌, ◌-◌, ◌<◌, ◌≤◌, ◌≡◌, ◌≢◌, ◌⊎◌, List, [], ◌∷◌, length, true, false}
 use Rattle.atlas_store.specs.declared.store.Store.{Store}
 use Rattle.atlas_search.specs.declared.link.Link.{Link}
 use Rattle.atlas_store.specs.declared.slots.placing.Parts.{Parts}
@@ -20,7 +20,7 @@ use Rattle.atlas_store.specs.Store.Holdings.{
   IsDetachedLeaf,
   IsLow,
   KeepsRoom,
-  KeepsTakenOnce,
+  OnlyTakes,
   with_detached,
   with_free_lists,
   with_unused_list,
@@ -45,26 +45,22 @@ pub record UnlistsLeaf {A : Type 0} (old new : Store A) (i : ℕ) : Type 0 where
   pub kept : (h : Holding) → Holds (shelf_of old) h → h.detached i ≡ false
       → (free_lists : ℕ → List ℕ) × Holds (shelf_of new) (with_detached i true (with_free_lists free_lists h))
   pub nodes : nodes new.slots.items ≡ nodes old.slots.items
-  pub room : KeepsRoom old new
-  pub once : KeepsTakenOnce old new
-  pub turns : new.turns ≡ old.turns
+  pub slots : length new.slots.items ≡ length old.slots.items
+  pub takes : OnlyTakes old new
 
 -- `low` is at most the `min.y` of each slot of list k.
 pub record IsSharpened {A : Type 0} (old new : Store A) (k low : ℕ) : Type 0 where
   pub kept : (h : Holding) → Holds (shelf_of old) h → IsLow (shelf_of old) h k low → Holds (shelf_of new) h
   pub slots : new.slots ≡ old.slots
-  pub options : new.options ≡ old.options
-  pub once : KeepsTakenOnce old new
-  pub turns : new.turns ≡ old.turns
+  pub takes : OnlyTakes old new
 
 -- The detached leaf of slot i stands in its list.
 pub record ListsLeaf {A : Type 0} (old new : Store A) (i : ℕ) : Type 0 where
   pub kept : (h : Holding) → IsDetachedLeaf (shelf_of old) i h
       → (free_lists : ℕ → List ℕ) × Holds (shelf_of new) (with_detached i false (with_free_lists free_lists h))
   pub nodes : nodes new.slots.items ≡ nodes old.slots.items
-  pub room : KeepsRoom old new
-  pub once : KeepsTakenOnce old new
-  pub turns : new.turns ≡ old.turns
+  pub slots : length new.slots.items ≡ length old.slots.items
+  pub takes : OnlyTakes old new
 
 -- Slot k was unused, and is claimed.
 pub record IsSlotTaken {A : Type 0} (old new : Store A) (k : ℕ) : Type 0 where
@@ -78,10 +74,7 @@ pub record IsSlotTaken {A : Type 0} (old new : Store A) (k : ℕ) : Type 0 where
   pub fresh : IsUnusedSlot new k
   pub longer : length old.slots.items ≤ length new.slots.items
   pub others : (j : ℕ) → j ≢ k → node_in (shelf_of new) j ≡ node_in (shelf_of old) j
-  pub options : new.options ≡ old.options
-  pub capacity : vec_capacity new.slots ≡ vec_capacity old.slots
-  pub once : KeepsTakenOnce old new
-  pub turns : new.turns ≡ old.turns
+  pub takes : OnlyTakes old new
 
 -- What is held once slots were taken as `after` tells: m slots of those for which there was room.
 abbrev pub TakesSlots : {A : Type 0} → (old new : Store A) → (m : ℕ) → (before : Holding → Type 0)
@@ -101,10 +94,7 @@ pub record AreSlotsTaken {A : Type 0} (old new : Store A) (ks : List ℕ) : Type
   pub was_unused : (k : ℕ) → 0 < occurs k ks → (node_in (shelf_of old) k).kind ≡ kind.Unused
   pub fresh : (k : ℕ) → 0 < occurs k ks → IsUnusedSlot new k
   pub others : (j : ℕ) → occurs j ks ≡ 0 → node_in (shelf_of new) j ≡ node_in (shelf_of old) j
-  pub options : new.options ≡ old.options
-  pub capacity : vec_capacity new.slots ≡ vec_capacity old.slots
-  pub once : KeepsTakenOnce old new
-  pub turns : new.turns ≡ old.turns
+  pub takes : OnlyTakes old new
 
 -- Slot `at` is a detached leaf, the only one, in which a plan can be carried out, and there are slots for it.
 pub record IsPlaceable {A : Type 0} (s : Store A) (at : ℕ) (p : Plan) (h : Holding) : Type 0 where
@@ -122,10 +112,7 @@ pub record IsLeafPlaced {A : Type 0} (old new : Store A) (at : ℕ) (p : Plan) (
   pub granted : (node_in (shelf_of new) (granted_by p t at)).kind ≡ kind.Alloc
   pub left : (k : ℕ) → 0 < occurs k (left_by p t) → (node_in (shelf_of new) k).kind ≡ kind.Free
   pub apart : (k : ℕ) → occurs k (left_by p t) ≤ 1
-  pub options : new.options ≡ old.options
-  pub capacity : vec_capacity new.slots ≡ vec_capacity old.slots
-  pub once : KeepsTakenOnce old new
-  pub turns : new.turns ≡ old.turns
+  pub takes : OnlyTakes old new
 
 -- The granted leaf of slot i is free, and detached; a turn was taken.
 pub record IsMarkedFree {A : Type 0} (old new : Store A) (i : ℕ) : Type 0 where

@@ -1,11 +1,10 @@
 -- What each call of the store on the top sequence does, in one word. No public clause cites this module.
-use Rattle.std.specs.Prelude.{ℕ, ◌<◌, ◌≡◌, ◌≢◌, vec_capacity}
+use Rattle.std.specs.Prelude.{ℕ, ◌<◌, ◌≡◌, length}
 use Rattle.atlas_store.specs.declared.store.Store.{Store}
 use Rattle.atlas_store.specs.declared.slots.NodeKind.TheVariants as kind
 use Rattle.atlas_model.specs.Boxes.{Sides}
-use Rattle.atlas_store.specs.Slots.Links.{with_count}
-use Rattle.atlas_store.specs.Stored.{Shelf, Holding, Holds, HoldsWith}
-use Rattle.atlas_store.specs.Store.Holdings.{shelf_of, node_in, IsDetachedLeaf, KeepsRoom}
+use Rattle.atlas_store.specs.Stored.{Shelf, Holding, Holds}
+use Rattle.atlas_store.specs.Store.Holdings.{shelf_of, node_in, IsDetachedLeaf, OnlyTakes}
 use Rattle.atlas_store.specs.Slots.Growing.{
   IsEnd,
   IsLone,
@@ -14,7 +13,6 @@ use Rattle.atlas_store.specs.Slots.Growing.{
   after_stretch,
   after_whole,
   after_append,
-  after_wrap_top,
   after_nest,
 }
 use Rattle.atlas_store.specs.Store.StoreCalls.{TakesSlots}
@@ -24,46 +22,16 @@ pub record IsStretched {A : Type 0} (old new : Store A) (size : Sides) (last : �
   pub kept : (h : Holding) (d : ℕ) → IsDetachedLeaf (shelf_of old) last h → IsEnd size d last h
       → Holds (shelf_of new) (after_stretch d h)
   pub free : (node_in (shelf_of new) last).kind ≡ kind.Free
-  pub room : KeepsRoom old new
-  pub turns : new.turns ≡ old.turns
+  pub slots : length new.slots.items ≡ length old.slots.items
+  pub takes : OnlyTakes old new
 
 -- The detached leaf of slot `at`, the only member, is as large as a size.
 pub record IsEnlarged {A : Type 0} (old new : Store A) (size : Sides) (at : ℕ) : Type 0 where
   pub kept : (h : Holding) → IsDetachedLeaf (shelf_of old) at h → IsLone at h
       → Holds (shelf_of new) (after_whole size at h)
   pub free : (node_in (shelf_of new) at).kind ≡ kind.Free
-  pub room : KeepsRoom old new
-  pub turns : new.turns ≡ old.turns
-
--- A leaf of extent d in slot k, which is claimed, fits after the last member, of slot `last`.
-pub record IsAppendable (claimed : ℕ → ℕ) (v : Shelf) (size : Sides) (last k d : ℕ) (h : Holding) : Type 0 where
-  pub holds : HoldsWith claimed v h
-  pub is_claimed : claimed k ≡ 1
-  pub end : IsEnd size d last h
-  pub more : 0 < d
-
--- Slot k, which was claimed, is a detached leaf after the last member.
-pub record IsAppendedWith {A : Type 0} (old new : Store A) (size : Sides) (last k : ℕ) : Type 0 where
-  pub kept : (h : Holding) (claimed : ℕ → ℕ) (d : ℕ) → IsAppendable claimed (shelf_of old) size last k d h
-      → HoldsWith (with_count claimed k 0) (shelf_of new) (after_append k d h)
-  pub free : (node_in (shelf_of new) k).kind ≡ kind.Free
-  pub room : KeepsRoom old new
-  pub turns : new.turns ≡ old.turns
-
--- The top sequence begins at slot `first` and spans a size, and slot c is claimed.
-pub record IsWrappable (claimed : ℕ → ℕ) (v : Shelf) (size : Sides) (first c : ℕ) (h : Holding) : Type 0 where
-  pub holds : HoldsWith claimed v h
-  pub is_claimed : claimed c ≡ 1
-  pub spans : IsSpanning size first h
-
--- Slot c, which was claimed, holds what was the top sequence.
-pub record IsTopWrappedWith {A : Type 0} (old new : Store A) (size : Sides) (first c : ℕ) : Type 0 where
-  pub kept : (h : Holding) (claimed : ℕ → ℕ) → IsWrappable claimed (shelf_of old) size first c h
-      → HoldsWith (with_count claimed c 0) (shelf_of new) (after_wrap_top c h)
-  pub unused : (j : ℕ) → j ≢ c → (node_in (shelf_of old) j).kind ≡ kind.Unused
-      → (node_in (shelf_of new) j).kind ≡ kind.Unused
-  pub room : KeepsRoom old new
-  pub turns : new.turns ≡ old.turns
+  pub slots : length new.slots.items ≡ length old.slots.items
+  pub takes : OnlyTakes old new
 
 -- A leaf of extent d fits after the last member, of slot `last`.
 pub record IsExtendable (v : Shelf) (size : Sides) (last d : ℕ) (h : Holding) : Type 0 where
@@ -75,9 +43,7 @@ pub record IsExtendable (v : Shelf) (size : Sides) (last d : ℕ) (h : Holding) 
 pub record IsAppended {A : Type 0} (old new : Store A) (size : Sides) (last k : ℕ) : Type 0 where
   pub kept : (d : ℕ) → TakesSlots old new 1 (IsExtendable (shelf_of old) size last d) (after_append k d)
   pub free : (node_in (shelf_of new) k).kind ≡ kind.Free
-  pub options : new.options ≡ old.options
-  pub capacity : vec_capacity new.slots ≡ vec_capacity old.slots
-  pub turns : new.turns ≡ old.turns
+  pub takes : OnlyTakes old new
 
 -- The top sequence begins at slot `first` and spans the size `inner`, and the other size is d wider.
 pub record IsNestable (v : Shelf) (inner size : Sides) (first d : ℕ) (h : Holding) : Type 0 where
@@ -90,6 +56,4 @@ pub record IsNestable (v : Shelf) (inner size : Sides) (first d : ℕ) (h : Hold
 pub record IsNested {A : Type 0} (old new : Store A) (inner size : Sides) (first c k : ℕ) : Type 0 where
   pub kept : (d : ℕ) → TakesSlots old new 2 (IsNestable (shelf_of old) inner size first d) (after_nest c k d)
   pub free : (node_in (shelf_of new) k).kind ≡ kind.Free
-  pub options : new.options ≡ old.options
-  pub capacity : vec_capacity new.slots ≡ vec_capacity old.slots
-  pub turns : new.turns ≡ old.turns
+  pub takes : OnlyTakes old new

@@ -4,8 +4,8 @@ ghost use Rattle.std.specs.Prelude.{◌≡◌, ◌<◌, length};
 ghost use Rattle.atlas_store.specs.declared.slots.NodeKind.TheVariants.{Free};
 ghost use Rattle.atlas_model.specs.Pixels.{sides_of, size_of};
 ghost use Rattle.atlas_store.specs.Slots.{nodes, node_at};
-ghost use Rattle.atlas_store.specs.Slots.SlotCalls.{CanAppendTo, CanWrapTop, HasFirst};
-ghost use Rattle.atlas_store.specs.Slots.SlotCalls.{IsLeafAppended, IsLeafStretched, IsTopHung, IsTopWrapped};
+ghost use Rattle.atlas_store.specs.Slots.SlotCalls.{CanAppendTo, CanNestTop, HasFirst};
+ghost use Rattle.atlas_store.specs.Slots.SlotCalls.{IsLeafAppended, IsLeafStretched, IsTopHung, IsTopNested};
 
 use crate::slots::{Node, NodeKind, Slot, read_node, write_node};
 use atlas_model::{Rectangle, Size, point2};
@@ -63,27 +63,45 @@ fn hang(slots: &mut [Slot], first: Link, container: Link)
     }
 }
 
-/// The top sequence, which spans this size and whose first member is at `first`, becomes the only member of a new top
-/// sequence along the other axis: the unused slot `container` holds it. One pass along the sequence.
-pub fn wrap_top(slots: &mut [Slot], first: Link, container: Link, size: Size)
-    requires ready { CanWrapTop (nodes slots.old) first.number container.number }
-    requires inside { container.number < length slots.old }
+/// The top sequence, which begins at `first` and spans the size `inner`, becomes the first of two members of a new one
+/// along the other axis: the unused slot `container` holds it. The unused slot `strip` becomes the second, a free leaf
+/// that reaches to the far corner of `size`. One pass along the sequence; each node is written once.
+pub fn nest_top(
+    slots: &mut [Slot],
+    first: Link,
+    container: Link,
+    strip: Link,
+    inner: Size,
+    size: Size,
+)
+    requires ready { CanNestTop (nodes slots.old) first.number container.number strip.number }
+    requires container { container.number < length slots.old }
+    requires strip { strip.number < length slots.old }
+    requires inner { inner ≡ size_of (sides_of inner) }
     requires exact { size ≡ size_of (sides_of size) }
     requires short { length slots.old < NO_SLOT }
-    ensures { IsTopWrapped slots.old slots.new first.number container.number size }
+    ensures { IsTopNested slots.old slots.new first.number container.number strip.number inner size }
 {
     let none = Link::NONE;
-    let inner = read_node(slots, first);
-    let unused = read_node(slots, container);
+    let axis = across(read_node(slots, first).axis);
     let outer = Node {
         parent: none,
         previous: none,
-        next: none,
-        area: Rectangle::from(size),
+        next: strip,
+        area: Rectangle::from(inner),
         kind: NodeKind::Container,
-        axis: across(inner.axis),
-        generation: unused.generation,
+        axis,
+        generation: read_node(slots, container).generation,
+    };
+    let leaf = Node {
+        previous: container,
+        next: none,
+        area: beyond(outer.area, axis, size),
+        kind: NodeKind::Free,
+        generation: read_node(slots, strip).generation,
+        ..outer
     };
     hang(slots, first, container);
     write_node(slots, container, outer);
+    write_node(slots, strip, leaf);
 }

@@ -5,7 +5,7 @@ ghost use Rattle.atlas_model.specs.Pixels.{sides_of, size_of};
 ghost use Rattle.atlas_store.specs.Stored.{Holding};
 ghost use Rattle.atlas_store.specs.Slots.Growing.{IsEnd, IsLone};
 
-use crate::slots::extending::{append_leaf, stretch_leaf, wrap_top};
+use crate::slots::extending::{append_leaf, nest_top, stretch_leaf};
 use crate::store::Store;
 use atlas_model::Size;
 use atlas_search::link::Link;
@@ -13,11 +13,8 @@ use std::alloc::Allocator;
 
 impl<A: Allocator> Store<A> {
     ghost use Rattle.atlas_store.specs.Store.Holdings.{shelf_of, HasSlotsFor, IsDetachedLeaf};
-    ghost use Rattle.atlas_store.specs.Store.StoreCalls.{IsUnusedSlot};
-    ghost use Rattle.atlas_store.specs.Store.TopCalls.{IsAppendable, IsAppended, IsAppendedWith, IsEnlarged};
-    ghost use Rattle.atlas_store.specs.Store.TopCalls.{IsExtendable};
-    ghost use Rattle.atlas_store.specs.Store.TopCalls.{IsNestable, IsNested, IsStretched, IsTopWrappedWith};
-    ghost use Rattle.atlas_store.specs.Store.TopCalls.{IsWrappable};
+    ghost use Rattle.atlas_store.specs.Store.TopCalls.{IsAppended, IsEnlarged, IsExtendable};
+    ghost use Rattle.atlas_store.specs.Store.TopCalls.{IsNestable, IsNested, IsStretched};
 
     /// A detached leaf, the last member of the top sequence, reaches to the far corner of a size.
     pub fn stretch(&mut self, at: Link, size: Size)
@@ -39,28 +36,6 @@ impl<A: Allocator> Store<A> {
         stretch_leaf(&mut self.slots, at, size);
     }
 
-    // The claimed slot becomes a detached leaf after the last member of the top sequence.
-    fn append_with(&mut self, last: Link, fresh: Link, size: Size)
-        requires ready { (h : Holding) × (claimed : ℕ → ℕ) × (d : ℕ)
-            × IsAppendable claimed (shelf_of self.old) (sides_of size) last.number fresh.number d h }
-        requires fresh { IsUnusedSlot self.old fresh.number }
-        requires exact { size ≡ size_of (sides_of size) }
-        ensures { IsAppendedWith self.old self.new (sides_of size) last.number fresh.number }
-    {
-        append_leaf(&mut self.slots, last, fresh, size);
-    }
-
-    // The claimed slot holds what was the top sequence, and is the only member of the new one.
-    fn wrap_top_with(&mut self, first: Link, container: Link, size: Size)
-        requires ready { (h : Holding) × (claimed : ℕ → ℕ)
-            × IsWrappable claimed (shelf_of self.old) (sides_of size) first.number container.number h }
-        requires fresh { IsUnusedSlot self.old container.number }
-        requires exact { size ≡ size_of (sides_of size) }
-        ensures { IsTopWrappedWith self.old self.new (sides_of size) first.number container.number }
-    {
-        wrap_top(&mut self.slots, first, container, size);
-    }
-
     /// The slot that is returned takes a free leaf after the last member of the top sequence, which reaches to the far
     /// corner of a size. It is detached.
     pub fn append(&mut self, last: Link, size: Size) -> Link
@@ -70,7 +45,7 @@ impl<A: Allocator> Store<A> {
         ensures { IsAppended self.old self.new (sides_of size) last.number result.number }
     {
         let fresh = self.take();
-        self.append_with(last, fresh, size);
+        append_leaf(&mut self.slots, last, fresh, size);
         fresh
     }
 
@@ -88,8 +63,7 @@ impl<A: Allocator> Store<A> {
     {
         let strip = self.take();
         let container = self.take();
-        self.wrap_top_with(first, container, inner);
-        self.append_with(container, strip, size);
+        nest_top(&mut self.slots, first, container, strip, inner, size);
         (container, strip)
     }
 }

@@ -30,6 +30,7 @@ use Rattle.atlas_store.proofs.SlotLemmas.JoiningWrites.{used-inside}
 use Rattle.atlas_store.proofs.SlotLemmas.FreeSlots.{exact-free}
 use Rattle.atlas_store.proofs.StoreLemmas.Choosing.{rest-free}
 use Rattle.atlas_store.proofs.StoreLemmas.StoreTakes.{slots-kept}
+use Rattle.atlas_store.proofs.StoreLemmas.TakenOnce.{only-takes}
 
 module _ (v : Shelf) (h : Holding) (rest : IsAtRest v h) where
   -- The leaf of a slot that was chosen.
@@ -66,12 +67,11 @@ unlisted-sharpened {A} {v} {u} {v'} {r} p w one two = record {
       let now : Holding = with_detached p.at.number true (with_free_lists left.0 h) in (
         left.0,
         two.kept now left.1
-            (chosen-low (shelf_of v) (shelf_of u) r p w one.nodes one.room.options now (with_mark-same h.detached p.at.number true)),
+            (chosen-low (shelf_of v) (shelf_of u) r p w one.nodes one.takes.options now (with_mark-same h.detached p.at.number true)),
       );
   nodes = ap (λ s. nodes s.items) two.slots ∙ one.nodes;
-  room = grind arith;
-  once = λ f. two.once (one.once f);
-  turns = two.turns ∙ one.turns;
+  slots = grind arith;
+  takes = only-takes one.takes two.takes;
 }
 
 module _ {A : Type 0} {v v' : Store A} {r : Sides} {p : Found} {plan : Plan} {h : Holding} (w : IsGrantable v r p plan h) (u : UnlistsLeaf v v' p.at.number) where

@@ -24,7 +24,6 @@ use Rattle.atlas_store.proofs.SlotLemmas.Reading.{HasMember}
 use Rattle.atlas_store.proofs.WalkLemmas.Observing.{nonempty-total}
 use Rattle.atlas_model.proofs.TreeLemmas.TreeBasics.{side_positive}
 use Rattle.atlas_store.proofs.StoreLemmas.StoreTakes.{slots-kept, fewer-slots}
-use Rattle.atlas_store.proofs.StoreLemmas.Turning.{keeps-room}
 use Rattle.atlas_store.proofs.SlotLemmas.Stretching.{first-stretched}
 use Rattle.atlas_tree.proofs.PlanLemmas.GrownTrees.{last-inside, erase-stretched, erase-appended, first-appended}
 
@@ -91,7 +90,7 @@ module _ {A : Type 0} {v v1 : Store A} {size : Sides} {last d n : ℕ} {h : Hold
     stretch-lengthened {v3} w3 =
         let got = w3.kept (after_stretch d to_stretch) stretched_leaf in
         let none : strip_need (shelf_of v) last ≡ 0 = need-free (shelf_of v) last free in
-        let room : KeepsRoom v v3 = keeps-room v v2 v3 (keeps-room v v1 v2 w1.room w2.room) w3.room in
+        let room : KeepsRoom v v3 = grind arith in
         let slots : HasSlotsFor (n + strip_need (shelf_of v) last) v3 h =
         slots-kept v v3 (n + strip_need (shelf_of v) last) h room s.slots in (
           with_detached last false (with_free_lists got.0 (after_stretch d to_stretch)),
@@ -147,7 +146,7 @@ module _ {A : Type 0} {v v1 : Store A} {size : Sides} {last k d n : ℕ} {h : Ho
           sequence = refl;
           first = first-appended k d h.tree (end_some size d last h s.end);
           unused_list = omega (arith, one, appended_to.3);
-          slots = slots-kept v1 v2 n (with_unused_list appended_to.0 h) w2.room appended_to.2;
+          slots = slots-kept v1 v2 n (with_unused_list appended_to.0 h) (grind arith) appended_to.2;
         },
       )
 

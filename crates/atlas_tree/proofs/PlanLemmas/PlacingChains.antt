@@ -99,8 +99,5 @@ whole-done {A} {old} {new} {at} {p} {t} e =
     subst (λ p. IsLeafPlaced old new at p t → IsPlanDone old new at at p) (sym e)
     (λ w. record {
       kept = λ h ready. planned-end w ready new (placed_holding w ready) refl (unlisted-parts w ready) refl refl refl;
-      once = w.once;
-      options = w.options;
-      capacity = w.capacity;
-      turns = w.turns;
+      takes = w.takes;
     })

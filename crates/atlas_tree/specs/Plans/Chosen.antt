@@ -10,7 +10,7 @@ use Rattle.atlas_store.specs.Slots.Reading.{extent_of}
 use Rattle.atlas_store.specs.Stored.{Shelf, Holding}
 use Rattle.atlas_store.specs.Slots.Placing.{across_of, slots_of, IsFeasible}
 use Rattle.atlas_store.specs.Store.Choosing.{IsAtRest, IsChosen}
-use Rattle.atlas_store.specs.Store.Holdings.{capacity_in, options_in, turns_in, shelf_of, node_in, HasSlotsFor, KeepsTakenOnce}
+use Rattle.atlas_store.specs.Store.Holdings.{shelf_of, node_in, HasSlotsFor, OnlyTakes}
 use Rattle.atlas_tree.specs.Plans.Planning.{IsPlanFor, IsPlanned}
 
 -- The plan is the one for the request in the chosen slot, and there are slots for it.
@@ -38,7 +38,4 @@ pub record IsRequestGranted {A : Type 0} (old new : Store A) (p : Found) (plan :
     : Type 0 where
   pub granted : (r : Sides) (h : Holding) → IsGrantable old r p plan h
       → (to : ℕ) × (h' : Holding) × IsGrantMade (shelf_of new) p plan made to h h'
-  pub once : KeepsTakenOnce old new
-  pub options : options_in new ≡ options_in old
-  pub capacity : capacity_in new ≡ capacity_in old
-  pub turns : turns_in new ≡ turns_in old
+  pub takes : OnlyTakes old new

@@ -10,7 +10,7 @@ use Rattle.atlas_model.specs.Changes.{grown_members, lengthened}
 use Rattle.atlas_store.specs.Slots.Lists.{is_free}
 use Rattle.atlas_store.specs.Slots.Numbered.{erase, first_slot, numbers}
 use Rattle.atlas_store.specs.Stored.{Shelf, Holding, Holds, IsDetachedOnly}
-use Rattle.atlas_store.specs.Store.Holdings.{capacity_in, options_in, turns_in, shelf_of, node_in, HasSlotsFor, KeepsRoom}
+use Rattle.atlas_store.specs.Store.Holdings.{shelf_of, node_in, HasSlotsFor, OnlyTakes}
 use Rattle.atlas_store.specs.Slots.Growing.{IsEnd, IsLone, IsSpanning, last_slot, top_along}
 use Rattle.atlas_store.specs.Store.TopCalls.{IsNestable}
 
@@ -97,9 +97,7 @@ pub record IsLengthenable {A : Type 0} (s : Store A) (size : Sides) (last d n : 
 pub record IsLonger {A : Type 0} (old new : Store A) (size : Sides) (last : ℕ) : Type 0 where
   pub kept : (h : Holding) (d n : ℕ) → IsLengthenable old size last d n h
       → (h' : Holding) × IsLengthened new n d (strip_need (shelf_of old) last) h h'
-  pub options : options_in new ≡ options_in old
-  pub capacity : capacity_in new ≡ capacity_in old
-  pub turns : turns_in new ≡ turns_in old
+  pub takes : OnlyTakes old new
 
 -- The top sequence begins at slot `first`, spans the size `inner`, and is to be the first of two that are d wider.
 pub record IsWidenable {A : Type 0} (s : Store A) (inner size : Sides) (first d : ℕ) (h : Holding) : Type 0 where
@@ -111,9 +109,7 @@ pub record IsWidenable {A : Type 0} (s : Store A) (inner size : Sides) (first d 
 pub record IsWidenedTo {A : Type 0} (old new : Store A) (inner size : Sides) (first top : ℕ) : Type 0 where
   pub kept : (h : Holding) (d : ℕ) → IsWidenable old inner size first d h
       → (h' : Holding) × IsWidened (shelf_of new) top d h h'
-  pub options : options_in new ≡ options_in old
-  pub capacity : capacity_in new ≡ capacity_in old
-  pub turns : turns_in new ≡ turns_in old
+  pub takes : OnlyTakes old new
 
 -- The tree that begins at slot `first` can grow so.
 abbrev pub CanGrow : {A : Type 0} → Store A → (first : ℕ) → Growth → Type 0
@@ -123,9 +119,7 @@ CanGrow s first p = (h : Holding) × (n : ℕ) × IsGrowable s (sides_of p.from)
 pub record IsTreeGrown {A : Type 0} (old new : Store A) (first top : ℕ) (p : Growth) : Type 0 where
   pub grown : (h : Holding) (n : ℕ) → IsGrowable old (sides_of p.from) (sides_of p.to) first n p h
       → (h' : Holding) × IsGrownHolding (shelf_of new) (sides_of p.from) (sides_of p.to) top n h h'
-  pub options : options_in new ≡ options_in old
-  pub capacity : capacity_in new ≡ capacity_in old
-  pub turns : turns_in new ≡ turns_in old
+  pub takes : OnlyTakes old new
 
 -- Slot `at` is the one free box of an atlas.
 abbrev pub IsOneBox : {A : Type 0} → Store A → (at : ℕ) → Type 0
@@ -135,5 +129,5 @@ IsOneBox s at = (h : Holding) × (size : Sides) × IsTreeOf (shelf_of s) size at
 pub record IsBoxGrown {A : Type 0} (old new : Store A) (size : Sides) (at : ℕ) : Type 0 where
   pub grown : (h : Holding) (before : Sides) → IsTreeOf (shelf_of old) before at h → IsLone at h
       → (h' : Holding) × IsGrownHolding (shelf_of new) before size at 0 h h'
-  pub room : KeepsRoom old new
-  pub turns : turns_in new ≡ turns_in old
+  pub slots : length new.slots.items ≡ length old.slots.items
+  pub takes : OnlyTakes old new

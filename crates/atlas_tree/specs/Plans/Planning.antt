@@ -14,7 +14,7 @@ use Rattle.atlas_store.specs.declared.slots.NodeKind.TheVariants as kind
 use Rattle.atlas_store.specs.Slots.{axis_of}
 use Rattle.atlas_store.specs.Slots.Placing.{granted_by, planned, slots_of}
 use Rattle.atlas_store.specs.Stored.{Shelf, Holding, Holds, IsDetachedOnly}
-use Rattle.atlas_store.specs.Store.Holdings.{capacity_in, options_in, turns_in, shelf_of, KeepsTakenOnce, node_in}
+use Rattle.atlas_store.specs.Store.Holdings.{shelf_of, node_in, OnlyTakes}
 use Rattle.atlas_store.specs.Store.StoreCalls.{IsPlaceable}
 
 -- The plan is the line of the cut table for a leaf and a request: p lies along the leaf's sequence, and q across.
@@ -51,7 +51,4 @@ pub record IsPlanned (new : Shelf) (at to : ℕ) (p : Plan) (h h' : Holding) : T
 -- A plan was carried out in the detached leaf of slot `at`, and slot `to` is granted.
 pub record IsPlanDone {A : Type 0} (old new : Store A) (at to : ℕ) (p : Plan) : Type 0 where
   pub kept : (h : Holding) → IsPlaceable old at p h → (h' : Holding) × IsPlanned (shelf_of new) at to p h h'
-  pub once : KeepsTakenOnce old new
-  pub options : options_in new ≡ options_in old
-  pub capacity : capacity_in new ≡ capacity_in old
-  pub turns : turns_in new ≡ turns_in old
+  pub takes : OnlyTakes old new

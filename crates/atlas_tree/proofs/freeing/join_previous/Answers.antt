@@ -31,7 +31,7 @@ returns-then-is_free-clause-turned g c =
       turned = λ h s.
           let r = ready-previous c.args.store.now c.unlist.new.self c.args.at.number c.node.result.previous.number h c.unlist.ensures s e (c.is_free.ensures.0 c.if-is_free.true) in
           join-turned c.unlist.new.self c.join.new.self _ _ _ h r.0 r.1 c.join.ensures;
-      counted = c.join.ensures.turns ∙ ap (λ (t : Turns). t.count + 1) c.unlist.ensures.turns;
+      counted = c.join.ensures.turns ∙ ap (λ (t : Turns). t.count + 1) c.unlist.ensures.takes.turns;
     }
 
 pub join-requires-clause-next_free : goal.join-requires-clause-next_free

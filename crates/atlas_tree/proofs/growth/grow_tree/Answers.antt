@@ -1,10 +1,11 @@
-use Rattle.std.proofs.Common.{ℕ, ◌-◌, ◌≡◌, ◌∙◌, sym, subst, arith}
+use Rattle.std.proofs.Common.{ℕ, ◌-◌, sym, subst, arith}
 use Rattle.atlas_model.specs.Boxes.{other, side}
 use Rattle.atlas_model.specs.Pixels.{sides_of}
 use Rattle.atlas_store.specs.Stored.{Holding}
-use Rattle.atlas_store.specs.Store.Holdings.{capacity_in, options_in, turns_in}
+use Rattle.atlas_store.specs.Store.Holdings.{OnlyTakes}
 use Rattle.atlas_tree.specs.Plans.Growths.{IsGrowable}
 use Rattle.atlas_tree.proofs.PlanLemmas.GrownStages.{IsMidwayIn, equal-yes, equal-no, unequal-yes, unequal-no, along-longer, along-same, across-longer, across-same, across_need, longer-ready, longer-midway, same-midway, midway-grown, midway-ready, widened-grown}
+use Rattle.atlas_store.proofs.StoreLemmas.TakenOnce.{only-takes}
 use Rattle.atlas_tree.proofs.growth.grow_tree.Goals as goal
 use Rattle.atlas_tree.proofs.growth.grow_tree.Goals.{then-ne, else-ne}
 
@@ -52,17 +53,13 @@ returns-then-eq g c =
           let same = along-same old new h p w.growth (unequal-no p.middle p.from c.ne.result c.ne.ensures b.if-ne.false) in
           subst (λ s. IsMidwayIn s old new i n h) (sym b.store-is) (same-midway w same)
     ]) in
-    let options : options_in c.if-ne.store ≡ options_in c.args.store.now = grind arith in
-    let capacity : capacity_in c.if-ne.store ≡ capacity_in c.args.store.now = grind arith in
-    let turns : turns_in c.if-ne.store ≡ turns_in c.args.store.now = grind arith in
+    let takes : OnlyTakes c.args.store.now c.if-ne.store = grind arith in
     record {
       grown = λ h n w.
           let m = midway h n w in
           let same = across-same old new h p w.growth (sym (equal-yes p.to p.middle c.eq.result c.eq.ensures c.if-eq.true)) in
           (m.0, midway-grown w m.1 same);
-      options = options;
-      capacity = capacity;
-      turns = turns;
+      takes = takes;
     }
 
 pub returns : goal.returns
@@ -79,15 +76,11 @@ returns g c =
           let same = along-same old new h p w.growth (unequal-no p.middle p.from c.ne.result c.ne.ensures b.if-ne.false) in
           subst (λ s. IsMidwayIn s old new i n h) (sym b.store-is) (same-midway w same)
     ]) in
-    let options : options_in c.if-ne.store ≡ options_in c.args.store.now = grind arith in
-    let capacity : capacity_in c.if-ne.store ≡ capacity_in c.args.store.now = grind arith in
-    let turns : turns_in c.if-ne.store ≡ turns_in c.args.store.now = grind arith in
+    let takes : OnlyTakes c.args.store.now c.if-ne.store = grind arith in
     record {
       grown = λ h n w.
           let m = midway h n w in
           let wider = across-longer old new h p w.growth w.fits (λ e. equal-no p.to p.middle c.eq.result c.eq.ensures c.if-eq.false (sym e)) in
           widened-grown w m.1 wider c.widen.ensures;
-      options = c.widen.ensures.options ∙ options;
-      capacity = c.widen.ensures.capacity ∙ capacity;
-      turns = c.widen.ensures.turns ∙ turns;
+      takes = only-takes takes c.widen.ensures.takes;
     }

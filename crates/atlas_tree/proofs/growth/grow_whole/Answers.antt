@@ -1,6 +1,6 @@
 use Rattle.std.proofs.Common.{◌∙◌}
 use Rattle.atlas_tree.proofs.PlanLemmas.GrownSlots.{whole-ready, whole-list, whole-grown}
-use Rattle.atlas_store.proofs.StoreLemmas.Turning.{keeps-room}
+use Rattle.atlas_store.proofs.StoreLemmas.TakenOnce.{only-takes}
 use Rattle.atlas_tree.proofs.growth.grow_whole.Goals as goal
 
 pub stretch_whole-requires-clause-ready : goal.stretch_whole-requires-clause-ready
@@ -12,9 +12,6 @@ list-requires g c = whole-list c.requires.tree.2 c.requires.tree.3 c.unlist.ensu
 pub returns : goal.returns
 returns g c = record {
   grown = λ h before t alone. whole-grown t alone c.unlist.ensures c.stretch_whole.ensures c.list.ensures c.requires.positive;
-  room =
-      keeps-room c.args.store.now c.stretch_whole.new.self c.list.new.self
-      (keeps-room c.args.store.now c.unlist.new.self c.stretch_whole.new.self c.unlist.ensures.room c.stretch_whole.ensures.room)
-      c.list.ensures.room;
-  turns = c.list.ensures.turns ∙ c.stretch_whole.ensures.turns ∙ c.unlist.ensures.turns;
+  slots = c.list.ensures.slots ∙ c.stretch_whole.ensures.slots ∙ c.unlist.ensures.slots;
+  takes = only-takes (only-takes c.unlist.ensures.takes c.stretch_whole.ensures.takes) c.list.ensures.takes;
 }

@@ -4,6 +4,7 @@ use Rattle.atlas_store.specs.declared.slots.NodeKind.TheVariants.{Free}
 use Rattle.atlas_model.specs.Pixels.{sides_of}
 use Rattle.atlas_store.specs.Store.Holdings.{shelf_of, node_in}
 use Rattle.atlas_tree.proofs.PlanLemmas.GrownSlots.{end-slot, stretch-ready, stretch-list, stretch-lengthened, append-ready, append-list, append-lengthened}
+use Rattle.atlas_store.proofs.StoreLemmas.TakenOnce.{only-takes}
 use Rattle.atlas_tree.proofs.growth.lengthen.Goals as goal
 
 pub is_free-requires-clause-slot : goal.is_free-requires-clause-slot
@@ -29,9 +30,7 @@ list-requires-else-is_free g c =
 pub returns-then-is_free : goal.returns-then-is_free
 returns-then-is_free g c = record {
   kept = λ h d n s. stretch-lengthened s (c.is_free.ensures.0 c.if-is_free.true) c.unlist.ensures c.stretch.ensures c.list.ensures;
-  options = c.list.ensures.room.options ∙ c.stretch.ensures.room.options ∙ c.unlist.ensures.room.options;
-  capacity = c.list.ensures.room.capacity ∙ c.stretch.ensures.room.capacity ∙ c.unlist.ensures.room.capacity;
-  turns = c.list.ensures.turns ∙ c.stretch.ensures.turns ∙ c.unlist.ensures.turns;
+  takes = only-takes (only-takes c.unlist.ensures.takes c.stretch.ensures.takes) c.list.ensures.takes;
 }
 
 pub returns-else-is_free : goal.returns-else-is_free
@@ -39,7 +38,5 @@ returns-else-is_free g c =
     let busy : (node_in (shelf_of c.args.store.now) c.args.last.number).kind ≡ Free → ⊥ = (λ f. true≢false (sym (c.is_free.ensures.1 f) ∙ c.if-is_free.false)) in
     record {
       kept = λ h d n s. append-lengthened s busy c.append-strip.ensures c.list-else-is_free.ensures;
-      options = c.list-else-is_free.ensures.room.options ∙ c.append-strip.ensures.options;
-      capacity = c.list-else-is_free.ensures.room.capacity ∙ c.append-strip.ensures.capacity;
-      turns = c.list-else-is_free.ensures.turns ∙ c.append-strip.ensures.turns;
+      takes = only-takes c.append-strip.ensures.takes c.list-else-is_free.ensures.takes;
     }

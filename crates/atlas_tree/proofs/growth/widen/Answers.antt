@@ -1,5 +1,6 @@
-use Rattle.std.proofs.Common.{◌∙◌, arith}
+use Rattle.std.proofs.Common.{arith}
 use Rattle.atlas_tree.proofs.PlanLemmas.GrownSlots.{nest-list, nest-widened}
+use Rattle.atlas_store.proofs.StoreLemmas.TakenOnce.{only-takes}
 use Rattle.atlas_tree.proofs.growth.widen.Goals as goal
 
 pub nest-requires-clause-ready : goal.nest-requires-clause-ready
@@ -11,7 +12,5 @@ list-requires g c = nest-list c.requires.ready.2 c.nest.ensures
 pub returns : goal.returns
 returns g c = record {
   kept = λ h d s. nest-widened s c.nest.ensures c.list.ensures;
-  options = c.list.ensures.room.options ∙ c.nest.ensures.options;
-  capacity = c.list.ensures.room.capacity ∙ c.nest.ensures.capacity;
-  turns = c.list.ensures.turns ∙ c.nest.ensures.turns;
+  takes = only-takes c.nest.ensures.takes c.list.ensures.takes;
 }

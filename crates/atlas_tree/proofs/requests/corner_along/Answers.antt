@@ -1,5 +1,6 @@
 use Rattle.std.proofs.Common.{◌∙◌, refl}
 use Rattle.atlas_tree.proofs.PlanLemmas.PlacingChains.{unlisted-parts, unlisted-leaf, listed-next, planned-end, placed_holding}
+use Rattle.atlas_store.proofs.StoreLemmas.TakenOnce.{only-takes}
 use Rattle.atlas_tree.proofs.requests.corner_along.Goals as goal
 
 pub list-requires : goal.list-requires
@@ -16,8 +17,5 @@ returns g c = record {
       let u = listed-next (unlisted-parts c.place-parts.ensures ready) c.list.ensures in
       let v = listed-next u.1 c.list-2.ensures in
       planned-end c.place-parts.ensures ready _ _ (c.list-2.ensures.nodes ∙ c.list.ensures.nodes) v.1 refl refl refl;
-  once = λ f. c.list-2.ensures.once (c.list.ensures.once (c.place-parts.ensures.once f));
-  options = c.list-2.ensures.room.options ∙ c.list.ensures.room.options ∙ c.place-parts.ensures.options;
-  capacity = c.list-2.ensures.room.capacity ∙ c.list.ensures.room.capacity ∙ c.place-parts.ensures.capacity;
-  turns = c.list-2.ensures.turns ∙ c.list.ensures.turns ∙ c.place-parts.ensures.turns;
+  takes = only-takes (only-takes c.place-parts.ensures.takes c.list.ensures.takes) c.list-2.ensures.takes;
 }

@@ -1,5 +1,6 @@
-use Rattle.std.proofs.Common.{◌∙◌, ap, refl, vec_capacity}
+use Rattle.std.proofs.Common.{refl}
 use Rattle.atlas_tree.proofs.PlanLemmas.ChosenSlots.{listed-chosen, unlisted-sharpened, placeable-chosen, granted-inside, granted-short, grant-made}
+use Rattle.atlas_store.proofs.StoreLemmas.TakenOnce.{only-takes}
 use Rattle.atlas_tree.proofs.requests.grant.Goals as goal
 
 pub unlist-requires-clause-ready : goal.unlist-requires-clause-ready
@@ -21,9 +22,5 @@ returns g c = record {
   granted = λ r h w.
       grant-made w (unlisted-sharpened c.args.chosen w.chosen c.unlist.ensures c.sharpen.ensures) c.place-slot.ensures
       (record { id = c.slot_id.result; rectangle = c.node-node.result.area }) c.node-node.result c.node-node.ensures c.slot_id.ensures refl;
-  once = λ f. c.place-slot.ensures.once (c.sharpen.ensures.once (c.unlist.ensures.once f));
-  options = c.place-slot.ensures.options ∙ c.sharpen.ensures.options ∙ c.unlist.ensures.room.options;
-  capacity =
-      c.place-slot.ensures.capacity ∙ ap (λ v. vec_capacity v) c.sharpen.ensures.slots ∙ c.unlist.ensures.room.capacity;
-  turns = c.place-slot.ensures.turns ∙ c.sharpen.ensures.turns ∙ c.unlist.ensures.turns;
+  takes = only-takes (only-takes c.unlist.ensures.takes c.sharpen.ensures.takes) c.place-slot.ensures.takes;
 }

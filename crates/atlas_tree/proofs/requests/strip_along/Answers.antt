@@ -1,5 +1,6 @@
-use Rattle.std.proofs.Common.{◌∙◌, refl}
+use Rattle.std.proofs.Common.{refl}
 use Rattle.atlas_tree.proofs.PlanLemmas.PlacingChains.{unlisted-parts, unlisted-leaf, listed-next, planned-end, placed_holding}
+use Rattle.atlas_store.proofs.StoreLemmas.TakenOnce.{only-takes}
 use Rattle.atlas_tree.proofs.requests.strip_along.Goals as goal
 
 pub list-requires : goal.list-requires
@@ -10,8 +11,5 @@ returns g c = record {
   kept = λ h ready.
       let u = listed-next (unlisted-parts c.place-parts.ensures ready) c.list.ensures in
       planned-end c.place-parts.ensures ready _ _ c.list.ensures.nodes u.1 refl refl refl;
-  once = λ f. c.list.ensures.once (c.place-parts.ensures.once f);
-  options = c.list.ensures.room.options ∙ c.place-parts.ensures.options;
-  capacity = c.list.ensures.room.capacity ∙ c.place-parts.ensures.capacity;
-  turns = c.list.ensures.turns ∙ c.place-parts.ensures.turns;
+  takes = only-takes c.place-parts.ensures.takes c.list.ensures.takes;
 }

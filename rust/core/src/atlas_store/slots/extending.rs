@@ -46,22 +46,38 @@ fn hang(slots: &mut [Slot], first: Link, container: Link) {
     }
 }
 
-/// The top sequence, which spans this size and whose first member is at `first`, becomes the only member of a new top
-/// sequence along the other axis: the unused slot `container` holds it. One pass along the sequence.
+/// The top sequence, which begins at `first` and spans the size `inner`, becomes the first of two members of a new one
+/// along the other axis: the unused slot `container` holds it. The unused slot `strip` becomes the second, a free leaf
+/// that reaches to the far corner of `size`. One pass along the sequence; each node is written once.
 #[inline]
-pub fn wrap_top(slots: &mut [Slot], first: Link, container: Link, size: Size) {
+pub fn nest_top(
+    slots: &mut [Slot],
+    first: Link,
+    container: Link,
+    strip: Link,
+    inner: Size,
+    size: Size,
+) {
     let none = Link::NONE;
-    let inner = read_node(slots, first);
-    let unused = read_node(slots, container);
+    let axis = across(read_node(slots, first).axis);
     let outer = Node {
         parent: none,
         previous: none,
-        next: none,
-        area: Rectangle::from(size),
+        next: strip,
+        area: Rectangle::from(inner),
         kind: NodeKind::Container,
-        axis: across(inner.axis),
-        generation: unused.generation,
+        axis,
+        generation: read_node(slots, container).generation,
+    };
+    let leaf = Node {
+        previous: container,
+        next: none,
+        area: beyond(outer.area, axis, size),
+        kind: NodeKind::Free,
+        generation: read_node(slots, strip).generation,
+        ..outer
     };
     hang(slots, first, container);
     write_node(slots, container, outer);
+    write_node(slots, strip, leaf);
 }

@@ -3,7 +3,7 @@
 
 use crate::atlas_model::Size;
 use crate::atlas_search::link::Link;
-use crate::atlas_store::slots::extending::{append_leaf, stretch_leaf, wrap_top};
+use crate::atlas_store::slots::extending::{append_leaf, nest_top, stretch_leaf};
 use crate::atlas_store::store::Store;
 use wollemigo_support::alloc::Allocator;
 
@@ -20,24 +20,12 @@ impl<A: Allocator> Store<A> {
         stretch_leaf(&mut self.slots, at, size);
     }
 
-    // The claimed slot becomes a detached leaf after the last member of the top sequence.
-    #[inline]
-    fn append_with(&mut self, last: Link, fresh: Link, size: Size) {
-        append_leaf(&mut self.slots, last, fresh, size);
-    }
-
-    // The claimed slot holds what was the top sequence, and is the only member of the new one.
-    #[inline]
-    fn wrap_top_with(&mut self, first: Link, container: Link, size: Size) {
-        wrap_top(&mut self.slots, first, container, size);
-    }
-
     /// The slot that is returned takes a free leaf after the last member of the top sequence, which reaches to the far
     /// corner of a size. It is detached.
     #[inline]
     pub fn append(&mut self, last: Link, size: Size) -> Link {
         let fresh = self.take();
-        self.append_with(last, fresh, size);
+        append_leaf(&mut self.slots, last, fresh, size);
         fresh
     }
 
@@ -48,8 +36,7 @@ impl<A: Allocator> Store<A> {
     pub fn nest(&mut self, first: Link, inner: Size, size: Size) -> (Link, Link) {
         let strip = self.take();
         let container = self.take();
-        self.wrap_top_with(first, container, inner);
-        self.append_with(container, strip, size);
+        nest_top(&mut self.slots, first, container, strip, inner, size);
         (container, strip)
     }
 }

@@ -76,7 +76,7 @@ returns-clause-slots g c = record {
         arith,
         ap (λ v. v.capacity) c.self.view_is,
         c.make_room.ensures.same.capacity,
-        c.grow_tree-self-inside.ensures.capacity,
+        c.grow_tree-self-inside.ensures.takes.capacity,
       );
 }
 

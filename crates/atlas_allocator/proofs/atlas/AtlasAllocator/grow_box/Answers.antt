@@ -19,13 +19,13 @@ pub invariant_of-self : goal.invariant_of-self
 invariant_of-self g c =
     let larger = subst (λ w. Fits (state_of w).size (sides_of c.args.size)) (sym c.self.view_is) c.requires.larger in
     let none = subst (λ w. live_in (state_of w) ≡ []) (sym c.self.view_is) c.requires.idle in
-    (box-done _ c.self.invariant c.args.size larger none (shelf_of c.grow_whole.new.store) c.grow_whole.ensures.room.options c.grow_whole.ensures.grown).atlas
+    (box-done _ c.self.invariant c.args.size larger none (shelf_of c.grow_whole.new.store) c.grow_whole.ensures.takes.options c.grow_whole.ensures.grown).atlas
 
 pub returns-clause-step : goal.returns-clause-step
 returns-clause-step g c =
     let larger = subst (λ w. Fits (state_of w).size (sides_of c.args.size)) (sym c.self.view_is) c.requires.larger in
     let none = subst (λ w. live_in (state_of w) ≡ []) (sym c.self.view_is) c.requires.idle in
-    rw (← c.self.view_is) ((box-done _ c.self.invariant c.args.size larger none (shelf_of c.grow_whole.new.store) c.grow_whole.ensures.room.options c.grow_whole.ensures.grown).step c.grow_whole.new.store.turns.count c.self.inside.store.turns.count)
+    rw (← c.self.view_is) ((box-done _ c.self.invariant c.args.size larger none (shelf_of c.grow_whole.new.store) c.grow_whole.ensures.takes.options c.grow_whole.ensures.grown).step c.grow_whole.new.store.turns.count c.self.inside.store.turns.count)
 
 pub returns-clause-keeps : goal.returns-clause-keeps
 returns-clause-keeps g c =
@@ -34,5 +34,5 @@ returns-clause-keeps g c =
 pub returns-clause-slots : goal.returns-clause-slots
 returns-clause-slots g c = record {
   used = growth-few (state_of c.args.self.now) _ (sides_of c.args.size) (returns-clause-step g c);
-  capacity = omega (arith, ap (λ v. v.capacity) c.self.view_is, c.grow_whole.ensures.room.capacity);
+  capacity = omega (arith, ap (λ v. v.capacity) c.self.view_is, c.grow_whole.ensures.takes.capacity);
 }

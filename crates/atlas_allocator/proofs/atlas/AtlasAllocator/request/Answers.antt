@@ -85,7 +85,7 @@ returns-clause-slots g c = record {
       (Allocated (grant_of c.grant.result))
       (subst (λ w. IsSound (state_of w)) c.self.view_is c.self.invariant.sound) (returns-clause-step g c);
   capacity =
-      omega (arith, ap (λ v. v.capacity) c.self.view_is, c.make_room.ensures.same.capacity, c.grant.ensures.capacity);
+      omega (arith, ap (λ v. v.capacity) c.self.view_is, c.make_room.ensures.same.capacity, c.grant.ensures.takes.capacity);
 }
 
 pub returns-in_err-make_room-clause-memory : goal.returns-in_err-make_room-clause-memory
@@ -123,7 +123,7 @@ returns-clause-answer g c =
 pub returns-clause-first : goal.returns-clause-first
 returns-clause-first g c =
     rw (← c.self.view_is) (λ f.
-    once-first _ (c.grant.ensures.once (once-shelf _ _ c.make_room.ensures.same.shelf (first-once _ f))))
+    once-first _ (c.grant.ensures.takes.once (once-shelf _ _ c.make_room.ensures.same.shelf (first-once _ f))))
 
 pub returns-in_err-make_room-clause-first : goal.returns-in_err-make_room-clause-first
 returns-in_err-make_room-clause-first g c =

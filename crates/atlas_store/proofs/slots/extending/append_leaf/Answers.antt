@@ -1,4 +1,5 @@
-use Rattle.std.proofs.Common.{◌<◌, ◌∙◌, ap, length, refl}
+use Rattle.std.proofs.Common.{◌<◌, ◌∙◌, ap, length, refl, arith}
+use Rattle.std.proofs.lemmas.Bool.{cases_eq}
 use Rattle.std.proofs.lemmas.List.{length-map}
 use Rattle.atlas_store.specs.Slots.{nodes}
 use Rattle.atlas_search.specs.Numbers.{no_slot}
@@ -24,5 +25,6 @@ returns c =
       tree = Stands-appended _ _ _ _ _ c.requires.exact w;
       free = ap (λ n. n.kind) w.strip;
       others = keeps-appended _ _ _ _ _ w;
+      generations = λ j. grind (arith, cases_eq j c.args.fresh.number, keeps-appended _ _ _ _ _ w j, w.strip);
       same_rings = c.write_node-2.ensures.same_rings ∙ c.write_node.ensures.same_rings;
     }

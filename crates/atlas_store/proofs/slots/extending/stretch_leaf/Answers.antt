@@ -1,4 +1,5 @@
-use Rattle.std.proofs.Common.{rules, ◌<◌, length}
+use Rattle.std.proofs.Common.{rules, ◌<◌, length, arith}
+use Rattle.std.proofs.lemmas.Bool.{cases_eq}
 use Rattle.std.proofs.lemmas.List.{length-map}
 use Rattle.atlas_store.specs.Slots.{nodes, node_at}
 use Rattle.atlas_store.specs.Slots.Growing.{stretched_area}
@@ -18,5 +19,6 @@ returns c =
       whole = search rules;
       leaf = w.there;
       others = w.others;
+      generations = λ k. grind (arith, cases_eq k c.args.at.number, w.there, w.others k);
       same_rings = c.write_node.ensures.same_rings;
     }

@@ -7,8 +7,8 @@ use Rattle.atlas_store.specs.Slots.Links.{with_mark}
 use Rattle.atlas_search.specs.Numbers.{lists_with}
 use Rattle.atlas_store.specs.Stored.{places_of}
 use Rattle.atlas_store.specs.Store.Holdings.{shelf_of}
-use Rattle.atlas_store.proofs.StoreLemmas.StoreFacts.{are-slots, across-call, slots-room}
-use Rattle.atlas_store.proofs.StoreLemmas.StoreSteps.{listed-holds, leaf-exact}
+use Rattle.atlas_store.proofs.StoreLemmas.StoreFacts.{are-slots, across-call}
+use Rattle.atlas_store.proofs.StoreLemmas.StoreSteps.{listed-holds, leaf-exact, long-over}
 use Rattle.atlas_store.proofs.StoreLemmas.TakenOnce.{once-same}
 use Rattle.atlas_store.proofs.store.Store.list.Goals as goal
 
@@ -20,6 +20,7 @@ enlist-requires-clause-exact g c =
 pub returns : goal.returns
 returns g c =
     let slots = are-slots c.args.self.now c.deref_mut.ensures.value c.deref_mut.ensures.len c.enlist.auto.slots in
+    let same = across-call (λ a b. nodes b ≡ nodes a) slots c.enlist.ensures.same_nodes in
     record {
       kept = λ h leaf.
           let sides = node_sides (node_at (nodes c.deref_mut.result.now) c.args.at.number) in
@@ -30,8 +31,7 @@ returns g c =
                 (λ filed. c.enlist.ensures.filed c.args.self.now.unused (places_of (λ i. 0) h) filed leaf.detached)
                 leaf.holds,
           );
-      nodes = across-call (λ a b. nodes b ≡ nodes a) slots c.enlist.ensures.same_nodes;
-      room = slots-room c.args.self.now _ slots refl refl;
-      once = once-same (across-call (λ a b. nodes b ≡ nodes a) slots c.enlist.ensures.same_nodes);
-      turns = refl;
+      nodes = same;
+      slots = long-over _ _ _ _ slots;
+      takes = record { options = refl; capacity = refl; turns = refl; once = once-same same };
     }

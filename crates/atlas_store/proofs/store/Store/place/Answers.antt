@@ -1,4 +1,4 @@
-use Rattle.std.proofs.Common.{◌-◌, ◌≡◌, ◌∙◌, ap, sym, subst, length, arith}
+use Rattle.std.proofs.Common.{◌-◌, ◌≡◌, ◌∙◌, ap, refl, sym, subst, length, arith}
 use Rattle.atlas_store.specs.Slots.{nodes, rings}
 use Rattle.atlas_search.specs.Numbers.{occurs}
 use Rattle.atlas_store.specs.Slots.Placing.{granted_by, taken_by, CanPlace, IsPlaced}
@@ -9,7 +9,7 @@ use Rattle.atlas_store.proofs.SlotLemmas.Placing.{placed-generation, placed-gran
 use Rattle.atlas_store.proofs.StoreLemmas.StoreFacts.{are-slots}
 use Rattle.atlas_store.proofs.StoreLemmas.StoreTakes.{can-taken, held-taken, taken-number}
 use Rattle.atlas_store.proofs.StoreLemmas.StoreSteps.{long-over, over-shelf, placed-holds, stands-before}
-use Rattle.atlas_store.proofs.StoreLemmas.TakenOnce.{once-kept}
+use Rattle.atlas_store.proofs.StoreLemmas.TakenOnce.{once-kept, only-takes}
 use Rattle.atlas_store.proofs.store.Store.place.Goals as goal
 
 pub take_for-parts-requires : goal.take_for-parts-requires
@@ -69,8 +69,5 @@ returns g c =
       granted = placed-granted ns _ at p t placed;
       left = placed-left ns _ at p t placed;
       apart = left-once p t can.once;
-      options = took.options;
-      capacity = took.capacity;
-      once = λ f. once-kept kept (took.once f);
-      turns = took.turns;
+      takes = only-takes took.takes (record { options = refl; capacity = refl; turns = refl; once = once-kept kept });
     }

@@ -24,10 +24,10 @@ returns g c =
             c.list.ensures.kept (detached_holding (sides_of c.args.size))
             (whole_leaf _ c.args.size (record { slots = search rules; lists = c.clear-2.ensures; unused = refl; valid = subst (λ o. AreValid (options_of o)) (sym c.set.ensures) c.requires.options }) c.requires.size wide high);
         slots = c.list.ensures.nodes ∙ search rules;
-        one = c.list.ensures.room.slots ∙ search rules;
-        once = c.list.ensures.once (once-whole c.args.size (search rules) refl);
-        options = c.list.ensures.room.options ∙ c.set.ensures;
+        one = c.list.ensures.slots ∙ search rules;
+        once = c.list.ensures.takes.once (once-whole c.args.size (search rules) refl);
+        options = c.list.ensures.takes.options ∙ c.set.ensures;
       };
-      capacity = c.list.ensures.room.capacity ∙ search rules;
-      turns = c.list.ensures.turns;
+      capacity = c.list.ensures.takes.capacity ∙ search rules;
+      turns = c.list.ensures.takes.turns;
     }

@@ -1,7 +1,10 @@
 use Rattle.std.proofs.Common.{refl, rules, arith}
+use Rattle.atlas_store.specs.Slots.SlotCalls.{KeepGenerations}
 use Rattle.atlas_store.specs.Store.Holdings.{shelf_of}
-use Rattle.atlas_store.proofs.StoreLemmas.StoreFacts.{are-slots, across-call, slots-room}
+use Rattle.atlas_store.proofs.StoreLemmas.StoreFacts.{are-slots, across-call}
 use Rattle.atlas_store.proofs.StoreLemmas.ExtendingSteps.{sides-fit, stretched-holds}
+use Rattle.atlas_store.proofs.StoreLemmas.StoreSteps.{long-over}
+use Rattle.atlas_store.proofs.StoreLemmas.TakenOnce.{once-kept}
 use Rattle.atlas_store.proofs.store.Store.stretch.Goals as goal
 
 pub returns : goal.returns
@@ -13,6 +16,6 @@ returns g c =
           stretched-holds (shelf_of c.args.self.now) c.deref_mut.result.now c.stretch_leaf.new.slots _ c.args.at.number c.args.size slots
           (sides-fit c.args.size (search rules) (search rules)) w;
       free = grind (arith, across-call);
-      room = slots-room c.args.self.now _ slots refl refl;
-      turns = refl;
+      slots = long-over _ _ _ _ slots;
+      takes = record { options = refl; capacity = refl; turns = refl; once = once-kept (across-call KeepGenerations slots w.generations) };
     }

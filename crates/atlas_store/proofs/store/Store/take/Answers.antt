@@ -30,8 +30,5 @@ returns g c =
       fresh = record { unused = here.is_unused; inside = here.inside };
       longer = taken-longer old new k _ blank_slot (λ ne. (call.again ne).1) (λ e. (call.fresh e).1);
       others = call.others;
-      options = refl;
-      capacity = c.take_slot.ensures.capacity;
-      once = call.once;
-      turns = refl;
+      takes = record { options = refl; capacity = c.take_slot.ensures.capacity; turns = refl; once = call.once };
     }

@@ -4,14 +4,15 @@ use Rattle.atlas_store.specs.Slots.Links.{lists_without, with_mark}
 use Rattle.atlas_store.specs.Slots.{nodes}
 use Rattle.atlas_store.specs.Stored.{places_of}
 use Rattle.atlas_store.specs.Store.Holdings.{shelf_of}
-use Rattle.atlas_store.proofs.StoreLemmas.StoreFacts.{are-slots, across-call, slots-room}
-use Rattle.atlas_store.proofs.StoreLemmas.StoreSteps.{listed-holds}
+use Rattle.atlas_store.proofs.StoreLemmas.StoreFacts.{are-slots, across-call}
+use Rattle.atlas_store.proofs.StoreLemmas.StoreSteps.{listed-holds, long-over}
 use Rattle.atlas_store.proofs.StoreLemmas.TakenOnce.{once-same}
 use Rattle.atlas_store.proofs.store.Store.unlist.Goals as goal
 
 pub returns : goal.returns
 returns g c =
     let slots = are-slots c.args.self.now c.deref_mut.ensures.value c.deref_mut.ensures.len c.unlist.auto.slots in
+    let same = across-call (λ a b. nodes b ≡ nodes a) slots c.unlist.ensures.same_nodes in
     record {
       kept = λ h holds listed. (
         lists_without h.free_lists c.args.at.number,
@@ -20,8 +21,7 @@ returns g c =
             (λ filed. c.unlist.ensures.filed (options_of c.args.self.now.options) c.args.self.now.unused (places_of (λ i. 0) h) filed listed)
             holds,
       );
-      nodes = across-call (λ a b. nodes b ≡ nodes a) slots c.unlist.ensures.same_nodes;
-      room = slots-room c.args.self.now _ slots refl refl;
-      once = once-same (across-call (λ a b. nodes b ≡ nodes a) slots c.unlist.ensures.same_nodes);
-      turns = refl;
+      nodes = same;
+      slots = long-over _ _ _ _ slots;
+      takes = record { options = refl; capacity = refl; turns = refl; once = once-same same };
     }
