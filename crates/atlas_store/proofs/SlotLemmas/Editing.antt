@@ -55,7 +55,7 @@ module _ (is : Numbered → Bool) (change : ℕ → Numbered → Numbered) where
 
     -- The walk.
     pub edited-keeps : (a : ℕ) (n : Numbered) → R a n (edited_in is change (change a) n)
-    edited-keeps a End = kept.ends a
+    edited-keeps a End = choice a End End (λ _. kept.ends a)
     edited-keeps a (Free i e rest) = grind (arith, choice, edited-keeps a rest)
     edited-keeps a (Alloc i g e rest) = grind (arith, choice, edited-keeps a rest)
     edited-keeps a (Seq i e inner rest) = grind (arith, choice, edited-keeps e inner, edited-keeps a rest)
