@@ -18,7 +18,7 @@ use Rattle.atlas_search.specs.Numbers.{no_slot, same}
 use Rattle.atlas_search.specs.Rectangles.{beyond_in}
 use Rattle.atlas_store.specs.Slots.Numbered.{Numbered, weigh, tally, erase, first_slot, edited_in, End, Free, Alloc, Seq}
 use Rattle.atlas_store.specs.Slots.Standing.{Sequence, Standing, Stands, IsLinkedIn, member_box}
-use Rattle.atlas_store.specs.Slots.Growing.{is_end, is_last, extended, followed_by, lengthened_by, last_after, last_slot, stretched, appended, stretched_area, Reaches}
+use Rattle.atlas_store.specs.Slots.Growing.{is_last, extended, followed_by, lengthened_by, last_after, last_slot, stretched, appended, stretched_area, Reaches}
 use Rattle.atlas_store.proofs.SlotLemmas.Frames.{IsWritten, Standing-same, same-self, same-ne, used-le, ne-from_count}
 use Rattle.atlas_store.proofs.SlotLemmas.Reading.{HasMember, nonempty-tally}
 use Rattle.atlas_store.proofs.SlotLemmas.Editing.{edited-keeps}
@@ -47,10 +47,6 @@ pub record IsCarriedOn (R : (old new : Numbered) → Type 0) : Type 0 where
   pub alloc : (i g e : ℕ) (m n : Numbered) → HasMember m → R m n → R (Alloc i g e m) (Alloc i g e n)
   pub seq : (i e : ℕ) (inner m n : Numbered) → HasMember m → R m n → R (Seq i e inner m) (Seq i e inner n)
 
-some-later : (m : Numbered) → is_end m ≡ false → HasMember m
-some-later End t = absurd (true≢false t)
-some-later m t = omega (arith, same-self)
-
 inner-same : (n : Numbered) → edited_in is_last (λ e m. m) (λ m. m) n ≡ n
 inner-same = edited-keeps is_last (λ e m. m) (λ a m n. n ≡ m) (grind arith) (λ a m t. refl) 0
 
@@ -61,9 +57,9 @@ module _ (change : Numbered → Numbered) (R : (old new : Numbered) → Type 0) 
   -- The walk along the top sequence.
   pub extended-keeps : (n : Numbered) → R n (extended change n)
   extended-keeps End = here End refl
-  extended-keeps (Free i e rest) = grind (arith, choice, some-later, extended-keeps rest)
-  extended-keeps (Alloc i g e rest) = grind (arith, choice, some-later, extended-keeps rest)
-  extended-keeps (Seq i e inner rest) = grind (arith, choice, some-later, inner-same, extended-keeps rest)
+  extended-keeps (Free i e rest) = grind (arith, choice, same-self, extended-keeps rest)
+  extended-keeps (Alloc i g e rest) = grind (arith, choice, same-self, extended-keeps rest)
+  extended-keeps (Seq i e inner rest) = grind (arith, choice, same-self, inner-same, extended-keeps rest)
 
 pub first-stretched : (d : ℕ) (n : Numbered) → first_slot (stretched d n) ≡ first_slot n
 first-stretched d =

@@ -20,16 +20,13 @@ last_after before (Seq i e inner rest) = last_after i rest
 abbrev pub last_slot : Numbered → ℕ
 last_slot n = last_after no_slot n
 
--- Whether there is no member; whether none follows the first.
-abbrev pub is_end : Numbered → Bool
-is_end End = true
-is_end n = false
-
+-- No member follows the first.
 abbrev pub is_last : Numbered → Bool
 is_last End = true
-is_last (Free i e rest) = is_end rest
-is_last (Alloc i g e rest) = is_end rest
-is_last (Seq i e inner rest) = is_end rest
+is_last (Free i e End) = true
+is_last (Alloc i g e End) = true
+is_last (Seq i e inner End) = true
+is_last n = false
 
 -- The last member becomes what `change` makes of it.
 abbrev pub extended : (change : Numbered → Numbered) → Numbered → Numbered
