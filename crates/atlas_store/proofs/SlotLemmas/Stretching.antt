@@ -1,6 +1,6 @@
 -- The last leaf reaches to the far corner of a size, or a leaf that does is appended.
 use Rattle.std.proofs.Common.{ℕ, ◌+◌, ◌<◌, ◌≤◌, ◌≡◌, ◌≢◌, ◌∙◌, true, false, cond, List, refl, sym, ap, arith, length, set, get_or-set_same, get_or-set_other, length-set}
-use Rattle.std.proofs.lemmas.Bool.{cases_eq, cond_both, true≢false}
+use Rattle.std.proofs.lemmas.Bool.{cases_eq, cond_both}
 use Rattle.std.proofs.lemmas.List.{get_or_past, length-map}
 use Rattle.atlas_store.specs.declared.slots.Slot.{Slot}
 use Rattle.atlas_search.specs.declared.link.Link.{Link}
@@ -74,8 +74,8 @@ weigh-appended w k d =
     extended-keeps (followed_by k d) (λ m n. weigh w n ≡ weigh w m + w k) (grind arith) (grind arith)
 
 -- Members whose last is that of slot i, and d before the far corner of a size, stand changed.
-abbrev IsChanged : (ns ms : List Node) (i : ℕ) (size : Sides) (d : ℕ) (s : Sequence) (b p : ℕ) → (old new : Numbered) → Type 0
-IsChanged ns ms i size d s b p m v =
+abbrev IsExtendedTo : (ns ms : List Node) (i : ℕ) (size : Sides) (d : ℕ) (s : Sequence) (b p : ℕ) → (old new : Numbered) → Type 0
+IsExtendedTo ns ms i size d s b p m v =
     HasMember m → last_after b m ≡ i → Reaches size s (p + (total (erase m) + d)) → Standing ns s b p m
     → Standing ms s b p v
 
@@ -84,7 +84,7 @@ pub record IsExtension (ns ms : List Node) (change : Numbered → Numbered) (i :
   pub once : (x : ℕ) → tally x n ≤ 1
   pub first : (m : Numbered) → is_last m ≡ true → HasMember m → first_slot (change m) ≡ first_slot m
   pub here : (s : Sequence) (b p : ℕ) (m : Numbered) → is_last m ≡ true → ((x : ℕ) → tally x m ≤ tally x n)
-      → IsChanged ns ms i size d s b p m (change m)
+      → IsExtendedTo ns ms i size d s b p m (change m)
   pub others : (x : ℕ) → (x ≡ i → ⊥) → 0 < tally x n → node_at ms x ≡ node_at ns x
 
 module _ (ns ms : List Node) (change : Numbered → Numbered) (i : ℕ) (size : Sides) (d : ℕ) (n : Numbered) (w : IsExtension ns ms change i size d n) where
@@ -93,14 +93,14 @@ module _ (ns ms : List Node) (change : Numbered → Numbered) (i : ℕ) (size : 
       → node_at ms x ≡ node_at ns x
   before_stays j m some is x z here = w.others x (λ e. ne-from_count x i m z (last-later i j m some is) (sym e)) here
 
-  abbrev IsStanding : (old new : Numbered) → Type 0
-  IsStanding m v =
+  abbrev IsExtended : (old new : Numbered) → Type 0
+  IsExtended m v =
       (HasMember m → first_slot v ≡ first_slot m)
-      × ((s : Sequence) (b p : ℕ) → ((x : ℕ) → tally x m ≤ tally x n) → IsChanged ns ms i size d s b p m v)
+      × ((s : Sequence) (b p : ℕ) → ((x : ℕ) → tally x m ≤ tally x n) → IsExtendedTo ns ms i size d s b p m v)
 
-  Standing-extended : (m : Numbered) → IsStanding m (extended change m)
+  Standing-extended : (m : Numbered) → IsExtended m (extended change m)
   Standing-extended =
-      extended-keeps change IsStanding (grind (arith, before_stays, w.once, same-self, Standing-same)) (grind (arith, w.first, w.here))
+      extended-keeps change IsExtended (grind (arith, before_stays, w.once, same-self, Standing-same)) (grind (arith, w.first, w.here))
 
   Stands-extended : (s : Sequence) → HasMember n → Stands ns s n → last_slot n ≡ i → Reaches size s (total (erase n) + d)
       → ((x : ℕ) → tally x (extended change n) ≡ use_count (node_at ms x).kind) → Stands ms s (extended change n)
@@ -170,7 +170,7 @@ module _ (ns ms : List Node) (at fresh : Link) (size : Size) (exact : size ≡ s
   strip_stands s d b a p e v h area far = grind (arith, box-beyond)
 
   at_last : (d : ℕ) (s : Sequence) (b p : ℕ) (m : Numbered) → is_last m ≡ true → ((x : ℕ) → tally x m ≤ 1)
-      → tally k m ≡ 0 → IsChanged ns ms i (sides_of size) d s b p m (followed_by k d m)
+      → tally k m ≡ 0 → IsExtendedTo ns ms i (sides_of size) d s b p m (followed_by k d m)
   at_last d s b p = grind (arith, strip_stands, Standing-same)
 
   used_appended : (x : ℕ) → use_count (node_at ms x).kind ≡ use_count (node_at ns x).kind + same x k
