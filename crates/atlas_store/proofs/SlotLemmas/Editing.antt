@@ -66,7 +66,8 @@ module _ (is : Numbered → Bool) (change : ℕ → Numbered → Numbered) where
 
   -- Nothing happens where no member is looked for.
   pub edited-absent : is End ≡ false → (a : ℕ) (n : Numbered) → places is n ≡ 0 → edited_in is change (change a) n ≡ n
-  edited-absent never = edited-keeps (λ a m n. places is m ≡ 0 → n ≡ m) (grind arith) (grind (arith, places-some is never))
+  edited-absent never =
+      edited-keeps (λ a m n. places is m ≡ 0 → n ≡ m) (grind arith) (grind (arith, places-some is never))
 
   -- A change that keeps what the slots weigh.
   pub weigh-same : (w : ℕ → ℕ) → ((a : ℕ) (m : Numbered) → is m ≡ true → weigh w (change a m) ≡ weigh w m)
@@ -84,16 +85,18 @@ module _ (is : Numbered → Bool) (change : ℕ → Numbered → Numbered) where
 
 -- Of the tree n one place changes: there the nodes ms hold what becomes of the members from the place on, and the slots
 -- outside of a part with the place stay.
-pub record IsEdit (ns ms : List Node) (is : Numbered → Bool) (change : ℕ → Numbered → Numbered) (n : Numbered) : Type 0 where
-  pub never : is End ≡ false
-  pub once : (x : ℕ) → tally x n ≤ 1
-  pub first : (a : ℕ) (m : Numbered) → is m ≡ true → first_slot (change a m) ≡ first_slot m
-  pub here : (s : Sequence) (b p : ℕ) (m : Numbered) → is m ≡ true → Standing ns s b p m
-      → ((x : ℕ) → tally x m ≤ tally x n) → Standing ms s b p (change s.width m)
-  pub beside : (s : Sequence) (b p : ℕ) (v : Numbered) → Standing ns s b p v → places is v ≡ 1 → (x : ℕ)
-      → tally x v ≡ 0 → 0 < tally x n → node_at ms x ≡ node_at ns x
+pub record IsEdit (ns ms : List Node) (is : Numbered → Bool) (change : ℕ → Numbered → Numbered) (n : Numbered) : Type 0
+  where
+    pub never : is End ≡ false
+    pub once : (x : ℕ) → tally x n ≤ 1
+    pub first : (a : ℕ) (m : Numbered) → is m ≡ true → first_slot (change a m) ≡ first_slot m
+    pub here : (s : Sequence) (b p : ℕ) (m : Numbered) → is m ≡ true → Standing ns s b p m
+        → ((x : ℕ) → tally x m ≤ tally x n) → Standing ms s b p (change s.width m)
+    pub beside : (s : Sequence) (b p : ℕ) (v : Numbered) → Standing ns s b p v → places is v ≡ 1 → (x : ℕ)
+        → tally x v ≡ 0 → 0 < tally x n → node_at ms x ≡ node_at ns x
 
-module _ (ns ms : List Node) (is : Numbered → Bool) (change : ℕ → Numbered → Numbered) (n : Numbered) (w : IsEdit ns ms is change n) where
+module _ (ns ms : List Node) (is : Numbered → Bool) (change : ℕ → Numbered → Numbered) (n : Numbered)
+    (w : IsEdit ns ms is change n) where
   -- The slot j of a member beside the place stays.
   head_stays : (s : Sequence) (b p j : ℕ) (v : Numbered) → Standing ns s b p v → places is v ≡ 1
       → ((x : ℕ) → same x j + tally x v ≤ tally x n) → node_at ms j ≡ node_at ns j
@@ -109,8 +112,8 @@ module _ (ns ms : List Node) (is : Numbered → Bool) (change : ℕ → Numbered
   IsEditedTo a m u =
       (places is m ≡ 0 → u ≡ m)
       × (first_slot u ≡ first_slot m)
-      × ((s : Sequence) (b p : ℕ) → a ≡ s.width → ((x : ℕ) → tally x m ≤ tally x n) → places is m ≡ 1 → Standing ns s b p m
-      → Standing ms s b p u)
+      × ((s : Sequence) (b p : ℕ) → a ≡ s.width → ((x : ℕ) → tally x m ≤ tally x n) → places is m ≡ 1
+      → Standing ns s b p m → Standing ms s b p u)
 
   pub Standing-edited : (s : Sequence) (b p : ℕ) (v : Numbered) → ((x : ℕ) → tally x v ≤ tally x n) → places is v ≡ 1
       → Standing ns s b p v → Standing ms s b p (edited_in is change (change s.width) v)

@@ -50,7 +50,8 @@ pub record IsCarriedOn (R : (old new : Numbered) → Type 0) : Type 0 where
 inner-same : (n : Numbered) → edited_in is_last (λ e m. m) (λ m. m) n ≡ n
 inner-same = edited-keeps is_last (λ e m. m) (λ a m n. n ≡ m) (grind arith) (λ a m t. refl) 0
 
-module _ (change : Numbered → Numbered) (R : (old new : Numbered) → Type 0) (kept : IsCarriedOn R) (here : (m : Numbered) → is_last m ≡ true → R m (change m)) where
+module _ (change : Numbered → Numbered) (R : (old new : Numbered) → Type 0) (kept : IsCarriedOn R)
+    (here : (m : Numbered) → is_last m ≡ true → R m (change m)) where
   choice : (m v : Numbered) → (is_last m ≡ false → R m v) → R m (cond (is_last m) (change m) v)
   choice m v other = cond_both (is_last m) (change m) v (λ x. R m x) (here m) other
 
@@ -74,20 +75,23 @@ weigh-appended w k d =
     extended-keeps (followed_by k d) (λ m n. weigh w n ≡ weigh w m + w k) (grind arith) (grind arith)
 
 -- Members whose last is that of slot i, and d before the far corner of a size, stand changed.
-abbrev IsExtendedTo : (ns ms : List Node) (i : ℕ) (size : Sides) (d : ℕ) (s : Sequence) (b p : ℕ) → (old new : Numbered) → Type 0
+abbrev IsExtendedTo : (ns ms : List Node) (i : ℕ) (size : Sides) (d : ℕ) (s : Sequence) (b p : ℕ)
+    → (old new : Numbered) → Type 0
 IsExtendedTo ns ms i size d s b p m v =
     HasMember m → last_after b m ≡ i → Reaches size s (p + (total (erase m) + d)) → Standing ns s b p m
     → Standing ms s b p v
 
 -- Of the tree n the last member changes.
-pub record IsExtension (ns ms : List Node) (change : Numbered → Numbered) (i : ℕ) (size : Sides) (d : ℕ) (n : Numbered) : Type 0 where
+pub record IsExtension (ns ms : List Node) (change : Numbered → Numbered) (i : ℕ) (size : Sides) (d : ℕ) (n : Numbered)
+    : Type 0 where
   pub once : (x : ℕ) → tally x n ≤ 1
   pub first : (m : Numbered) → is_last m ≡ true → HasMember m → first_slot (change m) ≡ first_slot m
   pub here : (s : Sequence) (b p : ℕ) (m : Numbered) → is_last m ≡ true → ((x : ℕ) → tally x m ≤ tally x n)
       → IsExtendedTo ns ms i size d s b p m (change m)
   pub others : (x : ℕ) → (x ≡ i → ⊥) → 0 < tally x n → node_at ms x ≡ node_at ns x
 
-module _ (ns ms : List Node) (change : Numbered → Numbered) (i : ℕ) (size : Sides) (d : ℕ) (n : Numbered) (w : IsExtension ns ms change i size d n) where
+module _ (ns ms : List Node) (change : Numbered → Numbered) (i : ℕ) (size : Sides) (d : ℕ) (n : Numbered)
+    (w : IsExtension ns ms change i size d n) where
   -- A slot before the last stays.
   before_stays : (j : ℕ) (m : Numbered) → HasMember m → last_after j m ≡ i → (x : ℕ) → tally x m ≡ 0 → 0 < tally x n
       → node_at ms x ≡ node_at ns x
@@ -100,9 +104,11 @@ module _ (ns ms : List Node) (change : Numbered → Numbered) (i : ℕ) (size : 
 
   Standing-extended : (m : Numbered) → IsExtended m (extended change m)
   Standing-extended =
-      extended-keeps change IsExtended (grind (arith, before_stays, w.once, same-self, Standing-same)) (grind (arith, w.first, w.here))
+      extended-keeps change IsExtended (grind (arith, before_stays, w.once, same-self, Standing-same))
+      (grind (arith, w.first, w.here))
 
-  Stands-extended : (s : Sequence) → HasMember n → Stands ns s n → last_slot n ≡ i → Reaches size s (total (erase n) + d)
+  Stands-extended : (s : Sequence) → HasMember n → Stands ns s n → last_slot n ≡ i
+      → Reaches size s (total (erase n) + d)
       → ((x : ℕ) → tally x (extended change n) ≡ use_count (node_at ms x).kind) → Stands ms s (extended change n)
   Stands-extended s some h is far uses =
       let reach : Reaches size s (0 + (total (erase n) + d)) = (omega (arith, far.0), far.1) in
@@ -111,16 +117,16 @@ module _ (ns ms : List Node) (change : Numbered → Numbered) (i : ℕ) (size : 
 abbrev longer_leaf : Node → Size → Node
 longer_leaf leaf size = record leaf { area = stretched_area leaf.area size }
 
-module _ (ns ms : List Node) (i : ℕ) (size : Size) (exact : size ≡ size_of (sides_of size)) (free : (node_at ns i).kind ≡ kind.Free) (w : IsWritten ns ms i (longer_leaf (node_at ns i) size)) where
+module _ (ns ms : List Node) (i : ℕ) (size : Size) (exact : size ≡ size_of (sides_of size))
+    (free : (node_at ns i).kind ≡ kind.Free) (w : IsWritten ns ms i (longer_leaf (node_at ns i) size)) where
   used_after : (x : ℕ) → use_count (node_at ms x).kind ≡ use_count (node_at ns x).kind
   used_after x = grind (arith, cases_eq x i)
 
   pub Stands-stretched : (s : Sequence) (n : Numbered) (d : ℕ) → Stands ns s n → last_slot n ≡ i
       → Reaches (sides_of size) s (total (erase n) + d) → Stands ms s (stretched d n)
   Stands-stretched s n d h is far =
-      let once : (x : ℕ) → tally x n ≤ 1 = λ x. omega (arith, h.numbered x, used-le (node_at ns x).kind) in
       let some : HasMember n = nonempty-tally i n (rw (h.numbered i, free) (omega arith)) in
-      let edit : IsExtension ns ms (lengthened_by d) i (sides_of size) d n = grind (arith, box-stretched) in
+      let edit : IsExtension ns ms (lengthened_by d) i (sides_of size) d n = grind (arith, h.numbered, used-le, box-stretched) in
       Stands-extended ns ms (lengthened_by d) i (sides_of size) d n edit s some h is far (λ x.
       omega (arith, weigh-stretched (same x) d n, used_after x, h.numbered x))
 
@@ -156,7 +162,8 @@ pub keeps-appended : (ns ms : List Node) (at fresh : Link) (size : Size) → IsS
     → x ≢ fresh.number → KeepsUse (node_at ns x) (node_at ms x)
 keeps-appended ns ms at fresh size w x ne = grind (arith, cases_eq x at.number)
 
-module _ (ns ms : List Node) (at fresh : Link) (size : Size) (exact : size ≡ size_of (sides_of size)) (w : IsStripAdded ns ms at fresh size) where
+module _ (ns ms : List Node) (at fresh : Link) (size : Size) (exact : size ≡ size_of (sides_of size))
+    (w : IsStripAdded ns ms at fresh size) where
   abbrev i : ℕ
   i = at.number
 
@@ -179,10 +186,9 @@ module _ (ns ms : List Node) (at fresh : Link) (size : Size) (exact : size ≡ s
   pub Stands-appended : (s : Sequence) (n : Numbered) (d : ℕ) → Stands ns s n → last_slot n ≡ i
       → Reaches (sides_of size) s (total (erase n) + d) → Stands ms s (appended k d n)
   Stands-appended s n d h is far =
-      let once : (x : ℕ) → tally x n ≤ 1 = λ x. omega (arith, h.numbered x, used-le (node_at ns x).kind) in
       let new : tally k n ≡ 0 = h.numbered k ∙ ap use_count w.unused in
       let some : HasMember n = grind (arith, same-self) in
-      let edit : IsExtension ns ms (followed_by k d) i (sides_of size) d n = grind (arith, at_last) in
+      let edit : IsExtension ns ms (followed_by k d) i (sides_of size) d n = grind (arith, h.numbered, used-le, at_last) in
       Stands-extended ns ms (followed_by k d) i (sides_of size) d n edit s some h is far (λ x.
       omega (arith, weigh-appended (same x) k d n, used_appended x, h.numbered x))
 

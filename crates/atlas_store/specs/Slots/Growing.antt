@@ -28,7 +28,7 @@ is_last (Alloc i g e End) = true
 is_last (Seq i e inner End) = true
 is_last n = false
 
--- The last member becomes what `change` makes of it.
+-- The last member of the top sequence becomes what `change` makes of it.
 abbrev pub extended : (change : Numbered → Numbered) → Numbered → Numbered
 extended change n = edited_in is_last (λ e m. m) change n
 
