@@ -1,5 +1,5 @@
 -- What holds of every edit of a numbered tree, by one walk over the tree.
-use Rattle.std.proofs.Common.{ℕ, ◌+◌, ◌<◌, ◌≤◌, ◌≡◌, Bool, true, false, cond, List, refl, sym, ap, ap₂, subst, inl, inr, arith}
+use Rattle.std.proofs.Common.{ℕ, ◌+◌, ◌<◌, ◌≤◌, ◌≡◌, Bool, true, false, cond, List, refl, sym, subst, inl, inr, arith}
 use Rattle.std.proofs.lemmas.Bool.{cond_both, eqb-true, true≢false}
 use Rattle.atlas_store.specs.declared.slots.Node.{Node}
 use Rattle.atlas_store.specs.Slots.{node_at}
@@ -7,8 +7,7 @@ use Rattle.atlas_search.specs.Numbers.{no_slot, same}
 use Rattle.atlas_store.specs.Slots.Numbered.{Numbered, weigh, tally, first_slot, edited_in, on_free, on_alloc, on_seq, grown_by, lifted_to, is_free_at, is_alloc_at, is_seq_at, End, Free, Alloc, Seq}
 use Rattle.atlas_store.specs.Slots.Standing.{Sequence, Standing, inside}
 use Rattle.atlas_store.proofs.SlotLemmas.Frames.{same-self, one_of, ne-from_count, Standing-same}
-use Rattle.atlas_store.proofs.SlotLemmas.Suffixes.{Suffix, suffix-at, suffix-wider}
-use Rattle.atlas_store.proofs.SlotLemmas.Weights.{places, places-le, places-some, not_here}
+use Rattle.atlas_store.proofs.SlotLemmas.Weights.{places, places-some, not_here}
 
 -- What the edits make of the members from their place on, in a sequence that spans `across`.
 
@@ -55,7 +54,7 @@ module _ (is : Numbered → Bool) (change : ℕ → Numbered → Numbered) where
 
     -- The walk.
     pub edited-keeps : (a : ℕ) (n : Numbered) → R a n (edited_in is change (change a) n)
-    edited-keeps a End = kept.ends a
+    edited-keeps a End = choice a End End (λ _. kept.ends a)
     edited-keeps a (Free i e rest) = grind (arith, choice, edited-keeps a rest)
     edited-keeps a (Alloc i g e rest) = grind (arith, choice, edited-keeps a rest)
     edited-keeps a (Seq i e inner rest) = grind (arith, choice, edited-keeps e inner, edited-keeps a rest)
@@ -68,99 +67,72 @@ module _ (is : Numbered → Bool) (change : ℕ → Numbered → Numbered) where
   -- Nothing happens where no member is looked for.
   pub edited-absent : is End ≡ false → (a : ℕ) (n : Numbered) → places is n ≡ 0 → edited_in is change (change a) n ≡ n
   edited-absent never =
-      edited-keeps (λ a m n. places is m ≡ 0 → n ≡ m) (record {
-        ends = λ a _. refl;
-        free = λ a i e m n _ h z. ap (Free i e) (h (omega arith));
-        alloc = λ a i g e m n _ h z. ap (Alloc i g e) (h (omega arith));
-        seq = λ a i e k l m n _ g h z. ap₂ (Seq i e) (g (omega arith)) (h (omega arith));
-      }) (λ a m t z. absurd (omega (arith, places-some is never m t)))
+      edited-keeps (λ a m n. places is m ≡ 0 → n ≡ m) (grind arith) (grind (arith, places-some is never))
 
   -- A change that keeps what the slots weigh.
   pub weigh-same : (w : ℕ → ℕ) → ((a : ℕ) (m : Numbered) → is m ≡ true → weigh w (change a m) ≡ weigh w m)
       → (a : ℕ) (n : Numbered) → weigh w (edited_in is change (change a) n) ≡ weigh w n
-  weigh-same w here =
-      edited-keeps (λ a m n. weigh w n ≡ weigh w m) (record {
-        ends = λ a. refl;
-        free = λ a i e m n _ h. ap (λ v. w i + v) h;
-        alloc = λ a i g e m n _ h. ap (λ v. w i + v) h;
-        seq = λ a i e k l m n _ g h. ap₂ (λ x y. w i + x + y) g h;
-      }) here
+  weigh-same w here = edited-keeps (λ a m n. weigh w n ≡ weigh w m) (grind arith) here
 
   -- A change at the only place adds y to what the slots weigh, and takes x away.
   module _ (ns : List Node) (w : ℕ → ℕ) (x y : ℕ) (never : is End ≡ false) (here : (s : Sequence) (b p : ℕ) (m : Numbered) → is m ≡ true → Standing ns s b p m → weigh w (change s.width m) + x ≡ weigh w m + y) where
     pub weigh-edited : (s : Sequence) (b p : ℕ) (n : Numbered) → Standing ns s b p n → places is n ≡ 1
         → weigh w (edited_in is change (change s.width) n) + x ≡ weigh w n + y
-    weigh-edited s b p End h one = absurd (omega arith)
-    weigh-edited s b p (Free j e rest) h one =
-        cond_both (is (Free j e rest)) (change s.width (Free j e rest)) (Free j e (edited_in is change (change s.width) rest)) (λ v. weigh w v + x ≡ w j + weigh w rest + y) (λ t. here s b p (Free j e rest) t h) (λ no.
-        omega (arith, weigh-edited s j (p + e) rest h.2 (not_here _ _ _ no one)))
-    weigh-edited s b p (Alloc j g e rest) h one =
-        cond_both (is (Alloc j g e rest)) (change s.width (Alloc j g e rest)) (Alloc j g e (edited_in is change (change s.width) rest)) (λ v. weigh w v + x ≡ w j + weigh w rest + y) (λ t. here s b p (Alloc j g e rest) t h) (λ no.
-        omega (arith, weigh-edited s j (p + e) rest h.3 (not_here _ _ _ no one)))
-    weigh-edited s b p (Seq j e inner rest) h one =
-        cond_both (is (Seq j e inner rest)) (change s.width (Seq j e inner rest)) (Seq j e (edited_in is change (change e) inner) (edited_in is change (change s.width) rest)) (λ v. weigh w v + x ≡ w j + weigh w inner + weigh w rest + y) (λ t. here s b p (Seq j e inner rest) t h) (λ no.
-        elim (one_of (places is inner) (places is rest) (not_here _ _ _ no one)) [
-          | inl z ↦ omega (arith, weigh-edited (inside s j p e) no_slot s.start inner h.2 z.0, ap (weigh w) (edited-absent never s.width rest z.1))
-          | inr z ↦ omega (arith, ap (weigh w) (edited-absent never e inner z.0), weigh-edited s j (p + e) rest h.3 z.1)
-        ])
+    weigh-edited s b p n h one =
+        (edited-keeps (λ a m v. (places is m ≡ 0 → v ≡ m)
+        × ((s : Sequence) (b p : ℕ) → a ≡ s.width → Standing ns s b p m → places is m ≡ 1 → weigh w v + x ≡ weigh w m + y))
+        (grind (arith, one_of, not_here)) (grind (arith, places-some is never)) s.width n).1 s b p refl h one
 
 -- Of the tree n one place changes: there the nodes ms hold what becomes of the members from the place on, and the slots
--- of the other members stay.
-pub record IsEdit (ns ms : List Node) (is : Numbered → Bool) (change : ℕ → Numbered → Numbered) (i : ℕ) (n : Numbered) : Type 0 where
-  pub never : is End ≡ false
-  pub begins : (m : Numbered) → is m ≡ true → first_slot m ≡ i
-  pub once : (x : ℕ) → tally x n ≤ 1
-  pub first : (a : ℕ) (m : Numbered) → is m ≡ true → first_slot (change a m) ≡ first_slot m
-  pub here : (s : Sequence) (b p : ℕ) (m : Numbered) → is m ≡ true → Standing ns s b p m
-      → ((x : ℕ) → tally x m ≤ tally x n) → Standing ms s b p (change s.width m)
-  pub beside : (f : Suffix ns i n) (x : ℕ) → tally x f.members ≡ 0 → 0 < tally x n → node_at ms x ≡ node_at ns x
+-- outside of a part with the place stay.
+pub record IsEdit (ns ms : List Node) (is : Numbered → Bool) (change : ℕ → Numbered → Numbered) (n : Numbered) : Type 0
+  where
+    pub never : is End ≡ false
+    pub once : (x : ℕ) → tally x n ≤ 1
+    pub first : (a : ℕ) (m : Numbered) → is m ≡ true → first_slot (change a m) ≡ first_slot m
+    pub here : (s : Sequence) (b p : ℕ) (m : Numbered) → is m ≡ true → Standing ns s b p m
+        → ((x : ℕ) → tally x m ≤ tally x n) → Standing ms s b p (change s.width m)
+    pub beside : (s : Sequence) (b p : ℕ) (v : Numbered) → Standing ns s b p v → places is v ≡ 1 → (x : ℕ)
+        → tally x v ≡ 0 → 0 < tally x n → node_at ms x ≡ node_at ns x
 
-module _ (ns ms : List Node) (is : Numbered → Bool) (change : ℕ → Numbered → Numbered) (i : ℕ) (n : Numbered) (w : IsEdit ns ms is change i n) where
-  -- A slot outside of a part with the place stays.
-  apart : (s : Sequence) (b p : ℕ) (v : Numbered) → Standing ns s b p v → places is v ≡ 1
-      → ((x : ℕ) → tally x v ≤ tally x n) → (x : ℕ) → 0 < tally x n → tally x v ≡ 0 → node_at ms x ≡ node_at ns x
-  apart s b p v h one less x some z =
-      let f = suffix-at ns i s b p v h (omega (arith, places-le is i w.begins v)) in
-      let none : tally x f.members ≡ 0 = omega (arith, f.within x) in
-      w.beside (suffix-wider ns i v n less f) x none some
-
-  -- And so does the slot j of a member beside it.
+module _ (ns ms : List Node) (is : Numbered → Bool) (change : ℕ → Numbered → Numbered) (n : Numbered)
+    (w : IsEdit ns ms is change n) where
+  -- The slot j of a member beside the place stays.
   head_stays : (s : Sequence) (b p j : ℕ) (v : Numbered) → Standing ns s b p v → places is v ≡ 1
       → ((x : ℕ) → same x j + tally x v ≤ tally x n) → node_at ms j ≡ node_at ns j
-  head_stays s b p j v h one less = grind (arith, apart, same-self)
+  head_stays s b p j v h one less = grind (arith, w.beside, w.once j, same-self)
 
   -- A part beside it stands.
   part_stays : (s : Sequence) (b p : ℕ) (v : Numbered) (t : Sequence) (c q : ℕ) (u : Numbered) → Standing ns s b p v
-      → places is v ≡ 1 → ((x : ℕ) → tally x v + tally x u ≤ tally x n) → Standing ns t c q u → places is u ≡ 0
-      → Standing ms t c q (edited_in is change (change t.width) u)
-  part_stays s b p v t c q u h one less k z = grind (arith, edited-absent, Standing-same, apart)
+      → places is v ≡ 1 → ((x : ℕ) → tally x v + tally x u ≤ tally x n) → Standing ns t c q u → Standing ms t c q u
+  part_stays s b p v t c q u h one less k = grind (arith, Standing-same, w.beside, w.once)
+
+  -- Where the place isn't, nothing changes, and where it is, what stood stands changed.
+  abbrev IsEditedTo : (across : ℕ) → (old new : Numbered) → Type 0
+  IsEditedTo a m u =
+      (places is m ≡ 0 → u ≡ m)
+      × (first_slot u ≡ first_slot m)
+      × ((s : Sequence) (b p : ℕ) → a ≡ s.width → ((x : ℕ) → tally x m ≤ tally x n) → places is m ≡ 1
+      → Standing ns s b p m → Standing ms s b p u)
 
   pub Standing-edited : (s : Sequence) (b p : ℕ) (v : Numbered) → ((x : ℕ) → tally x v ≤ tally x n) → places is v ≡ 1
       → Standing ns s b p v → Standing ms s b p (edited_in is change (change s.width) v)
-  Standing-edited s b p End less one h = absurd (omega arith)
-  Standing-edited s b p (Free j e rest) less one h =
-      grind (arith, places, not_here, head_stays, first-edited, Standing-edited s j (p + e) rest)
-  Standing-edited s b p (Alloc j g e rest) less one h =
-      grind (arith, places, not_here, head_stays, first-edited, Standing-edited s j (p + e) rest)
-  Standing-edited s b p (Seq j e inner rest) less one h =
-      let t = inside s j p e in
-      cond_both (is (Seq j e inner rest)) (change s.width (Seq j e inner rest)) (Seq j e (edited_in is change (change e) inner) (edited_in is change (change s.width) rest)) (λ m. Standing ms s b p m) (λ t. w.here s b p (Seq j e inner rest) t h less) (λ no.
-      elim (one_of (places is inner) (places is rest) (not_here _ _ _ no one)) [
-        | inl z ↦
-            let eq = head_stays t no_slot s.start j inner h.2 z.0 (λ x. omega (arith, less x)) in (
-              rw (eq, first-edited is change w.first s.width rest) h.0,
-              rw eq h.1,
-              Standing-edited t no_slot s.start inner (λ x. omega (arith, less x)) z.0 h.2,
-              part_stays t no_slot s.start inner s j (p + e) rest h.2 z.0 (λ x. omega (arith, less x)) h.3 z.1,
-            )
-        | inr z ↦
-            let eq = head_stays s j (p + e) j rest h.3 z.1 (λ x. omega (arith, less x)) in (
-              rw (eq, first-edited is change w.first s.width rest) h.0,
-              rw eq h.1,
-              part_stays s j (p + e) rest t no_slot s.start inner h.3 z.1 (λ x. omega (arith, less x)) h.2 z.0,
-              Standing-edited s j (p + e) rest (λ x. omega (arith, less x)) z.1 h.3,
-            )
-      ])
+  Standing-edited s b p v =
+      (edited-keeps is change IsEditedTo (record {
+        ends = grind arith;
+        free = grind (arith, not_here, head_stays);
+        alloc = grind (arith, not_here, head_stays);
+        seq = λ a j e k l m u no f g. (
+          grind arith,
+          refl,
+          λ s b p wide less one h.
+              let t = inside s j p e in
+              elim (one_of (places is k) (places is m) (not_here _ _ _ no one)) [
+                | inl z ↦ grind (arith, head_stays t no_slot s.start j k, part_stays t no_slot s.start k s j (p + e) m)
+                | inr z ↦ grind (arith, head_stays s j (p + e) j m, part_stays s j (p + e) m t no_slot s.start k)
+              ],
+        );
+      }) (grind (arith, places-some, w.never, w.first, w.here)) s.width v).2 s b p refl
 
 -- Another slot than i, where i is a member and the other isn't.
 pub other-slot : (x i : ℕ) (m : Numbered) → tally x m ≡ 0 → 0 < tally i m → x ≡ i → ⊥

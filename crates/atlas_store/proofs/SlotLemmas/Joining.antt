@@ -1,5 +1,5 @@
 -- Two free neighbours become one.
-use Rattle.std.proofs.Common.{ℕ, ◌+◌, ◌<◌, ◌≤◌, ◌≡◌, List, refl, sym, ap, ◌∙◌, inl, inr, arith, add_assoc}
+use Rattle.std.proofs.Common.{ℕ, ◌+◌, ◌<◌, ◌≤◌, ◌≡◌, List, refl, sym, ap, ◌∙◌, arith, add_assoc}
 use Rattle.atlas_store.specs.declared.slots.Node.{Node}
 use Rattle.atlas_model.specs.Pixels.{rectangle_of}
 use Rattle.atlas_store.specs.declared.slots.NodeKind.TheVariants as kind
@@ -9,7 +9,7 @@ use Rattle.atlas_store.specs.Slots.Numbered.{Numbered, tally, first_slot, joined
 use Rattle.atlas_store.specs.Slots.Standing.{Sequence, Standing, Stands, member_box}
 use Rattle.atlas_store.proofs.SlotLemmas.Frames.{same-self, same-ne, Standing-same, used-le, ne-from_count}
 use Rattle.atlas_store.proofs.SlotLemmas.Closing.{IsNone, IsIn, next-in}
-use Rattle.atlas_store.proofs.SlotLemmas.Weights.{free_place}
+use Rattle.atlas_store.proofs.SlotLemmas.Weights.{free-in, free_place}
 use Rattle.atlas_store.proofs.SlotLemmas.Editing.{IsEdit, Standing-edited, joining, free_here, first-edited, weigh-edited, other-slot}
 
 -- The first_slot of m follows another slot now, and the rest of m is the same.
@@ -30,12 +30,8 @@ box-joined : (s : Sequence) (p e d : ℕ)
     → record (rectangle_of (member_box s p e)) { max = (rectangle_of (member_box s (p + e) d)).max } ≡ rectangle_of (member_box s p (e + d))
 box-joined s p e d = grind arith
 
-pub first-grown : (j e : ℕ) (n : Numbered) → first_slot (grown_by j e n) ≡ j
-first-grown j e End = refl
-first-grown j e n = refl
-
 pub first-joined : (i : ℕ) (n : Numbered) → first_slot (joined i n) ≡ first_slot n
-first-joined i = first-edited (is_free_at i) joining (λ a. free_here i (λ m. first_slot (joining a m) ≡ first_slot m) (first-grown i)) 0
+first-joined i = first-edited (is_free_at i) joining (grind arith) 0
 
 -- The nodes ms are ns after the free leaf i took in the free leaf j, which a follows.
 pub record IsJoinOf (ns ms : List Node) (i j a : ℕ) : Type 0 where
@@ -99,19 +95,15 @@ module _ (ns ms : List Node) (i j a : ℕ) (w : IsJoinOf ns ms i j a) where
   next_free : (s : Sequence) (b p e : ℕ) (rest : Numbered) → Standing ns s b p (Free i e rest) → IsNextFree rest
   next_free s b p e rest h = next_is s i (p + e) rest (sym h.0.next ∙ w.next) h.2
 
-  taken_in : (n : Numbered) → ((x : ℕ) → tally x n ≤ 1) → tally no_slot n ≡ 0 → IsEdit ns ms (is_free_at i) joining i n
+  taken_in : (n : Numbered) → ((x : ℕ) → tally x n ≤ 1) → tally no_slot n ≡ 0 → IsEdit ns ms (is_free_at i) joining n
   taken_in n once none =
       record {
         never = refl;
-        begins = free_here i (λ m. first_slot m ≡ i) (λ e rest. refl);
         once = once;
-        first = λ a. free_here i (λ m. first_slot (joining a m) ≡ first_slot m) (first-grown i);
+        first = grind arith;
         here = λ s b p. free_here i (λ m. Standing ns s b p m → ((x : ℕ) → tally x m ≤ tally x n) → Standing ms s b p (joining s.width m)) (λ e rest h less.
             at_head s b p e rest (next_free s b p e rest h) (λ x. omega (arith, less x, once x)) (omega (arith, less no_slot, none)) h);
-        beside = λ f x z some. w.others x (other-slot x i f.members z f.here) (other-slot x j f.members z (next_in f.at f.before f.start f.members f.standing f.here)) (elim (after_in f.at f.before f.start f.members f.standing f.here) [
-          | inl e ↦ λ y. ne-from_count no_slot x n none some (y ∙ e)
-          | inr l ↦ other-slot x a f.members z l
-        ]);
+        beside = λ s b p v h one. grind (arith, free-in i v one, next_in s b p v h, after_in s b p v h, other-slot, ne-from_count no_slot);
       }
 
   -- The slot j alone leaves the tree.
@@ -133,7 +125,7 @@ module _ (ns ms : List Node) (i j a : ℕ) (w : IsJoinOf ns ms i j a) where
       let once : (k : ℕ) → tally k n ≤ 1 = λ k. omega (arith, h.numbered k, used-le (node_at ns k).kind) in
       let none : tally no_slot n ≡ 0 = h.numbered no_slot ∙ ap use_count w.ends in
       record {
-        standing = Standing-edited ns ms (is_free_at i) joining i n (taken_in n once none) s no_slot 0 n (λ x. omega arith) (free_place ns i s n w.free h) h.standing;
+        standing = Standing-edited ns ms (is_free_at i) joining n (taken_in n once none) s no_slot 0 n (λ x. omega arith) (free_place ns i s n w.free h) h.standing;
         numbered = λ x. omega (arith, tallies-joined s n h x, used_after x, h.numbered x);
       }
 

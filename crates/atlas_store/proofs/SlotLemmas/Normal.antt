@@ -5,32 +5,23 @@ use Rattle.atlas_store.specs.declared.slots.Node.{Node}
 use Rattle.atlas_store.specs.Slots.{node_at}
 use Rattle.atlas_search.specs.Numbers.{no_slot, same}
 use Rattle.atlas_model.specs.Trees as tree
-use Rattle.atlas_model.specs.Changes.{free_before, seq_before, nf, mark, only}
-use Rattle.atlas_store.specs.Slots.Numbered.{Numbered, tally, is_free_at, is_seq_at, marked, joined, grown_by, lifted, lifted_to, erase, id_of, numbers, End, Free, Alloc, Seq}
+use Rattle.atlas_model.specs.Changes.{nf, mark, only}
+use Rattle.atlas_store.specs.Slots.Numbered.{Numbered, tally, is_free_at, is_seq_at, marked, joined, lifted, erase, id_of, numbers, End, Free, Alloc, Seq}
 use Rattle.atlas_store.specs.Slots.Standing.{Sequence, Standing, inside}
 use Rattle.atlas_store.proofs.SlotLemmas.Frames.{same-self}
 use Rattle.atlas_store.proofs.SlotLemmas.Marking.{marked-absent}
-use Rattle.atlas_store.proofs.SlotLemmas.Editing.{IsCarried, edited-keeps, joining, lifting, free_here, seq_here}
+use Rattle.atlas_store.proofs.SlotLemmas.Editing.{IsCarried, edited-keeps, joining, lifting}
 use Rattle.atlas_model.proofs.TreeLemmas.TreeNormal.{free_before-twice}
 
 -- A member that keeps its normal form keeps that of the whole.
 nf-kept : (is : Numbered → Bool) → IsCarried is (λ a m n. nf (erase n) ≡ nf (erase m))
 nf-kept is = grind arith
 
-nf-grown : (i e : ℕ) (n : Numbered) → nf (erase (grown_by i e n)) ≡ free_before e (nf (erase n))
-nf-grown i e (Free j d rest) = sym (free_before-twice e d (nf (erase rest)))
-nf-grown i e n = refl
-
 pub nf-joined : (i : ℕ) (n : Numbered) → nf (erase (joined i n)) ≡ nf (erase n)
-nf-joined i = edited-keeps (is_free_at i) joining _ (nf-kept _) (λ a. free_here i (λ m. nf (erase (joining a m)) ≡ nf (erase m)) (nf-grown i)) 0
-
-nf-lifted_to : (j e : ℕ) (inner rest : Numbered)
-    → nf (erase (lifted_to j e inner rest)) ≡ seq_before e (nf (erase inner)) (nf (erase rest))
-nf-lifted_to j e (Free k d End) rest = refl
-nf-lifted_to j e inner rest = refl
+nf-joined i = edited-keeps (is_free_at i) joining _ (nf-kept _) (grind (arith, free_before-twice)) 0
 
 pub nf-lifted : (i : ℕ) (n : Numbered) → nf (erase (lifted i n)) ≡ nf (erase n)
-nf-lifted i = edited-keeps (is_seq_at i) lifting _ (nf-kept _) (λ a. seq_here i (λ m. nf (erase (lifting a m)) ≡ nf (erase m)) (nf-lifted_to i)) 0
+nf-lifted i = edited-keeps (is_seq_at i) lifting _ (nf-kept _) (grind arith) 0
 
 -- To mark the leaf at slot i is to mark the leaf with its id.
 pub erase-marked : (ns : List Node) (i : ℕ) (s : Sequence) (b p : ℕ) (n : Numbered) → i < 16777216

@@ -7,36 +7,12 @@ use Rattle.atlas_store.specs.declared.slots.placing.Plan.TheVariants as plan
 use Rattle.atlas_model.specs.Trees.{IsCut, total}
 use Rattle.atlas_store.specs.Slots.{node_at}
 use Rattle.atlas_search.specs.Numbers.{no_slot}
-use Rattle.atlas_store.specs.Slots.Numbered.{
-  Numbered,
-  erase,
-  first_slot,
-  marked,
-  grown_by,
-  joined,
-  lifted_to,
-  lifted,
-  is_free_at,
-  is_alloc_at,
-  is_seq_at,
-  End,
-  Free,
-  Seq,
-}
+use Rattle.atlas_store.specs.Slots.Numbered.{Numbered, erase, first_slot, marked, joined, lifted, is_free_at, is_alloc_at, is_seq_at, Free}
 use Rattle.atlas_store.specs.Slots.Placing.{across_of, planned, put_by, putting, IsFeasible}
 use Rattle.atlas_store.specs.Slots.Standing.{Sequence, Standing, inside}
 use Rattle.atlas_store.specs.Slots.Reading.{extent_of}
 use Rattle.atlas_store.proofs.SlotLemmas.Placing.{IsLeafIn, extent-is, across-is}
-use Rattle.atlas_store.proofs.SlotLemmas.Editing.{
-  IsCarried,
-  edited-keeps,
-  joining,
-  marking,
-  lifting,
-  free_here,
-  alloc_here,
-  seq_here,
-}
+use Rattle.atlas_store.proofs.SlotLemmas.Editing.{IsCarried, edited-keeps, joining, marking, lifting, free_here}
 
 -- The edited members fill the same sequence.
 abbrev pub IsRecut : (across : ℕ) → (old new : Numbered) → Type 0
@@ -47,27 +23,13 @@ recut-kept : (is : Numbered → Bool) → IsCarried is IsRecut
 recut-kept is = grind arith
 
 pub recut-marked : (i across : ℕ) (n : Numbered) → IsRecut across n (marked i n)
-recut-marked i =
-    edited-keeps (is_alloc_at i) marking IsRecut (recut-kept _)
-    (λ a. alloc_here i (λ m. IsRecut a m (marking a m)) (λ g e rest. (refl, λ _ c. c)))
-
-recut_grown : (a i e : ℕ) (n : Numbered) → IsRecut a (Free i e n) (grown_by i e n)
-recut_grown a i e (Free j d rest) = (omega arith, λ _ c. (omega (arith, c.0), c.1.1))
-recut_grown a i e n = (refl, λ _ c. c)
+recut-marked i = edited-keeps (is_alloc_at i) marking IsRecut (recut-kept _) (grind arith)
 
 pub recut-joined : (i across : ℕ) (n : Numbered) → IsRecut across n (joined i n)
-recut-joined i =
-    edited-keeps (is_free_at i) joining IsRecut (recut-kept _)
-    (λ a. free_here i (λ m. IsRecut a m (joining a m)) (recut_grown a i))
-
-recut_lifted : (a j e : ℕ) (inner rest : Numbered) → IsRecut a (Seq j e inner rest) (lifted_to j e inner rest)
-recut_lifted a j e (Free k d End) rest = (refl, λ _ c. (c.0, c.3))
-recut_lifted a j e inner rest = (refl, λ _ c. c)
+recut-joined i = edited-keeps (is_free_at i) joining IsRecut (recut-kept _) (grind arith)
 
 pub recut-lifted : (i across : ℕ) (n : Numbered) → IsRecut across n (lifted i n)
-recut-lifted i =
-    edited-keeps (is_seq_at i) lifting IsRecut (recut-kept _)
-    (λ a. seq_here i (λ m. IsRecut a m (lifting a m)) (recut_lifted a i))
+recut-lifted i = edited-keeps (is_seq_at i) lifting IsRecut (recut-kept _) (grind arith)
 
 -- What a plan puts in the place of a leaf.
 recut_put : (p : Plan) (t : Parts) (g across i e : ℕ) (rest : Numbered) → IsFeasible p e across

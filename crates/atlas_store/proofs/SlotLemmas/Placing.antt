@@ -66,7 +66,7 @@ use Rattle.atlas_store.proofs.SlotLemmas.Frames.{
 use Rattle.atlas_store.proofs.SlotLemmas.Closing.{next-in}
 use Rattle.atlas_store.proofs.StoreLemmas.Filing.{with_mark-same, with_mark-other}
 use Rattle.atlas_store.proofs.SlotLemmas.Joining.{Standing-before}
-use Rattle.atlas_store.proofs.SlotLemmas.Weights.{free_place}
+use Rattle.atlas_store.proofs.SlotLemmas.Weights.{free-in, free_place}
 use Rattle.atlas_store.proofs.SlotLemmas.Editing.{
   IsEdit,
   Standing-edited,
@@ -488,11 +488,10 @@ module _ (ns ms : List Node) (at : Link) (p : Plan) (t : Parts) (w : IsPlaced ns
 
   edit : (n : Numbered) → ((x : ℕ) → tally x n ≤ 1) → tally no_slot n ≡ 0
       → ((x : ℕ) → 0 < occurs x (taken_by p t) → tally x n ≡ 0)
-      → IsEdit ns ms (is_free_at at.number) (putting p t g) at.number n
+      → IsEdit ns ms (is_free_at at.number) (putting p t g) n
   edit n once none new =
       record {
         never = refl;
-        begins = free_here at.number (λ m. first_slot m ≡ at.number) (λ e rest. refl);
         once = once;
         first = λ a. free_here at.number (λ m. first_slot (putting p t g a m) ≡ first_slot m)
             (λ e rest. put-first p t g a at.number e rest);
@@ -500,10 +499,11 @@ module _ (ns ms : List Node) (at : Link) (p : Plan) (t : Parts) (w : IsPlaced ns
             → Standing ms s b q (putting p t g s.width m)) (λ e rest h less.
             at-leaf ns ms at p t w can s b q e rest (record { link = h.0; area = h.1 })
             (rest-in n once none new s b q e rest less h));
-        beside = λ f x z some. w.others x (other-slot x at.number f.members z f.here)
-            (elim (next-in ns at.number f.at f.before f.start f.members f.standing f.here) [
+        beside = λ s b q v h one x z some.
+            let here : 0 < tally at.number v = free-in at.number v one in
+            w.others x (other-slot x at.number v z here) (elim (next-in ns at.number s b q v h here) [
               | inl e ↦ λ y. ne-from_count no_slot x n none some (y ∙ e)
-              | inr l ↦ other-slot x after f.members z l
+              | inr l ↦ other-slot x after v z l
             ])
             (untaken-member n new x some);
       }
@@ -520,7 +520,7 @@ module _ (ns ms : List Node) (at : Link) (p : Plan) (t : Parts) (w : IsPlaced ns
       let new : (x : ℕ) → 0 < occurs x (taken_by p t) → tally x n ≡ 0 = λ x l. h.numbered x
       ∙ ap (λ k. use_count k) (can.unused x l) in
       record {
-        standing = Standing-edited ns ms (is_free_at at.number) (putting p t g) at.number n (edit n once none new) s
+        standing = Standing-edited ns ms (is_free_at at.number) (putting p t g) n (edit n once none new) s
             no_slot 0 n (λ x. omega arith) (free_place ns at.number s n can.free h) h.standing;
         numbered = λ x. omega (arith, tally-planned ns at.number can.free p t g s n h x, used_after x, h.numbered x);
       }

@@ -6,13 +6,13 @@ use Rattle.atlas_store.specs.Slots.{node_at, use_count}
 use Rattle.atlas_search.specs.Numbers.{no_slot, same}
 use Rattle.atlas_model.specs.Trees as tree
 use Rattle.atlas_model.specs.Trees.{IsNormal}
-use Rattle.atlas_store.specs.Slots.Numbered.{Numbered, tally, first_slot, numbers, erase, marked, joined, grown_by, lifted, lifted_to, is_free_at, is_alloc_at, is_seq_at, End, Free, Alloc, Seq}
+use Rattle.atlas_store.specs.Slots.Numbered.{Numbered, tally, first_slot, numbers, erase, marked, joined, lifted, is_free_at, is_alloc_at, is_seq_at, End, Free, Alloc, Seq}
 use Rattle.atlas_store.specs.Slots.Standing.{Sequence, Standing, Stands, IsWhole, IsSlot}
 use Rattle.atlas_store.proofs.SlotLemmas.Reading.{numbers-less}
 use Rattle.atlas_store.proofs.SlotLemmas.JoiningWrites.{used-inside, none-unused, not-none}
 use Rattle.atlas_store.proofs.SlotLemmas.Frames.{same-self, same-ne, split_pos}
 use Rattle.atlas_store.proofs.SlotLemmas.Closing.{next-in}
-use Rattle.atlas_store.proofs.SlotLemmas.Editing.{IsCarried, edited-keeps, joining, lifting, marking, free_here, alloc_here, seq_here}
+use Rattle.atlas_store.proofs.SlotLemmas.Editing.{IsCarried, edited-keeps, joining, lifting, marking}
 use Rattle.atlas_store.proofs.SlotLemmas.Calm.{calm-all, normal-from_calm}
 use Rattle.atlas_store.specs.Slots.Calm.{IsCalmAt, IsCalmBut, NoneEmpty}
 
@@ -36,22 +36,14 @@ IsFuller a m n = (erase n ≡ tree.End → erase m ≡ tree.End) × (NoneEmpty (
 full-kept : (is : Numbered → Bool) → IsCarried is IsFuller
 full-kept is = grind arith
 
-full-grown : (a j e : ℕ) (n : Numbered) → IsFuller a (Free j e n) (grown_by j e n)
-full-grown a j e (Free k d rest) = ((λ q. absurd (let z = q in cc)), (λ h. h))
-full-grown a j e n = ((λ q. q), (λ h. h))
-
 pub full-joined : (i : ℕ) (n : Numbered) → NoneEmpty (erase n) → NoneEmpty (erase (joined i n))
-full-joined i n = (edited-keeps (is_free_at i) joining IsFuller (full-kept _) (λ a. free_here i (λ m. IsFuller a m (joining a m)) (full-grown a i)) 0 n).1
-
-full-lifted_to : (a j e : ℕ) (inner rest : Numbered) → IsFuller a (Seq j e inner rest) (lifted_to j e inner rest)
-full-lifted_to a j e (Free k d End) rest = ((λ q. absurd (let z = q in cc)), (λ h. h.2))
-full-lifted_to a j e inner rest = ((λ q. q), (λ h. h))
+full-joined i n = (edited-keeps (is_free_at i) joining IsFuller (full-kept _) (grind arith) 0 n).1
 
 pub full-lifted : (i : ℕ) (n : Numbered) → NoneEmpty (erase n) → NoneEmpty (erase (lifted i n))
-full-lifted i n = (edited-keeps (is_seq_at i) lifting IsFuller (full-kept _) (λ a. seq_here i (λ m. IsFuller a m (lifting a m)) (full-lifted_to a i)) 0 n).1
+full-lifted i n = (edited-keeps (is_seq_at i) lifting IsFuller (full-kept _) (grind arith) 0 n).1
 
 pub full-marked : (i : ℕ) (n : Numbered) → NoneEmpty (erase n) → NoneEmpty (erase (marked i n))
-full-marked i n = (edited-keeps (is_alloc_at i) marking IsFuller (full-kept _) (λ a. alloc_here i (λ m. IsFuller a m (marking a m)) (λ g e rest. ((λ q. absurd (let z = q in cc)), (λ h. h)))) 0 n).1
+full-marked i n = (edited-keeps (is_alloc_at i) marking IsFuller (full-kept _) (grind arith) 0 n).1
 
 -- What a slot says of the slot before it.
 abbrev pub IsBackLinked : List Node → ℕ → ℕ → Numbered → Type 0

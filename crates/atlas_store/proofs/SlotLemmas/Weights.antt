@@ -55,6 +55,9 @@ free_tally-le i (Free j e rest) = omega (arith, free_tally-le i rest)
 free_tally-le i (Alloc j g e rest) = omega (arith, free_tally-le i rest)
 free_tally-le i (Seq j e inner rest) = omega (arith, free_tally-le i inner, free_tally-le i rest)
 
+pub free-in : (i : ℕ) (n : Numbered) → places (is_free_at i) n ≡ 1 → 0 < tally i n
+free-in i n one = omega (arith, one, places-free i n, free_tally-le i n)
+
 -- Where a slot is looked for, it is a member.
 module _ (is : Numbered → Bool) (i : ℕ) (begins : (m : Numbered) → is m ≡ true → first_slot m ≡ i) where
   hit : (b : Bool) (j : ℕ) → (b ≡ true → j ≡ i) → cond b 1 0 ≤ same i j

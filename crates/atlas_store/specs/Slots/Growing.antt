@@ -1,12 +1,12 @@
 -- How the slots of an atlas that grows change. No public clause cites this module.
-use Rattle.std.specs.Prelude.{ℕ, ◌+◌, ◌<◌, ◌≡◌, true}
+use Rattle.std.specs.Prelude.{ℕ, ◌+◌, ◌<◌, ◌≡◌, Bool, true, false}
 use Rattle.atlas_model.specs.declared.geometry.Size.{Size}
 use Rattle.atlas_model.specs.declared.geometry.Rectangle.{Rectangle}
 use Rattle.atlas_model.specs.Boxes.{Axis, Sides, other, side}
 use Rattle.atlas_model.specs.Trees.{total}
 use Rattle.atlas_store.specs.Slots.Links.{with_mark}
 use Rattle.atlas_search.specs.Numbers.{no_slot}
-use Rattle.atlas_store.specs.Slots.Numbered.{Numbered, erase, first_slot, End, Free, Alloc, Seq}
+use Rattle.atlas_store.specs.Slots.Numbered.{Numbered, edited_in, on_free, erase, first_slot, End, Free, Alloc, Seq}
 use Rattle.atlas_store.specs.Slots.Standing.{Sequence}
 use Rattle.atlas_store.specs.Stored.{Holding}
 
@@ -20,20 +20,36 @@ last_after before (Seq i e inner rest) = last_after i rest
 abbrev pub last_slot : Numbered → ℕ
 last_slot n = last_after no_slot n
 
+-- No member follows the first.
+abbrev pub is_last : Numbered → Bool
+is_last End = true
+is_last (Free i e End) = true
+is_last (Alloc i g e End) = true
+is_last (Seq i e inner End) = true
+is_last n = false
+
+-- The last member of the top sequence becomes what `change` makes of it.
+abbrev pub extended : (change : Numbered → Numbered) → Numbered → Numbered
+extended change n = edited_in is_last (λ e m. m) change n
+
+-- A free first member is d longer.
+abbrev pub lengthened_by : (d : ℕ) → Numbered → Numbered
+lengthened_by d n = on_free (λ i e rest. Free i (e + d) rest) n
+
+-- A free member of extent d at slot k comes after the first, or alone.
+abbrev pub followed_by : (k d : ℕ) → Numbered → Numbered
+followed_by k d End = Free k d End
+followed_by k d (Free i e rest) = Free i e (Free k d rest)
+followed_by k d (Alloc i g e rest) = Alloc i g e (Free k d rest)
+followed_by k d (Seq i e inner rest) = Seq i e inner (Free k d rest)
+
 -- The last member, if it is free, is d longer.
 abbrev pub stretched : (d : ℕ) → Numbered → Numbered
-stretched d End = End
-stretched d (Free i e End) = Free i (e + d) End
-stretched d (Free i e rest) = Free i e (stretched d rest)
-stretched d (Alloc i g e rest) = Alloc i g e (stretched d rest)
-stretched d (Seq i e inner rest) = Seq i e inner (stretched d rest)
+stretched d n = extended (lengthened_by d) n
 
 -- A free member of extent d at slot k comes last.
 abbrev pub appended : (k d : ℕ) → Numbered → Numbered
-appended k d End = Free k d End
-appended k d (Free i e rest) = Free i e (appended k d rest)
-appended k d (Alloc i g e rest) = Alloc i g e (appended k d rest)
-appended k d (Seq i e inner rest) = Seq i e inner (appended k d rest)
+appended k d n = extended (followed_by k d) n
 
 -- A container of slot c and of extent e holds the members, and a free leaf of extent d at slot k comes after it.
 abbrev pub nested : (c k e d : ℕ) → Numbered → Numbered

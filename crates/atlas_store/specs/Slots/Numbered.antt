@@ -44,11 +44,11 @@ first_slot (Free i e rest) = i
 first_slot (Alloc i g e rest) = i
 first_slot (Seq i e inner rest) = i
 
--- Where a member is the one that is looked for, it and those after it become what `change` makes of them; in a
--- container of extent e, what `inside e` makes of them.
+-- Where the members from one on are those that are looked for, they become what `change` makes of them; in a container
+-- of extent e, what `inside e` makes of them.
 abbrev pub edited_in : (is : Numbered → Bool) → (inside : ℕ → Numbered → Numbered) → (change : Numbered → Numbered)
     → Numbered → Numbered
-edited_in is inside change End = End
+edited_in is inside change End = if is End then change End else End
 edited_in is inside change (Free i e rest) =
     if is (Free i e rest) then change (Free i e rest) else Free i e (edited_in is inside change rest)
 edited_in is inside change (Alloc i g e rest) =

@@ -142,7 +142,8 @@ module _ {A : Type 0} {v v1 : Store A} {size : Sides} {last k d n : ℕ} {h : Ho
         record {
           holds = got.1;
           listed = listed-again h.detached k s.listed;
-          members = grind (arith, erase-appended);
+          members =
+              erase-appended k d (nodes v.slots.items) h.sequence no_slot 0 h.tree s.holds.stands.standing (rw s.end.ends busy);
           sequence = refl;
           first = first-appended k d h.tree (end_some size d last h s.end);
           unused_list = omega (arith, one, appended_to.3);

@@ -11,16 +11,15 @@ use Rattle.atlas_store.specs.Slots.Lists.{is_free}
 use Rattle.atlas_model.specs.Trees.{Members, Tree, total, is_one_free, node_count}
 use Rattle.atlas_model.specs.Trees as tree
 use Rattle.atlas_model.specs.Changes.{lengthened, lengthened_to, widened, grown_members}
-use Rattle.atlas_store.specs.Slots.Numbered.{Numbered, End, Free, Alloc, Seq, erase, first_slot, id_of, numbers}
+use Rattle.atlas_store.specs.Slots.Numbered.{Numbered, erase, first_slot, id_of, numbers}
 use Rattle.atlas_store.specs.Slots.Standing.{Sequence, Standing, Stands}
-use Rattle.atlas_store.specs.Slots.Growing.{last_after, last_slot, stretched, appended}
+use Rattle.atlas_store.specs.Slots.Growing.{last_after, last_slot, followed_by, lengthened_by, stretched, appended}
 use Rattle.atlas_tree.specs.Plans.Growths.{strip_after}
-use Rattle.atlas_store.proofs.SlotLemmas.Frames.{same-self}
 use Rattle.atlas_store.proofs.SlotLemmas.JoiningWrites.{used-inside}
 use Rattle.atlas_store.proofs.SlotLemmas.Reading.{HasMember}
 use Rattle.atlas_store.proofs.SlotLemmas.Normal.{numbers-erase}
 use Rattle.atlas_model.proofs.TreeLemmas.TreeKept.{total-lengthened}
-use Rattle.atlas_store.proofs.SlotLemmas.Stretching.{weigh-stretched, weigh-appended}
+use Rattle.atlas_store.proofs.SlotLemmas.Stretching.{extended-keeps, weigh-stretched, weigh-appended}
 use Rattle.atlas_store.proofs.StoreLemmas.ExtendedTrees.{last-member}
 use Rattle.atlas_model.proofs.TreeLemmas.TreeGrowth.{grown-other}
 
@@ -31,46 +30,36 @@ pub last-inside : (ns : List Node) (s : Sequence) (n : Numbered) → Stands ns s
 last-inside ns s n h some =
     used-inside ns (last_slot n) (subst (λ k. 0 < k) (h.numbered (last_slot n)) (last-member n some))
 
+-- A free member before others isn't the one that is longer.
+lengthened-later : (d e : ℕ) (m : Numbered) → HasMember m
+    → lengthened d (tree.Free e (erase m)) ≡ tree.Free e (lengthened d (erase m))
+lengthened-later d e m some = grind arith
+
 -- A free last member is longer.
 pub erase-stretched : (d : ℕ) (ns : List Node) (s : Sequence) (b p : ℕ) (n : Numbered) → Standing ns s b p n
     → (node_at ns (last_after b n)).kind ≡ kind.Free → ((node_at ns b).kind ≡ kind.Free → HasMember n)
     → erase (stretched d n) ≡ lengthened d (erase n)
-erase-stretched d ns s b p End h free some = let none : 0 < 0 = some free in absurd (omega arith)
-erase-stretched d ns s b p (Free i e End) h free some = refl
-erase-stretched d ns s b p (Free i e (Free j k rest)) h free some =
-    ap (tree.Free e) (erase-stretched d ns s i (p + e) (Free j k rest) h.2 free (λ _. omega (arith, same-self j)))
-erase-stretched d ns s b p (Free i e (Alloc j g k rest)) h free some =
-    ap (tree.Free e) (erase-stretched d ns s i (p + e) (Alloc j g k rest) h.2 free (λ _. omega (arith, same-self j)))
-erase-stretched d ns s b p (Free i e (Seq j k inner rest)) h free some =
-    ap (tree.Free e) (erase-stretched d ns s i (p + e) (Seq j k inner rest) h.2 free (λ _. omega (arith, same-self j)))
-erase-stretched d ns s b p (Alloc i g e rest) h free some =
-    ap (tree.Alloc (id_of i g) e) (erase-stretched d ns s i (p + e) rest h.3 free (λ f. let here = h.0.kind in absurd (cc)))
-erase-stretched d ns s b p (Seq i e inner rest) h free some =
-    ap (tree.Seq e (erase inner)) (erase-stretched d ns s i (p + e) rest h.3 free (λ f. let here = h.0.kind in absurd (cc)))
+erase-stretched d ns s b p n =
+    extended-keeps (lengthened_by d) (λ m v. (s : Sequence) (b p : ℕ) → Standing ns s b p m
+    → (node_at ns (last_after b m)).kind ≡ kind.Free → ((node_at ns b).kind ≡ kind.Free → HasMember m)
+    → erase v ≡ lengthened d (erase m)) (grind (arith, lengthened-later)) (grind arith) n s b p
 
 -- A strip comes after any other last member.
 pub erase-appended : (k d : ℕ) (ns : List Node) (s : Sequence) (b p : ℕ) (n : Numbered) → Standing ns s b p n
     → ((node_at ns (last_after b n)).kind ≡ kind.Free → ⊥)
     → erase (appended k d n) ≡ lengthened d (erase n)
-erase-appended k d ns s b p End h busy = refl
-erase-appended k d ns s b p (Free i e End) h busy = absurd (busy h.0.kind)
-erase-appended k d ns s b p (Free i e (Free j c rest)) h busy =
-    ap (tree.Free e) (erase-appended k d ns s i (p + e) (Free j c rest) h.2 busy)
-erase-appended k d ns s b p (Free i e (Alloc j g c rest)) h busy =
-    ap (tree.Free e) (erase-appended k d ns s i (p + e) (Alloc j g c rest) h.2 busy)
-erase-appended k d ns s b p (Free i e (Seq j c inner rest)) h busy =
-    ap (tree.Free e) (erase-appended k d ns s i (p + e) (Seq j c inner rest) h.2 busy)
-erase-appended k d ns s b p (Alloc i g e rest) h busy = grind (arith, erase-appended k d ns s i (p + e) rest h.3 busy)
-erase-appended k d ns s b p (Seq i e inner rest) h busy =
-    ap (tree.Seq e (erase inner)) (erase-appended k d ns s i (p + e) rest h.3 busy)
+erase-appended k d ns s b p n =
+    extended-keeps (followed_by k d) (λ m v. (s : Sequence) (b p : ℕ) → Standing ns s b p m
+    → ((node_at ns (last_after b m)).kind ≡ kind.Free → ⊥) → erase v ≡ lengthened d (erase m)) (record {
+      free = λ i e m v some h s b p st busy. ap (tree.Free e) (h s i (p + e) st.2 busy) ∙ sym (lengthened-later d e m some);
+      alloc = λ i g e m v some h s b p st busy. ap (tree.Alloc (id_of i g) e) (h s i (p + e) st.3 busy);
+      seq = λ i e inner m v some h s b p st busy. ap (tree.Seq e (erase inner)) (h s i (p + e) st.3 busy);
+    }) (grind arith) n s b p
 
 -- The first member stays.
-
 pub first-appended : (k d : ℕ) (n : Numbered) → HasMember n → first_slot (appended k d n) ≡ first_slot n
-first-appended k d End some = absurd (omega arith)
-first-appended k d (Free i e rest) some = refl
-first-appended k d (Alloc i g e rest) some = refl
-first-appended k d (Seq i e inner rest) some = refl
+first-appended k d =
+    extended-keeps (followed_by k d) (λ m n. HasMember m → first_slot n ≡ first_slot m) (grind arith) (grind arith)
 
 -- n if b is more than a.
 abbrev pub if_longer : (a b n : ℕ) → ℕ
