@@ -1,5 +1,5 @@
 -- Two free neighbours become one.
-use Rattle.std.proofs.Common.{ℕ, ◌+◌, ◌<◌, ◌≤◌, ◌≡◌, List, refl, sym, ap, ◌∙◌, arith, add_assoc}
+use Rattle.std.proofs.Common.{ℕ, ◌+◌, ◌<◌, ◌≤◌, ◌≡◌, List, refl, sym, ap, ◌∙◌, arith}
 use Rattle.atlas_store.specs.declared.slots.Node.{Node}
 use Rattle.atlas_model.specs.Pixels.{rectangle_of}
 use Rattle.atlas_store.specs.declared.slots.NodeKind.TheVariants as kind
@@ -73,24 +73,8 @@ module _ (ns ms : List Node) (i j a : ℕ) (w : IsJoinOf ns ms i j a) where
       → same no_slot i + tally no_slot rest ≡ 0 → Standing ns s b p (Free i e rest)
       → Standing ms s b p (grown_by i e rest)
   at_head s b p e rest f once none h =
-      let d = f.0 in
-      let tail = f.1 in
-      let once2 : (k : ℕ) → same k i + (same k j + tally k tail) ≤ 1 = rw f.2 at once in
-      let none2 : same no_slot i + (same no_slot j + tally no_slot tail) ≡ 0 = rw f.2 at none in
-      let h2 : Standing ns s b p (Free i e (Free j d tail)) = rw f.2 at h in
-      let goes : first_slot tail ≡ a = sym h2.2.0.next ∙ w.after in
-      let one_i = once2 i in
-      let one_j = once2 j in
-      let one_a = once2 (first_slot tail) in
-      let self_i = same-self i in
-      let self_j = same-self j in
-      let moved : 0 < tally (first_slot tail) tail → node_at ms (first_slot tail) ≡ record (node_at ns (first_slot tail)) { previous = record { number = i } } = (λ l. rw goes (w.moved (λ n. absurd (omega (arith, ap (λ x. tally x tail) (goes ∙ n)))))) in
-      let others : (k : ℕ) → (k ≡ first_slot tail → ⊥) → 0 < tally k tail → node_at ms k ≡ node_at ns k = (λ k ne l. w.others k (ne-from_count i k tail (omega arith) l) (ne-from_count j k tail (omega arith) l) (λ x. ne (x ∙ sym goes))) in
-      rw f.2 (
-        rw (w.this) (record { parent = h2.0.parent; previous = h2.0.previous; next = h2.2.0.next; kind = h2.0.kind; axis = h2.0.axis }),
-        rw (w.this, h2.1, h2.2.1) (box-joined s p e d),
-        rw (← add_assoc p e d) (Standing-before ns ms i s j (p + e + d) tail moved others (omega arith) h2.2.2),
-      )
+      let h2 : Standing ns s b p (Free i e (Free j f.0 f.1)) = rw f.2 at h in
+      rw f.2 (grind (arith, box-joined, Standing-before ns ms i s j, same-self, same-ne, ne-from_count, rw f.2 at once, rw f.2 at none, h2))
 
   next_free : (s : Sequence) (b p e : ℕ) (rest : Numbered) → Standing ns s b p (Free i e rest) → IsNextFree rest
   next_free s b p e rest h = next_is s i (p + e) rest (sym h.0.next ∙ w.next) h.2
@@ -101,21 +85,15 @@ module _ (ns ms : List Node) (i j a : ℕ) (w : IsJoinOf ns ms i j a) where
         never = refl;
         once = once;
         first = grind arith;
-        here = λ s b p. free_here i (λ m. Standing ns s b p m → ((x : ℕ) → tally x m ≤ tally x n) → Standing ms s b p (joining s.width m)) (λ e rest h less.
-            at_head s b p e rest (next_free s b p e rest h) (λ x. omega (arith, less x, once x)) (omega (arith, less no_slot, none)) h);
+        here = λ s b p. free_here i _ (λ e rest h less. grind (arith, at_head s b p e rest, next_free s b p e rest h));
         beside = λ s b p v h one. grind (arith, free-in i v one, next_in s b p v h, after_in s b p v h, other-slot, ne-from_count no_slot);
       }
 
   -- The slot j alone leaves the tree.
   pub tallies-joined : (s : Sequence) (n : Numbered) → Stands ns s n → (x : ℕ)
       → tally x (joined i n) + same x j ≡ tally x n
-  tallies-joined s n h x = omega (arith, all)
-    where
-      all : tally x (joined i n) + same x j ≡ tally x n + 0
-      all =
-          weigh-edited (is_free_at i) joining ns (same x) (same x j) 0 refl (λ s b p. free_here i (λ m. Standing ns s b p m → tally x (joining s.width m) + same x j ≡ tally x m + 0) (λ e rest h.
-          let nx = next_free s b p e rest h in
-          rw nx.2 (omega arith))) s no_slot 0 n h.standing (free_place ns i s n w.free h)
+  tallies-joined s n h x =
+      let all = weigh-edited (is_free_at i) joining ns (same x) (same x j) 0 refl (λ s b p. free_here i _ (grind (arith, next_free s b p))) s no_slot 0 n h.standing (free_place ns i s n w.free h) in omega (arith, all)
 
   used_after : (x : ℕ) → use_count (node_at ms x).kind + same x j ≡ use_count (node_at ns x).kind
   used_after x = grind (arith, same-self, same-ne)

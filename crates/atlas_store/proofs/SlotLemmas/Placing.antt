@@ -1,27 +1,5 @@
 -- A free leaf gives way to what a plan says: one edit of the tree.
-use Rattle.std.proofs.Common.{
-  ℕ,
-  ◌+◌,
-  ◌-◌,
-  ◌<◌,
-  ◌≤◌,
-  ◌≡◌,
-  ◌≢◌,
-  ◌⊎◌,
-  true,
-  false,
-  List,
-  [],
-  ◌∷◌,
-  refl,
-  sym,
-  ap,
-  subst,
-  ◌∙◌,
-  inl,
-  inr,
-  arith,
-}
+use Rattle.std.proofs.Common.{ℕ, ◌+◌, ◌-◌, ◌<◌, ◌≤◌, ◌≡◌, ◌≢◌, ◌⊎◌, true, false, List, [], ◌∷◌, refl, sym, ap, ◌∙◌, arith}
 use Rattle.std.proofs.lemmas.Bool.{cases_eq, cases_lt}
 use Rattle.atlas_search.specs.declared.link.Link.{Link}
 use Rattle.atlas_store.specs.declared.slots.Node.{Node}
@@ -130,20 +108,13 @@ AreIn ms s b a p e q front k back =
 parts-in : (ns ms : List Node) (n : Node) (s : Sequence) (b a p e q : ℕ) (front : Link) (k : NodeKind) (back : Link)
     → q < e
     → IsLeafIn n s b a p e → HasParts ns ms n q front k back → AreIn ms s b a p e q front k back
-parts-in ns ms n s b a p e q front k back less l w =
-    let f = front-leaf n s b a p e q back l in (
-      rw w.0 (used-as (front_node n q back) s b back.number p q k f),
-      rw w.0 f.area,
-      rw w.1 (back-leaf n (node_at ns back.number) s b a p e q front less l),
-    )
+parts-in ns ms n s b a p e q front k back less l w = grind (arith, front-leaf, back-leaf, used-as)
 
 -- A lone leaf is cut, and its first part granted.
 granted-in : (ns ms : List Node) (n : Node) (s : Sequence) (p e q : ℕ) (front back : Link) → q < e
     → IsLeafIn n s no_slot no_slot p e → HasParts ns ms n q front kind.Alloc back
     → Standing ms s no_slot p (Alloc front.number n.generation q (Free back.number (e - q) End))
-granted-in ns ms n s p e q front back less l w =
-    let i = parts-in ns ms n s no_slot no_slot p e q front kind.Alloc back less l w in
-    (i.0, i.1, ap (λ (n : Node). n.generation) w.0, (i.2.link, i.2.area, tt))
+granted-in ns ms n s p e q front back less l w = grind (arith, parts-in)
 
 module _ (ns ms : List Node) (at : Link) (p : Plan) (t : Parts) (w : IsPlaced ns ms at p t) where
   abbrev i : ℕ
@@ -202,40 +173,13 @@ module _ (ns ms : List Node) (at : Link) where
       → (s : Sequence) (b q e : ℕ) (rest : Numbered) → IsLeafIn leaf s b (first_slot rest) q e
       → IsRest ns ms at p t w s (q + e) rest
       → Standing ms s b q (put_by p t (node_at ns (granted_by p t at.number)).generation s.width at.number e rest)
-  at-leaf plan.Whole t w can s b q e rest l r = (
-    rw w.written (used-as leaf s b (first_slot rest) q e kind.Alloc l),
-    rw w.written l.area,
-    ap (λ (n : Node). n.generation) w.written,
-    stays ns ms at plan.Whole t w s (q + e) rest r (λ n. refl),
-  )
+  at-leaf plan.Whole t w can s b q e rest l r = grind (arith, stays ns ms at plan.Whole t w s (q + e) rest r)
   at-leaf (plan.StripAlong p) t w can s b q e rest l r =
-      let less : p < e = omega (arith, can.feasible.1, extent-is leaf s b (first_slot rest) q e l) in
-      let i = parts-in ns ms leaf s b (first_slot rest) q e p at kind.Alloc t.split less l w.written in
-      let after = follows ns ms at (plan.StripAlong p) t w s (q + e) rest r (λ n. refl) in
-      (i.0, i.1, ap (λ (n : Node). n.generation) w.written.0, (i.2.link, i.2.area, rw (regroup q e p less) after))
+      grind (arith, extent-is, parts-in, regroup q e p, follows ns ms at (plan.StripAlong p) t w s (q + e) rest r)
   at-leaf (plan.CornerAlong p x) t w can s b q e rest l r =
-      let a = first_slot rest in
-      let less : p < e = omega (arith, can.feasible.1, extent-is leaf s b a q e l) in
-      let less_x : x < s.width = omega (arith, can.feasible.3, across-is leaf s b a q e l) in
-      let i = parts-in ns ms leaf s b a q e p at kind.Container t.split less l w.written.0 in
-      let u = node_at ns t.granted.number in
-      let front : Node = front_node leaf p t.split in
-      let inner = inner-leaf front u s b t.split.number q p at (front-leaf leaf s b a q e p t.split l) in
-      let cut = granted-in ns ms (inner_node front at u) (inside s at.number q p) s.start s.width x t.granted
-      t.leftover less_x inner w.written.1 in
-      let after = follows ns ms at (plan.CornerAlong p x) t w s (q + e) rest r (λ n. refl) in
-      (i.0, i.1, cut, (i.2.link, i.2.area, rw (regroup q e p less) after))
+      grind (arith, extent-is, across-is, parts-in, inner-leaf, front-leaf, granted-in, regroup q e p, follows ns ms at (plan.CornerAlong p x) t w s (q + e) rest r)
   at-leaf (plan.StripAcross x) t w can s b q e rest l r =
-      let a = first_slot rest in
-      let less : x < s.width = omega (arith, can.feasible.1, across-is leaf s b a q e l) in
-      let u = node_at ns t.granted.number in
-      let cut = granted-in ns ms (inner_node leaf at u) (inside s at.number q e) s.start s.width x t.granted t.split
-      less (inner-leaf leaf u s b a q e at l) w.written.1 in (
-        rw w.written.0 (used-as leaf s b a q e kind.Container l),
-        rw w.written.0 l.area,
-        cut,
-        stays ns ms at (plan.StripAcross x) t w s (q + e) rest r (λ n. refl),
-      )
+      grind (arith, across-is, inner-leaf, granted-in, stays ns ms at (plan.StripAcross x) t w s (q + e) rest r)
   at-leaf (plan.CornerAcross p x) t w can s b q e rest l r =
       let a = first_slot rest in
       let less : p < e = omega (arith, can.feasible.1, extent-is leaf s b a q e l) in
@@ -262,39 +206,24 @@ module _ (ns ms : List Node) (at : Link) where
 -- The slots that are taken come into the tree.
 put-tally : (p : Plan) (t : Parts) (g across i e x : ℕ) (rest : Numbered)
     → tally x (put_by p t g across i e rest) ≡ tally x (Free i e rest) + occurs x (taken_by p t)
-put-tally plan.Whole t g across i e x rest = omega arith
-put-tally (plan.StripAlong p) t g across i e x rest = omega arith
-put-tally (plan.CornerAlong p q) t g across i e x rest = omega arith
-put-tally (plan.StripAcross q) t g across i e x rest = omega arith
-put-tally (plan.CornerAcross p q) t g across i e x rest = omega arith
+put-tally p t g across i e x rest = grind arith
 
 pub tally-planned : (ns : List Node) (i : ℕ) → (node_at ns i).kind ≡ kind.Free
     → (p : Plan) (t : Parts) (g : ℕ) (s : Sequence) (n : Numbered)
     → Stands ns s n → (x : ℕ) → tally x (planned p t i g s.width n) ≡ tally x n + occurs x (taken_by p t)
-tally-planned ns i free p t g s n h x = omega (arith, more)
-  where
-    more : tally x (planned p t i g s.width n) + 0 ≡ tally x n + occurs x (taken_by p t)
-    more =
-        weigh-edited (is_free_at i) (putting p t g) ns (same x) 0 (occurs x (taken_by p t)) refl
-        (λ s b q. free_here i (λ m. Standing ns s b q m
-        → tally x (putting p t g s.width m) + 0 ≡ tally x m + occurs x (taken_by p t))
-        (λ e rest h. omega (arith, put-tally p t g s.width i e x rest)))
-        s no_slot 0 n h.standing (free_place ns i s n free h)
+tally-planned ns i free p t g s n h x =
+    let more = weigh-edited (is_free_at i) (putting p t g) ns (same x) 0 (occurs x (taken_by p t)) refl
+    (λ s b q. free_here i _ (grind (arith, put-tally))) s no_slot 0 n h.standing (free_place ns i s n free h) in
+    omega (arith, more)
 
 put-first : (p : Plan) (t : Parts) (g across i e : ℕ) (rest : Numbered)
     → first_slot (put_by p t g across i e rest) ≡ i
-put-first plan.Whole t g across i e rest = refl
-put-first (plan.StripAlong p) t g across i e rest = refl
-put-first (plan.CornerAlong p q) t g across i e rest = refl
-put-first (plan.StripAcross q) t g across i e rest = refl
-put-first (plan.CornerAcross p q) t g across i e rest = refl
+put-first p t g across i e rest = grind arith
 
 -- The first member keeps its slot.
 pub first-planned : (p : Plan) (t : Parts) (i g across : ℕ) (n : Numbered)
     → first_slot (planned p t i g across n) ≡ first_slot n
-first-planned p t i g =
-    first-edited (is_free_at i) (putting p t g) (λ a. free_here i (λ m. first_slot (putting p t g a m) ≡ first_slot m)
-    (λ e rest. put-first p t g a i e rest))
+first-planned p t i g = first-edited (is_free_at i) (putting p t g) (grind (arith, put-first))
 
 pub unmarked : (x : ℕ) (ks : List ℕ) → occurs x ks ≡ 0 → marks_of ks x ≡ false
 unmarked x [] z = refl
@@ -302,16 +231,9 @@ unmarked x (k ∷ ks) z = grind (arith, with_mark-other, same-self k, unmarked x
 
 -- A slot that isn't taken isn't left free.
 pub untaken-unmarked : (p : Plan) (t : Parts) (x : ℕ) → occurs x (taken_by p t) ≡ 0 → marks_of (left_by p t) x ≡ false
-untaken-unmarked plan.Whole t x z = refl
-untaken-unmarked (plan.StripAlong p) t x z = unmarked x (left_by (plan.StripAlong p) t) (omega (arith, z))
-untaken-unmarked (plan.CornerAlong p q) t x z = unmarked x (left_by (plan.CornerAlong p q) t) (omega (arith, z))
-untaken-unmarked (plan.StripAcross q) t x z = unmarked x (left_by (plan.StripAcross q) t) (omega (arith, z))
-untaken-unmarked (plan.CornerAcross p q) t x z = unmarked x (left_by (plan.CornerAcross p q) t) (omega (arith, z))
+untaken-unmarked p t x z = grind (arith, unmarked x)
 
 -- What a slot that is taken becomes.
-in-list : (P : ℕ → Type 0) (x k : ℕ) (ks : List ℕ) → P k → (0 < occurs x ks → P x) → 0 < occurs x (k ∷ ks) → P x
-in-list P x k ks here later l = grind (arith, cases_eq x k, same-ne x k)
-
 abbrev pub IsOutOf : List ℕ → Node → ℕ → Type 0
 IsOutOf ks n x = (marks_of ks x ≡ true) ⊎ (is_free n.kind ≡ false)
 
@@ -321,24 +243,6 @@ module _ (ns ms : List Node) (at : Link) where
       (use_count (node_at ms x).kind ≡ 1) × IsOutOf ks (node_at ms x) x
       × ((node_at ms x).generation ≡ (node_at ns x).generation)
 
-  leaf_part : (ks : List ℕ) (x : ℕ) (n : Node) → node_at ms x ≡ n → n.kind ≡ kind.Free
-      → n.generation ≡ (node_at ns x).generation → marks_of ks x ≡ true → IsPartNode ks x
-  leaf_part ks x n e k g m = (
-    ap (λ (n : Node). use_count n.kind) e
-        ∙ ap use_count k,
-    inl m,
-    ap (λ (n : Node). n.generation) e ∙ g,
-  )
-
-  used_part : (ks : List ℕ) (x : ℕ) (n : Node) → node_at ms x ≡ n → use_count n.kind ≡ 1
-      → n.generation ≡ (node_at ns x).generation → is_free n.kind ≡ false → IsPartNode ks x
-  used_part ks x n e k g m = (
-    ap (λ (n : Node). use_count n.kind) e
-        ∙ k,
-    inr (ap (λ (n : Node). is_free n.kind) e ∙ m),
-    ap (λ (n : Node). n.generation) e ∙ g,
-  )
-
   marked_first : (x : ℕ) (ks : List ℕ) → marks_of (x ∷ ks) x ≡ true
   marked_first x ks = with_mark-same (marks_of ks) x true
 
@@ -347,93 +251,40 @@ module _ (ns ms : List Node) (at : Link) where
 
   pub placed-part : (p : Plan) (t : Parts) → IsPlaced ns ms at p t → (x : ℕ) → 0 < occurs x (taken_by p t)
       → IsPartNode (left_by p t) x
-  placed-part plan.Whole t w x = λ l. absurd (omega (arith, l))
-  placed-part (plan.StripAlong p) t w x =
-      let ks = left_by (plan.StripAlong p) t in
-      in-list (IsPartNode ks) x t.split.number [] (leaf_part ks t.split.number _ w.written.1 refl refl
-      (marked_first t.split.number [])) (λ l. absurd (omega (arith, l)))
+  placed-part plan.Whole t w x = grind arith
+  placed-part (plan.StripAlong p) t w x = grind (arith, cases_eq x, same-ne x, marked_first)
   placed-part (plan.CornerAlong p q) t w x =
-      let ks = left_by (plan.CornerAlong p q) t in
-      in-list (IsPartNode ks) x t.leftover.number (t.granted.number ∷ t.split.number ∷ [])
-      (leaf_part ks t.leftover.number _ w.written.1.1 refl refl (marked_second t.split.number t.leftover.number))
-      (in-list (IsPartNode ks) x t.granted.number (t.split.number ∷ [])
-      (used_part ks t.granted.number _ w.written.1.0 refl refl refl)
-      (in-list (IsPartNode ks) x t.split.number [] (leaf_part ks t.split.number _ w.written.0.1 refl refl
-      (marked_first t.split.number (t.leftover.number ∷ []))) (λ l. absurd (omega (arith, l)))))
-  placed-part (plan.StripAcross q) t w x =
-      let ks = left_by (plan.StripAcross q) t in
-      in-list (IsPartNode ks) x t.granted.number (t.split.number ∷ [])
-      (used_part ks t.granted.number _ w.written.1.0 refl refl refl)
-      (in-list (IsPartNode ks) x t.split.number [] (leaf_part ks t.split.number _ w.written.1.1 refl refl
-      (marked_first t.split.number [])) (λ l. absurd (omega (arith, l))))
+      grind (arith, cases_eq x t.leftover.number, cases_eq x t.granted.number, same-ne x, marked_first, marked_second)
+  placed-part (plan.StripAcross q) t w x = grind (arith, cases_eq x, same-ne x, marked_first)
   placed-part (plan.CornerAcross p q) t w x =
-      let ks = left_by (plan.CornerAcross p q) t in
-      in-list (IsPartNode ks) x t.leftover.number (t.granted.number ∷ t.container.number ∷ t.split.number ∷ [])
-      (leaf_part ks t.leftover.number _ w.written.2.1 refl refl (marked_second t.split.number t.leftover.number))
-      (in-list (IsPartNode ks) x t.granted.number (t.container.number ∷ t.split.number ∷ [])
-      (used_part ks t.granted.number _ w.written.2.0 refl refl refl)
-      (in-list (IsPartNode ks) x t.container.number (t.split.number ∷ [])
-      (used_part ks t.container.number _ w.written.1.0 refl refl refl)
-      (in-list (IsPartNode ks) x t.split.number [] (leaf_part ks t.split.number _ w.written.1.1 refl refl
-      (marked_first t.split.number (t.leftover.number ∷ []))) (λ l. absurd (omega (arith, l))))))
+      grind (arith, cases_eq x t.leftover.number, cases_eq x t.granted.number, cases_eq x t.container.number, same-ne x, marked_first, marked_second)
 
   abbrev IsUsedAs : Node → Type 0
   IsUsedAs n = (use_count n.kind ≡ 1) × (is_free n.kind ≡ false) × (n.generation ≡ (node_at ns at.number).generation)
 
-  as_used : (n : Node) → node_at ms at.number ≡ n → IsUsedAs n → IsUsedAs (node_at ms at.number)
-  as_used n e u = subst IsUsedAs (sym e) u
-
   -- The leaf's own slot is granted, or holds what is.
   pub placed-leaf : (p : Plan) (t : Parts) → IsPlaced ns ms at p t → IsUsedAs (node_at ms at.number)
-  placed-leaf plan.Whole t w = as_used _ w.written (refl, refl, refl)
-  placed-leaf (plan.StripAlong p) t w = as_used _ w.written.0 (refl, refl, refl)
-  placed-leaf (plan.CornerAlong p q) t w = as_used _ w.written.0.0 (refl, refl, refl)
-  placed-leaf (plan.StripAcross q) t w = as_used _ w.written.0 (refl, refl, refl)
-  placed-leaf (plan.CornerAcross p q) t w = as_used _ w.written.0 (refl, refl, refl)
+  placed-leaf p t w = grind arith
 
   -- What is granted.
   pub placed-granted : (p : Plan) (t : Parts) → IsPlaced ns ms at p t
       → (node_at ms (granted_by p t at.number)).kind ≡ kind.Alloc
-  placed-granted plan.Whole t w = ap (λ (n : Node). n.kind) w.written
-  placed-granted (plan.StripAlong p) t w = ap (λ (n : Node). n.kind) w.written.0
-  placed-granted (plan.CornerAlong p q) t w = ap (λ (n : Node). n.kind) w.written.1.0
-  placed-granted (plan.StripAcross q) t w = ap (λ (n : Node). n.kind) w.written.1.0
-  placed-granted (plan.CornerAcross p q) t w = ap (λ (n : Node). n.kind) w.written.2.0
+  placed-granted p t w = grind arith
 
   abbrev IsFreeAt : ℕ → Type 0
   IsFreeAt x = (node_at ms x).kind ≡ kind.Free
 
   -- What is left free.
   pub placed-left : (p : Plan) (t : Parts) → IsPlaced ns ms at p t → (x : ℕ) → 0 < occurs x (left_by p t) → IsFreeAt x
-  placed-left plan.Whole t w x = λ l. absurd (omega (arith, l))
-  placed-left (plan.StripAlong p) t w x = in-list IsFreeAt x t.split.number [] (ap (λ (n : Node). n.kind) w.written.1)
-      (λ l. absurd (omega (arith, l)))
-  placed-left (plan.CornerAlong p q) t w x =
-      in-list IsFreeAt x t.split.number (t.leftover.number ∷ []) (ap (λ (n : Node). n.kind) w.written.0.1)
-      (in-list IsFreeAt x t.leftover.number [] (ap (λ (n : Node). n.kind) w.written.1.1)
-      (λ l. absurd (omega (arith, l))))
-  placed-left (plan.StripAcross q) t w x = in-list IsFreeAt x t.split.number []
-      (ap (λ (n : Node). n.kind) w.written.1.1) (λ l. absurd (omega (arith, l)))
-  placed-left (plan.CornerAcross p q) t w x =
-      in-list IsFreeAt x t.split.number (t.leftover.number ∷ []) (ap (λ (n : Node). n.kind) w.written.1.1)
-      (in-list IsFreeAt x t.leftover.number [] (ap (λ (n : Node). n.kind) w.written.2.1)
-      (λ l. absurd (omega (arith, l))))
+  placed-left p t w x = grind (arith, cases_eq x, same-ne x)
 
 -- What is left free is taken once.
 pub left-once : (p : Plan) (t : Parts) → ((x : ℕ) → occurs x (taken_by p t) ≤ 1) → (x : ℕ)
     → occurs x (left_by p t) ≤ 1
-left-once plan.Whole t once x = omega arith
-left-once (plan.StripAlong p) t once x = omega (arith, once x)
-left-once (plan.CornerAlong p q) t once x = omega (arith, once x)
-left-once (plan.StripAcross q) t once x = omega (arith, once x)
-left-once (plan.CornerAcross p q) t once x = omega (arith, once x)
+left-once p t once x = grind (arith, once x)
 
 following-use : (p : Plan) (t : Parts) (n : Node) → KeepsUse n (following p t n)
-following-use plan.Whole t n = record { kind = refl; area = refl; generation = refl }
-following-use (plan.StripAlong p) t n = record { kind = refl; area = refl; generation = refl }
-following-use (plan.CornerAlong p q) t n = record { kind = refl; area = refl; generation = refl }
-following-use (plan.StripAcross q) t n = record { kind = refl; area = refl; generation = refl }
-following-use (plan.CornerAcross p q) t n = record { kind = refl; area = refl; generation = refl }
+following-use p t n = grind arith
 
 module _ (ns ms : List Node) (at : Link) (p : Plan) (t : Parts) (w : IsPlaced ns ms at p t)
     (can : CanPlace ns at.number p t) where
@@ -462,14 +313,8 @@ module _ (ns ms : List Node) (at : Link) (p : Plan) (t : Parts) (w : IsPlaced ns
 
   -- Each slot keeps its generation.
   pub placed-generation : (x : ℕ) → (node_at ms x).generation ≡ (node_at ns x).generation
-  placed-generation x = elim (cases_eq x at.number) [
-    | inl e ↦ subst (λ x. (node_at ms x).generation ≡ (node_at ns x).generation) (sym e)
-        (placed-leaf ns ms at p t w).2
-    | inr ne ↦ elim (cases_lt 0 (occurs x (taken_by p t))) [
-      | inl l ↦ (placed-part ns ms at p t w x l).2
-      | inr z ↦ (placed-others x ne (omega (arith, z))).generation
-    ]
-  ]
+  placed-generation x =
+      grind (arith, cases_eq x at.number, cases_lt 0 (occurs x (taken_by p t)), placed-leaf ns ms at p t w, placed-part ns ms at p t w x, placed-others x)
 
   rest-in : (n : Numbered) → ((x : ℕ) → tally x n ≤ 1) → tally no_slot n ≡ 0
       → ((x : ℕ) → 0 < occurs x (taken_by p t) → tally x n ≡ 0)
@@ -493,19 +338,11 @@ module _ (ns ms : List Node) (at : Link) (p : Plan) (t : Parts) (w : IsPlaced ns
       record {
         never = refl;
         once = once;
-        first = λ a. free_here at.number (λ m. first_slot (putting p t g a m) ≡ first_slot m)
-            (λ e rest. put-first p t g a at.number e rest);
-        here = λ s b q. free_here at.number (λ m. Standing ns s b q m → ((x : ℕ) → tally x m ≤ tally x n)
-            → Standing ms s b q (putting p t g s.width m)) (λ e rest h less.
+        first = grind (arith, put-first);
+        here = λ s b q. free_here at.number _ (λ e rest h less.
             at-leaf ns ms at p t w can s b q e rest (record { link = h.0; area = h.1 })
             (rest-in n once none new s b q e rest less h));
-        beside = λ s b q v h one x z some.
-            let here : 0 < tally at.number v = free-in at.number v one in
-            w.others x (other-slot x at.number v z here) (elim (next-in ns at.number s b q v h here) [
-              | inl e ↦ λ y. ne-from_count no_slot x n none some (y ∙ e)
-              | inr l ↦ other-slot x after v z l
-            ])
-            (untaken-member n new x some);
+        beside = λ s b q v h one. grind (arith, free-in at.number v one, next-in ns at.number s b q v h, other-slot, ne-from_count no_slot, untaken-member n new);
       }
     where
       untaken-member : (n : Numbered) → ((x : ℕ) → 0 < occurs x (taken_by p t) → tally x n ≡ 0) → (x : ℕ)
