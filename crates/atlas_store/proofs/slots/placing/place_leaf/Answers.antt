@@ -60,13 +60,7 @@ cut_inside-requires-clause-back c =
 
 pub cut_inside-requires-clause-apart : goal.cut_inside-requires-clause-apart
 cut_inside-requires-clause-apart c =
-    λ e. absurd (omega (
-      arith,
-      placed-once (nodes c.args.slots.now) _ _ _ c.args.parts c.args.parts.granted.number
-          c.requires.ready c.in-CornerAlong.is,
-      ap (same c.args.parts.granted.number) e,
-      same-self c.args.parts.granted.number,
-    ))
+    grind (arith, same-self, placed-once (nodes c.args.slots.now) _ _ _ c.args.parts c.args.parts.granted.number c.requires.ready c.in-CornerAlong.is)
 
 pub cut_inside-requires-in-StripAcross-clause-exact : goal.cut_inside-requires-in-StripAcross-clause-exact
 cut_inside-requires-in-StripAcross-clause-exact c =
@@ -84,13 +78,7 @@ cut_inside-requires-in-StripAcross-clause-back c =
 
 pub cut_inside-requires-in-StripAcross-clause-apart : goal.cut_inside-requires-in-StripAcross-clause-apart
 cut_inside-requires-in-StripAcross-clause-apart c =
-    λ e. absurd (omega (
-      arith,
-      placed-once (nodes c.args.slots.now) _ _ _ c.args.parts c.args.parts.granted.number
-          c.requires.ready c.in-StripAcross.is,
-      ap (same c.args.parts.granted.number) e,
-      same-self c.args.parts.granted.number,
-    ))
+    grind (arith, same-self, placed-once (nodes c.args.slots.now) _ _ _ c.args.parts c.args.parts.granted.number c.requires.ready c.in-StripAcross.is)
 
 pub cut_inside-front-requires-clause-exact : goal.cut_inside-front-requires-clause-exact
 cut_inside-front-requires-clause-exact c =
@@ -108,13 +96,7 @@ cut_inside-front-requires-clause-back c =
 
 pub cut_inside-front-requires-clause-apart : goal.cut_inside-front-requires-clause-apart
 cut_inside-front-requires-clause-apart c =
-    λ e. absurd (omega (
-      arith,
-      placed-once (nodes c.args.slots.now) _ _ _ c.args.parts c.args.parts.container.number
-          c.requires.ready c.in-CornerAcross.is,
-      ap (same c.args.parts.container.number) e,
-      same-self c.args.parts.container.number,
-    ))
+    grind (arith, same-self, placed-once (nodes c.args.slots.now) _ _ _ c.args.parts c.args.parts.container.number c.requires.ready c.in-CornerAcross.is)
 
 pub cut_inside-requires-in-CornerAcross-clause-front : goal.cut_inside-requires-in-CornerAcross-clause-front
 cut_inside-requires-in-CornerAcross-clause-front c =
@@ -130,13 +112,7 @@ cut_inside-requires-in-CornerAcross-clause-back c =
 
 pub cut_inside-requires-in-CornerAcross-clause-apart : goal.cut_inside-requires-in-CornerAcross-clause-apart
 cut_inside-requires-in-CornerAcross-clause-apart c =
-    λ e. absurd (omega (
-      arith,
-      placed-once (nodes c.args.slots.now) _ _ _ c.args.parts c.args.parts.granted.number
-          c.requires.ready c.in-CornerAcross.is,
-      ap (same c.args.parts.granted.number) e,
-      same-self c.args.parts.granted.number,
-    ))
+    grind (arith, same-self, placed-once (nodes c.args.slots.now) _ _ _ c.args.parts c.args.parts.granted.number c.requires.ready c.in-CornerAcross.is)
 
 pub returns-in-Whole-clause-placed : goal.returns-in-Whole-clause-placed
 returns-in-Whole-clause-placed c =
