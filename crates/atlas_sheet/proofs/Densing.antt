@@ -12,7 +12,7 @@ use Rattle.atlas_sheet.specs.declared.options.SheetOptions.{SheetOptions}
 use Rattle.atlas_sheet.specs.declared.placed.Placed.{Placed}
 use Rattle.atlas_sheet.specs.declared.ways.TheConstants.{WAYS}
 use Rattle.atlas_sheet.specs.Allowances.{IsAllowed, pixels}
-use Rattle.atlas_sheet.specs.Dense.{AreAllPlaced, ArePaddedApart, IsNoLargerThanWays, IsWhole, NoWayFinds}
+use Rattle.atlas_sheet.specs.Dense.{AreAllPlaced, ArePaddedApart, IsNoLargerThanWays, IsWholeSheet, NoWayFinds}
 use Rattle.atlas_sheet.specs.Turnings.{AreLaid, InEach, turnings}
 use Rattle.atlas_sheet.specs.Lying.{IsPlacedFor, IsShown, areas_of}
 use Rattle.atlas_sheet.specs.Orders.{IsOrder}
@@ -54,7 +54,7 @@ pub whole_sheet : (o : SheetOptions) (sprites : List Size) (size : Size) (opts :
     (now areas : List (Option Rectangle)) (used : ℕ) (given order : List ℕ) → map Some places ≡ opts → areas ≡ areas_of opts → now ≡ areas
     → used ≡ used_area now → order ≡ given → IsOrder (length sprites) given → IsAllowed o.allowed (sides_of size) → AreAllPlaced o (sides_of size) sprites opts
     → ArePaddedApart (spacing_of o) opts → IsNoLargerThanWays o sprites (sides_of size)
-    → IsWhole o sprites size places used order
+    → IsWholeSheet o sprites size places used order
 whole_sheet o sprites size opts places now areas used given order somes found same area copied numbers allowed each apart larger = record {
   allowed = allowed;
   each = subst (AreAllPlaced o (sides_of size) sprites) (sym somes) each;
@@ -71,7 +71,7 @@ pub whole_packed : {T : Type 0} (o : SheetOptions) (sprites : List Size) (size_o
     → IfSome found (λ t. IsShown (sides_of (size_of t)) (spacing_of o) o.turn sprites (order_of t) (map Some (places_of t)))
     → IfSome found (λ t. used_of t ≡ used_area (areas_of (map Some (places_of t))))
     → IfSome found (λ t. IsNoLargerThanWays o sprites (sides_of (size_of t)))
-    → IfSome found (λ t. IsWhole o sprites (size_of t) (places_of t) (used_of t) (order_of t))
+    → IfSome found (λ t. IsWholeSheet o sprites (size_of t) (places_of t) (used_of t) (order_of t))
 whole_packed o sprites size_of order_of places_of used_of None allowed shown area larger = tt
 whole_packed o sprites size_of order_of places_of used_of (Some t) allowed shown area larger = record {
   allowed = allowed;
@@ -83,7 +83,7 @@ whole_packed o sprites size_of order_of places_of used_of (Some t) allowed shown
 }
 
 module _ (o : SheetOptions) (sprites : List Size) (size : Size) (places : List Placed) (used : ℕ) (order : List ℕ)
-    (whole : IsWhole o sprites size places used order) where
+    (whole : IsWholeSheet o sprites size places used order) where
   pub whole_count : length places ≡ length sprites
   whole_count =
       sym (length-map places Some)

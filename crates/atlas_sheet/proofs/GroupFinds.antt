@@ -1,5 +1,5 @@
 -- A sheet for chosen sprites, as it is found.
-use Rattle.std.proofs.Common.{◌≡◌, ◌<◌, ◌⊎◌, ℕ, Bool, inl, inr, List, length, map, All, Option, Some, None, IfNone, IsNone, IsSome, is_some, refl, ap, sym, subst, ◌∙◌, arith}
+use Rattle.std.proofs.Common.{◌≡◌, ◌<◌, ◌⊎◌, ℕ, Bool, inl, inr, List, length, map, All, Option, Some, None, IfNone, IsSome, is_some, refl, ap, sym, subst, ◌∙◌, arith}
 use Rattle.std.proofs.lemmas.List.Elements.{All-weaker}
 use Rattle.guillotiere.specs.declared.Size.{Size}
 use Rattle.guillotiere.specs.declared.Rectangle.{Rectangle}
@@ -10,7 +10,7 @@ use Rattle.atlas_sheet.specs.declared.ways.Choice.{Choice}
 use Rattle.atlas_sheet.specs.declared.ways.TheConstants.{WAYS}
 use Rattle.atlas_sheet.specs.Allowances.{IsAllowed}
 use Rattle.atlas_sheet.specs.Dense.{IsNoLargerThanWays, NoWayFinds}
-use Rattle.atlas_sheet.specs.Grouping.{AreChosen, IsClosed, IsGroupPage, picked, spread, with_place}
+use Rattle.atlas_sheet.specs.Grouping.{AreChosen, IsClosed, IsGroupPage, picked, spread, those_placed}
 use Rattle.atlas_sheet.specs.Lying.{IsArrangement, IsShown, areas_of}
 use Rattle.atlas_sheet.specs.Packings.{NoneIsFound}
 use Rattle.atlas_sheet.specs.Paging.{IsPage}
@@ -61,8 +61,8 @@ module _ (o : SheetOptions) (sprites some : List Size) (groups : List (Option �
       let few : 0 < length (picked row row) = closed_some groups row closed in
       let page : IsPage WAYS o some sheet found =
       page_found WAYS o some sheet order found (areas_of found) shown refl (inl (areas_whole found whole, larger)) allowed (λ none. not_both found (omega (arith, few, found_long)) whole none) in
-      let sprites_are : some ≡ with_place placed sprites =
-      some_is ∙ sym (spread_sprites row found found_long whole sprites) ∙ ap (λ ps. with_place ps sprites) (sym placed_is) in
-      let places_are : found ≡ with_place placed placed =
-      sym (spread_there row found found_long whole) ∙ ap (λ ps. with_place ps ps) (sym placed_is) in
-      inr (chosen_long, subst (λ fs. IsPage WAYS o (with_place placed sprites) sheet fs) places_are (subst (λ ss. IsPage WAYS o ss sheet found) sprites_are page))
+      let sprites_are : some ≡ those_placed placed sprites =
+      some_is ∙ sym (spread_sprites row found found_long whole sprites) ∙ ap (λ ps. those_placed ps sprites) (sym placed_is) in
+      let places_are : found ≡ those_placed placed placed =
+      sym (spread_there row found found_long whole) ∙ ap (λ ps. those_placed ps ps) (sym placed_is) in
+      inr (chosen_long, subst (λ fs. IsPage WAYS o (those_placed placed sprites) sheet fs) places_are (subst (λ ss. IsPage WAYS o ss sheet found) sprites_are page))

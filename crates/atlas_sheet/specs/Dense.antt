@@ -1,7 +1,7 @@
 -- Sprites that are placed in a grid of cells, and sheets that are packed so.
 use Rattle.std.specs.Prelude.{◌≡◌, ℕ, ◌*◌, ◌≤◌, List, [], ◌∷◌, ◌++◌, length, map, All, Option, Some, IfSome}
 use Rattle.std.specs.List.{AllZip, count_by}
-use Rattle.atlas_maxrects.specs.Placing.{AreApart, Placing}
+use Rattle.atlas_maxrects.specs.Placing.{LieApart, Placing}
 use Rattle.guillotiere.specs.declared.Size.{Size}
 use Rattle.guillotiere.specs.declared.Rectangle.{Rectangle}
 use Rattle.guillotiere.specs.Boxes.{Box, Sides, IsWithin, box_at}
@@ -46,7 +46,7 @@ pub record TakesCells (spacing : Spacing) (old : Placing) (sprite : Size) (place
     : Type 0 where
   pub cells : Box
   pub within : IsWithin old.sheet cells
-  pub apart : All (AreApart cells) old.placed
+  pub apart : All (LieApart cells) old.placed
   pub taken : new ≡ record { sheet = old.sheet; placed = old.placed ++ cells ∷ [] }
   pub padded : padded spacing.padding place ≡ box_from spacing cells sprite
   pub wide : (box_from spacing cells sprite).max.x ≤ cells.max.x * (sides_of spacing.alignment).width
@@ -74,7 +74,7 @@ NoWayFinds o sprites = InEach o sprites (λ lying. NoneIsFound WAYS o.allowed (s
 
 -- An allowed sheet with a place for each sprite, an order of all of them, and no more pixels than the first one that a way
 -- finds.
-pub record IsWhole (o : SheetOptions) (sprites : List Size) (size : Size) (placed : List Placed) (used : ℕ)
+pub record IsWholeSheet (o : SheetOptions) (sprites : List Size) (size : Size) (placed : List Placed) (used : ℕ)
     (order : List ℕ) : Type 0 where
   pub allowed : IsAllowed o.allowed (sides_of size)
   pub each : AreAllPlaced o (sides_of size) sprites (map Some placed)

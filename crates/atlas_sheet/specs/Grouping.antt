@@ -38,14 +38,14 @@ abbrev pub LieTogether : (group : ℕ) → List (Option ℕ) → List OnPage →
 LieTogether group groups places = (page : ℕ) × All (λ p. p.page ≡ page) (members group groups places)
 
 -- What stands in a list at the sprites that have a place.
-abbrev pub with_place : {X : Type 0} → List (Option Placed) → List X → List X
-with_place placed xs = picked (map is_some placed) xs
+abbrev pub those_placed : {X : Type 0} → List (Option Placed) → List X → List X
+those_placed placed xs = picked (map is_some placed) xs
 
 -- A sheet as for sprites in no group, or one on which no others asked than those that lie there.
 abbrev pub IsGroupPage : List Way → SheetOptions → List Size → Sides → List (Option Placed) → Type 0
 IsGroupPage ways o sprites sheet placed =
     IsPage ways o sprites sheet placed
-    ⊎ ((length placed ≡ length sprites) × IsPage ways o (with_place placed sprites) sheet (with_place placed placed))
+    ⊎ ((length placed ≡ length sprites) × IsPage ways o (those_placed placed sprites) sheet (those_placed placed placed))
 
 -- One such sheet after another, each for the sprites that lie on no earlier one.
 abbrev pub AreGroupPages : List Way → SheetOptions → (sprites sizes : List Size) → List (Option OnPage) → Type 0
@@ -60,8 +60,8 @@ abbrev pub waiting : List (Option ℕ) → List (Option OnPage) → List (Option
 waiting groups places = picked (map is_none places) groups
 
 -- The numbers, without that of one group.
-abbrev pub without : (group : ℕ) → List (Option ℕ) → List (Option ℕ)
-without group groups = map (λ g. if is_in group g then None else g) groups
+abbrev pub without_group : (group : ℕ) → List (Option ℕ) → List (Option ℕ)
+without_group group groups = map (λ g. if is_in group g then None else g) groups
 
 -- One of the sprites is in this group.
 abbrev pub HasMember : (group : ℕ) → List (Option ℕ) → Type 0

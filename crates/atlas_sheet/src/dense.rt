@@ -6,10 +6,10 @@ ghost use Rattle.guillotiere.specs.Boxes.{AreDisjoint, IsPositive, IsWithin, box
 ghost use Rattle.guillotiere.specs.Pixels.{box_of, natural, sides_of};
 ghost use Rattle.atlas_sheet.specs.declared.error.SheetError.TheVariants.{Memory};
 ghost use Rattle.atlas_sheet.specs.Allowances.{IsAllowed, IsRow, IsUsable, pixels};
-ghost use Rattle.atlas_sheet.specs.Dense.{AreAllPlaced, ArePaddedApart, IsNoLargerThanWays, IsWhole, NoWayFinds};
+ghost use Rattle.atlas_sheet.specs.Dense.{AreAllPlaced, ArePaddedApart, IsNoLargerThanWays, IsWholeSheet, NoWayFinds};
 ghost use Rattle.atlas_sheet.specs.Lying.{areas_of, placed_area};
 ghost use Rattle.atlas_sheet.specs.Orders.{IsOrder};
-ghost use Rattle.atlas_sheet.specs.Settings.{IsSheetFault, spacing_of};
+ghost use Rattle.atlas_sheet.specs.Settings.{CanPack, IsSheetFault, spacing_of};
 ghost use Rattle.atlas_sheet.specs.Sheets.{IsPackable, used_area};
 
 use crate::allowed::Allowed;
@@ -91,7 +91,7 @@ fn sheet_of<A: Allocator + Copy>(
     requires apart { ArePaddedApart (spacing_of options.now) placed.now }
     requires order { IsOrder (length sprites.now) order.now }
     requires larger { IsNoLargerThanWays options.now sprites.now (sides_of size) }
-    ensures whole { IfOk result (λ sheet. IsWhole options.now sprites.now sheet.size sheet.places.items
+    ensures whole { IfOk result (λ sheet. IsWholeSheet options.now sprites.now sheet.size sheet.places.items
         sheet.used_area sheet.order.items) }
     ensures unless { IsOkUnless result Memory }
 {
@@ -129,7 +129,7 @@ fn dense_at<A: Allocator + Copy>(
     requires allowed { IsAllowed options.now.allowed (sides_of size) }
     requires larger { IsNoLargerThanWays options.now sprites.now (sides_of size) }
     ensures whole { IfOk result (λ found. IfSome found (λ sheet.
-        IsWhole options.now sprites.now sheet.size sheet.places.items sheet.used_area
+        IsWholeSheet options.now sprites.now sheet.size sheet.places.items sheet.used_area
         sheet.order.items)) }
     ensures unless { IsOkUnless result Memory }
 {
@@ -168,11 +168,11 @@ fn denser_at<A: Allocator + Copy>(
     requires order { IsOrder (length sprites.now) order.now }
     requires allowed { IsAllowed options.now.allowed (sides_of size) }
     requires best { IfSome best.now (λ sheet.
-        IsWhole options.now sprites.now sheet.size sheet.places.items sheet.used_area
+        IsWholeSheet options.now sprites.now sheet.size sheet.places.items sheet.used_area
         sheet.order.items) }
     requires none { IfNone best.now (NoWayFinds options.now sprites.now) }
     ensures whole { IfOk result (λ found. IfSome found (λ sheet.
-        IsWhole options.now sprites.now sheet.size sheet.places.items sheet.used_area
+        IsWholeSheet options.now sprites.now sheet.size sheet.places.items sheet.used_area
         sheet.order.items)) }
     ensures unless { IsOkUnless result Memory }
 {
@@ -204,17 +204,15 @@ fn denser_in_row<A: Allocator + Copy>(
     order: &[usize],
     first: Option<Sheet<A>>,
 ) -> Result<Option<Sheet<A>>, SheetError>
-    requires usable { IsUsable options.now.allowed }
+    requires good { CanPack options.now sprites.now }
     requires row { IsRow options.now.allowed }
-    requires aligned { IsPositive (sides_of options.now.alignment) }
-    requires packable { All (IsPackable (spacing_of options.now)) sprites.now }
     requires order { IsOrder (length sprites.now) order.now }
     requires whole { IfSome first (λ sheet.
-        IsWhole options.now sprites.now sheet.size sheet.places.items sheet.used_area
+        IsWholeSheet options.now sprites.now sheet.size sheet.places.items sheet.used_area
         sheet.order.items) }
     requires none { IfNone first (NoWayFinds options.now sprites.now) }
     ensures whole { IfOk result (λ found. IfSome found (λ sheet.
-        IsWhole options.now sprites.now sheet.size sheet.places.items sheet.used_area
+        IsWholeSheet options.now sprites.now sheet.size sheet.places.items sheet.used_area
         sheet.order.items)) }
     ensures none { IfOk result (λ found. IfNone found
         (NoWayFinds options.now sprites.now)) }
@@ -246,7 +244,7 @@ fn next_size<A: Allocator>(
 ) -> Option<Size>
     requires usable { IsUsable options.now.allowed }
     requires best { IfSome best.now (λ sheet.
-        IsWhole options.now sprites.now sheet.size sheet.places.items sheet.used_area
+        IsWholeSheet options.now sprites.now sheet.size sheet.places.items sheet.used_area
         sheet.order.items) }
     ensures allowed { IfSome result (λ size. IsAllowed options.now.allowed (sides_of size)) }
     ensures positive { IfSome result (λ size. IsPositive (sides_of size)) }
@@ -265,16 +263,14 @@ fn denser_powers<A: Allocator + Copy>(
     order: &[usize],
     first: Option<Sheet<A>>,
 ) -> Result<Option<Sheet<A>>, SheetError>
-    requires usable { IsUsable options.now.allowed }
-    requires aligned { IsPositive (sides_of options.now.alignment) }
-    requires packable { All (IsPackable (spacing_of options.now)) sprites.now }
+    requires good { CanPack options.now sprites.now }
     requires order { IsOrder (length sprites.now) order.now }
     requires whole { IfSome first (λ sheet.
-        IsWhole options.now sprites.now sheet.size sheet.places.items sheet.used_area
+        IsWholeSheet options.now sprites.now sheet.size sheet.places.items sheet.used_area
         sheet.order.items) }
     requires none { IfNone first (NoWayFinds options.now sprites.now) }
     ensures whole { IfOk result (λ found. IfSome found (λ sheet.
-        IsWhole options.now sprites.now sheet.size sheet.places.items sheet.used_area
+        IsWholeSheet options.now sprites.now sheet.size sheet.places.items sheet.used_area
         sheet.order.items)) }
     ensures none { IfOk result (λ found. IfNone found
         (NoWayFinds options.now sprites.now)) }
@@ -301,15 +297,13 @@ fn denser<A: Allocator + Copy>(
     options: &SheetOptions,
     first: Option<Sheet<A>>,
 ) -> Result<Option<Sheet<A>>, SheetError>
-    requires usable { IsUsable options.now.allowed }
-    requires aligned { IsPositive (sides_of options.now.alignment) }
-    requires packable { All (IsPackable (spacing_of options.now)) sprites.now }
+    requires good { CanPack options.now sprites.now }
     requires whole { IfSome first (λ sheet.
-        IsWhole options.now sprites.now sheet.size sheet.places.items sheet.used_area
+        IsWholeSheet options.now sprites.now sheet.size sheet.places.items sheet.used_area
         sheet.order.items) }
     requires none { IfNone first (NoWayFinds options.now sprites.now) }
     ensures whole { IfOk result (λ found. IfSome found (λ sheet.
-        IsWhole options.now sprites.now sheet.size sheet.places.items sheet.used_area
+        IsWholeSheet options.now sprites.now sheet.size sheet.places.items sheet.used_area
         sheet.order.items)) }
     ensures none { IfOk result (λ found. IfNone found
         (NoWayFinds options.now sprites.now)) }

@@ -5,9 +5,8 @@ ghost use Rattle.guillotiere.specs.Boxes.{IsPositive};
 ghost use Rattle.guillotiere.specs.Choice.{up};
 ghost use Rattle.guillotiere.specs.Pixels.{natural, sides_of};
 ghost use Rattle.atlas_sheet.specs.declared.error.SheetError.TheVariants.{Memory};
-ghost use Rattle.atlas_sheet.specs.Allowances.{IsUsable};
 ghost use Rattle.atlas_sheet.specs.Lying.{MayLie};
-ghost use Rattle.atlas_sheet.specs.Settings.{spacing_of};
+ghost use Rattle.atlas_sheet.specs.Settings.{CanPack, spacing_of};
 ghost use Rattle.atlas_sheet.specs.Sheets.{IsPackable};
 ghost use Rattle.atlas_sheet.specs.Turnings.{AreLaid, fitted, has_room, turned_to};
 
@@ -119,9 +118,7 @@ pub fn laid<A: Allocator + Copy>(
     options: &SheetOptions,
     how: Turning,
 ) -> Result<Vec<Size, A>, SheetError>
-    requires usable { IsUsable options.now.allowed }
-    requires aligned { IsPositive (sides_of options.now.alignment) }
-    requires packable { All (IsPackable (spacing_of options.now)) sprites.now }
+    requires { CanPack options.now sprites.now }
     ensures laid { IfOk result (λ lying. AreLaid options.now how sprites.now lying.items) }
     ensures lies { IfOk result (λ lying. AllZip (MayLie options.now.turn) sprites.now lying.items) }
     ensures packable { IfOk result (λ lying. All (IsPackable (spacing_of options.now)) lying.items) }

@@ -1,18 +1,17 @@
-use Rattle.std.proofs.Common.{◌≡◌, ◌<◌, ◌∙◌, All, ap, inl, length, is_some, map, subst, sym, false}
+use Rattle.std.proofs.Common.{◌≡◌, ◌<◌, ◌∙◌, ap, inl, length, is_some, map, subst, sym, false}
 use Rattle.std.proofs.lemmas.List.{length-map}
 use Rattle.atlas_sheet.specs.Paging.{OneIsTooLarge}
-use Rattle.atlas_sheet.specs.Settings.{spacing_of}
-use Rattle.atlas_sheet.specs.Sheets.{IsPackable}
+use Rattle.atlas_sheet.specs.Settings.{CanPack}
 use Rattle.atlas_sheet.specs.Grouping.{waiting}
-use Rattle.atlas_sheet.proofs.GroupMore.{left_large, numbers_long, so_packable}
+use Rattle.atlas_sheet.proofs.GroupMore.{left_large, numbers_long, so_can_pack}
 use Rattle.atlas_sheet.proofs.GroupSteps.{none_says}
 use Rattle.atlas_sheet.proofs.groups.plain_step.Goals as goal
 
-pub plain_sheet-requires-clause-packable : goal.plain_sheet-requires-clause-packable
-plain_sheet-requires-clause-packable g c =
-    subst (All (IsPackable (spacing_of c.args.options.now))) (sym c.deref.ensures.value)
-    (so_packable c.args.options.now c.args.sprites.now c.args.groups.now c.args.so_far.sizes.items c.args.so_far.places.items c.args.so_far.left.items c.args.so_far.kept.items
-    c.requires.so_far (IsPackable (spacing_of c.args.options.now)) c.requires.packable)
+pub plain_sheet-requires-clause-good : goal.plain_sheet-requires-clause-good
+plain_sheet-requires-clause-good g c =
+    subst (CanPack c.args.options.now) (sym c.deref.ensures.value)
+    (so_can_pack c.args.options.now c.args.sprites.now c.args.groups.now c.args.so_far.sizes.items c.args.so_far.places.items c.args.so_far.left.items c.args.so_far.kept.items
+    c.requires.so_far c.requires.good)
 
 pub plain_sheet-requires-clause-some : goal.plain_sheet-requires-clause-some
 plain_sheet-requires-clause-some g c = subst (λ ls. 0 < length ls) (sym c.deref.ensures.value) c.requires.some
