@@ -2,16 +2,16 @@
 use Rattle.std.proofs.Common.{◌≡◌, ◌<◌, ◌⊎◌, ℕ, Bool, inl, inr, List, length, map, All, Option, Some, None, IfNone, IsSome, is_some, refl, ap, sym, subst, ◌∙◌, arith}
 use Rattle.std.proofs.lemmas.List.Elements.{All-weaker}
 use Rattle.guillotiere.specs.declared.Size.{Size}
-use Rattle.guillotiere.specs.declared.Rectangle.{Rectangle}
 use Rattle.guillotiere.specs.Boxes.{Sides}
+use Rattle.guillotiere.specs.Pixels.{sides_of}
+use Rattle.atlas_sheet.specs.declared.choosing.Chosen.{Chosen}
 use Rattle.atlas_sheet.specs.declared.options.SheetOptions.{SheetOptions}
 use Rattle.atlas_sheet.specs.declared.placed.Placed.{Placed}
-use Rattle.atlas_sheet.specs.declared.ways.Choice.{Choice}
 use Rattle.atlas_sheet.specs.declared.ways.TheConstants.{WAYS}
 use Rattle.atlas_sheet.specs.Allowances.{IsAllowed}
 use Rattle.atlas_sheet.specs.Dense.{IsNoLargerThanWays, NoWayFinds}
 use Rattle.atlas_sheet.specs.Grouping.{AreChosen, IsClosed, IsGroupPage, picked, spread, those_placed}
-use Rattle.atlas_sheet.specs.Lying.{IsArrangement, IsShown, areas_of}
+use Rattle.atlas_sheet.specs.Lying.{IsArranged, IsShown, areas_of}
 use Rattle.atlas_sheet.specs.Packings.{NoneIsFound}
 use Rattle.atlas_sheet.specs.Paging.{IsPage}
 use Rattle.atlas_sheet.specs.Settings.{spacing_of}
@@ -31,14 +31,14 @@ pub none_plainly : {T : Type 0} (found : Option T) (o : SheetOptions) (sprites :
 none_plainly None o sprites none = plain_none o sprites none
 none_plainly (Some t) o sprites none = tt
 
-pub are_chosen : (o : SheetOptions) (sprites some : List Size) (groups : List (Option ℕ)) (row : List Bool) (sheet : Sides) (choice : Choice)
-    (lying : List Size) (order : List (ℕ × Size)) (places : List (Option Rectangle)) → some ≡ picked row sprites → length row ≡ length sprites
-    → IsClosed groups row → IsArrangement sheet (spacing_of o) o.turn some choice lying order places → IsAllowed o.allowed sheet → All IsSome places
-    → AreChosen o sprites groups row sheet choice lying order places
-are_chosen o sprites some groups row sheet choice lying order places some_is long closed arranged allowed whole = record {
+pub are_chosen : {A : Type 0} (o : SheetOptions) (sprites some : List Size) (groups : List (Option ℕ)) (chosen : Chosen A)
+    → some ≡ picked chosen.row.items sprites → length chosen.row.items ≡ length sprites → IsClosed groups chosen.row.items
+    → IsArranged o some chosen.page → IsAllowed o.allowed (sides_of chosen.page.size) → All IsSome chosen.page.places.items
+    → AreChosen o sprites groups chosen
+are_chosen o sprites some groups chosen some_is long closed arranged allowed whole = record {
   long = long;
   closed = closed;
-  arranged = subst (λ ss. IsArrangement sheet (spacing_of o) o.turn ss choice lying order places) some_is arranged;
+  arranged = subst (λ ss. IsArranged o ss chosen.page) some_is arranged;
   allowed = allowed;
   whole = whole;
 }

@@ -17,8 +17,8 @@ use Rattle.atlas_sheet.specs.Paging.{OneIsTooLarge, holes, put_on, sprites_left}
 use Rattle.atlas_sheet.proofs.GroupSteps.{all_together, as_next, begun_same, fewer_kept, group_good, groups_without, together_put, waiting_long, without_same}
 use Rattle.atlas_sheet.proofs.PageFinds.{begun_with, can_pack_left, fewer_left, left_holes, left_packable, left_with, more_pages}
 
-module _ (o : SheetOptions) (sprites : List Size) (groups : List (Option ℕ)) (sizes : List Size) (places : List (Option OnPage))
-    (left : List Size) (kept : List (Option ℕ)) (so : AreSoFar o sprites groups sizes places left kept) where
+module _ {o : SheetOptions} {sprites : List Size} {groups : List (Option ℕ)} {sizes : List Size} {places : List (Option OnPage)}
+    {left : List Size} {kept : List (Option ℕ)} (so : AreSoFar o sprites groups sizes places left kept) where
   pub so_holes : length left ≡ holes places
   so_holes = left_holes sprites left places so.are.long so.rest
 

@@ -1,6 +1,6 @@
 -- Sprites that may lie turned by 90 degrees, and what a result says of them.
-use Rattle.std.specs.Prelude.{◌≡◌, ℕ, Bool, true, false, ◌⊎◌, List, map, Option, Some, None, IfSome, IsPermutation}
-use Rattle.std.specs.List.{AllZip, enumerate_from}
+use Rattle.std.specs.Prelude.{◌≡◌, ℕ, Bool, true, false, ◌⊎◌, List, map, Option, Some, None, IfSome}
+use Rattle.std.specs.List.{AllZip}
 use Rattle.guillotiere.specs.declared.Size.{Size}
 use Rattle.guillotiere.specs.declared.Rectangle.{Rectangle}
 use Rattle.guillotiere.specs.Boxes.{Sides}
@@ -11,7 +11,7 @@ use Rattle.atlas_sheet.specs.declared.options.SheetOptions.{SheetOptions}
 use Rattle.atlas_sheet.specs.declared.options.Spacing.{Spacing}
 use Rattle.atlas_sheet.specs.declared.placed.Placed.{Placed}
 use Rattle.atlas_sheet.specs.declared.ways.Choice.{Choice}
-use Rattle.atlas_sheet.specs.Orders.{choice_options}
+use Rattle.atlas_sheet.specs.Orders.{IsOrderOf, choice_options}
 use Rattle.atlas_sheet.specs.Settings.{spacing_of}
 use Rattle.atlas_sheet.specs.Sheets.{ArePlaces, FindPlaces, IsPlaceFor, inner_sides, with_places}
 
@@ -47,7 +47,7 @@ pub record IsArrangement (sheet : Sides) (spacing : Spacing) (turn : Bool) (spri
     (lying : List Size) (order : List (ℕ × Size)) (places : List (Option Rectangle)) : Type 0 where
   pub lies : AllZip (MayLie turn) sprites lying
   pub good : ArePlaces sheet spacing lying places
-  pub permuted : IsPermutation (enumerate_from 0 lying) order
+  pub permuted : IsOrderOf lying order
   pub found : FindPlaces spacing (simple_start (inner_sides spacing sheet) (choice_options spacing choice))
       (with_places places order)
 

@@ -227,8 +227,7 @@ fn all_of<A: Allocator + Copy>(
     requires good { CanPack options.now sprites.now }
     requires long { length row.items ≡ length sprites.now }
     ensures chosen { IfOk result (λ found. IfSome found (λ c. (groups : List (Option ℕ)) → IsClosed groups row.items
-        → AreChosen options.now sprites.now groups c.row.items (sides_of c.page.size) c.page.choice c.page.lying.items
-        c.page.order.items c.page.places.items)) }
+        → AreChosen options.now sprites.now groups c)) }
     ensures unless { IsOkUnless result Memory }
 {
     let some = picked(alloc, &row, sprites)?;
@@ -254,10 +253,8 @@ fn with_group<A: Allocator + Copy>(
 ) -> Result<Chosen<A>, SheetError>
     requires good { CanPack options.now sprites.now }
     requires long { length groups.now ≡ length sprites.now }
-    requires chosen { AreChosen options.now sprites.now groups.now chosen.row.items (sides_of chosen.page.size)
-        chosen.page.choice chosen.page.lying.items chosen.page.order.items chosen.page.places.items }
-    ensures chosen { IfOk result (λ c. AreChosen options.now sprites.now groups.now c.row.items (sides_of c.page.size)
-        c.page.choice c.page.lying.items c.page.order.items c.page.places.items) }
+    requires chosen { AreChosen options.now sprites.now groups.now chosen }
+    ensures chosen { IfOk result (AreChosen options.now sprites.now groups.now) }
     ensures unless { IsOkUnless result Memory }
 {
     let row = row_with(alloc, &chosen.row, group, groups)?;
@@ -277,10 +274,8 @@ fn with_groups<A: Allocator + Copy>(
 ) -> Result<Chosen<A>, SheetError>
     requires good { CanPack options.now sprites.now }
     requires long { length groups.now ≡ length sprites.now }
-    requires chosen { AreChosen options.now sprites.now groups.now first.row.items (sides_of first.page.size)
-        first.page.choice first.page.lying.items first.page.order.items first.page.places.items }
-    ensures chosen { IfOk result (λ c. AreChosen options.now sprites.now groups.now c.row.items (sides_of c.page.size)
-        c.page.choice c.page.lying.items c.page.order.items c.page.places.items) }
+    requires chosen { AreChosen options.now sprites.now groups.now first }
+    ensures chosen { IfOk result (AreChosen options.now sprites.now groups.now) }
     ensures unless { IsOkUnless result Memory }
 {
     let mut chosen = first;
@@ -305,10 +300,8 @@ fn with_singles<A: Allocator + Copy>(
 ) -> Result<Chosen<A>, SheetError>
     requires good { CanPack options.now sprites.now }
     requires long { length groups.now ≡ length sprites.now }
-    requires chosen { AreChosen options.now sprites.now groups.now first.row.items (sides_of first.page.size)
-        first.page.choice first.page.lying.items first.page.order.items first.page.places.items }
-    ensures chosen { IfOk result (λ c. AreChosen options.now sprites.now groups.now c.row.items (sides_of c.page.size)
-        c.page.choice c.page.lying.items c.page.order.items c.page.places.items) }
+    requires chosen { AreChosen options.now sprites.now groups.now first }
+    ensures chosen { IfOk result (AreChosen options.now sprites.now groups.now) }
     ensures unless { IsOkUnless result Memory }
 {
     let mut chosen = first;
@@ -379,8 +372,7 @@ fn sheet_of_chosen<A: Allocator + Copy>(
     chosen: Chosen<A>,
 ) -> Result<OneSheet<A>, SheetError>
     requires good { CanPack options.now sprites.now }
-    requires chosen { AreChosen options.now sprites.now groups.now chosen.row.items (sides_of chosen.page.size)
-        chosen.page.choice chosen.page.lying.items chosen.page.order.items chosen.page.places.items }
+    requires chosen { AreChosen options.now sprites.now groups.now chosen }
     ensures page { IfOk result (λ s. IsGroupPage WAYS options.now sprites.now (sides_of s.size) s.places.items) }
     ensures count { IfOk result (λ s. length s.places.items ≡ length sprites.now) }
     ensures closed { IfOk result (λ s. IsClosed groups.now (map is_some s.places.items)) }
@@ -406,8 +398,7 @@ fn opened<A: Allocator + Copy>(
     requires good { CanPack options.now sprites.now }
     requires long { length groups.now ≡ length sprites.now }
     requires there { HasMember group groups.now }
-    ensures chosen { IfOk result (λ found. IfSome found (λ c. AreChosen options.now sprites.now groups.now c.row.items
-        (sides_of c.page.size) c.page.choice c.page.lying.items c.page.order.items c.page.places.items)) }
+    ensures chosen { IfOk result (λ found. IfSome found (AreChosen options.now sprites.now groups.now)) }
     ensures none { IfOk result (λ found. IfNone found (NoWayFinds options.now (members group groups.now sprites.now))) }
     ensures unless { IsOkUnless result Memory }
 {

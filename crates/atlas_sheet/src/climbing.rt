@@ -1,10 +1,10 @@
 //! Climbing: an order is changed a little, and what fills a sheet no worse stays.
-ghost use Rattle.std.specs.Prelude.{◌≡◌, ◌≤◌, ◌↔◌, All, IfOk, IsOkUnless, IsPermutation, IsSome, IsTrue};
-ghost use Rattle.std.specs.List.{enumerate_from};
+ghost use Rattle.std.specs.Prelude.{◌≡◌, ◌≤◌, ◌↔◌, All, IfOk, IsOkUnless, IsSome, IsTrue};
 ghost use Rattle.guillotiere.specs.Boxes.{IsPositive};
 ghost use Rattle.guillotiere.specs.Pixels.{sides_of};
 ghost use Rattle.atlas_sheet.specs.declared.error.SheetError.TheVariants.{Memory};
 ghost use Rattle.atlas_sheet.specs.Lying.{IsArranged};
+ghost use Rattle.atlas_sheet.specs.Orders.{IsOrderOf};
 ghost use Rattle.atlas_sheet.specs.Settings.{spacing_of};
 ghost use Rattle.atlas_sheet.specs.Sheets.{IsPackable, used_area};
 
@@ -38,7 +38,7 @@ pub fn asked_in<A: Allocator + Copy>(
     requires positive { IsPositive (sides_of size) }
     requires aligned { IsPositive (sides_of options.now.alignment) }
     requires packable { All (IsPackable (spacing_of options.now)) sprites.now }
-    requires permuted { IsPermutation (enumerate_from 0 sprites.now) order.now }
+    requires permuted { IsOrderOf sprites.now order.now }
     ensures arranged { IfOk result (IsArranged options.now sprites.now) }
     ensures size { IfOk result (λ a. a.size ≡ size) }
     ensures unless { IsOkUnless result Memory }
@@ -65,7 +65,7 @@ fn changed<A: Allocator + Copy>(
     requires positive { IsPositive (sides_of from.now.size) }
     requires aligned { IsPositive (sides_of options.now.alignment) }
     requires packable { All (IsPackable (spacing_of options.now)) from.now.lying.items }
-    requires permuted { IsPermutation (enumerate_from 0 from.now.lying.items) from.now.order.items }
+    requires permuted { IsOrderOf from.now.lying.items from.now.order.items }
     ensures arranged { IfOk result (IsArranged options.now from.now.lying.items) }
     ensures size { IfOk result (λ to. to.size ≡ from.now.size) }
     ensures unless { IsOkUnless result Memory }

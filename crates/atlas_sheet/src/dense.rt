@@ -91,8 +91,7 @@ fn sheet_of<A: Allocator + Copy>(
     requires apart { ArePaddedApart (spacing_of options.now) placed.now }
     requires order { IsOrder (length sprites.now) order.now }
     requires larger { IsNoLargerThanWays options.now sprites.now (sides_of size) }
-    ensures whole { IfOk result (λ sheet. IsWholeSheet options.now sprites.now sheet.size sheet.places.items
-        sheet.used_area sheet.order.items) }
+    ensures whole { IfOk result (IsWholeSheet options.now sprites.now) }
     ensures unless { IsOkUnless result Memory }
 {
     let areas = areas(alloc, placed)?;
@@ -128,9 +127,7 @@ fn dense_at<A: Allocator + Copy>(
     requires order { IsOrder (length sprites.now) order.now }
     requires allowed { IsAllowed options.now.allowed (sides_of size) }
     requires larger { IsNoLargerThanWays options.now sprites.now (sides_of size) }
-    ensures whole { IfOk result (λ found. IfSome found (λ sheet.
-        IsWholeSheet options.now sprites.now sheet.size sheet.places.items sheet.used_area
-        sheet.order.items)) }
+    ensures whole { IfOk result (λ found. IfSome found (IsWholeSheet options.now sprites.now)) }
     ensures unless { IsOkUnless result Memory }
 {
     let Some(placed) = topmost_places(alloc, sprites, options, order, size)? else {
@@ -167,13 +164,9 @@ fn denser_at<A: Allocator + Copy>(
     requires packable { All (IsPackable (spacing_of options.now)) sprites.now }
     requires order { IsOrder (length sprites.now) order.now }
     requires allowed { IsAllowed options.now.allowed (sides_of size) }
-    requires best { IfSome best.now (λ sheet.
-        IsWholeSheet options.now sprites.now sheet.size sheet.places.items sheet.used_area
-        sheet.order.items) }
+    requires best { IfSome best.now (IsWholeSheet options.now sprites.now) }
     requires none { IfNone best.now (NoWayFinds options.now sprites.now) }
-    ensures whole { IfOk result (λ found. IfSome found (λ sheet.
-        IsWholeSheet options.now sprites.now sheet.size sheet.places.items sheet.used_area
-        sheet.order.items)) }
+    ensures whole { IfOk result (λ found. IfSome found (IsWholeSheet options.now sprites.now)) }
     ensures unless { IsOkUnless result Memory }
 {
     if pixels_of(size) < sprite_pixels(sprites) {
@@ -207,13 +200,9 @@ fn denser_in_row<A: Allocator + Copy>(
     requires good { CanPack options.now sprites.now }
     requires row { IsRow options.now.allowed }
     requires order { IsOrder (length sprites.now) order.now }
-    requires whole { IfSome first (λ sheet.
-        IsWholeSheet options.now sprites.now sheet.size sheet.places.items sheet.used_area
-        sheet.order.items) }
+    requires whole { IfSome first (IsWholeSheet options.now sprites.now) }
     requires none { IfNone first (NoWayFinds options.now sprites.now) }
-    ensures whole { IfOk result (λ found. IfSome found (λ sheet.
-        IsWholeSheet options.now sprites.now sheet.size sheet.places.items sheet.used_area
-        sheet.order.items)) }
+    ensures whole { IfOk result (λ found. IfSome found (IsWholeSheet options.now sprites.now)) }
     ensures none { IfOk result (λ found. IfNone found
         (NoWayFinds options.now sprites.now)) }
     ensures unless { IsOkUnless result Memory }
@@ -243,9 +232,7 @@ fn next_size<A: Allocator>(
     best: &Option<Sheet<A>>,
 ) -> Option<Size>
     requires usable { IsUsable options.now.allowed }
-    requires best { IfSome best.now (λ sheet.
-        IsWholeSheet options.now sprites.now sheet.size sheet.places.items sheet.used_area
-        sheet.order.items) }
+    requires best { IfSome best.now (IsWholeSheet options.now sprites.now) }
     ensures allowed { IfSome result (λ size. IsAllowed options.now.allowed (sides_of size)) }
     ensures positive { IfSome result (λ size. IsPositive (sides_of size)) }
 {
@@ -265,13 +252,9 @@ fn denser_powers<A: Allocator + Copy>(
 ) -> Result<Option<Sheet<A>>, SheetError>
     requires good { CanPack options.now sprites.now }
     requires order { IsOrder (length sprites.now) order.now }
-    requires whole { IfSome first (λ sheet.
-        IsWholeSheet options.now sprites.now sheet.size sheet.places.items sheet.used_area
-        sheet.order.items) }
+    requires whole { IfSome first (IsWholeSheet options.now sprites.now) }
     requires none { IfNone first (NoWayFinds options.now sprites.now) }
-    ensures whole { IfOk result (λ found. IfSome found (λ sheet.
-        IsWholeSheet options.now sprites.now sheet.size sheet.places.items sheet.used_area
-        sheet.order.items)) }
+    ensures whole { IfOk result (λ found. IfSome found (IsWholeSheet options.now sprites.now)) }
     ensures none { IfOk result (λ found. IfNone found
         (NoWayFinds options.now sprites.now)) }
     ensures unless { IsOkUnless result Memory }
@@ -298,13 +281,9 @@ fn denser<A: Allocator + Copy>(
     first: Option<Sheet<A>>,
 ) -> Result<Option<Sheet<A>>, SheetError>
     requires good { CanPack options.now sprites.now }
-    requires whole { IfSome first (λ sheet.
-        IsWholeSheet options.now sprites.now sheet.size sheet.places.items sheet.used_area
-        sheet.order.items) }
+    requires whole { IfSome first (IsWholeSheet options.now sprites.now) }
     requires none { IfNone first (NoWayFinds options.now sprites.now) }
-    ensures whole { IfOk result (λ found. IfSome found (λ sheet.
-        IsWholeSheet options.now sprites.now sheet.size sheet.places.items sheet.used_area
-        sheet.order.items)) }
+    ensures whole { IfOk result (λ found. IfSome found (IsWholeSheet options.now sprites.now)) }
     ensures none { IfOk result (λ found. IfNone found
         (NoWayFinds options.now sprites.now)) }
     ensures unless { IsOkUnless result Memory }

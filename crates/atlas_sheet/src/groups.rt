@@ -7,7 +7,7 @@ ghost use Rattle.atlas_sheet.specs.declared.error.SheetError.TheVariants.{Memory
 ghost use Rattle.atlas_sheet.specs.declared.ways.TheConstants.{WAYS};
 ghost use Rattle.atlas_sheet.specs.Allowances.{IsAllowed};
 ghost use Rattle.atlas_sheet.specs.Dense.{NoWayFinds};
-ghost use Rattle.atlas_sheet.specs.Grouping.{AreGroupPages, AreSoFar, HasMember, IsGroupPage, LieTogether, SaysOf};
+ghost use Rattle.atlas_sheet.specs.Grouping.{AreGroupPages, HasMember, IsGroupPage, IsSoFar, LieTogether, SaysOf};
 ghost use Rattle.atlas_sheet.specs.Grouping.{is_in, members};
 ghost use Rattle.atlas_sheet.specs.Grouping.{padded_to, to_do, waiting, without_group};
 ghost use Rattle.atlas_sheet.specs.Paging.{AreUsed, IsOnPage, IsPage, NoPlacesOverlap, OneIsTooLarge, holes, put_on};
@@ -150,14 +150,12 @@ fn after_sheet<A: Allocator + Copy>(
     so_far: SoFar<A>,
     sheet: OneSheet<A>,
 ) -> Result<SoFar<A>, SheetError>
-    requires so_far { AreSoFar options.now sprites.now groups.now so_far.sizes.items so_far.places.items
-        so_far.left.items so_far.kept.items }
+    requires so_far { IsSoFar options.now sprites.now groups.now so_far }
     requires page { IsGroupPage WAYS options.now so_far.left.items (sides_of sheet.size) sheet.places.items }
     requires count { length sheet.places.items ≡ length so_far.left.items }
     requires says { (whether : ℕ → Bool)
         × AllZip (SaysOf whether) (waiting so_far.kept.items so_far.places.items) (map is_some sheet.places.items) }
-    ensures so_far { IfOk result (λ s. AreSoFar options.now sprites.now groups.now s.sizes.items s.places.items
-        s.left.items s.kept.items) }
+    ensures so_far { IfOk result (IsSoFar options.now sprites.now groups.now) }
     ensures less { IfOk result (λ s. to_do s.left.items s.kept.items < to_do so_far.left.items so_far.kept.items) }
     ensures unless { IsOkUnless result Memory }
 {
@@ -174,13 +172,11 @@ fn after_group<A: Allocator + Copy>(
     so_far: SoFar<A>,
     group: usize,
 ) -> Result<SoFar<A>, SheetError>
-    requires so_far { AreSoFar options.now sprites.now groups.now so_far.sizes.items so_far.places.items
-        so_far.left.items so_far.kept.items }
+    requires so_far { IsSoFar options.now sprites.now groups.now so_far }
     requires there { HasMember group (waiting so_far.kept.items so_far.places.items) }
     requires none { NoWayFinds options.now
         (members group (waiting so_far.kept.items so_far.places.items) so_far.left.items) }
-    ensures so_far { IfOk result (λ s. AreSoFar options.now sprites.now groups.now s.sizes.items s.places.items
-        s.left.items s.kept.items) }
+    ensures so_far { IfOk result (IsSoFar options.now sprites.now groups.now) }
     ensures less { IfOk result (λ s. to_do s.left.items s.kept.items < to_do so_far.left.items so_far.kept.items) }
     ensures unless { IsOkUnless result Memory }
 {
@@ -199,12 +195,10 @@ fn group_step<A: Allocator + Copy>(
     group: usize,
 ) -> Result<SoFar<A>, SheetError>
     requires good { CanPack options.now sprites.now }
-    requires so_far { AreSoFar options.now sprites.now groups.now so_far.sizes.items so_far.places.items
-        so_far.left.items so_far.kept.items }
+    requires so_far { IsSoFar options.now sprites.now groups.now so_far }
     requires numbers { numbers.now ≡ waiting so_far.kept.items so_far.places.items }
     requires there { HasMember group numbers.now }
-    ensures so_far { IfOk result (λ s. AreSoFar options.now sprites.now groups.now s.sizes.items s.places.items
-        s.left.items s.kept.items) }
+    ensures so_far { IfOk result (IsSoFar options.now sprites.now groups.now) }
     ensures less { IfOk result (λ s. to_do s.left.items s.kept.items < to_do so_far.left.items so_far.kept.items) }
     ensures unless { IsOkUnless result Memory }
 {
@@ -224,12 +218,10 @@ fn plain_step<A: Allocator + Copy>(
     so_far: SoFar<A>,
 ) -> Result<Option<SoFar<A>>, SheetError>
     requires good { CanPack options.now sprites.now }
-    requires so_far { AreSoFar options.now sprites.now groups.now so_far.sizes.items so_far.places.items
-        so_far.left.items so_far.kept.items }
+    requires so_far { IsSoFar options.now sprites.now groups.now so_far }
     requires some { 0 < length so_far.left.items }
     requires no_group { All IsNone (waiting so_far.kept.items so_far.places.items) }
-    ensures so_far { IfOk result (λ found. IfSome found (λ s. AreSoFar options.now sprites.now groups.now s.sizes.items
-        s.places.items s.left.items s.kept.items)) }
+    ensures so_far { IfOk result (λ found. IfSome found (IsSoFar options.now sprites.now groups.now)) }
     ensures less { IfOk result (λ found. IfSome found (λ s.
         to_do s.left.items s.kept.items < to_do so_far.left.items so_far.kept.items)) }
     ensures none { IfOk result (λ found. IfNone found (OneIsTooLarge options.now sprites.now)) }
@@ -255,11 +247,9 @@ fn step<A: Allocator + Copy>(
 ) -> Result<Option<SoFar<A>>, SheetError>
     requires good { CanPack options.now sprites.now }
     requires long { length groups.now ≡ length sprites.now }
-    requires so_far { AreSoFar options.now sprites.now groups.now so_far.sizes.items so_far.places.items
-        so_far.left.items so_far.kept.items }
+    requires so_far { IsSoFar options.now sprites.now groups.now so_far }
     requires some { 0 < length so_far.left.items }
-    ensures so_far { IfOk result (λ found. IfSome found (λ s. AreSoFar options.now sprites.now groups.now s.sizes.items
-        s.places.items s.left.items s.kept.items)) }
+    ensures so_far { IfOk result (λ found. IfSome found (IsSoFar options.now sprites.now groups.now)) }
     ensures less { IfOk result (λ found. IfSome found (λ s.
         to_do s.left.items s.kept.items < to_do so_far.left.items so_far.kept.items)) }
     ensures none { IfOk result (λ found. IfNone found (OneIsTooLarge options.now sprites.now)) }
@@ -283,8 +273,7 @@ fn begun<A: Allocator + Copy>(
     options: &SheetOptions,
 ) -> Result<SoFar<A>, SheetError>
     requires long { length groups.now ≡ length sprites.now }
-    ensures so_far { IfOk result (λ s. AreSoFar options.now sprites.now groups.now s.sizes.items s.places.items
-        s.left.items s.kept.items) }
+    ensures so_far { IfOk result (IsSoFar options.now sprites.now groups.now) }
     ensures unless { IsOkUnless result Memory }
 {
     let places = vec![in alloc; None; sprites.len()]?;

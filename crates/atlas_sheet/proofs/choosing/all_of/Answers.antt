@@ -1,5 +1,4 @@
 use Rattle.std.proofs.Common.{◌≡◌, ◌∙◌, All, IsSome, ap, rules, subst, sym}
-use Rattle.guillotiere.specs.Pixels.{sides_of}
 use Rattle.atlas_sheet.specs.Grouping.{picked}
 use Rattle.atlas_sheet.specs.Settings.{CanPack}
 use Rattle.atlas_sheet.proofs.GroupFinds.{are_chosen}
@@ -19,5 +18,5 @@ returns-then-is_whole-clause-chosen g c groups closed =
     let some_is : c.deref-3.result.now ≡ picked c.args.row.items c.args.sprites.now =
     c.deref-3.ensures.value ∙ c.in_ok-some.ensures.picked ∙ ap (λ r. picked r c.args.sprites.now) c.deref.ensures.value in
     let whole : All IsSome p.places.items = search (rules, c.is_whole.ensures, c.if-is_whole.true) in
-    are_chosen c.args.options.now c.args.sprites.now c.deref-3.result.now groups c.args.row.items (sides_of p.size) p.choice p.lying.items
-    p.order.items p.places.items some_is c.requires.long closed c.in_ok-page.ensures.arranged c.in_ok-page.ensures.allowed whole
+    are_chosen c.args.options.now c.args.sprites.now c.deref-3.result.now groups _ some_is c.requires.long closed
+    c.in_ok-page.ensures.arranged c.in_ok-page.ensures.allowed whole

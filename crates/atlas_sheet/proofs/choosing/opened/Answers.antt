@@ -1,6 +1,5 @@
 use Rattle.std.proofs.Common.{◌≡◌, ◌∙◌, ap, length, subst, sym}
 use Rattle.std.proofs.lemmas.List.{length-map}
-use Rattle.guillotiere.specs.Pixels.{sides_of}
 use Rattle.atlas_sheet.specs.Dense.{NoWayFinds}
 use Rattle.atlas_sheet.specs.Grouping.{IsClosed, is_in, picked}
 use Rattle.atlas_sheet.specs.Settings.{CanPack}
@@ -19,12 +18,11 @@ plainly_packed-requires g c =
 
 pub returns-in-Some-clause-chosen : goal.returns-in-Some-clause-chosen
 returns-in-Some-clause-chosen g c =
-    let p = c.in-Some.page in
     let row = c.in_ok-row.row.items in
     let some_is : c.deref-2.result.now ≡ picked row c.args.sprites.now =
     c.deref-2.ensures.value ∙ c.in_ok-some.ensures.picked ∙ ap (λ r. picked r c.args.sprites.now) c.deref.ensures.value in
-    are_chosen c.args.options.now c.args.sprites.now c.deref-2.result.now c.args.groups.now row (sides_of p.size) p.choice p.lying.items p.order.items
-    p.places.items some_is (ap length c.in_ok-row.ensures.row ∙ length-map c.args.groups.now (is_in c.args.group) ∙ c.requires.long)
+    are_chosen c.args.options.now c.args.sprites.now c.deref-2.result.now c.args.groups.now _ some_is
+    (ap length c.in_ok-row.ensures.row ∙ length-map c.args.groups.now (is_in c.args.group) ∙ c.requires.long)
     (subst (IsClosed c.args.groups.now) (sym c.in_ok-row.ensures.row) (closed_in c.args.group c.args.groups.now c.requires.there))
     (rw c.in-Some.is at c.in_ok-found.ensures.arranged) (rw c.in-Some.is at c.in_ok-found.ensures.allowed)
     (rw c.in-Some.is at c.in_ok-found.ensures.whole)

@@ -5,7 +5,7 @@ use Rattle.atlas_sheet.proofs.dense.denser_in_row.Given as goal
 
 abbrev pub invariant-loop-low : goal.invariant-loop-low
 invariant-loop-low g l = record {
-  best : IfSome l.best (λ sheet. IsWholeSheet l.options l.sprites sheet.size sheet.places.items sheet.used_area sheet.order.items);
+  best : IfSome l.best (IsWholeSheet l.options l.sprites);
   none : IfNone l.best (NoWayFinds l.options l.sprites);
   inside : l.high ≤ row_length l.options.allowed;
 }

@@ -9,13 +9,11 @@ use Rattle.atlas_sheet.proofs.groups.group_step.Goals as goal
 pub group_sheet-requires-clause-good : goal.group_sheet-requires-clause-good
 group_sheet-requires-clause-good g c =
     subst (CanPack c.args.options.now) (sym c.deref.ensures.value)
-    (so_can_pack c.args.options.now c.args.sprites.now c.args.groups.now c.args.so_far.sizes.items c.args.so_far.places.items c.args.so_far.left.items c.args.so_far.kept.items
-    c.requires.so_far c.requires.good)
+    (so_can_pack c.requires.so_far c.requires.good)
 
 pub group_sheet-requires-clause-long : goal.group_sheet-requires-clause-long
 group_sheet-requires-clause-long g c =
-    ap length c.requires.numbers ∙ numbers_long c.args.options.now c.args.sprites.now c.args.groups.now c.args.so_far.sizes.items c.args.so_far.places.items c.args.so_far.left.items c.args.so_far.kept.items
-    c.requires.so_far ∙ ap length (sym c.deref.ensures.value)
+    ap length c.requires.numbers ∙ numbers_long c.requires.so_far ∙ ap length (sym c.deref.ensures.value)
 
 pub after_sheet-requires-clause-page : goal.after_sheet-requires-clause-page
 after_sheet-requires-clause-page g c = rw c.deref.ensures.value at (rw c.in-Some.is at c.in_ok-found.ensures.page)

@@ -10,8 +10,7 @@ use Rattle.atlas_sheet.proofs.groups.plain_step.Goals as goal
 pub plain_sheet-requires-clause-good : goal.plain_sheet-requires-clause-good
 plain_sheet-requires-clause-good g c =
     subst (CanPack c.args.options.now) (sym c.deref.ensures.value)
-    (so_can_pack c.args.options.now c.args.sprites.now c.args.groups.now c.args.so_far.sizes.items c.args.so_far.places.items c.args.so_far.left.items c.args.so_far.kept.items
-    c.requires.so_far c.requires.good)
+    (so_can_pack c.requires.so_far c.requires.good)
 
 pub plain_sheet-requires-clause-some : goal.plain_sheet-requires-clause-some
 plain_sheet-requires-clause-some g c = subst (λ ls. 0 < length ls) (sym c.deref.ensures.value) c.requires.some
@@ -28,13 +27,11 @@ after_sheet-requires-clause-says g c =
     let count : length places ≡ length c.args.so_far.left.items = (rw c.in-Some.is at c.in_ok-found.ensures.count) ∙ ap length c.deref.ensures.value in (
       (λ n. false),
       none_says (λ n. false) (waiting c.args.so_far.kept.items c.args.so_far.places.items) (map is_some places)
-          (length-map places is_some ∙ count ∙ sym (numbers_long c.args.options.now c.args.sprites.now c.args.groups.now c.args.so_far.sizes.items c.args.so_far.places.items c.args.so_far.left.items c.args.so_far.kept.items
-          c.requires.so_far))
+          (length-map places is_some ∙ count ∙ sym (numbers_long c.requires.so_far))
           c.requires.no_group,
     )
 
 pub returns-in-None-clause-none : goal.returns-in-None-clause-none
 returns-in-None-clause-none g c =
-    left_large c.args.options.now c.args.sprites.now c.args.groups.now c.args.so_far.sizes.items c.args.so_far.places.items c.args.so_far.left.items c.args.so_far.kept.items
-    c.requires.so_far
+    left_large c.requires.so_far
     (subst (OneIsTooLarge c.args.options.now) c.deref.ensures.value (rw c.in-None.is at c.in_ok-found.ensures.none))
