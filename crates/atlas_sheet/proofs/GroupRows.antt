@@ -142,8 +142,10 @@ all_picked P (false ∷ row) (x ∷ xs) each = all_picked P row xs (All-tail P x
 pub can_pack_picked : (o : SheetOptions) (row : List Bool) (sprites : List Size) → CanPack o sprites → CanPack o (picked row sprites)
 can_pack_picked o row sprites can = record {
   usable = can.usable;
-  aligned = can.aligned;
-  packable = all_picked (IsPackable (spacing_of o)) row sprites can.packable;
+  placing = record {
+    aligned = can.placing.aligned;
+    packable = all_picked (IsPackable (spacing_of o)) row sprites can.placing.packable;
+  };
 }
 
 -- What is spread, of which each is there, stands where the row says so, and nowhere else.

@@ -149,8 +149,7 @@ module _ (sprites left : List Size) (places : List (Option OnPage)) (long : leng
   pub can_pack_left : (o : SheetOptions) → CanPack o sprites → CanPack o left
   can_pack_left o can = record {
     usable = can.usable;
-    aligned = can.aligned;
-    packable = left_packable (IsPackable (spacing_of o)) can.packable;
+    placing = record { aligned = can.placing.aligned; packable = left_packable (IsPackable (spacing_of o)) can.placing.packable };
   }
 
   module _ (n : ℕ) (found : List (Option Placed)) (count : length found ≡ length left) (put : List (Option OnPage))

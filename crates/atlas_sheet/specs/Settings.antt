@@ -1,5 +1,5 @@
 -- What is read out of the options, and what is wrong with what was asked.
-use Rattle.std.specs.Prelude.{⊤, pos, List, All}
+use Rattle.std.specs.Prelude.{⊤, pos, List}
 use Rattle.guillotiere.specs.declared.Size.{Size}
 use Rattle.guillotiere.specs.Boxes.{IsPositive}
 use Rattle.guillotiere.specs.Pixels.{sides_of}
@@ -9,7 +9,7 @@ use Rattle.atlas_sheet.specs.declared.options.SheetOptions.{SheetOptions}
 use Rattle.atlas_sheet.specs.declared.options.Spacing.{Spacing}
 use Rattle.atlas_sheet.specs.Allowances.{IsAllowanceFault, IsUsable}
 use Rattle.atlas_sheet.specs.Fillings.{HasFault}
-use Rattle.atlas_sheet.specs.Sheets.{IsPackable}
+use Rattle.atlas_sheet.specs.Sheets.{CanPlace}
 
 -- The padding and the alignment.
 abbrev pub spacing_of : SheetOptions → Spacing
@@ -19,11 +19,10 @@ spacing_of o = record { padding = o.padding; alignment = o.alignment }
 abbrev pub plain_spacing : Spacing
 plain_spacing = record { padding = 0; alignment = record { width = pos 1; height = pos 1 } }
 
--- The options are good, and none of the sprites is empty or too large.
+-- A sheet is allowed, and the sprites can be placed.
 pub record CanPack (o : SheetOptions) (sprites : List Size) : Type 0 where
   pub usable : IsUsable o.allowed
-  pub aligned : IsPositive (sides_of o.alignment)
-  pub packable : All (IsPackable (spacing_of o)) sprites
+  pub placing : CanPlace (spacing_of o) sprites
 
 -- What an error says of the options or of a sprite.
 abbrev pub IsSheetFault : SheetOptions → List Size → SheetError → Type 0

@@ -1,7 +1,7 @@
 -- Sheets of sprites: what the places on a sheet keep to, and how sprites find them.
 use Rattle.std.specs.Prelude.{◌≡◌, ℕ, ◌+◌, ◌-◌, ◌%◌, ◌≤◌, max, ⊤, Bool, false, List, [], ◌∷◌, map, length}
 use Rattle.std.specs.Prelude.{slice_index_or}
-use Rattle.std.specs.Prelude.{Option, Some, None, IfSome}
+use Rattle.std.specs.Prelude.{Option, Some, None, IfSome, All}
 use Rattle.std.specs.List.{AllZip, count_by, sum_by}
 use Rattle.guillotiere.specs.declared.Size.{Size}
 use Rattle.guillotiere.specs.declared.Rectangle.{Rectangle}
@@ -19,6 +19,11 @@ pub record IsPackable (spacing : Spacing) (sprite : Size) : Type 0 where
   pub positive : IsPositive (sides_of sprite)
   pub wide : (sides_of sprite).width + spacing.padding + spacing.padding ≤ 2147483647
   pub high : (sides_of sprite).height + spacing.padding + spacing.padding ≤ 2147483647
+
+-- The alignment is positive, and none of the sprites is empty or too large.
+pub record CanPlace (spacing : Spacing) (sprites : List Size) : Type 0 where
+  pub aligned : IsPositive (sides_of spacing.alignment)
+  pub packable : All (IsPackable spacing) sprites
 
 -- A place with its padding at the left and above.
 abbrev pub padded : (padding : ℕ) → Rectangle → Box

@@ -33,7 +33,7 @@ returns-then-is_bare-clause-none g c =
     c.deref-in-loop-left.ensures.value p.size a.size c.in_ok-page.ensures.size p.order.items p.places.items a.places.items
     c.in_ok-page.ensures.shown c.in_ok-page.ensures.areas c.in_ok-next.ensures.kind sprites c.loop-left.places.items (omega arith) before.left
     (some_left left.len left.items c.is_empty.result left.ok.0 c.is_empty.ensures c.loop-left-test.true)
-    (left_packable sprites left.items c.loop-left.places.items before.are.long before.left (IsPackable (spacing_of c.args.options.now)) c.requires.packable)
+    (left_packable sprites left.items c.loop-left.places.items before.are.long before.left (IsPackable (spacing_of c.args.options.now)) c.requires.placing.packable)
     (subst (All IsNone) c.deref-in-loop-left-2.ensures.value bare)
 
 pub put_on-requires : goal.put_on-requires

@@ -15,4 +15,4 @@ returns-clause-arranged g c =
     rebased c.args.sprites.now lying c.in_ok-lying.ensures.lies
     (arranged_as_given size spacing turn lying f.way.choice f.found.order.items f.found.places.items
     (allowed_positive c.args.options.now.allowed size c.requires.good.usable c.requires.greatest.allowed)
-    c.requires.good.aligned c.in_ok-lying.ensures.packable best.found.permuted best.found.count best.found.found)
+    c.requires.good.placing.aligned c.in_ok-lying.ensures.good.packable best.found.permuted best.found.count best.found.found)
