@@ -4,8 +4,8 @@ use Rattle.std.proofs.lemmas.List.{take_all, take_more}
 use Rattle.std.proofs.lemmas.List.Elements.{All-append, All-contains, All-contains_itself, All-push, All-weaker, Contains-append_left, Contains-append_right, Contains-get_or, Contains-push, Contains-push_cases}
 use Rattle.atlas_model.specs.Boxes.{Box, IsInside, IsNonempty}
 use Rattle.atlas_maxrects.specs.declared.free.FreeBox.{FreeBox}
-use Rattle.atlas_maxrects.specs.Free.{AreLeft, AreParts, IsLeft, IsPart, LiesInOne, free_box}
-use Rattle.atlas_maxrects.specs.Placing.{AreApart}
+use Rattle.atlas_maxrects.specs.Free.{AddsParts, AreLeftOver, IsLeftOver, IsPart, LiesInOne, free_box}
+use Rattle.atlas_maxrects.specs.Placing.{LieApart}
 
 pub inside_both : (a b c : Box) → IsInside a b → IsInside b c → IsInside a c
 inside_both a b c p q = grind arith
@@ -52,7 +52,7 @@ pub parts_added : (whole taken : FreeBox) (right left bottom top : ℕ) (a b c d
     → IsAdded b (record { left = left; top = whole.top; right = whole.right; bottom = whole.bottom }) c
     → IsAdded c (record { left = whole.left; top = whole.top; right = whole.right; bottom = bottom }) d
     → IsAdded d (record { left = whole.left; top = top; right = whole.right; bottom = whole.bottom }) e
-    → AreParts a whole taken e
+    → AddsParts a whole taken e
 parts_added whole taken right left bottom top a b c d e r l u v one two three four =
     let P : FreeBox → Type 0 = λ f. Contains a f ⊎ IsPart whole taken f in
     record {
@@ -75,9 +75,9 @@ parts_added whole taken right left bottom top a b c d e r l u v one two three fo
 
 -- Free boxes one after another: those before i gave way to some far from the taken box, and to parts of others.
 pub record AreLeaving (free : List FreeBox) (taken : FreeBox) (i : ℕ) (xs ys : List FreeBox) : Type 0 where
-  pub far : All (λ f. IsLeft free taken (free_box f)) xs
-  pub near : All (λ f. IsLeft free taken (free_box f)) ys
-  pub complete : (b : Box) → IsNonempty b → IsLeft (take i free) taken b → LiesInOne xs b ⊎ LiesInOne ys b
+  pub far : All (λ f. IsLeftOver free taken (free_box f)) xs
+  pub near : All (λ f. IsLeftOver free taken (free_box f)) ys
+  pub complete : (b : Box) → IsNonempty b → IsLeftOver (take i free) taken b → LiesInOne xs b ⊎ LiesInOne ys b
 
 -- What lies in one of the first i + 1.
 taken_cases : (free : List FreeBox) (i : ℕ) (d : FreeBox) (b : Box) → i < length free → LiesInOne (take (i + 1) free) b
@@ -86,12 +86,12 @@ taken_cases free i d b below lies =
     lies_cases (take i free) (get_or free i d) b (subst (λ xs. LiesInOne xs b) (take_more free i d below) lies)
 
 pub leaving_far : (free : List FreeBox) (taken : FreeBox) (i : ℕ) (far near : List FreeBox) (d : FreeBox)
-    → i < length free → AreApart (free_box (get_or free i d)) (free_box taken) → AreLeaving free taken i far near
+    → i < length free → LieApart (free_box (get_or free i d)) (free_box taken) → AreLeaving free taken i far near
     → AreLeaving free taken (i + 1) (far ++ get_or free i d ∷ []) near
 leaving_far free taken i far near d below apart before =
     let f = get_or free i d in
     record {
-      far = All-push (λ g. IsLeft free taken (free_box g)) far f before.far
+      far = All-push (λ g. IsLeftOver free taken (free_box g)) far f before.far
           ((f, Contains-get_or free i d below, (omega arith, omega arith, omega arith, omega arith)), apart);
       near = before.near;
       complete = λ b some is. elim (taken_cases free i d b below is.0) [
@@ -103,15 +103,15 @@ leaving_far free taken i far near d below apart before =
       ];
     }
 
-near_left : (free : List FreeBox) (taken f g : FreeBox) → Contains free f → IsPart f taken g → IsLeft free taken (free_box g)
+near_left : (free : List FreeBox) (taken f g : FreeBox) → Contains free f → IsPart f taken g → IsLeftOver free taken (free_box g)
 near_left free taken f g has part = ((f, has, part.0), part.1)
 
 pub leaving_near : (free : List FreeBox) (taken : FreeBox) (i : ℕ) (far near next : List FreeBox) (d : FreeBox)
-    → i < length free → AreParts near (get_or free i d) taken next → AreLeaving free taken i far near
+    → i < length free → AddsParts near (get_or free i d) taken next → AreLeaving free taken i far near
     → AreLeaving free taken (i + 1) far next
 leaving_near free taken i far near next d below parts before =
     let f = get_or free i d in
-    let P : FreeBox → Type 0 = λ g. IsLeft free taken (free_box g) in
+    let P : FreeBox → Type 0 = λ g. IsLeftOver free taken (free_box g) in
     record {
       far = before.far;
       near = All-weaker (λ g. Contains near g ⊎ IsPart f taken g) P
@@ -130,10 +130,10 @@ leaving_near free taken i far near next d below parts before =
     }
 
 pub all_left : (free : List FreeBox) (taken : FreeBox) (i : ℕ) (far near : List FreeBox) → length free ≤ i
-    → AreLeaving free taken i far near → AreLeft free taken (far ++ near)
+    → AreLeaving free taken i far near → AreLeftOver free taken (far ++ near)
 all_left free taken i far near end before =
     record {
-      every = All-append (λ f. IsLeft free taken (free_box f)) far near before.far before.near;
+      every = All-append (λ f. IsLeftOver free taken (free_box f)) far near before.far before.near;
       complete = λ b some is. elim (before.complete b some
           (subst (λ xs. LiesInOne xs b) (sym (take_all i free end)) is.0, is.1)) [
             | inl there ↦ lies_left far near b there

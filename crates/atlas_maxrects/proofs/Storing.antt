@@ -11,21 +11,21 @@ use Rattle.atlas_model.proofs.ListLemmas.Counting.{count_by-append, count_by-con
 use Rattle.atlas_model.proofs.TreeLemmas.TreeBasics.{one_if}
 use Rattle.atlas_maxrects.specs.declared.free.FreeBox.{FreeBox}
 use Rattle.atlas_maxrects.specs.declared.corners.Corner.{Corner}
-use Rattle.atlas_maxrects.specs.Free.{AreLeft, IsBestCorner, IsLeft, IsStored, LiesInOne, corner_of, free_box, placing}
-use Rattle.atlas_maxrects.specs.Placing.{AreApart, HasNoPlace, IsFree, IsTopmost, PlacesTopmost, Placing}
+use Rattle.atlas_maxrects.specs.Free.{AreLeftOver, IsBestCorner, IsLeftOver, IsStored, LiesInOne, corner_position, free_box, placing}
+use Rattle.atlas_maxrects.specs.Placing.{HasNoPlace, IsFree, IsTopmost, LieApart, PlacesTopmost, Placing}
 
 -- Boxes that lie apart have no common unit square.
-covers_one : (x y : ℕ) (b c : Box) → AreApart b c → covers x y b ≡ true → covers x y c ≡ false
+covers_one : (x y : ℕ) (b c : Box) → LieApart b c → covers x y b ≡ true → covers x y c ≡ false
 covers_one x y b c apart has = grind arith
 
-none_covers : (x y : ℕ) (t : Box) (bs : List Box) → All (AreApart t) bs → covers x y t ≡ true
+none_covers : (x y : ℕ) (t : Box) (bs : List Box) → All (LieApart t) bs → covers x y t ≡ true
     → count_by (covers x y) bs ≡ 0
 none_covers x y t [] all has = refl
 none_covers x y t (b ∷ bs) all has =
-    let first : covers x y b ≡ false = covers_one x y t b (All-head (AreApart t) b bs all) has in
+    let first : covers x y b ≡ false = covers_one x y t b (All-head (LieApart t) b bs all) has in
     count_by-cons (covers x y) b bs
     ∙ ap (λ k. one_if k + count_by (covers x y) bs) first
-    ∙ (let rest = none_covers x y t bs (All-tail (AreApart t) b bs all) has in omega (arith, rest))
+    ∙ (let rest = none_covers x y t bs (All-tail (LieApart t) b bs all) has in omega (arith, rest))
 
 one_at_most : (p : Bool) → one_if p ≤ 1
 one_at_most true = omega arith
@@ -37,23 +37,23 @@ last_count x y t bs =
     count_by-append (covers x y) bs (t ∷ [])
     ∙ ap (λ k. count_by (covers x y) bs + k) (count_by-cons (covers x y) t [] ∙ omega arith)
 
-push_counts : (bs : List Box) (t : Box) (x y : ℕ) (p : Bool) → covers x y t ≡ p → All (AreApart t) bs
+push_counts : (bs : List Box) (t : Box) (x y : ℕ) (p : Bool) → covers x y t ≡ p → All (LieApart t) bs
     → count_by (covers x y) bs ≤ 1 → count_by (covers x y) bs + one_if p ≤ 1
 push_counts bs t x y true has apart few = let none = none_covers x y t bs apart has in omega (arith, none)
 push_counts bs t x y false has apart few = omega (arith, few)
 
-pub disjoint_push : (bs : List Box) (t : Box) → AreDisjoint bs → All (AreApart t) bs → AreDisjoint (bs ++ t ∷ [])
+pub disjoint_push : (bs : List Box) (t : Box) → AreDisjoint bs → All (LieApart t) bs → AreDisjoint (bs ++ t ∷ [])
 disjoint_push bs t few apart x y =
     subst (λ k. k ≤ 1) (sym (last_count x y t bs)) (push_counts bs t x y (covers x y t) refl apart (few x y))
 
-apart_inside : (b c d : Box) → IsInside b c → AreApart c d → AreApart b d
+apart_inside : (b c d : Box) → IsInside b c → LieApart c d → LieApart b d
 apart_inside b c d inside apart = grind arith
 
 -- A box inside a free one is free.
 free_inside : (s : Placing) (b c : Box) → IsInside b c → IsFree s c → IsFree s b
 free_inside s b c inside free = (
   (omega (arith, free.0), omega (arith, free.0)),
-  All-weaker (AreApart c) (AreApart b) (λ d. apart_inside b c d inside) s.placed free.1,
+  All-weaker (LieApart c) (LieApart b) (λ d. apart_inside b c d inside) s.placed free.1,
 )
 
 lies_free : (s : Placing) (free : List FreeBox) (b : Box) → All (λ f. IsFree s (free_box f)) free → LiesInOne free b
@@ -65,7 +65,7 @@ sides_some : (q : Position) (s : Sides) → IsPositive s → IsNonempty (box_at 
 sides_some q s positive = (omega arith, omega arith)
 
 pub best_topmost : (sheet : Sides) (free : List FreeBox) (placed : List Rectangle) (s : Sides) (c : Corner) → IsPositive s
-    → IsStored sheet free placed → IsBestCorner free s (Some c) → IsTopmost (placing sheet placed) s (corner_of c)
+    → IsStored sheet free placed → IsBestCorner free s (Some c) → IsTopmost (placing sheet placed) s (corner_position c)
 best_topmost sheet free placed s c positive stored best = record {
   free = lies_free (placing sheet placed) free _ stored.every best.0;
   first = λ q is. best.1 q (stored.complete _ (sides_some q s positive) is);
@@ -81,10 +81,10 @@ last_placed : (placed : List Rectangle) (r : Rectangle) → map box_of (placed +
 last_placed placed r = map-append box_of placed (r ∷ [])
 
 free_more : (sheet : Sides) (placed : List Rectangle) (r : Rectangle) (b : Box) → IsFree (placing sheet placed) b
-    → AreApart b (box_of r) → IsFree (placing sheet (placed ++ r ∷ [])) b
+    → LieApart b (box_of r) → IsFree (placing sheet (placed ++ r ∷ [])) b
 free_more sheet placed r b free apart = (
   free.0,
-  subst (All (AreApart b)) (sym (last_placed placed r)) (All-push (AreApart b) (map box_of placed) (box_of r) free.1 apart),
+  subst (All (LieApart b)) (sym (last_placed placed r)) (All-push (LieApart b) (map box_of placed) (box_of r) free.1 apart),
 )
 
 all_before : (P : Box → Type 0) (bs : List Box) (t : Box) → All P (bs ++ t ∷ []) → All P bs
@@ -92,33 +92,33 @@ all_before P bs t all =
     All-weaker (Contains bs) P (λ b has. All-contains P (bs ++ t ∷ []) b all (Contains-append_left bs (t ∷ []) b has)) bs
     (All-contains_itself bs)
 
-free_before : (sheet : Sides) (placed : List Rectangle) (r : Rectangle) (b : Box)
-    → IsFree (placing sheet (placed ++ r ∷ [])) b → IsFree (placing sheet placed) b × AreApart b (box_of r)
-free_before sheet placed r b free =
-    let all = subst (All (AreApart b)) (last_placed placed r) free.1 in (
-      (free.0, all_before (AreApart b) (map box_of placed) (box_of r) all),
-      All-contains (AreApart b) (map box_of placed ++ box_of r ∷ []) (box_of r) all (Contains-push (map box_of placed) (box_of r)),
+free_earlier : (sheet : Sides) (placed : List Rectangle) (r : Rectangle) (b : Box)
+    → IsFree (placing sheet (placed ++ r ∷ [])) b → IsFree (placing sheet placed) b × LieApart b (box_of r)
+free_earlier sheet placed r b free =
+    let all = subst (All (LieApart b)) (last_placed placed r) free.1 in (
+      (free.0, all_before (LieApart b) (map box_of placed) (box_of r) all),
+      All-contains (LieApart b) (map box_of placed ++ box_of r ∷ []) (box_of r) all (Contains-push (map box_of placed) (box_of r)),
     )
 
 left_free : (sheet : Sides) (free : List FreeBox) (placed : List Rectangle) (t f : FreeBox) (r : Rectangle)
-    → box_of r ≡ free_box t → IsStored sheet free placed → IsLeft free t (free_box f)
+    → box_of r ≡ free_box t → IsStored sheet free placed → IsLeftOver free t (free_box f)
     → IsFree (placing sheet (placed ++ r ∷ [])) (free_box f)
 left_free sheet free placed t f r same stored (lies, apart) =
     free_more sheet placed r (free_box f) (lies_free (placing sheet placed) free (free_box f) stored.every lies)
-    (subst (AreApart (free_box f)) (sym same) apart)
+    (subst (LieApart (free_box f)) (sym same) apart)
 
 pub stored_more : (sheet : Sides) (free rest : List FreeBox) (placed : List Rectangle) (t : FreeBox) (r : Rectangle)
-    → box_of r ≡ free_box t → IsExact r → IsStored sheet free placed → LiesInOne free (free_box t) → AreLeft free t rest
+    → box_of r ≡ free_box t → IsExact r → IsStored sheet free placed → LiesInOne free (free_box t) → AreLeftOver free t rest
     → IsStored sheet rest (placed ++ r ∷ [])
 stored_more sheet free rest placed t r same exact stored lies left =
     let here : IsFree (placing sheet placed) (box_of r) =
     subst (IsFree (placing sheet placed)) (sym same) (lies_free (placing sheet placed) free (free_box t) stored.every lies) in
     record {
-      every = All-weaker (λ f. IsLeft free t (free_box f)) (λ f. IsFree (placing sheet (placed ++ r ∷ [])) (free_box f))
+      every = All-weaker (λ f. IsLeftOver free t (free_box f)) (λ f. IsFree (placing sheet (placed ++ r ∷ [])) (free_box f))
           (λ f is. left_free sheet free placed t f r same stored is) rest left.every;
       complete = λ b some is.
-          let before = free_before sheet placed r b is in
-          left.complete b some (stored.complete b some before.0, subst (AreApart b) same before.1);
+          let before = free_earlier sheet placed r b is in
+          left.complete b some (stored.complete b some before.0, subst (LieApart b) same before.1);
       small = stored.small;
       within = All-push (λ r. IsWithin sheet (box_of r)) placed r stored.within here.0;
       apart = subst AreDisjoint (sym (last_placed placed r)) (disjoint_push (map box_of placed) (box_of r) stored.apart here.1);
@@ -161,12 +161,12 @@ places_none sheet now free placed v s t view stored same sides best = (
 
 pub places_some : (sheet : Sides) (now free : List FreeBox) (placed items : List Rectangle) (v : Placing) (s t : Sides)
     (c : Corner) (r : Rectangle) → placing sheet placed ≡ v → IsStored sheet free placed → IsPositive t
-    → now ≡ free → s ≡ t → IsBestCorner now s (Some c) → box_of r ≡ box_at (corner_of c) s → IsExact r
+    → now ≡ free → s ≡ t → IsBestCorner now s (Some c) → box_of r ≡ box_at (corner_position c) s → IsExact r
     → items ≡ placed ++ r ∷ [] → PlacesTopmost v t (Some r) (placing sheet items)
 places_some sheet now free placed items v s t c r view stored positive same sides best at exact more =
     let is = moved_best now free s t (Some c) same sides best in
-    let lies : box_of r ≡ box_at (corner_of c) t = at ∙ ap (box_at (corner_of c)) sides in
-    let corner : (box_of r).min ≡ corner_of c = ap (λ b. b.min) lies in
+    let lies : box_of r ≡ box_at (corner_position c) t = at ∙ ap (box_at (corner_position c)) sides in
+    let corner : (box_of r).min ≡ corner_position c = ap (λ b. b.min) lies in
     let T : Position → Type 0 = λ p. IsTopmost (placing sheet placed) t p in (
       positive,
       subst (λ u. IsTopmost u t (box_of r).min) view (subst T (sym corner) (best_topmost sheet free placed t c positive stored is)),
@@ -177,7 +177,7 @@ places_some sheet now free placed items v s t c r view stored positive same side
 
 pub stored_taken : (sheet : Sides) (now later free rest : List FreeBox) (placed : List Rectangle) (t : FreeBox) (b : Box)
     (r : Rectangle) → now ≡ free → later ≡ free → IsStored sheet free placed → LiesInOne now b → free_box t ≡ b
-    → AreLeft later t rest → box_of r ≡ free_box t → IsExact r → IsStored sheet rest (placed ++ r ∷ [])
+    → AreLeftOver later t rest → box_of r ≡ free_box t → IsExact r → IsStored sheet rest (placed ++ r ∷ [])
 stored_taken sheet now later free rest placed t b r same again stored lies at left is exact =
     stored_more sheet free rest placed t r is exact stored
-    (subst (LiesInOne free) (sym at) (subst (λ f. LiesInOne f b) same lies)) (subst (λ f. AreLeft f t rest) again left)
+    (subst (LiesInOne free) (sym at) (subst (λ f. LiesInOne f b) same lies)) (subst (λ f. AreLeftOver f t rest) again left)

@@ -6,16 +6,16 @@ use Rattle.atlas_model.specs.Pixels.{box_of}
 use Rattle.atlas_model.specs.Replies.{IsExact}
 use Rattle.atlas_maxrects.specs.declared.free.FreeBox.{FreeBox}
 use Rattle.atlas_maxrects.specs.declared.corners.Corner.{Corner}
-use Rattle.atlas_maxrects.specs.Placing.{Placing, AreApart, ComesFirst, IsFree}
+use Rattle.atlas_maxrects.specs.Placing.{IsFree, LieApart, LiesBefore, Placing}
 
 abbrev pub free_box : FreeBox → Box
 free_box f = record { min = record { x = f.left; y = f.top }; max = record { x = f.right; y = f.bottom } }
 
-abbrev pub corner_of : Corner → Position
-corner_of c = record { x = c.x; y = c.y }
+abbrev pub corner_position : Corner → Position
+corner_position c = record { x = c.x; y = c.y }
 
-abbrev pub sides : (width height : ℕ) → Sides
-sides width height = record { width = width; height = height }
+abbrev pub sides_by : (width height : ℕ) → Sides
+sides_by width height = record { width = width; height = height }
 
 -- The box lies inside one of the free boxes.
 abbrev pub LiesInOne : List FreeBox → Box → Type 0
@@ -23,34 +23,34 @@ LiesInOne free b = (f : FreeBox) × Contains free f × IsInside b (free_box f)
 
 -- A box inside a free box that is apart from a taken one.
 abbrev pub IsPart : FreeBox → FreeBox → FreeBox → Type 0
-IsPart whole taken f = IsInside (free_box f) (free_box whole) × AreApart (free_box f) (free_box taken)
+IsPart whole taken f = IsInside (free_box f) (free_box whole) × LieApart (free_box f) (free_box taken)
 
 -- What is left of a free box is added to others.
-pub record AreParts (old : List FreeBox) (whole taken : FreeBox) (new : List FreeBox) : Type 0 where
+pub record AddsParts (old : List FreeBox) (whole taken : FreeBox) (new : List FreeBox) : Type 0 where
   pub kept : (b : Box) → LiesInOne old b → LiesInOne new b
-  pub added : (b : Box) → IsNonempty b → IsInside b (free_box whole) → AreApart b (free_box taken) → LiesInOne new b
+  pub added : (b : Box) → IsNonempty b → IsInside b (free_box whole) → LieApart b (free_box taken) → LiesInOne new b
   pub every : All (λ f. Contains old f ⊎ IsPart whole taken f) new
 
 -- A box inside one of the free boxes, apart from a taken one.
-abbrev pub IsLeft : List FreeBox → FreeBox → Box → Type 0
-IsLeft free taken b = LiesInOne free b × AreApart b (free_box taken)
+abbrev pub IsLeftOver : List FreeBox → FreeBox → Box → Type 0
+IsLeftOver free taken b = LiesInOne free b × LieApart b (free_box taken)
 
 -- What is left of free boxes: each is left, and all that is left lies inside one of them.
-pub record AreLeft (free : List FreeBox) (taken : FreeBox) (left : List FreeBox) : Type 0 where
-  pub every : All (λ f. IsLeft free taken (free_box f)) left
-  pub complete : (b : Box) → IsNonempty b → IsLeft free taken b → LiesInOne left b
+pub record AreLeftOver (free : List FreeBox) (taken : FreeBox) (left : List FreeBox) : Type 0 where
+  pub every : All (λ f. IsLeftOver free taken (free_box f)) left
+  pub complete : (b : Box) → IsNonempty b → IsLeftOver free taken b → LiesInOne left b
 
 -- The better of a corner, if there is one, and another.
 abbrev pub IsBetter : Option Corner → Corner → Corner → Type 0
 IsBetter None other best = best ≡ other
-IsBetter (Some one) other best = ((best ≡ one) × ComesFirst (corner_of one) (corner_of other))
-    ⊎ ((best ≡ other) × (ComesFirst (corner_of one) (corner_of other) → ⊥))
+IsBetter (Some one) other best = ((best ≡ one) × LiesBefore (corner_position one) (corner_position other))
+    ⊎ ((best ≡ other) × (LiesBefore (corner_position one) (corner_position other) → ⊥))
 
 -- Of all corners at which a box of these sides lies inside a free box, the topmost, and of these the leftmost; or none.
 abbrev pub IsBestCorner : List FreeBox → Sides → Option Corner → Type 0
 IsBestCorner free s None = (q : Position) → LiesInOne free (box_at q s) → ⊥
-IsBestCorner free s (Some c) = LiesInOne free (box_at (corner_of c) s)
-    × ((q : Position) → LiesInOne free (box_at q s) → ComesFirst (corner_of c) q)
+IsBestCorner free s (Some c) = LiesInOne free (box_at (corner_position c) s)
+    × ((q : Position) → LiesInOne free (box_at q s) → LiesBefore (corner_position c) q)
 
 -- A sheet with what lies in it.
 abbrev pub placing : Sides → List Rectangle → Placing

@@ -11,22 +11,22 @@ pub record Placing : Type 0 where
   pub placed : List Box
 
 -- The first box lies left of the second, right of it, above it or below it.
-abbrev pub AreApart : Box → Box → Type 0
-AreApart b c =
+abbrev pub LieApart : Box → Box → Type 0
+LieApart b c =
     (b.max.x ≤ c.min.x) ⊎ ((c.max.x ≤ b.min.x) ⊎ ((b.max.y ≤ c.min.y) ⊎ (c.max.y ≤ b.min.y)))
 
 -- A box may lie here: it is inside the sheet, and apart from each box that lies there.
 abbrev pub IsFree : Placing → Box → Type 0
-IsFree s b = IsWithin s.sheet b × All (AreApart b) s.placed
+IsFree s b = IsWithin s.sheet b × All (LieApart b) s.placed
 
 -- The first position is higher up, or as high and no further right.
-abbrev pub ComesFirst : Position → Position → Type 0
-ComesFirst p q = (p.y < q.y) ⊎ ((p.y ≡ q.y) × (p.x ≤ q.x))
+abbrev pub LiesBefore : Position → Position → Type 0
+LiesBefore p q = (p.y < q.y) ⊎ ((p.y ≡ q.y) × (p.x ≤ q.x))
 
 -- Of all positions at which a box of these sides may lie, the topmost, and of these the leftmost.
 pub record IsTopmost (s : Placing) (sides : Sides) (p : Position) : Type 0 where
   pub free : IsFree s (box_at p sides)
-  pub first : (q : Position) → IsFree s (box_at q sides) → ComesFirst p q
+  pub first : (q : Position) → IsFree s (box_at q sides) → LiesBefore p q
 
 -- A box of these sides may lie nowhere.
 abbrev pub HasNoPlace : Placing → Sides → Type 0

@@ -1,7 +1,7 @@
 //! Where a box of some sides may lie in free boxes: the topmost corner, and of these the leftmost.
 ghost use Rattle.std.specs.Prelude.{◌+◌, ◌<◌, ◌≤◌, ◌↔◌, IsTrue};
-ghost use Rattle.atlas_maxrects.specs.Free.{IsBestCorner, IsBetter, corner_of, sides};
-ghost use Rattle.atlas_maxrects.specs.Placing.{ComesFirst};
+ghost use Rattle.atlas_maxrects.specs.Free.{IsBestCorner, IsBetter, corner_position, sides_by};
+ghost use Rattle.atlas_maxrects.specs.Placing.{LiesBefore};
 
 use crate::free::FreeBox;
 
@@ -23,7 +23,7 @@ fn has_room(free: FreeBox, width: u32, height: u32) -> bool
 
 // Whether the first corner is higher up, or as high and no further right.
 fn comes_first(one: Corner, other: Corner) -> bool
-    ensures { IsTrue result ↔ ComesFirst (corner_of one) (corner_of other) }
+    ensures { IsTrue result ↔ LiesBefore (corner_position one) (corner_position other) }
 {
     one.y < other.y || one.y == other.y && one.x <= other.x
 }
@@ -42,7 +42,7 @@ fn better(best: Option<Corner>, other: Corner) -> Corner
 pub fn best_corner(free: &[FreeBox], width: u32, height: u32) -> Option<Corner>
     requires wide { 0 < width }
     requires high { 0 < height }
-    ensures { IsBestCorner free.now (sides width height) result }
+    ensures { IsBestCorner free.now (sides_by width height) result }
 {
     let mut best = None;
     for one in free {

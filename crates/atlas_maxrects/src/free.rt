@@ -2,8 +2,8 @@
 ghost use Rattle.std.specs.Prelude.{◌≡◌, ◌↔◌, ◌⊎◌, All, Contains, IfOk, IsOkUnless, IsTrue, OnOk};
 ghost use Rattle.atlas_model.specs.Boxes.{Box, IsInside, IsNonempty};
 ghost use Rattle.atlas_model.specs.declared.error.AtlasError.TheVariants.{Memory};
-ghost use Rattle.atlas_maxrects.specs.Free.{AreLeft, AreParts, LiesInOne, free_box};
-ghost use Rattle.atlas_maxrects.specs.Placing.{AreApart};
+ghost use Rattle.atlas_maxrects.specs.Free.{AddsParts, AreLeftOver, LiesInOne, free_box};
+ghost use Rattle.atlas_maxrects.specs.Placing.{LieApart};
 
 use atlas_model::AtlasError;
 use std::alloc::Allocator;
@@ -36,7 +36,7 @@ fn lies_in(part: FreeBox, whole: FreeBox) -> bool
 
 // Whether a pixel or more lies between two boxes.
 fn is_far(one: FreeBox, other: FreeBox) -> bool
-    ensures { IsTrue result → AreApart (free_box one) (free_box other) }
+    ensures { IsTrue result → LieApart (free_box one) (free_box other) }
 {
     one.right < other.left
         || other.right < one.left
@@ -99,7 +99,7 @@ fn add_parts<A: Allocator + Copy>(
     whole: FreeBox,
     taken: FreeBox,
 ) -> Result<(), AtlasError>
-    ensures parts { OnOk result (AreParts boxes.old.items whole taken boxes.new.items) }
+    ensures parts { OnOk result (AddsParts boxes.old.items whole taken boxes.new.items) }
     ensures unless { IsOkUnless result Memory }
 {
     let right = whole.right.min(taken.left);
@@ -120,7 +120,7 @@ pub fn left_over<A: Allocator + Copy>(
     free: &[FreeBox],
     taken: FreeBox,
 ) -> Result<Vec<FreeBox, A>, AtlasError>
-    ensures left { IfOk result (λ left. AreLeft free.now taken left.items) }
+    ensures left { IfOk result (λ left. AreLeftOver free.now taken left.items) }
     ensures unless { IsOkUnless result Memory }
 {
     let mut left = Vec::with_capacity(alloc, free.len())?;

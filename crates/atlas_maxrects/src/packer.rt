@@ -4,7 +4,7 @@ ghost use Rattle.atlas_model.specs.Boxes.{AreDisjoint, IsPositive, IsWithin, box
 ghost use Rattle.atlas_model.specs.Pixels.{box_of, sides_of};
 ghost use Rattle.atlas_model.specs.Replies.{IsExact};
 ghost use Rattle.atlas_model.specs.declared.error.AtlasError.TheVariants.{Memory};
-ghost use Rattle.atlas_maxrects.specs.Free.{corner_of, free_box, sides};
+ghost use Rattle.atlas_maxrects.specs.Free.{corner_position, free_box, sides_by};
 ghost use Rattle.atlas_maxrects.specs.Placing.{PlacesTopmost};
 
 use crate::corners::{Corner, best_corner};
@@ -40,7 +40,7 @@ impl<A: Allocator + Copy> Model for TopmostPacker<A> {
 // The width and the height.
 fn sides_in(size: Size) -> (u32, u32)
     requires { IsPositive (sides_of size) }
-    ensures same { sides result.0 result.1 ≡ sides_of size }
+    ensures same { sides_by result.0 result.1 ≡ sides_of size }
     ensures wide { 0 < result.0 }
     ensures high { 0 < result.1 }
 {
@@ -51,7 +51,7 @@ fn sides_in(size: Size) -> (u32, u32)
 fn taken_at(corner: Corner, width: u32, height: u32) -> FreeBox
     requires wide { corner.x + width ≤ 2147483647 }
     requires high { corner.y + height ≤ 2147483647 }
-    ensures { free_box result ≡ box_at (corner_of corner) (sides width height) }
+    ensures { free_box result ≡ box_at (corner_position corner) (sides_by width height) }
 {
     FreeBox {
         left: corner.x,

@@ -82,7 +82,7 @@ written json sheet frames left = if json then json_of sheet frames left else tex
 
 -- What `pack` answers: an allowed sheet with a place for each sprite, no larger than what the ways find; without effort it is that which
 -- they find.
-pub record IsFound (o : SheetOptions) (sizes : List Size) (sheet : Size) (places : List (Option Placed)) : Type 0 where
+pub record IsFoundSheet (o : SheetOptions) (sizes : List Size) (sheet : Size) (places : List (Option Placed)) : Type 0 where
   pub allowed : IsAllowed o.allowed (sides_of sheet)
   pub all : List Placed
   pub whole : places ≡ map Some all
@@ -102,9 +102,9 @@ pub record IsFoundDense (o : SheetOptions) (sizes : List Size) (sheet : Size) (p
   pub larger : IsNoLargerThanWays o sizes (sides_of sheet)
 
 -- What the library answers where all sprites are to be packed, also with no whole cuts or not.
-abbrev pub IsWhole : (dense : Bool) → SheetOptions → List Size → (sheet : Size) → List (Option Placed) → Type 0
-IsWhole true o sizes sheet places = IsFoundDense o sizes sheet places
-IsWhole false o sizes sheet places = IsFound o sizes sheet places
+abbrev pub IsAllPacked : (dense : Bool) → SheetOptions → List Size → (sheet : Size) → List (Option Placed) → Type 0
+IsAllPacked true o sizes sheet places = IsFoundDense o sizes sheet places
+IsAllPacked false o sizes sheet places = IsFoundSheet o sizes sheet places
 
 -- What `fill` answers: the greatest sheet that is allowed, with a place or none for each sprite. The places have no fewer pixels than those
 -- that any of the ways finds; without effort they are those of the best of these.
@@ -120,7 +120,7 @@ pub record IsFilled (o : SheetOptions) (sizes : List Size) (sheet : Size) (place
 -- What the library answers to these options, where it is to fill a sheet or not.
 abbrev pub Answers : (fill dense : Bool) → SheetOptions → List Size → (sheet : Size) → List (Option Placed) → Type 0
 Answers true dense options sizes sheet places = IsFilled options sizes sheet places
-Answers false dense options sizes sheet places = IsWhole dense options sizes sheet places
+Answers false dense options sizes sheet places = IsAllPacked dense options sizes sheet places
 
 -- The library answered with a sheet on which so many sprites have no place, and this is its text.
 pub record IsOneSheet (settings : Settings) (sprites : List Sprite) (many : ℕ) (text : List ℕ) : Type 0 where
@@ -163,9 +163,9 @@ pub record AreSeveral (most : ℕ) (settings : Settings) (sprites : List Sprite)
   pub told : text ≡ pages_text_of sheets (page_frames_of sprites places)
 
 -- The library answered what the lines ask for, in one sheet or in several.
-abbrev pub IsAnswer : (pages : Option ℕ) → Settings → List Sprite → (many : ℕ) → (text : List ℕ) → Type 0
-IsAnswer None settings sprites many text = IsOneSheet settings sprites many text
-IsAnswer (Some most) settings sprites many text = AreSeveral most settings sprites many text
+abbrev pub IsPackAnswer : (pages : Option ℕ) → Settings → List Sprite → (many : ℕ) → (text : List ℕ) → Type 0
+IsPackAnswer None settings sprites many text = IsOneSheet settings sprites many text
+IsPackAnswer (Some most) settings sprites many text = AreSeveral most settings sprites many text
 
 -- The lines that were read ask for a sheet, on which so many sprites have no place, and its text was written.
 pub record Packs (many : ℕ) (in_old out_old out_new : Option (List ℕ)) : Type 0 where
@@ -176,7 +176,7 @@ pub record Packs (many : ℕ) (in_old out_old out_new : Option (List ℕ)) : Typ
   pub text : List ℕ
   pub read : HoldsBytes in_old input
   pub asked : AsksFor input before settings sprites
-  pub answered : IsAnswer settings.pages settings sprites many text
+  pub answered : IsPackAnswer settings.pages settings sprites many text
   pub told : Appends out_old out_new text
 
 -- Several sheets: at most how many, and the groups whose sprites are to stay together, if any.

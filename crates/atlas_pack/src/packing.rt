@@ -1,7 +1,7 @@
 //! What the library is asked, and what it answers.
 ghost use Rattle.std.specs.Prelude.{◌≡◌, ◌≤◌, false, length, map, true, flat_map, Bool, IfErr, IfNone, IfOk, IfSome, None, Option, Some};
 ghost use Rattle.std.specs.List.{zip};
-ghost use Rattle.atlas_pack.specs.Runs.{AreSheets, IsFilled, IsPackFault, IsWhole, Several, allowed_of, frame_in};
+ghost use Rattle.atlas_pack.specs.Runs.{AreSheets, IsFilled, IsPackFault, IsAllPacked, Several, allowed_of, frame_in};
 ghost use Rattle.atlas_pack.specs.Runs.{frame_of, groups_of, left_in, page_frame_of, sheet_options};
 ghost use Rattle.atlas_sheet.specs.Dense.{NoWayFinds};
 ghost use Rattle.atlas_sheet.specs.Paging.{OneIsTooLarge};
@@ -132,7 +132,7 @@ fn packed<P: Write>(
     progress: &mut P,
 ) -> Result<Option<Sheet>, SheetError>
     ensures whole { IfOk result (λ found. IfSome found (λ sheet.
-        IsWhole dense options.now sizes.now sheet.size (map Some sheet.places.items))) }
+        IsAllPacked dense options.now sizes.now sheet.size (map Some sheet.places.items))) }
     ensures none { IfOk result (λ found. IfNone found (NoWayFinds options.now sizes.now)) }
     ensures fault { IfErr result (λ e. IsSheetFault options.now sizes.now e) }
 {
@@ -159,7 +159,7 @@ pub fn pack_whole<P: Write>(
     progress: &mut P,
 ) -> Result<(Size, Vec<Option<Placed>>), PackError>
     requires { before ≤ 1 }
-    ensures found { IfOk result (λ found. IsWhole dense options.now sizes.now found.0 found.1.items) }
+    ensures found { IfOk result (λ found. IsAllPacked dense options.now sizes.now found.0 found.1.items) }
     ensures fault { IfErr result (λ e. IsPackFault false None before options.now sizes.now e) }
 {
     match packed(alloc, sizes, options, dense, progress) {

@@ -1,6 +1,6 @@
 //! A run of the program, from the bytes of a reader to the bytes of a writer.
 ghost use Rattle.std.specs.Prelude.{◌≡◌, ◌≤◌, length, map, IfErr, IfOk, None, Some};
-ghost use Rattle.atlas_pack.specs.Runs.{Answers, AreSeveral, IsAnswer, IsOneSheet, IsPackFault, IsRunFault, Packs, groups_of};
+ghost use Rattle.atlas_pack.specs.Runs.{Answers, AreSeveral, IsPackAnswer, IsOneSheet, IsPackFault, IsRunFault, Packs, groups_of};
 ghost use Rattle.atlas_pack.specs.Runs.{several_of, sheet_options, written};
 
 use crate::packing::{
@@ -112,7 +112,7 @@ fn answer<P: Write>(
     progress: &mut P,
 ) -> Result<(Vec<u8>, Vec<Sprite>), PackError>
     requires { before ≤ 1 }
-    ensures packs { IfOk result (λ f. IsAnswer settings.pages settings sprites.items (length f.1.items) f.0.items) }
+    ensures packs { IfOk result (λ f. IsPackAnswer settings.pages settings sprites.items (length f.1.items) f.0.items) }
     ensures fault { IfErr result (λ e. IsPackFault settings.fill (several_of settings sprites.items) before
         (sheet_options settings) (map (λ sprite. sprite.size) sprites.items) e) }
 {

@@ -18,7 +18,7 @@ use Rattle.atlas_sheet.specs.Allowances.{pixels}
 use Rattle.atlas_sheet.specs.Lying.{IsArrangement, IsPlacedFor, MayLie, areas_of, lie, placed_area}
 use Rattle.atlas_sheet.specs.Orders.{choice_options}
 use Rattle.atlas_sheet.specs.Packings.{ArePacked, IsNoLarger, Packed}
-use Rattle.atlas_sheet.specs.Sheets.{FindPlaces, IsPackable, IsPlaceFor, inner_sides, with_places}
+use Rattle.atlas_sheet.specs.Sheets.{CanPlace, FindPlaces, IsPackable, IsPlaceFor, inner_sides, with_places}
 use Rattle.atlas_sheet.proofs.Flipping.{lie_as_given, lie_on, lie_packable}
 use Rattle.atlas_sheet.proofs.WholeSheets.{found_places}
 
@@ -44,47 +44,54 @@ pub arranged_as_given : (sheet : Sides) (spacing : Spacing) (turn : Bool) (sprit
 arranged_as_given sheet spacing turn sprites choice order places positive aligned packable permuted count found =
     arranged sheet spacing turn sprites sprites choice order places positive aligned packable (lie_as_given turn sprites) permuted count found
 
--- An arrangement of sprites as others may lie is one of the others.
-pub rebased : (sheet : Sides) (spacing : Spacing) (turn : Bool) (sprites between lying : List Size) (choice : Choice) (order : List (ℕ × Size))
-    (places : List (Option Rectangle)) → AllZip (MayLie turn) sprites between → IsArrangement sheet spacing turn between choice lying order places
-    → IsArrangement sheet spacing turn sprites choice lying order places
-rebased sheet spacing turn sprites between lying choice order places lies are = record {
-  lies = lie_on turn sprites between lying lies are.lies;
-  good = are.good;
-  permuted = are.permuted;
-  found = are.found;
-}
+module _ {sheet : Sides} {spacing : Spacing} {turn : Bool} {choice : Choice} {lying : List Size} {order : List (ℕ × Size)}
+    {places : List (Option Rectangle)} where
+  -- An arrangement of sprites as others may lie is one of the others.
+  pub rebased : (sprites between : List Size) → AllZip (MayLie turn) sprites between
+      → IsArrangement sheet spacing turn between choice lying order places → IsArrangement sheet spacing turn sprites choice lying order places
+  rebased sprites between lies are = record {
+    lies = lie_on turn sprites between lying lies are.lies;
+    good = are.good;
+    permuted = are.permuted;
+    found = are.found;
+  }
 
--- An arrangement is one of the sprites as they lie.
-pub own : (sheet : Sides) (spacing : Spacing) (turn : Bool) (sprites lying : List Size) (choice : Choice) (order : List (ℕ × Size))
-    (places : List (Option Rectangle)) → IsArrangement sheet spacing turn sprites choice lying order places
-    → IsArrangement sheet spacing turn lying choice lying order places
-own sheet spacing turn sprites lying choice order places are = record {
-  lies = lie_as_given turn lying;
-  good = are.good;
-  permuted = are.permuted;
-  found = are.found;
-}
+  -- An arrangement is one of the sprites as they lie.
+  pub own : {sprites : List Size} → IsArrangement sheet spacing turn sprites choice lying order places
+      → IsArrangement sheet spacing turn lying choice lying order places
+  own are = record {
+    lies = lie_as_given turn lying;
+    good = are.good;
+    permuted = are.permuted;
+    found = are.found;
+  }
+
+  -- Sprites that can be placed can be placed as they lie.
+  pub can_place_lying : {sprites : List Size} → IsArrangement sheet spacing turn sprites choice lying order places
+      → CanPlace spacing sprites → CanPlace spacing lying
+  can_place_lying {sprites} are can = record {
+    aligned = can.aligned;
+    packable = lie_packable spacing turn sprites lying are.lies can.packable;
+  }
+
+  -- A list is as long as the one beside it.
+  pub as_long : {sprites : List Size} → IsArrangement sheet spacing turn sprites choice lying order places
+      → (length lying ≡ length sprites) × (length places ≡ length lying)
+  as_long {sprites} are = (
+    AllZip-long (MayLie turn) sprites lying are.lies,
+    AllZip-long (λ sprite place. IfSome place (IsPlaceFor sheet spacing sprite)) lying places are.good.each,
+  )
 
 -- What a way packs is an arrangement.
-pub packed_arranged : (ways : List Way) (sheet : Sides) (spacing : Spacing) (turn : Bool) (sprites : List Size) (packed : Packed)
+pub packed_arranged : {ways : List Way} {sheet : Sides} {spacing : Spacing} (turn : Bool) {sprites : List Size} {packed : Packed}
     → ArePacked ways sheet spacing sprites packed
     → IsArrangement sheet spacing turn sprites packed.way.choice sprites packed.order (map Some packed.places)
-packed_arranged ways sheet spacing turn sprites packed are = record {
+packed_arranged turn {sprites} are = record {
   lies = lie_as_given turn sprites;
   good = are.good;
   permuted = are.by.permuted;
   found = are.found;
 }
-
--- A list is as long as the one beside it.
-pub as_long : (sheet : Sides) (spacing : Spacing) (turn : Bool) (sprites lying : List Size) (choice : Choice) (order : List (ℕ × Size))
-    (places : List (Option Rectangle)) → IsArrangement sheet spacing turn sprites choice lying order places
-    → (length lying ≡ length sprites) × (length places ≡ length lying)
-as_long sheet spacing turn sprites lying choice order places are = (
-  AllZip-long (MayLie turn) sprites lying are.lies,
-  AllZip-long (λ sprite place. IfSome place (IsPlaceFor sheet spacing sprite)) lying places are.good.each,
-)
 
 -- What holds of the elements at one place of two lists.
 pub zip_at : {A B : Type 0} (R : A → B → Type 0) (xs : List A) (ys : List B) (k : ℕ) (d : A) (e : B) → AllZip R xs ys → k < length xs
@@ -107,24 +114,24 @@ placed_good sheet spacing turn sprite lying place (Some q) is turned good =
     }
 
 -- A sprite's place, with how it lies.
-abbrev pub Shows : (sheet : Sides) (spacing : Spacing) (turn : Bool) → Size → Option Placed → Type 0
-Shows sheet spacing turn sprite p = IfSome p (IsPlacedFor sheet spacing turn sprite)
+abbrev pub ShowsPlace : (sheet : Sides) (spacing : Spacing) (turn : Bool) → Size → Option Placed → Type 0
+ShowsPlace sheet spacing turn sprite p = IfSome p (IsPlacedFor sheet spacing turn sprite)
 
 -- What is shown of the first k sprites.
 pub record IsShownTo (sheet : Sides) (spacing : Spacing) (turn : Bool) (sprites : List Size) (places : List (Option Rectangle)) (k : ℕ)
     (placed : List (Option Placed)) : Type 0 where
   pub areas : areas_of placed ≡ take k places
-  pub each : AllZip (Shows sheet spacing turn) (take k sprites) placed
+  pub each : AllZip (ShowsPlace sheet spacing turn) (take k sprites) placed
 
-module _ (sheet : Sides) (spacing : Spacing) (turn : Bool) (sprites lying : List Size) (choice : Choice) (order : List (ℕ × Size))
-    (places : List (Option Rectangle)) (are : IsArrangement sheet spacing turn sprites choice lying order places) where
+module _ {sheet : Sides} {spacing : Spacing} {turn : Bool} {sprites lying : List Size} {choice : Choice} {order : List (ℕ × Size)}
+    {places : List (Option Rectangle)} (are : IsArrangement sheet spacing turn sprites choice lying order places) where
   pub shown_more : (k : ℕ) (placed more : List (Option Placed)) (sprite l : Size) (place : Option Rectangle) (p : Option Placed)
       → k < length sprites → sprite ≡ get_or sprites k sprite → l ≡ get_or lying k l → place ≡ get_or places k place
       → more ≡ placed ++ p ∷ [] → placed_area p ≡ place
       → (MayLie turn sprite l → IfSome p (λ q. (lie q.turned sprite ≡ l) × (q.turned ≡ true → turn ≡ true)))
       → IsShownTo sheet spacing turn sprites places k placed → IsShownTo sheet spacing turn sprites places (k + 1) more
   shown_more k placed more sprite l place p inside s_is l_is place_is added area turned before =
-      let long = as_long sheet spacing turn sprites lying choice order places are in
+      let long = as_long are in
       let in_lying : k < length lying = omega (arith, long.0, long.1) in
       let in_places : k < length places = omega (arith, long.0, long.1) in
       let lies : MayLie turn sprite l =
@@ -132,24 +139,24 @@ module _ (sheet : Sides) (spacing : Spacing) (turn : Bool) (sprites lying : List
       let R : Size → Option Rectangle → Type 0 = λ sprite place. IfSome place (IsPlaceFor sheet spacing sprite) in
       let good : R l place =
       subst (λ x. R x place) (sym l_is) (subst (R (get_or lying k l)) (sym place_is) (zip_at R lying places k l place are.good.each in_lying)) in
-      let one : Shows sheet spacing turn sprite p = placed_good sheet spacing turn sprite l place p area (turned lies) good in
+      let one : ShowsPlace sheet spacing turn sprite p = placed_good sheet spacing turn sprite l place p area (turned lies) good in
       let more_sprites : take (k + 1) sprites ≡ take k sprites ++ sprite ∷ [] =
       take_more sprites k sprite inside ∙ ap (λ x. take k sprites ++ x ∷ []) (sym s_is) in
       let more_places : take (k + 1) places ≡ take k places ++ place ∷ [] =
       take_more places k place in_places ∙ ap (λ x. take k places ++ x ∷ []) (sym place_is) in
       record {
         areas = ap areas_of added ∙ map_push placed_area placed p ∙ (λ i. before.areas i ++ area i ∷ []) ∙ sym more_places;
-        each = subst (λ xs. AllZip (Shows sheet spacing turn) xs more) (sym more_sprites)
-            (subst (AllZip (Shows sheet spacing turn) (take k sprites ++ sprite ∷ [])) (sym added)
-            (all_zipped_more (Shows sheet spacing turn) (take k sprites) placed sprite p before.each one));
+        each = subst (λ xs. AllZip (ShowsPlace sheet spacing turn) xs more) (sym more_sprites)
+            (subst (AllZip (ShowsPlace sheet spacing turn) (take k sprites ++ sprite ∷ [])) (sym added)
+            (all_zipped_more (ShowsPlace sheet spacing turn) (take k sprites) placed sprite p before.each one));
       }
 
   pub shown_all : (k : ℕ) (placed : List (Option Placed)) → length places ≤ k → IsShownTo sheet spacing turn sprites places k placed
-      → (areas_of placed ≡ places) × AllZip (Shows sheet spacing turn) sprites placed
+      → (areas_of placed ≡ places) × AllZip (ShowsPlace sheet spacing turn) sprites placed
   shown_all k placed end shown =
-      let long = as_long sheet spacing turn sprites lying choice order places are in
+      let long = as_long are in
       let past : length sprites ≤ k = omega (arith, long.0, long.1) in
-      (shown.areas ∙ take_all k places end, subst (λ xs. AllZip (Shows sheet spacing turn) xs placed) (take_all k sprites past) shown.each)
+      (shown.areas ∙ take_all k places end, subst (λ xs. AllZip (ShowsPlace sheet spacing turn) xs placed) (take_all k sprites past) shown.each)
 
 -- Where each place is there, each is shown.
 pub shown_whole : (placed : List (Option Placed)) (places : List (Option Rectangle)) → areas_of placed ≡ places → All IsSome places → All IsSome placed

@@ -10,9 +10,10 @@ use Rattle.guillotiere.specs.Pixels.{box_of, sides_of}
 use Rattle.guillotiere.specs.declared.Rectangle.{Rectangle}
 use Rattle.atlas_sheet.specs.declared.options.SheetOptions.{SheetOptions}
 use Rattle.atlas_sheet.specs.declared.placed.Placed.{Placed}
+use Rattle.atlas_sheet.specs.declared.sheets.Sheet.{Sheet}
 use Rattle.atlas_sheet.specs.declared.ways.TheConstants.{WAYS}
 use Rattle.atlas_sheet.specs.Allowances.{IsAllowed, pixels}
-use Rattle.atlas_sheet.specs.Dense.{AreAllPlaced, ArePaddedApart, IsNoLargerThanWays, IsWhole, NoWayFinds}
+use Rattle.atlas_sheet.specs.Dense.{AreAllPlaced, ArePaddedApart, IsNoLargerThanWays, IsWholeSheet, NoWayFinds}
 use Rattle.atlas_sheet.specs.Turnings.{AreLaid, InEach, turnings}
 use Rattle.atlas_sheet.specs.Lying.{IsPlacedFor, IsShown, areas_of}
 use Rattle.atlas_sheet.specs.Orders.{IsOrder}
@@ -50,14 +51,14 @@ pub newer_none : {T : Type 0} (P : Type 0) (found best next : Option T) → Matc
 newer_none P None best next is q = subst (λ o. IfNone o P) (sym is) q
 newer_none P (Some t) best next is q = subst (λ o. IfNone o P) (sym is) tt
 
-pub whole_sheet : (o : SheetOptions) (sprites : List Size) (size : Size) (opts : List (Option Placed)) (places : List Placed)
-    (now areas : List (Option Rectangle)) (used : ℕ) (given order : List ℕ) → map Some places ≡ opts → areas ≡ areas_of opts → now ≡ areas
-    → used ≡ used_area now → order ≡ given → IsOrder (length sprites) given → IsAllowed o.allowed (sides_of size) → AreAllPlaced o (sides_of size) sprites opts
-    → ArePaddedApart (spacing_of o) opts → IsNoLargerThanWays o sprites (sides_of size)
-    → IsWhole o sprites size places used order
-whole_sheet o sprites size opts places now areas used given order somes found same area copied numbers allowed each apart larger = record {
+pub whole_sheet : {A : Type 0} (o : SheetOptions) (sprites : List Size) (sheet : Sheet A) (opts : List (Option Placed))
+    (now areas : List (Option Rectangle)) (given : List ℕ) → map Some sheet.places.items ≡ opts → areas ≡ areas_of opts → now ≡ areas
+    → sheet.used_area ≡ used_area now → sheet.order.items ≡ given → IsOrder (length sprites) given → IsAllowed o.allowed (sides_of sheet.size)
+    → AreAllPlaced o (sides_of sheet.size) sprites opts → ArePaddedApart (spacing_of o) opts → IsNoLargerThanWays o sprites (sides_of sheet.size)
+    → IsWholeSheet o sprites sheet
+whole_sheet o sprites sheet opts now areas given somes found same area copied numbers allowed each apart larger = record {
   allowed = allowed;
-  each = subst (AreAllPlaced o (sides_of size) sprites) (sym somes) each;
+  each = subst (AreAllPlaced o (sides_of sheet.size) sprites) (sym somes) each;
   apart = subst (ArePaddedApart (spacing_of o)) (sym somes) apart;
   area = area ∙ ap used_area (same ∙ found) ∙ ap (λ ps. used_area (areas_of ps)) (sym somes);
   numbers = subst (IsOrder (length sprites)) (sym copied) numbers;
@@ -65,37 +66,35 @@ whole_sheet o sprites size opts places now areas used given order somes found sa
 }
 
 -- A sheet as `pack` gives it.
-pub whole_packed : {T : Type 0} (o : SheetOptions) (sprites : List Size) (size_of : T → Size) (order_of : T → List ℕ)
-    (places_of : T → List Placed) (used_of : T → ℕ) (found : Option T)
-    → IfSome found (λ t. IsAllowed o.allowed (sides_of (size_of t)))
-    → IfSome found (λ t. IsShown (sides_of (size_of t)) (spacing_of o) o.turn sprites (order_of t) (map Some (places_of t)))
-    → IfSome found (λ t. used_of t ≡ used_area (areas_of (map Some (places_of t))))
-    → IfSome found (λ t. IsNoLargerThanWays o sprites (sides_of (size_of t)))
-    → IfSome found (λ t. IsWhole o sprites (size_of t) (places_of t) (used_of t) (order_of t))
-whole_packed o sprites size_of order_of places_of used_of None allowed shown area larger = tt
-whole_packed o sprites size_of order_of places_of used_of (Some t) allowed shown area larger = record {
+pub whole_packed : {A : Type 0} (o : SheetOptions) (sprites : List Size) (found : Option (Sheet A))
+    → IfSome found (λ t. IsAllowed o.allowed (sides_of t.size))
+    → IfSome found (λ t. IsShown (sides_of t.size) (spacing_of o) o.turn sprites t.order.items (map Some t.places.items))
+    → IfSome found (λ t. t.used_area ≡ used_area (areas_of (map Some t.places.items)))
+    → IfSome found (λ t. IsNoLargerThanWays o sprites (sides_of t.size))
+    → IfSome found (IsWholeSheet o sprites)
+whole_packed o sprites None allowed shown area larger = tt
+whole_packed o sprites (Some t) allowed shown area larger = record {
   allowed = allowed;
   each = shown.each;
   apart = shown.arranged.good.apart;
   area = area;
-  numbers = shown_order (sides_of (size_of t)) (spacing_of o) o.turn sprites (order_of t) (map Some (places_of t)) shown;
+  numbers = shown_order (sides_of t.size) (spacing_of o) o.turn sprites t.order.items (map Some t.places.items) shown;
   larger = larger;
 }
 
-module _ (o : SheetOptions) (sprites : List Size) (size : Size) (places : List Placed) (used : ℕ) (order : List ℕ)
-    (whole : IsWhole o sprites size places used order) where
-  pub whole_count : length places ≡ length sprites
+module _ {A : Type 0} {o : SheetOptions} {sprites : List Size} {sheet : Sheet A} (whole : IsWholeSheet o sprites sheet) where
+  pub whole_count : length sheet.places.items ≡ length sprites
   whole_count =
-      sym (length-map places Some)
-      ∙ AllZip-long (λ sprite p. IfSome p (IsPlacedFor (sides_of size) (spacing_of o) o.turn sprite)) sprites (map Some places) whole.each
+      sym (length-map sheet.places.items Some)
+      ∙ AllZip-long (λ sprite p. IfSome p (IsPlacedFor (sides_of sheet.size) (spacing_of o) o.turn sprite)) sprites (map Some sheet.places.items) whole.each
 
-  pub whole_inside : All (λ p. IsWithin (sides_of size) (box_of p.area)) places
-  whole_inside = inside_each (sides_of size) (spacing_of o) o.turn sprites places whole.each
+  pub whole_inside : All (λ p. IsWithin (sides_of sheet.size) (box_of p.area)) sheet.places.items
+  whole_inside = inside_each (sides_of sheet.size) (spacing_of o) o.turn sprites sheet.places.items whole.each
 
-  pub whole_apart : AreDisjoint (map (λ p. box_of p.area) places)
+  pub whole_apart : AreDisjoint (map (λ p. box_of p.area) sheet.places.items)
   whole_apart x y =
       let few = whole.apart x y in
-      omega (arith, few, counts (spacing_of o) x y places)
+      omega (arith, few, counts (spacing_of o) x y sheet.places.items)
 
-  pub whole_upright : o.turn ≡ false → AllZip (λ sprite p. box_sides (box_of p.area) ≡ sides_of sprite) sprites places
-  whole_upright off = upright_each (sides_of size) (spacing_of o) o.turn sprites places off whole.each
+  pub whole_upright : o.turn ≡ false → AllZip (λ sprite p. box_sides (box_of p.area) ≡ sides_of sprite) sprites sheet.places.items
+  whole_upright off = upright_each (sides_of sheet.size) (spacing_of o) o.turn sprites sheet.places.items off whole.each

@@ -1,17 +1,17 @@
 -- A sheet for chosen sprites, as it is found.
-use Rattle.std.proofs.Common.{◌≡◌, ◌<◌, ◌⊎◌, ℕ, Bool, inl, inr, List, length, map, All, Option, Some, None, IfNone, IsNone, IsSome, is_some, refl, ap, sym, subst, ◌∙◌, arith}
+use Rattle.std.proofs.Common.{◌≡◌, ◌<◌, ◌⊎◌, ℕ, Bool, inl, inr, List, length, map, All, Option, Some, None, IfNone, IsSome, is_some, refl, ap, sym, subst, ◌∙◌, arith}
 use Rattle.std.proofs.lemmas.List.Elements.{All-weaker}
 use Rattle.guillotiere.specs.declared.Size.{Size}
-use Rattle.guillotiere.specs.declared.Rectangle.{Rectangle}
 use Rattle.guillotiere.specs.Boxes.{Sides}
+use Rattle.guillotiere.specs.Pixels.{sides_of}
+use Rattle.atlas_sheet.specs.declared.choosing.Chosen.{Chosen}
 use Rattle.atlas_sheet.specs.declared.options.SheetOptions.{SheetOptions}
 use Rattle.atlas_sheet.specs.declared.placed.Placed.{Placed}
-use Rattle.atlas_sheet.specs.declared.ways.Choice.{Choice}
 use Rattle.atlas_sheet.specs.declared.ways.TheConstants.{WAYS}
 use Rattle.atlas_sheet.specs.Allowances.{IsAllowed}
 use Rattle.atlas_sheet.specs.Dense.{IsNoLargerThanWays, NoWayFinds}
-use Rattle.atlas_sheet.specs.Grouping.{AreChosen, IsClosed, IsGroupPage, picked, spread, with_place}
-use Rattle.atlas_sheet.specs.Lying.{IsArrangement, IsShown, areas_of}
+use Rattle.atlas_sheet.specs.Grouping.{AreChosen, IsClosed, IsGroupPage, picked, spread, those_placed}
+use Rattle.atlas_sheet.specs.Lying.{IsArranged, IsShown, areas_of}
 use Rattle.atlas_sheet.specs.Packings.{NoneIsFound}
 use Rattle.atlas_sheet.specs.Paging.{IsPage}
 use Rattle.atlas_sheet.specs.Settings.{spacing_of}
@@ -31,14 +31,14 @@ pub none_plainly : {T : Type 0} (found : Option T) (o : SheetOptions) (sprites :
 none_plainly None o sprites none = plain_none o sprites none
 none_plainly (Some t) o sprites none = tt
 
-pub are_chosen : (o : SheetOptions) (sprites some : List Size) (groups : List (Option ℕ)) (row : List Bool) (sheet : Sides) (choice : Choice)
-    (lying : List Size) (order : List (ℕ × Size)) (places : List (Option Rectangle)) → some ≡ picked row sprites → length row ≡ length sprites
-    → IsClosed groups row → IsArrangement sheet (spacing_of o) o.turn some choice lying order places → IsAllowed o.allowed sheet → All IsSome places
-    → AreChosen o sprites groups row sheet choice lying order places
-are_chosen o sprites some groups row sheet choice lying order places some_is long closed arranged allowed whole = record {
+pub are_chosen : {A : Type 0} (o : SheetOptions) (sprites some : List Size) (groups : List (Option ℕ)) (chosen : Chosen A)
+    → some ≡ picked chosen.row.items sprites → length chosen.row.items ≡ length sprites → IsClosed groups chosen.row.items
+    → IsArranged o some chosen.page → IsAllowed o.allowed (sides_of chosen.page.size) → All IsSome chosen.page.places.items
+    → AreChosen o sprites groups chosen
+are_chosen o sprites some groups chosen some_is long closed arranged allowed whole = record {
   long = long;
   closed = closed;
-  arranged = subst (λ ss. IsArrangement sheet (spacing_of o) o.turn ss choice lying order places) some_is arranged;
+  arranged = subst (λ ss. IsArranged o ss chosen.page) some_is arranged;
   allowed = allowed;
   whole = whole;
 }
@@ -61,8 +61,8 @@ module _ (o : SheetOptions) (sprites some : List Size) (groups : List (Option �
       let few : 0 < length (picked row row) = closed_some groups row closed in
       let page : IsPage WAYS o some sheet found =
       page_found WAYS o some sheet order found (areas_of found) shown refl (inl (areas_whole found whole, larger)) allowed (λ none. not_both found (omega (arith, few, found_long)) whole none) in
-      let sprites_are : some ≡ with_place placed sprites =
-      some_is ∙ sym (spread_sprites row found found_long whole sprites) ∙ ap (λ ps. with_place ps sprites) (sym placed_is) in
-      let places_are : found ≡ with_place placed placed =
-      sym (spread_there row found found_long whole) ∙ ap (λ ps. with_place ps ps) (sym placed_is) in
-      inr (chosen_long, subst (λ fs. IsPage WAYS o (with_place placed sprites) sheet fs) places_are (subst (λ ss. IsPage WAYS o ss sheet found) sprites_are page))
+      let sprites_are : some ≡ those_placed placed sprites =
+      some_is ∙ sym (spread_sprites row found found_long whole sprites) ∙ ap (λ ps. those_placed ps sprites) (sym placed_is) in
+      let places_are : found ≡ those_placed placed placed =
+      sym (spread_there row found found_long whole) ∙ ap (λ ps. those_placed ps ps) (sym placed_is) in
+      inr (chosen_long, subst (λ fs. IsPage WAYS o (those_placed placed sprites) sheet fs) places_are (subst (λ ss. IsPage WAYS o ss sheet found) sprites_are page))

@@ -1,5 +1,5 @@
 -- From one sheet with groups to the next.
-use Rattle.std.proofs.Common.{◌≡◌, IsTrue, ◌<◌, ◌⊎◌, ◌+◌, ◌++◌, ℕ, replicate, Bool, List, [], ◌∷◌, length, map, All, Option, Some, None, IsNone, IsSome, is_some, inr, refl, ap, sym, subst, ◌∙◌, arith}
+use Rattle.std.proofs.Common.{◌≡◌, IsTrue, ◌<◌, ◌⊎◌, ◌+◌, ◌++◌, ℕ, replicate, Bool, List, [], ◌∷◌, length, map, Option, Some, None, is_some, inr, refl, ap, sym, subst, ◌∙◌, arith}
 use Rattle.std.specs.List.{AllZip, count_by}
 use Rattle.std.proofs.lemmas.Slice.Zip.{AllZip-long}
 use Rattle.guillotiere.specs.declared.Size.{Size}
@@ -10,20 +10,20 @@ use Rattle.atlas_sheet.specs.declared.placed.Placed.{Placed}
 use Rattle.atlas_sheet.specs.declared.ways.TheConstants.{WAYS}
 use Rattle.atlas_sheet.specs.Dense.{NoWayFinds}
 use Rattle.atlas_sheet.specs.Lying.{MayLie}
-use Rattle.atlas_sheet.specs.Settings.{spacing_of}
+use Rattle.atlas_sheet.specs.Settings.{CanPack, spacing_of}
 use Rattle.atlas_sheet.specs.Turnings.{has_room}
-use Rattle.atlas_sheet.specs.Grouping.{AreGroupPages, AreSoFar, HasMember, IsGroupPage, LieTogether, LiesAs, SaysOf, members, to_do, waiting, without}
+use Rattle.atlas_sheet.specs.Grouping.{AreGroupPages, AreSoFar, HasMember, IsGroupPage, LieTogether, LiesAs, SaysOf, members, to_do, waiting, without_group}
 use Rattle.atlas_sheet.specs.Paging.{OneIsTooLarge, holes, put_on, sprites_left}
 use Rattle.atlas_sheet.proofs.GroupSteps.{all_together, as_next, begun_same, fewer_kept, group_good, groups_without, together_put, waiting_long, without_same}
-use Rattle.atlas_sheet.proofs.PageFinds.{begun_with, fewer_left, left_holes, left_packable, left_with, more_pages}
+use Rattle.atlas_sheet.proofs.PageFinds.{begun_with, can_pack_left, fewer_left, left_holes, left_packable, left_with, more_pages}
 
-module _ (o : SheetOptions) (sprites : List Size) (groups : List (Option ℕ)) (sizes : List Size) (places : List (Option OnPage))
-    (left : List Size) (kept : List (Option ℕ)) (so : AreSoFar o sprites groups sizes places left kept) where
+module _ {o : SheetOptions} {sprites : List Size} {groups : List (Option ℕ)} {sizes : List Size} {places : List (Option OnPage)}
+    {left : List Size} {kept : List (Option ℕ)} (so : AreSoFar o sprites groups sizes places left kept) where
   pub so_holes : length left ≡ holes places
   so_holes = left_holes sprites left places so.are.long so.rest
 
-  pub so_packable : (P : Size → Type 0) → All P sprites → All P left
-  so_packable = left_packable sprites left places so.are.long so.rest
+  pub so_can_pack : CanPack o sprites → CanPack o left
+  so_can_pack = can_pack_left sprites left places so.are.long so.rest o
 
   pub kept_long : length places ≡ length kept
   kept_long = AllZip-long (LiesAs so.page_of) kept places so.same
@@ -37,7 +37,7 @@ module _ (o : SheetOptions) (sprites : List Size) (groups : List (Option ℕ)) (
     sheet = one.sheet;
     greatest = one.greatest;
     large = λ fit.
-        one.large (so_packable (λ s. (lying : Size) × MayLie o.turn s lying × IsTrue (has_room one.sheet (spacing_of o) lying)) fit);
+        one.large (left_packable sprites left places so.are.long so.rest (λ s. (lying : Size) × MayLie o.turn s lying × IsTrue (has_room one.sheet (spacing_of o) lying)) fit);
   }
 
   -- Once none is left.
@@ -75,7 +75,7 @@ module _ (o : SheetOptions) (sprites : List Size) (groups : List (Option ℕ)) (
 
   -- A group that no way packs.
   module _ (group : ℕ) (there : HasMember group (waiting kept places)) (none : NoWayFinds o (members group (waiting kept places) left))
-      (less_kept : List (Option ℕ)) (kept_is : less_kept ≡ without group kept) where
+      (less_kept : List (Option ℕ)) (kept_is : less_kept ≡ without_group group kept) where
     pub so_without : AreSoFar o sprites groups sizes places left less_kept
     so_without = subst (AreSoFar o sprites groups sizes places left) (sym kept_is) (record {
       are = so.are;
@@ -88,7 +88,7 @@ module _ (o : SheetOptions) (sprites : List Size) (groups : List (Option ℕ)) (
     pub less_without : to_do left less_kept < to_do left kept
     less_without =
         let fewer = fewer_kept group kept places there in
-        let same : count_by is_some less_kept ≡ count_by is_some (without group kept) = ap (count_by is_some) kept_is in
+        let same : count_by is_some less_kept ≡ count_by is_some (without_group group kept) = ap (count_by is_some) kept_is in
         omega (arith, fewer, same)
 
 -- Before the first sheet.

@@ -1,6 +1,6 @@
 -- Rows, and what stands in lists where they say so.
-use Rattle.std.proofs.Common.{◌≡◌, ◌≢◌, ◌==◌, ◌||◌, ◌+◌, ◌<◌, ◌≤◌, ◌⊎◌, ℕ, zero, suc, Bool, true, false, cond, is_none, is_some, inl, inr, List, [], ◌∷◌, ◌++◌, length, map, drop, take, get_or, append-nil, add-one, All, Option, Some, None, IfSome, IsNone, IsSome, refl, ap, sym, subst, ◌∙◌, arith}
-use Rattle.std.specs.List.{AllZip, count_by}
+use Rattle.std.proofs.Common.{◌≡◌, ◌≢◌, ◌==◌, ◌||◌, ◌+◌, ◌<◌, ◌≤◌, ◌⊎◌, ℕ, zero, suc, Bool, true, false, cond, is_none, is_some, inl, inr, List, [], ◌∷◌, ◌++◌, length, map, drop, take, get_or, append-nil, add-one, All, Option, Some, None, IfSome, IsSome, refl, ap, sym, subst, ◌∙◌, arith}
+use Rattle.std.specs.List.{AllZip}
 use Rattle.std.proofs.lemmas.Bool.{cases_lt, eq-eqb, false≢true}
 use Rattle.std.proofs.Math.ListN.{drop_of_length-le}
 use Rattle.std.proofs.Math.Seq.{drop-cons, take-suc}
@@ -8,9 +8,12 @@ use Rattle.std.proofs.lemmas.List.{append_assoc}
 use Rattle.std.proofs.lemmas.List.Elements.{All-nil, All-cons, All-head, All-tail}
 use Rattle.std.proofs.lemmas.Slice.Zip.{all_zipped_more}
 use Rattle.guillotiere.specs.declared.Size.{Size}
+use Rattle.atlas_sheet.specs.declared.options.SheetOptions.{SheetOptions}
 use Rattle.atlas_sheet.specs.declared.paging.OnPage.{OnPage}
 use Rattle.atlas_sheet.specs.declared.placed.Placed.{Placed}
-use Rattle.atlas_sheet.specs.Grouping.{HasMember, IsClosed, SaysOf, is_in, picked, spread, waiting, with_place}
+use Rattle.atlas_sheet.specs.Grouping.{HasMember, IsClosed, SaysOf, is_in, picked, spread, those_placed, waiting}
+use Rattle.atlas_sheet.specs.Settings.{CanPack, spacing_of}
+use Rattle.atlas_sheet.specs.Sheets.{IsPackable}
 
 -- What was picked by the first k, and what is picked by the others.
 abbrev pub IsPickedTo : {X : Type 0} → List Bool → List X → (k : ℕ) → List X → Type 0
@@ -135,6 +138,16 @@ all_picked P (b ∷ row) [] each = All-nil P
 all_picked P (true ∷ row) (x ∷ xs) each = All-cons P x (picked row xs) (All-head P x xs each) (all_picked P row xs (All-tail P x xs each))
 all_picked P (false ∷ row) (x ∷ xs) each = all_picked P row xs (All-tail P x xs each)
 
+-- Of sprites that can be packed those where a row says so.
+pub can_pack_picked : (o : SheetOptions) (row : List Bool) (sprites : List Size) → CanPack o sprites → CanPack o (picked row sprites)
+can_pack_picked o row sprites can = record {
+  usable = can.usable;
+  placing = record {
+    aligned = can.placing.aligned;
+    packable = all_picked (IsPackable (spacing_of o)) row sprites can.placing.packable;
+  };
+}
+
 -- What is spread, of which each is there, stands where the row says so, and nowhere else.
 pub spread_long : (row : List Bool) (found : List (Option Placed)) → length (spread row found) ≡ length row
 spread_long [] found = refl
@@ -161,10 +174,10 @@ picked_spread (true ∷ row) [] long = absurd (omega (arith, long))
 picked_spread (true ∷ row) (f ∷ found) long = ap (λ fs. f ∷ fs) (picked_spread row found (omega (arith, long)))
 
 module _ (row : List Bool) (found : List (Option Placed)) (long : length found ≡ length (picked row row)) (all : All IsSome found) where
-  pub spread_there : with_place (spread row found) (spread row found) ≡ found
+  pub spread_there : those_placed (spread row found) (spread row found) ≡ found
   spread_there = ap (λ r. picked r (spread row found)) (spread_row row found long all) ∙ picked_spread row found long
 
-  pub spread_sprites : (sprites : List Size) → with_place (spread row found) sprites ≡ picked row sprites
+  pub spread_sprites : (sprites : List Size) → those_placed (spread row found) sprites ≡ picked row sprites
   spread_sprites sprites = ap (λ r. picked r sprites) (spread_row row found long all)
 
 -- What holds of two lists, place by place.

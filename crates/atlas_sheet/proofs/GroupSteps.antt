@@ -1,5 +1,5 @@
 -- Sheets with groups on them, one after another.
-use Rattle.std.proofs.Common.{◌≡◌, ◌≢◌, ◌==◌, ◌-◌, ◌+◌, ◌<◌, ◌≤◌, ◌⊎◌, ℕ, zero, suc, replicate, Bool, true, false, cond, is_none, is_some, inl, inr, List, [], ◌∷◌, ◌++◌, length, map, take, All, Option, Some, None, IfSome, IsNone, IsSome, pos, refl, ap, sym, subst, ◌∙◌, arith}
+use Rattle.std.proofs.Common.{◌≡◌, ◌≢◌, ◌==◌, ◌-◌, ◌+◌, ◌<◌, ◌≤◌, ◌⊎◌, ℕ, zero, suc, replicate, Bool, true, false, cond, is_none, is_some, inl, inr, List, [], ◌∷◌, ◌++◌, length, map, take, All, Option, Some, None, IfSome, IsNone, pos, refl, ap, sym, subst, ◌∙◌, arith}
 use Rattle.std.specs.List.{AllZip, count_by}
 use Rattle.std.proofs.lemmas.Bool.{cases_eq, eq-eqb, eqb-true, false≢true, ne_eqb}
 use Rattle.std.proofs.lemmas.List.{length-append, length-replicate, length-take}
@@ -16,7 +16,7 @@ use Rattle.atlas_sheet.specs.declared.placed.Placed.{Placed}
 use Rattle.atlas_sheet.specs.declared.ways.Way.{Way}
 use Rattle.atlas_sheet.specs.Allowances.{IsAllowed}
 use Rattle.atlas_sheet.specs.Dense.{NoWayFinds}
-use Rattle.atlas_sheet.specs.Grouping.{AreGroupPages, HasMember, IsGroupPage, LieTogether, LiesAs, SaysOf, is_in, members, padded_to, page_number, picked, waiting, with_place, without}
+use Rattle.atlas_sheet.specs.Grouping.{AreGroupPages, HasMember, IsGroupPage, LieTogether, LiesAs, SaysOf, is_in, members, padded_to, picked, waiting, those_placed, without_group}
 use Rattle.atlas_sheet.specs.Lying.{IsPlacedFor, areas_of}
 use Rattle.atlas_sheet.specs.Paging.{found_on, holes, page_sides, places_on, put_on, sprites_from, sprites_left}
 use Rattle.atlas_sheet.specs.Settings.{spacing_of}
@@ -26,7 +26,7 @@ use Rattle.atlas_sheet.proofs.PageViews.{IsGood, page_good}
 
 -- What each of those with a place keeps to, each keeps to.
 each_back : (P : Size → Option Placed → Type 0) → ((s : Size) → P s None) → (sprites : List Size) (placed : List (Option Placed))
-    → length placed ≡ length sprites → AllZip P (with_place placed sprites) (with_place placed placed) → AllZip P sprites placed
+    → length placed ≡ length sprites → AllZip P (those_placed placed sprites) (those_placed placed placed) → AllZip P sprites placed
 each_back P none [] [] long each = tt
 each_back P none [] (p ∷ placed) long each = absurd (omega (arith, long))
 each_back P none (s ∷ sprites) [] long each = absurd (omega (arith, long))
@@ -35,7 +35,7 @@ each_back P none (s ∷ sprites) (Some p ∷ placed) long each = (each.0, each_b
 
 -- Those without one cover nothing.
 covers_back : (spacing : Spacing) (x y : ℕ) (placed : List (Option Placed))
-    → count_by (covers_place spacing x y) (areas_of placed) ≡ count_by (covers_place spacing x y) (areas_of (with_place placed placed))
+    → count_by (covers_place spacing x y) (areas_of placed) ≡ count_by (covers_place spacing x y) (areas_of (those_placed placed placed))
 covers_back spacing x y [] = refl
 covers_back spacing x y (None ∷ placed) =
     let a : count_by (covers_place spacing x y) (None ∷ areas_of placed) ≡ 0 + count_by (covers_place spacing x y) (areas_of placed) =
@@ -46,9 +46,9 @@ covers_back spacing x y (Some p ∷ placed) =
     let a : count_by (covers_place spacing x y) (Some p.area ∷ areas_of placed)
     ≡ one_if (covers_place spacing x y (Some p.area)) + count_by (covers_place spacing x y) (areas_of placed) =
     count_by-cons (covers_place spacing x y) (Some p.area) (areas_of placed) in
-    let b : count_by (covers_place spacing x y) (Some p.area ∷ areas_of (with_place placed placed))
-    ≡ one_if (covers_place spacing x y (Some p.area)) + count_by (covers_place spacing x y) (areas_of (with_place placed placed)) =
-    count_by-cons (covers_place spacing x y) (Some p.area) (areas_of (with_place placed placed)) in
+    let b : count_by (covers_place spacing x y) (Some p.area ∷ areas_of (those_placed placed placed))
+    ≡ one_if (covers_place spacing x y (Some p.area)) + count_by (covers_place spacing x y) (areas_of (those_placed placed placed)) =
+    count_by-cons (covers_place spacing x y) (Some p.area) (areas_of (those_placed placed placed)) in
     let rest = covers_back spacing x y placed in
     omega (arith, a, b, rest)
 
@@ -58,7 +58,7 @@ group_good ways o sprites sheet placed (inl page) = page_good ways o sprites she
 group_good ways o sprites sheet placed (inr group) = record {
   each = each_back (λ sprite p. IfSome p (IsPlacedFor sheet (spacing_of o) o.turn sprite)) (λ s. tt) sprites placed group.0 group.1.shown.each;
   apart = λ x y.
-      let few : count_by (covers_place (spacing_of o) x y) (areas_of (with_place placed placed)) ≤ 1 = group.1.shown.arranged.good.apart x y in
+      let few : count_by (covers_place (spacing_of o) x y) (areas_of (those_placed placed placed)) ≤ 1 = group.1.shown.arranged.good.apart x y in
       let same = covers_back (spacing_of o) x y placed in
       omega (arith, few, same);
   used = λ none. group.1.used (all_picked IsNone (map is_some placed) placed none);
@@ -168,7 +168,7 @@ module _ (group : ℕ) where
   kept_still page_of false n p lies = lies
 
   pub without_same : (page_of : ℕ → Option ℕ) (kept : List (Option ℕ)) (places : List (Option OnPage)) → AllZip (LiesAs page_of) kept places
-      → AllZip (LiesAs page_of) (without group kept) places
+      → AllZip (LiesAs page_of) (without_group group kept) places
   without_same page_of [] [] same = tt
   without_same page_of [] (p ∷ places) same = absurd same
   without_same page_of (g ∷ kept) [] same = absurd same
@@ -179,7 +179,7 @@ module _ (group : ℕ) where
   in_other other n true is differ = sym (ne_eqb n other (λ e. differ (sym e ∙ is refl)))
   in_other other n false is differ = refl
 
-  pub without_other : (other : ℕ) → other ≢ group → (kept : List (Option ℕ)) → map (is_in other) (without group kept) ≡ map (is_in other) kept
+  pub without_other : (other : ℕ) → other ≢ group → (kept : List (Option ℕ)) → map (is_in other) (without_group group kept) ≡ map (is_in other) kept
   without_other other differ [] = refl
   without_other other differ (None ∷ kept) = ap (λ r. false ∷ r) (without_other other differ kept)
   without_other other differ (Some n ∷ kept) =
@@ -189,45 +189,45 @@ module _ (group : ℕ) where
   one_less true n = omega arith
   one_less false n = omega arith
 
-  no_more_kept : (kept : List (Option ℕ)) → count_by is_some (without group kept) ≤ count_by is_some kept
+  no_more_kept : (kept : List (Option ℕ)) → count_by is_some (without_group group kept) ≤ count_by is_some kept
   no_more_kept [] = omega arith
   no_more_kept (None ∷ kept) =
-      let a : count_by is_some (None ∷ without group kept) ≡ 0 + count_by is_some (without group kept) = count_by-cons is_some None (without group kept) in
+      let a : count_by is_some (None ∷ without_group group kept) ≡ 0 + count_by is_some (without_group group kept) = count_by-cons is_some None (without_group group kept) in
       let b : count_by is_some (None ∷ kept) ≡ 0 + count_by is_some kept = count_by-cons is_some None kept in
       let rest = no_more_kept kept in
       omega (arith, a, b, rest)
   no_more_kept (Some n ∷ kept) =
-      let a = count_by-cons is_some (cond (n == group) None (Some n)) (without group kept) in
+      let a = count_by-cons is_some (cond (n == group) None (Some n)) (without_group group kept) in
       let b : count_by is_some (Some n ∷ kept) ≡ 1 + count_by is_some kept = count_by-cons is_some (Some n) kept in
       let one = one_less (n == group) n in
       let rest = no_more_kept kept in
       omega (arith, a, b, one, rest)
 
-  fewer_or_none : (kept : List (Option ℕ)) → (count_by is_some (without group kept) < count_by is_some kept) ⊎ All (λ g. g ≢ Some group) kept
+  fewer_or_none : (kept : List (Option ℕ)) → (count_by is_some (without_group group kept) < count_by is_some kept) ⊎ All (λ g. g ≢ Some group) kept
   fewer_or_none [] = inr (All-nil (λ g. g ≢ Some group))
   fewer_or_none (None ∷ kept) = by_rest (fewer_or_none kept)
     where
-      by_rest : (count_by is_some (without group kept) < count_by is_some kept) ⊎ All (λ g. g ≢ Some group) kept
-          → (count_by is_some (without group (None ∷ kept)) < count_by is_some (None ∷ kept)) ⊎ All (λ g. g ≢ Some group) (None ∷ kept)
+      by_rest : (count_by is_some (without_group group kept) < count_by is_some kept) ⊎ All (λ g. g ≢ Some group) kept
+          → (count_by is_some (without_group group (None ∷ kept)) < count_by is_some (None ∷ kept)) ⊎ All (λ g. g ≢ Some group) (None ∷ kept)
       by_rest (inl fewer) =
-          let a : count_by is_some (None ∷ without group kept) ≡ 0 + count_by is_some (without group kept) = count_by-cons is_some None (without group kept) in
+          let a : count_by is_some (None ∷ without_group group kept) ≡ 0 + count_by is_some (without_group group kept) = count_by-cons is_some None (without_group group kept) in
           let b : count_by is_some (None ∷ kept) ≡ 0 + count_by is_some kept = count_by-cons is_some None kept in
           inl (omega (arith, a, b, fewer))
       by_rest (inr none) = inr (All-cons (λ g. g ≢ Some group) None kept (λ e. false≢true (ap is_some e)) none)
   fewer_or_none (Some n ∷ kept) = by_head (n == group) refl (fewer_or_none kept)
     where
-      by_head : (b : Bool) → (n == group) ≡ b → (count_by is_some (without group kept) < count_by is_some kept) ⊎ All (λ g. g ≢ Some group) kept
-          → (count_by is_some (without group (Some n ∷ kept)) < count_by is_some (Some n ∷ kept)) ⊎ All (λ g. g ≢ Some group) (Some n ∷ kept)
+      by_head : (b : Bool) → (n == group) ≡ b → (count_by is_some (without_group group kept) < count_by is_some kept) ⊎ All (λ g. g ≢ Some group) kept
+          → (count_by is_some (without_group group (Some n ∷ kept)) < count_by is_some (Some n ∷ kept)) ⊎ All (λ g. g ≢ Some group) (Some n ∷ kept)
       by_head true is rest =
-          let a : count_by is_some (cond (n == group) None (Some n) ∷ without group kept)
-          ≡ one_if (is_some (cond (n == group) None (Some n))) + count_by is_some (without group kept) =
-          count_by-cons is_some (cond (n == group) None (Some n)) (without group kept) in
+          let a : count_by is_some (cond (n == group) None (Some n) ∷ without_group group kept)
+          ≡ one_if (is_some (cond (n == group) None (Some n))) + count_by is_some (without_group group kept) =
+          count_by-cons is_some (cond (n == group) None (Some n)) (without_group group kept) in
           let c : one_if (is_some (cond (n == group) None (Some n))) ≡ 0 = ap (λ b. one_if (is_some (cond b None (Some n)))) is in
           let b : count_by is_some (Some n ∷ kept) ≡ 1 + count_by is_some kept = count_by-cons is_some (Some n) kept in
           let le = no_more_kept kept in
           inl (omega (arith, a, b, c, le))
       by_head false is (inl fewer) =
-          let a = count_by-cons is_some (cond (n == group) None (Some n)) (without group kept) in
+          let a = count_by-cons is_some (cond (n == group) None (Some n)) (without_group group kept) in
           let b : count_by is_some (Some n ∷ kept) ≡ 1 + count_by is_some kept = count_by-cons is_some (Some n) kept in
           let one = one_less (n == group) n in
           inl (omega (arith, a, b, one, fewer))
@@ -236,11 +236,11 @@ module _ (group : ℕ) where
           (λ e. let same : n ≡ group = ap (λ o. number_or o n) e in false≢true (sym is ∙ eq-eqb n group same)) none)
 
   pub fewer_kept : (kept : List (Option ℕ)) (places : List (Option OnPage)) → HasMember group (waiting kept places)
-      → count_by is_some (without group kept) < count_by is_some kept
+      → count_by is_some (without_group group kept) < count_by is_some kept
   fewer_kept kept places there = by_kept (fewer_or_none kept)
     where
-      by_kept : (count_by is_some (without group kept) < count_by is_some kept) ⊎ All (λ g. g ≢ Some group) kept
-          → count_by is_some (without group kept) < count_by is_some kept
+      by_kept : (count_by is_some (without_group group kept) < count_by is_some kept) ⊎ All (λ g. g ≢ Some group) kept
+          → count_by is_some (without_group group kept) < count_by is_some kept
       by_kept (inl fewer) = fewer
       by_kept (inr none) = absurd (there (all_picked (λ g. g ≢ Some group) (map is_none places) kept none))
 
@@ -250,7 +250,7 @@ pub groups_without : (o : SheetOptions) (sprites : List Size) (groups kept : Lis
     → AllZip (LiesAs page_of) kept places → HasMember group (waiting kept places)
     → NoWayFinds o (members group (waiting kept places) left)
     → ((g : ℕ) → NoWayFinds o (members g groups sprites) ⊎ (map (is_in g) kept ≡ map (is_in g) groups))
-    → (g : ℕ) → NoWayFinds o (members g groups sprites) ⊎ (map (is_in g) (without group kept) ≡ map (is_in g) groups)
+    → (g : ℕ) → NoWayFinds o (members g groups sprites) ⊎ (map (is_in g) (without_group group kept) ≡ map (is_in g) groups)
 groups_without o sprites groups kept group places left page_of left_is long same there none before g = by_before (before g)
   where
     nowhere : page_of group ≡ None
@@ -262,13 +262,13 @@ groups_without o sprites groups kept group places left page_of left_is long same
         (subst (λ xs. NoWayFinds o (members group (waiting kept places) xs)) left_is none)
 
     by_equal : map (is_in g) kept ≡ map (is_in g) groups → (g ≡ group) ⊎ (g ≢ group)
-        → NoWayFinds o (members g groups sprites) ⊎ (map (is_in g) (without group kept) ≡ map (is_in g) groups)
+        → NoWayFinds o (members g groups sprites) ⊎ (map (is_in g) (without_group group kept) ≡ map (is_in g) groups)
     by_equal e (inl is) =
         inl (subst (λ row. NoWayFinds o (picked row sprites)) e (subst (λ n. NoWayFinds o (members n kept sprites)) (sym is) none_here))
     by_equal e (inr differ) = inr (without_other group g differ kept ∙ e)
 
     by_before : NoWayFinds o (members g groups sprites) ⊎ (map (is_in g) kept ≡ map (is_in g) groups)
-        → NoWayFinds o (members g groups sprites) ⊎ (map (is_in g) (without group kept) ≡ map (is_in g) groups)
+        → NoWayFinds o (members g groups sprites) ⊎ (map (is_in g) (without_group group kept) ≡ map (is_in g) groups)
     by_before (inl packs) = inl packs
     by_before (inr e) = by_equal e (cases_eq g group)
 

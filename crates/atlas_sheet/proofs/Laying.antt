@@ -45,8 +45,8 @@ module _ (sheet : Sides) (spacing : Spacing) where
       subst (λ b. AllZip (MayLie b) sprites lying) (sym on) (subst (AllZip (MayLie true) sprites) (sym is) (laid_lies true how sprites))
 
   -- A sprite that has room in one of the ways that it may lie.
-  abbrev pub HasRoom : (turn : Bool) → Size → Type 0
-  HasRoom turn s = (lying : Size) × MayLie turn s lying × IsTrue (has_room sheet spacing lying)
+  abbrev pub CanHaveRoom : (turn : Bool) → Size → Type 0
+  CanHaveRoom turn s = (lying : Size) × MayLie turn s lying × IsTrue (has_room sheet spacing lying)
 
   room_as_fitted : (s l : Size) → MayLie true s l → IsTrue (has_room sheet spacing l) → IsTrue (has_room sheet spacing (fitted sheet spacing s))
   room_as_fitted s l may room = by_room (has_room sheet spacing s) refl
@@ -67,23 +67,23 @@ module _ (sheet : Sides) (spacing : Spacing) where
   lie_back s l (inl e) = inl (sym e)
   lie_back s l (inr e) = inr (refl, ap turned_size (sym e.1))
 
-  room_as_laid : (how : Turning) (s : Size) → HasRoom true s → IsTrue (has_room sheet spacing (fitted sheet spacing (turned_to how s)))
+  room_as_laid : (how : Turning) (s : Size) → CanHaveRoom true s → IsTrue (has_room sheet spacing (fitted sheet spacing (turned_to how s)))
   room_as_laid how s room =
       room_as_fitted (turned_to how s) room.0
       (lie_again true (turned_to how s) s room.0 (lie_back s (turned_to how s) (may_turn how s)) room.1) room.2
 
-  room_as_given : (s : Size) → HasRoom false s → IsTrue (has_room sheet spacing s)
+  room_as_given : (s : Size) → CanHaveRoom false s → IsTrue (has_room sheet spacing s)
   room_as_given s (l, inl e, room) = ap (has_room sheet spacing) (sym e) ∙ room
   room_as_given s (l, inr e, room) = absurd (false≢true e.0)
 
   -- Laid sprites have room, where each has it in one way.
-  pub laid_room : (turn : Bool) (how : Turning) (sprites : List Size) → All (HasRoom turn) sprites
+  pub laid_room : (turn : Bool) (how : Turning) (sprites : List Size) → All (CanHaveRoom turn) sprites
       → All (λ s. IsTrue (has_room sheet spacing s)) (laid turn sheet spacing how sprites)
-  laid_room false how sprites each = All-weaker (HasRoom false) (λ s. IsTrue (has_room sheet spacing s)) room_as_given sprites each
+  laid_room false how sprites each = All-weaker (CanHaveRoom false) (λ s. IsTrue (has_room sheet spacing s)) room_as_given sprites each
   laid_room true how [] each = All-nil (λ s. IsTrue (has_room sheet spacing s))
   laid_room true how (s ∷ sprites) each =
       All-cons (λ s. IsTrue (has_room sheet spacing s)) (fitted sheet spacing (turned_to how s)) (laid true sheet spacing how sprites)
-      (room_as_laid how s (All-head (HasRoom true) s sprites each)) (laid_room true how sprites (All-tail (HasRoom true) s sprites each))
+      (room_as_laid how s (All-head (CanHaveRoom true) s sprites each)) (laid_room true how sprites (All-tail (CanHaveRoom true) s sprites each))
 
 -- There is one greatest sheet.
 pub greatest_once : (by : Allowed) (s t : Sides) → IsGreatest by s → IsGreatest by t → s ≡ t

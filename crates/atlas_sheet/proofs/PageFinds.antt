@@ -17,8 +17,8 @@ use Rattle.atlas_sheet.specs.Allowances.{IsAllowed, IsGreatest}
 use Rattle.atlas_sheet.specs.Fillings.{IsNoBetter, ways_tried}
 use Rattle.atlas_sheet.specs.Lying.{IsPlacedFor, IsShown, MayLie, areas_of}
 use Rattle.atlas_sheet.specs.Packings.{IsNoLarger}
-use Rattle.atlas_sheet.specs.Paging.{ArePagesBy, IsFull, IsPage, OneIsTooLarge, TakesAll, holes, put_on, sprites_left}
-use Rattle.atlas_sheet.specs.Settings.{spacing_of}
+use Rattle.atlas_sheet.specs.Paging.{ArePagesBy, IsFullSheet, IsPage, OneIsTooLarge, TakesAll, holes, put_on, sprites_left}
+use Rattle.atlas_sheet.specs.Settings.{CanPack, spacing_of}
 use Rattle.atlas_sheet.specs.Sheets.{IsPackable, used_area}
 use Rattle.atlas_sheet.specs.Turnings.{InEach, has_room, laid}
 use Rattle.atlas_sheet.specs.declared.turnings.Turning.TheVariants as turning
@@ -83,10 +83,10 @@ shown_long sheet o left order placed shown =
 module _ (ways : List Way) (o : SheetOptions) (left : List Size) (sheet : Sides) (order : List ℕ) (placed : List (Option Placed))
     (areas : List (Option Rectangle)) (shown : IsShown sheet (spacing_of o) o.turn left order placed) (are : areas_of placed ≡ areas)
     (kind : IsKind ways o left sheet areas) where
-  kind_here : TakesAll ways o left sheet placed ⊎ IsFull ways o left sheet placed
+  kind_here : TakesAll ways o left sheet placed ⊎ IsFullSheet ways o left sheet placed
   kind_here = by_kind kind
     where
-      by_kind : IsKind ways o left sheet areas → TakesAll ways o left sheet placed ⊎ IsFull ways o left sheet placed
+      by_kind : IsKind ways o left sheet areas → TakesAll ways o left sheet placed ⊎ IsFullSheet ways o left sheet placed
       by_kind (inl all) = inl (shown_whole placed areas are all.0, all.1)
       by_kind (inr full) = inr (
         full.0,
@@ -110,7 +110,7 @@ module _ (ways : List Way) (o : SheetOptions) (left : List Size) (sheet : Sides)
       → All (IsPackable (spacing_of o)) left → All IsNone placed → OneIsTooLarge o sprites
   none_found sprites places ways_some is some packs none = by_kind kind_here
     where
-      by_kind : TakesAll ways o left sheet placed ⊎ IsFull ways o left sheet placed → OneIsTooLarge o sprites
+      by_kind : TakesAll ways o left sheet placed ⊎ IsFullSheet ways o left sheet placed → OneIsTooLarge o sprites
       by_kind (inl all) =
           let long : length placed ≡ length left = shown_long sheet o left order placed shown in
           absurd (not_both placed (omega (arith, some, long)) all.0 none)
@@ -145,6 +145,12 @@ module _ (sprites left : List Size) (places : List (Option OnPage)) (long : leng
 
   pub left_packable : (P : Size → Type 0) → All P sprites → All P left
   left_packable P each = subst (All P) (sym is) (all_left P sprites places each)
+
+  pub can_pack_left : (o : SheetOptions) → CanPack o sprites → CanPack o left
+  can_pack_left o can = record {
+    usable = can.usable;
+    placing = record { aligned = can.placing.aligned; packable = left_packable (IsPackable (spacing_of o)) can.placing.packable };
+  }
 
   module _ (n : ℕ) (found : List (Option Placed)) (count : length found ≡ length left) (put : List (Option OnPage))
       (put_is : put ≡ put_on n places found) where

@@ -13,8 +13,8 @@ use Rattle.atlas_sheet.specs.declared.placed.Placed.{Placed}
 use Rattle.atlas_sheet.specs.Paging.{ArePagesBy, found_on, holes, page_sides, place_on, places_on, put_on, sprites_from, sprites_left}
 
 -- A place on a sheet before this one.
-abbrev pub IsBefore : (page : ℕ) → Option OnPage → Type 0
-IsBefore page p = IfSome p (λ q. q.page < page)
+abbrev pub LiesEarlier : (page : ℕ) → Option OnPage → Type 0
+LiesEarlier page p = IfSome p (λ q. q.page < page)
 
 -- What a sheet adds leaves who is from an earlier one on.
 same_from : (j k : ℕ) → j ≤ k → (sprites : List Size) (places : List (Option OnPage)) (found : List (Option Placed))
@@ -41,49 +41,49 @@ same_on j k less (None ∷ places) (Some f ∷ found) =
     ∙ (λ i. cond-false (k == j) (Some f) None (ne_eqb k j (λ e. let same : k ≡ j = e in absurd (omega (arith, less)))) i ∷ same_on j k less places found i)
 
 -- Of places on earlier sheets, those from this one on are those that are missing.
-left_from : (k : ℕ) (sprites : List Size) (places : List (Option OnPage)) → All (IsBefore k) places
+left_from : (k : ℕ) (sprites : List Size) (places : List (Option OnPage)) → All (LiesEarlier k) places
     → sprites_from k sprites places ≡ sprites_left sprites places
 left_from k [] places before = refl
 left_from k (s ∷ sprites) [] before = refl
 left_from k (s ∷ sprites) (None ∷ places) before =
-    ap (λ xs. s ∷ xs) (left_from k sprites places (All-tail (IsBefore k) None places before))
+    ap (λ xs. s ∷ xs) (left_from k sprites places (All-tail (LiesEarlier k) None places before))
 left_from k (s ∷ sprites) (Some p ∷ places) before =
-    cond-false (nat_le k p.page) (s ∷ sprites_from k sprites places) (sprites_from k sprites places) (lt-leb k p.page (All-head (IsBefore k) (Some p) places before))
-    ∙ left_from k sprites places (All-tail (IsBefore k) (Some p) places before)
+    cond-false (nat_le k p.page) (s ∷ sprites_from k sprites places) (sprites_from k sprites places) (lt-leb k p.page (All-head (LiesEarlier k) (Some p) places before))
+    ∙ left_from k sprites places (All-tail (LiesEarlier k) (Some p) places before)
 
 -- What was found on the new sheet is what lies there.
-found_there : (k : ℕ) (places : List (Option OnPage)) (found : List (Option Placed)) → All (IsBefore k) places → length found ≡ holes places
+found_there : (k : ℕ) (places : List (Option OnPage)) (found : List (Option Placed)) → All (LiesEarlier k) places → length found ≡ holes places
     → places_on k (put_on k places found) ≡ found
 found_there k [] [] before long = refl
 found_there k [] (f ∷ found) before long = absurd (omega (arith, long))
 found_there k (Some p ∷ places) found before long =
     cond-false (nat_le k p.page) (place_on k (Some p) ∷ places_on k (put_on k places found)) (places_on k (put_on k places found))
-    (lt-leb k p.page (All-head (IsBefore k) (Some p) places before))
-    ∙ found_there k places found (All-tail (IsBefore k) (Some p) places before) long
+    (lt-leb k p.page (All-head (LiesEarlier k) (Some p) places before))
+    ∙ found_there k places found (All-tail (LiesEarlier k) (Some p) places before) long
 found_there k (None ∷ places) [] before long = absurd (omega (arith, long))
 found_there k (None ∷ places) (None ∷ found) before long =
-    ap (λ xs. None ∷ xs) (found_there k places found (All-tail (IsBefore k) None places before) (omega (arith, long)))
+    ap (λ xs. None ∷ xs) (found_there k places found (All-tail (LiesEarlier k) None places before) (omega (arith, long)))
 found_there k (None ∷ places) (Some f ∷ found) before long =
     cond-true (nat_le k k) (cond (k == k) (Some f) None ∷ places_on k (put_on k places found)) (places_on k (put_on k places found)) (le-leb k k (omega arith))
     ∙ (λ i. cond-true (k == k) (Some f) None (eq-eqb k k refl) i
-    ∷ found_there k places found (All-tail (IsBefore k) None places before) (omega (arith, long)) i)
+    ∷ found_there k places found (All-tail (LiesEarlier k) None places before) (omega (arith, long)) i)
 
-one_before : (k : ℕ) (p : Option OnPage) → IsBefore k p → IsBefore (k + 1) p
+one_before : (k : ℕ) (p : Option OnPage) → LiesEarlier k p → LiesEarlier (k + 1) p
 one_before k None before = tt
 one_before k (Some p) before = omega (arith, before)
 
-put_before : (k : ℕ) (places : List (Option OnPage)) (found : List (Option Placed)) → All (IsBefore k) places
-    → All (IsBefore (k + 1)) (put_on k places found)
-put_before k [] found before = All-nil (IsBefore (k + 1))
+put_before : (k : ℕ) (places : List (Option OnPage)) (found : List (Option Placed)) → All (LiesEarlier k) places
+    → All (LiesEarlier (k + 1)) (put_on k places found)
+put_before k [] found before = All-nil (LiesEarlier (k + 1))
 put_before k (Some p ∷ places) found before =
-    All-cons (IsBefore (k + 1)) (Some p) (put_on k places found) (one_before k (Some p) (All-head (IsBefore k) (Some p) places before))
-    (put_before k places found (All-tail (IsBefore k) (Some p) places before))
-put_before k (None ∷ places) [] before = All-weaker (IsBefore k) (IsBefore (k + 1)) (one_before k) (None ∷ places) before
+    All-cons (LiesEarlier (k + 1)) (Some p) (put_on k places found) (one_before k (Some p) (All-head (LiesEarlier k) (Some p) places before))
+    (put_before k places found (All-tail (LiesEarlier k) (Some p) places before))
+put_before k (None ∷ places) [] before = All-weaker (LiesEarlier k) (LiesEarlier (k + 1)) (one_before k) (None ∷ places) before
 put_before k (None ∷ places) (None ∷ found) before =
-    All-cons (IsBefore (k + 1)) None (put_on k places found) tt (put_before k places found (All-tail (IsBefore k) None places before))
+    All-cons (LiesEarlier (k + 1)) None (put_on k places found) tt (put_before k places found (All-tail (LiesEarlier k) None places before))
 put_before k (None ∷ places) (Some f ∷ found) before =
-    All-cons (IsBefore (k + 1)) (Some (record { page = k; placed = f })) (put_on k places found) (omega arith)
-    (put_before k places found (All-tail (IsBefore k) None places before))
+    All-cons (LiesEarlier (k + 1)) (Some (record { page = k; placed = f })) (put_on k places found) (omega arith)
+    (put_before k places found (All-tail (LiesEarlier k) None places before))
 
 pub put_long : (k : ℕ) (places : List (Option OnPage)) (found : List (Option Placed)) → length (put_on k places found) ≡ length places
 put_long k [] found = refl
@@ -169,7 +169,7 @@ module _ (rule : List Size → Sides → List (Option Placed) → Type 0) (sprit
   pub one_page_more : ArePagesBy rule sprites (sizes ++ size ∷ []) (put_on n places found)
   one_page_more = record {
     long = put_long n places found ∙ are.long;
-    below = subst (λ m. All (IsBefore m) (put_on n places found)) (sym more) (put_before n places found are.below);
+    below = subst (λ m. All (LiesEarlier m) (put_on n places found)) (sym more) (put_before n places found are.below);
     pages = λ page less. by_last page less (cases_lt page n);
   }
     where
@@ -186,9 +186,9 @@ begun rule sprites = record {
   pages = λ page less. absurd (omega (arith, less));
 }
   where
-    none_yet : (n : ℕ) → All (IsBefore 0) (replicate n None)
-    none_yet zero = All-nil (IsBefore 0)
-    none_yet (suc n) = All-cons (IsBefore 0) None (replicate n None) tt (none_yet n)
+    none_yet : (n : ℕ) → All (LiesEarlier 0) (replicate n None)
+    none_yet zero = All-nil (LiesEarlier 0)
+    none_yet (suc n) = All-cons (LiesEarlier 0) None (replicate n None) tt (none_yet n)
 
 pub left_first : (sprites : List Size) → sprites_left sprites (replicate (length sprites) None) ≡ sprites
 left_first [] = refl

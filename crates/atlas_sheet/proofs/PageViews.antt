@@ -17,7 +17,7 @@ use Rattle.atlas_sheet.specs.declared.ways.Way.{Way}
 use Rattle.atlas_sheet.specs.Allowances.{IsGreatest}
 use Rattle.atlas_sheet.specs.Dense.{AreAllPlaced, ArePaddedApart}
 use Rattle.atlas_sheet.specs.Lying.{IsPlacedFor, areas_of}
-use Rattle.atlas_sheet.specs.Paging.{AreApart, AreGreatest, ArePages, ArePagesBy, AreUsed, IsFull, IsOnPage, IsPage, TakesAll, boxes_on, page_sides, place_on, places_on, sprites_from}
+use Rattle.atlas_sheet.specs.Paging.{AreGreatest, ArePages, ArePagesBy, AreUsed, IsFullSheet, IsOnPage, IsPage, NoPlacesOverlap, TakesAll, boxes_on, page_sides, place_on, places_on, sprites_from}
 use Rattle.atlas_sheet.specs.Settings.{spacing_of}
 use Rattle.atlas_sheet.specs.Sheets.{covers_place, padded}
 use Rattle.atlas_sheet.proofs.Asking.{covers_inside}
@@ -147,7 +147,7 @@ module _ (o : SheetOptions) (rule : List Size → Sides → List (Option Placed)
       each_on (length sizes) (λ k s p. IfSome p (IsPlacedFor (page_sides sizes k) (spacing_of o) o.turn s)) (IsOnPage o sizes)
       (λ s p known placed. (known, placed)) sprites places are.long are.below (λ k less. (good_at k less).each)
 
-  pub pages_apart : AreApart sizes places
+  pub pages_apart : NoPlacesOverlap sizes places
   pages_apart k less x y =
       let few : count_by (covers_place (spacing_of o) x y) (areas_of (places_on k (map Some places))) ≤ 1 =
       (good_at k less).apart x y in
@@ -162,7 +162,7 @@ module _ (ways : List Way) (o : SheetOptions) (sprites sizes : List Size) (place
   pages_greatest k less = by_kind (are.pages k (omega (arith, less))).kind
     where
       by_kind : TakesAll ways o (sprites_from k sprites (map Some places)) (page_sides sizes k) (places_on k (map Some places))
-          ⊎ IsFull ways o (sprites_from k sprites (map Some places)) (page_sides sizes k) (places_on k (map Some places))
+          ⊎ IsFullSheet ways o (sprites_from k sprites (map Some places)) (page_sides sizes k) (places_on k (map Some places))
           → IsGreatest o.allowed (page_sides sizes k)
       by_kind (inl all) = absurd ((are.pages (k + 1) less).used (whole_last k places all.0))
       by_kind (inr full) = full.0

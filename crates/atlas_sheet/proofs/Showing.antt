@@ -15,10 +15,10 @@ use Rattle.atlas_sheet.proofs.Asking.{covers_inside}
 
 module _ (sheet : Sides) (spacing : Spacing) (turn : Bool) where
   -- A sprite's place, where it has one.
-  abbrev Shows : Size → Option Placed → Type 0
-  Shows sprite p = IfSome p (IsPlacedFor sheet spacing turn sprite)
+  abbrev ShowsPlace : Size → Option Placed → Type 0
+  ShowsPlace sprite p = IfSome p (IsPlacedFor sheet spacing turn sprite)
 
-  pub inside_each : (sprites : List Size) (places : List Placed) → AllZip Shows sprites (map Some places)
+  pub inside_each : (sprites : List Size) (places : List Placed) → AllZip ShowsPlace sprites (map Some places)
       → All (λ p. IsWithin sheet (box_of p.area)) places
   inside_each [] [] each = All-nil (λ p. IsWithin sheet (box_of p.area))
   inside_each [] (p ∷ places) each = elim each [ ]
@@ -35,7 +35,7 @@ module _ (sheet : Sides) (spacing : Spacing) (turn : Bool) where
       by_turn true is = let on : turn ≡ true = placed.allowed is in cc
       by_turn false is = placed.place.sides ∙ ap (λ b. sides_of (lie b sprite)) is
 
-  pub upright_each : (sprites : List Size) (places : List Placed) → turn ≡ false → AllZip Shows sprites (map Some places)
+  pub upright_each : (sprites : List Size) (places : List Placed) → turn ≡ false → AllZip ShowsPlace sprites (map Some places)
       → AllZip (λ sprite p. box_sides (box_of p.area) ≡ sides_of sprite) sprites places
   upright_each [] [] off each = tt
   upright_each [] (p ∷ places) off each = elim each [ ]

@@ -1,7 +1,7 @@
 -- Sprites that are placed in a grid of cells, and sheets that are packed so.
 use Rattle.std.specs.Prelude.{◌≡◌, ℕ, ◌*◌, ◌≤◌, List, [], ◌∷◌, ◌++◌, length, map, All, Option, Some, IfSome}
 use Rattle.std.specs.List.{AllZip, count_by}
-use Rattle.atlas_maxrects.specs.Placing.{AreApart, Placing}
+use Rattle.atlas_maxrects.specs.Placing.{LieApart, Placing}
 use Rattle.guillotiere.specs.declared.Size.{Size}
 use Rattle.guillotiere.specs.declared.Rectangle.{Rectangle}
 use Rattle.guillotiere.specs.Boxes.{Box, Sides, IsWithin, box_at}
@@ -10,6 +10,7 @@ use Rattle.guillotiere.specs.Replies.{IsExact}
 use Rattle.atlas_sheet.specs.declared.options.Spacing.{Spacing}
 use Rattle.atlas_sheet.specs.declared.options.SheetOptions.{SheetOptions}
 use Rattle.atlas_sheet.specs.declared.placed.Placed.{Placed}
+use Rattle.atlas_sheet.specs.declared.sheets.Sheet.{Sheet}
 use Rattle.atlas_sheet.specs.declared.ways.TheConstants.{WAYS}
 use Rattle.atlas_sheet.specs.Allowances.{IsAllowed}
 use Rattle.atlas_sheet.specs.Lying.{IsPlacedFor, areas_of}
@@ -46,7 +47,7 @@ pub record TakesCells (spacing : Spacing) (old : Placing) (sprite : Size) (place
     : Type 0 where
   pub cells : Box
   pub within : IsWithin old.sheet cells
-  pub apart : All (AreApart cells) old.placed
+  pub apart : All (LieApart cells) old.placed
   pub taken : new ≡ record { sheet = old.sheet; placed = old.placed ++ cells ∷ [] }
   pub padded : padded spacing.padding place ≡ box_from spacing cells sprite
   pub wide : (box_from spacing cells sprite).max.x ≤ cells.max.x * (sides_of spacing.alignment).width
@@ -74,11 +75,10 @@ NoWayFinds o sprites = InEach o sprites (λ lying. NoneIsFound WAYS o.allowed (s
 
 -- An allowed sheet with a place for each sprite, an order of all of them, and no more pixels than the first one that a way
 -- finds.
-pub record IsWhole (o : SheetOptions) (sprites : List Size) (size : Size) (placed : List Placed) (used : ℕ)
-    (order : List ℕ) : Type 0 where
-  pub allowed : IsAllowed o.allowed (sides_of size)
-  pub each : AreAllPlaced o (sides_of size) sprites (map Some placed)
-  pub apart : ArePaddedApart (spacing_of o) (map Some placed)
-  pub area : used ≡ used_area (areas_of (map Some placed))
-  pub numbers : IsOrder (length sprites) order
-  pub larger : IsNoLargerThanWays o sprites (sides_of size)
+pub record IsWholeSheet {A : Type 0} (o : SheetOptions) (sprites : List Size) (sheet : Sheet A) : Type 0 where
+  pub allowed : IsAllowed o.allowed (sides_of sheet.size)
+  pub each : AreAllPlaced o (sides_of sheet.size) sprites (map Some sheet.places.items)
+  pub apart : ArePaddedApart (spacing_of o) (map Some sheet.places.items)
+  pub area : sheet.used_area ≡ used_area (areas_of (map Some sheet.places.items))
+  pub numbers : IsOrder (length sprites) sheet.order.items
+  pub larger : IsNoLargerThanWays o sprites (sides_of sheet.size)

@@ -4,19 +4,19 @@ use Rattle.std.specs.Prelude.{length, map, replicate, take, ◌+◌, ◌-◌, Al
 use Rattle.std.specs.Prelude.{IfSome, IsSome}
 use Rattle.std.specs.List.{AllZip, count_by}
 use Rattle.guillotiere.specs.declared.Size.{Size}
-use Rattle.guillotiere.specs.declared.Rectangle.{Rectangle}
 use Rattle.guillotiere.specs.Boxes.{Sides}
+use Rattle.guillotiere.specs.Pixels.{sides_of}
+use Rattle.atlas_sheet.specs.declared.choosing.Chosen.{Chosen}
+use Rattle.atlas_sheet.specs.declared.groups.SoFar.{SoFar}
 use Rattle.atlas_sheet.specs.declared.options.SheetOptions.{SheetOptions}
 use Rattle.atlas_sheet.specs.declared.paging.OnPage.{OnPage}
 use Rattle.atlas_sheet.specs.declared.placed.Placed.{Placed}
-use Rattle.atlas_sheet.specs.declared.ways.Choice.{Choice}
 use Rattle.atlas_sheet.specs.declared.ways.TheConstants.{WAYS}
 use Rattle.atlas_sheet.specs.declared.ways.Way.{Way}
 use Rattle.atlas_sheet.specs.Allowances.{IsAllowed}
 use Rattle.atlas_sheet.specs.Dense.{NoWayFinds}
-use Rattle.atlas_sheet.specs.Lying.{IsArrangement}
+use Rattle.atlas_sheet.specs.Lying.{IsArranged}
 use Rattle.atlas_sheet.specs.Paging.{ArePagesBy, IsPage, sprites_left}
-use Rattle.atlas_sheet.specs.Settings.{spacing_of}
 
 -- What stands in a list where a row says so.
 abbrev pub picked : {X : Type 0} → List Bool → List X → List X
@@ -38,14 +38,14 @@ abbrev pub LieTogether : (group : ℕ) → List (Option ℕ) → List OnPage →
 LieTogether group groups places = (page : ℕ) × All (λ p. p.page ≡ page) (members group groups places)
 
 -- What stands in a list at the sprites that have a place.
-abbrev pub with_place : {X : Type 0} → List (Option Placed) → List X → List X
-with_place placed xs = picked (map is_some placed) xs
+abbrev pub those_placed : {X : Type 0} → List (Option Placed) → List X → List X
+those_placed placed xs = picked (map is_some placed) xs
 
 -- A sheet as for sprites in no group, or one on which no others asked than those that lie there.
 abbrev pub IsGroupPage : List Way → SheetOptions → List Size → Sides → List (Option Placed) → Type 0
 IsGroupPage ways o sprites sheet placed =
     IsPage ways o sprites sheet placed
-    ⊎ ((length placed ≡ length sprites) × IsPage ways o (with_place placed sprites) sheet (with_place placed placed))
+    ⊎ ((length placed ≡ length sprites) × IsPage ways o (those_placed placed sprites) sheet (those_placed placed placed))
 
 -- One such sheet after another, each for the sprites that lie on no earlier one.
 abbrev pub AreGroupPages : List Way → SheetOptions → (sprites sizes : List Size) → List (Option OnPage) → Type 0
@@ -60,8 +60,8 @@ abbrev pub waiting : List (Option ℕ) → List (Option OnPage) → List (Option
 waiting groups places = picked (map is_none places) groups
 
 -- The numbers, without that of one group.
-abbrev pub without : (group : ℕ) → List (Option ℕ) → List (Option ℕ)
-without group groups = map (λ g. if is_in group g then None else g) groups
+abbrev pub without_group : (group : ℕ) → List (Option ℕ) → List (Option ℕ)
+without_group group groups = map (λ g. if is_in group g then None else g) groups
 
 -- One of the sprites is in this group.
 abbrev pub HasMember : (group : ℕ) → List (Option ℕ) → Type 0
@@ -80,13 +80,13 @@ pub record IsClosed (groups : List (Option ℕ)) (row : List Bool) : Type 0 wher
   pub chosen : whether first ≡ true
 
 -- The sprites where a row says so, and how all of them lie on one sheet.
-pub record AreChosen (o : SheetOptions) (sprites : List Size) (groups : List (Option ℕ)) (row : List Bool) (sheet : Sides)
-    (choice : Choice) (lying : List Size) (order : List (ℕ × Size)) (places : List (Option Rectangle)) : Type 0 where
-  pub long : length row ≡ length sprites
-  pub closed : IsClosed groups row
-  pub arranged : IsArrangement sheet (spacing_of o) o.turn (picked row sprites) choice lying order places
-  pub allowed : IsAllowed o.allowed sheet
-  pub whole : All IsSome places
+pub record AreChosen {A : Type 0} (o : SheetOptions) (sprites : List Size) (groups : List (Option ℕ)) (chosen : Chosen A)
+    : Type 0 where
+  pub long : length chosen.row.items ≡ length sprites
+  pub closed : IsClosed groups chosen.row.items
+  pub arranged : IsArranged o (picked chosen.row.items sprites) chosen.page
+  pub allowed : IsAllowed o.allowed (sides_of chosen.page.size)
+  pub whole : All IsSome chosen.page.places.items
 
 -- What was found, where a row says so.
 abbrev pub spread : List Bool → (found : List (Option Placed)) → List (Option Placed)
@@ -113,6 +113,10 @@ pub record AreSoFar (o : SheetOptions) (sprites : List Size) (groups : List (Opt
   pub page_of : ℕ → Option ℕ
   pub same : AllZip (LiesAs page_of) kept places
   pub each : (g : ℕ) → NoWayFinds o (members g groups sprites) ⊎ (map (is_in g) kept ≡ map (is_in g) groups)
+
+-- The same, of sheets as they are kept.
+abbrev pub IsSoFar : {A : Type 0} → SheetOptions → (sprites : List Size) → (groups : List (Option ℕ)) → SoFar A → Type 0
+IsSoFar o sprites groups s = AreSoFar o sprites groups s.sizes.items s.places.items s.left.items s.kept.items
 
 -- What is left to be done: sprites without a place, and sprites in groups.
 abbrev pub to_do : (left : List Size) (kept : List (Option ℕ)) → ℕ

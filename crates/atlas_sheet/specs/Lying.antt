@@ -1,14 +1,18 @@
 -- Sprites that may lie turned by 90 degrees, and what a result says of them.
-use Rattle.std.specs.Prelude.{◌≡◌, ℕ, Bool, true, false, ◌⊎◌, List, map, Option, Some, None, IfSome, IsPermutation}
-use Rattle.std.specs.List.{AllZip, enumerate_from}
+use Rattle.std.specs.Prelude.{◌≡◌, ℕ, Bool, true, false, ◌⊎◌, List, map, Option, Some, None, IfSome}
+use Rattle.std.specs.List.{AllZip}
 use Rattle.guillotiere.specs.declared.Size.{Size}
 use Rattle.guillotiere.specs.declared.Rectangle.{Rectangle}
 use Rattle.guillotiere.specs.Boxes.{Sides}
+use Rattle.guillotiere.specs.Pixels.{sides_of}
 use Rattle.guillotiere.specs.Simple.{simple_start}
+use Rattle.atlas_sheet.specs.declared.arrangement.Arrangement.{Arrangement}
+use Rattle.atlas_sheet.specs.declared.options.SheetOptions.{SheetOptions}
 use Rattle.atlas_sheet.specs.declared.options.Spacing.{Spacing}
 use Rattle.atlas_sheet.specs.declared.placed.Placed.{Placed}
 use Rattle.atlas_sheet.specs.declared.ways.Choice.{Choice}
-use Rattle.atlas_sheet.specs.Orders.{choice_options}
+use Rattle.atlas_sheet.specs.Orders.{IsOrderOf, choice_options}
+use Rattle.atlas_sheet.specs.Settings.{spacing_of}
 use Rattle.atlas_sheet.specs.Sheets.{ArePlaces, FindPlaces, IsPlaceFor, inner_sides, with_places}
 
 -- A sprite's sides when it is turned.
@@ -43,9 +47,14 @@ pub record IsArrangement (sheet : Sides) (spacing : Spacing) (turn : Bool) (spri
     (lying : List Size) (order : List (ℕ × Size)) (places : List (Option Rectangle)) : Type 0 where
   pub lies : AllZip (MayLie turn) sprites lying
   pub good : ArePlaces sheet spacing lying places
-  pub permuted : IsPermutation (enumerate_from 0 lying) order
+  pub permuted : IsOrderOf lying order
   pub found : FindPlaces spacing (simple_start (inner_sides spacing sheet) (choice_options spacing choice))
       (with_places places order)
+
+-- An arrangement of these sprites that keeps to the options.
+abbrev pub IsArranged : {A : Type 0} → SheetOptions → List Size → Arrangement A → Type 0
+IsArranged o sprites a =
+    IsArrangement (sides_of a.size) (spacing_of o) o.turn sprites a.choice a.lying.items a.order.items a.places.items
 
 -- What a sheet shows: a place or none for each sprite as it lies. They are what the sprites find one after another in
 -- the order of these numbers, with one choice among free boxes.

@@ -1,6 +1,6 @@
 -- The orders in which sprites are placed, and how they choose among free boxes.
 use Rattle.std.specs.Prelude.{◌≡◌, ℕ, ◌*◌, ◌≤◌, ◌==◌, pos, min, max, List, length, count_by, IsPermutation}
-use Rattle.std.specs.List.{AllAdjacentBelow, range_with_len}
+use Rattle.std.specs.List.{AllAdjacentBelow, enumerate_from, range_with_len}
 use Rattle.guillotiere.specs.declared.Size.{Size}
 use Rattle.guillotiere.specs.Boxes.{Sides}
 use Rattle.guillotiere.specs.Choice.{Options}
@@ -35,6 +35,10 @@ choice_options spacing choice.Roomiest =
     record { alignment = sides_of spacing.alignment; small_threshold = pos 0; large_threshold = pos 0 }
 choice_options spacing choice.Tightest =
     record { alignment = sides_of spacing.alignment; small_threshold = pos 0; large_threshold = pos 2147483647 }
+
+-- Each of the sprites once, with its number.
+abbrev pub IsOrderOf : (sprites : List Size) → List (ℕ × Size) → Type 0
+IsOrderOf sprites order = IsPermutation (enumerate_from 0 sprites) order
 
 -- The numbers from 0 on of so many sprites, each once.
 abbrev pub IsOrder : (count : ℕ) → List ℕ → Type 0

@@ -1,7 +1,6 @@
 -- Sheets that take all sprites.
 use Rattle.std.specs.Prelude.{◌≡◌, ℕ, ◌+◌, ◌<◌, ◌≤◌, ◌⊎◌, ◌++◌, List, [], ◌∷◌, map, take, All, Contains, Option, Some, None}
-use Rattle.std.specs.Prelude.{IsPermutation}
-use Rattle.std.specs.List.{FoldsTo, enumerate_from}
+use Rattle.std.specs.List.{FoldsTo}
 use Rattle.guillotiere.specs.declared.Size.{Size}
 use Rattle.guillotiere.specs.declared.Rectangle.{Rectangle}
 use Rattle.guillotiere.specs.Boxes.{Sides}
@@ -12,12 +11,12 @@ use Rattle.atlas_sheet.specs.declared.allowed.Allowed.{Allowed}
 use Rattle.atlas_sheet.specs.declared.ways.Choice.{Choice}
 use Rattle.atlas_sheet.specs.declared.ways.Way.{Way}
 use Rattle.atlas_sheet.specs.Allowances.{ComesBefore, IsAllowed, IsGreatest, pixels, power_sides}
-use Rattle.atlas_sheet.specs.Orders.{AreGreatestFirst, choice_options}
+use Rattle.atlas_sheet.specs.Orders.{AreGreatestFirst, IsOrderOf, choice_options}
 use Rattle.atlas_sheet.specs.Sheets.{ArePlaces, FindPlaces, inner_sides, place_of_sprite, with_places}
 
 -- An order of the sprites by a way's key.
 pub record IsOrderBy (way : Way) (sprites : List Size) (order : List (ℕ × Size)) : Type 0 where
-  pub permuted : IsPermutation (enumerate_from 0 sprites) order
+  pub permuted : IsOrderOf sprites order
   pub greatest : AreGreatestFirst way.key order
 
 -- Places for all sprites of an order, which they find one after another in a new sheet.

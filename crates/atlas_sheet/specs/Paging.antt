@@ -58,8 +58,8 @@ TakesAll ways o sprites sheet placed =
 
 -- The greatest sheet that is allowed, and none of the first ways fills it with more pixels of these sprites; it doesn't
 -- take them all.
-abbrev pub IsFull : List Way → SheetOptions → List Size → Sides → List (Option Placed) → Type 0
-IsFull ways o sprites sheet placed =
+abbrev pub IsFullSheet : List Way → SheetOptions → List Size → Sides → List (Option Placed) → Type 0
+IsFullSheet ways o sprites sheet placed =
     IsGreatest o.allowed sheet
     × InEach o sprites (λ lying.
     All (IsNoBetter sheet (spacing_of o) lying (used_area (areas_of placed))) (take (ways_tried (length sprites)) ways))
@@ -72,7 +72,7 @@ pub record IsPage (ways : List Way) (o : SheetOptions) (sprites : List Size) (sh
   pub shown : IsShown sheet (spacing_of o) o.turn sprites order placed
   pub allowed : IsAllowed o.allowed sheet
   pub used : All IsNone placed → ⊥
-  pub kind : TakesAll ways o sprites sheet placed ⊎ IsFull ways o sprites sheet placed
+  pub kind : TakesAll ways o sprites sheet placed ⊎ IsFullSheet ways o sprites sheet placed
 
 -- One sheet after another, each of which keeps to a rule with the sprites that lie on no earlier one.
 pub record ArePagesBy (rule : List Size → Sides → List (Option Placed) → Type 0) (sprites sizes : List Size)
@@ -92,8 +92,8 @@ IsOnPage o sizes sprite p =
     (p.page < length sizes) × IsPlacedFor (page_sides sizes p.page) (spacing_of o) o.turn sprite p.placed
 
 -- No two places on one sheet overlap.
-abbrev pub AreApart : (sizes : List Size) → List OnPage → Type 0
-AreApart sizes places = (page : ℕ) → page < length sizes → AreDisjoint (boxes_on page places)
+abbrev pub NoPlacesOverlap : (sizes : List Size) → List OnPage → Type 0
+NoPlacesOverlap sizes places = (page : ℕ) → page < length sizes → AreDisjoint (boxes_on page places)
 
 -- On each sheet lies a sprite.
 abbrev pub AreUsed : (sizes : List Size) → List OnPage → Type 0

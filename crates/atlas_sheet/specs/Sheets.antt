@@ -1,8 +1,8 @@
 -- Sheets of sprites: what the places on a sheet keep to, and how sprites find them.
 use Rattle.std.specs.Prelude.{◌≡◌, ℕ, ◌+◌, ◌-◌, ◌%◌, ◌≤◌, max, ⊤, Bool, false, List, [], ◌∷◌, map, length}
 use Rattle.std.specs.Prelude.{slice_index_or}
-use Rattle.std.specs.Prelude.{Option, Some, None, IfSome, IsPermutation}
-use Rattle.std.specs.List.{AllZip, enumerate_from, count_by, sum_by}
+use Rattle.std.specs.Prelude.{Option, Some, None, IfSome, All}
+use Rattle.std.specs.List.{AllZip, count_by, sum_by}
 use Rattle.guillotiere.specs.declared.Size.{Size}
 use Rattle.guillotiere.specs.declared.Rectangle.{Rectangle}
 use Rattle.guillotiere.specs.Boxes.{Position, Sides, Box, IsPositive, box_at, box_sides, area, covers}
@@ -12,13 +12,18 @@ use Rattle.guillotiere.specs.Replies.{IsExact}
 use Rattle.guillotiere.specs.Simple.{SimpleState, SimplyGrants, simple_start}
 use Rattle.atlas_sheet.specs.declared.options.Spacing.{Spacing}
 use Rattle.atlas_sheet.specs.declared.ways.Way.{Way}
-use Rattle.atlas_sheet.specs.Orders.{AreGreatestFirst, choice_options}
+use Rattle.atlas_sheet.specs.Orders.{AreGreatestFirst, IsOrderOf, choice_options}
 
 -- A sprite that isn't empty, and with the padding at both its sides has sides of at most 2147483647.
 pub record IsPackable (spacing : Spacing) (sprite : Size) : Type 0 where
   pub positive : IsPositive (sides_of sprite)
   pub wide : (sides_of sprite).width + spacing.padding + spacing.padding ≤ 2147483647
   pub high : (sides_of sprite).height + spacing.padding + spacing.padding ≤ 2147483647
+
+-- The alignment is positive, and none of the sprites is empty or too large.
+pub record CanPlace (spacing : Spacing) (sprites : List Size) : Type 0 where
+  pub aligned : IsPositive (sides_of spacing.alignment)
+  pub packable : All (IsPackable spacing) sprites
 
 -- A place with its padding at the left and above.
 abbrev pub padded : (padding : ℕ) → Rectangle → Box
@@ -105,7 +110,7 @@ with_places places order = map (λ s. (s.1, place_of_sprite places s)) order
 pub record AreFoundBy (sheet : Sides) (spacing : Spacing) (sprites : List Size) (way : Way) (order : List (ℕ × Size))
     (places : List (Option Rectangle)) : Type 0 where
   pub count : length places ≡ length sprites
-  pub permuted : IsPermutation (enumerate_from 0 sprites) order
+  pub permuted : IsOrderOf sprites order
   pub greatest : AreGreatestFirst way.key order
   pub found : FindPlaces spacing (simple_start (inner_sides spacing sheet) (choice_options spacing way.choice))
       (with_places places order)

@@ -1,5 +1,5 @@
 //! Sprites placed in a grid of cells of the alignment's sides, each as high up as it can lie, and there as far left.
-ghost use Rattle.std.specs.Prelude.{◌≡◌, ◌+◌, ◌*◌, ◌<◌, ◌≤◌, false, length, pos, replicate, All, IfOk, IfSome, IsOkUnless, None};
+ghost use Rattle.std.specs.Prelude.{◌≡◌, ◌+◌, ◌*◌, ◌<◌, ◌≤◌, false, length, pos, replicate, IfOk, IfSome, IsOkUnless, None};
 ghost use Rattle.atlas_maxrects.specs.Placing.{PlacesTopmost};
 ghost use Rattle.guillotiere.specs.Boxes.{IsPositive, box_at};
 ghost use Rattle.guillotiere.specs.Pixels.{box_of, natural, sides_of};
@@ -7,7 +7,7 @@ ghost use Rattle.guillotiere.specs.Replies.{IsExact};
 ghost use Rattle.atlas_sheet.specs.declared.error.SheetError.TheVariants.{Memory};
 ghost use Rattle.atlas_sheet.specs.Dense.{AreAllPlaced, ArePaddedApart, IsGridIn, IsSmallGrid, TakesCells};
 ghost use Rattle.atlas_sheet.specs.Settings.{spacing_of};
-ghost use Rattle.atlas_sheet.specs.Sheets.{IsPackable, asked_sides};
+ghost use Rattle.atlas_sheet.specs.Sheets.{CanPlace, IsPackable, asked_sides};
 
 use crate::error::SheetError;
 use crate::options::{SheetOptions, Spacing};
@@ -155,8 +155,7 @@ pub fn topmost_places<A: Allocator + Copy>(
     sheet: Size,
 ) -> Result<Option<Vec<Option<Placed>, A>>, SheetError>
     requires positive { IsPositive (sides_of sheet) }
-    requires aligned { IsPositive (sides_of options.now.alignment) }
-    requires packable { All (IsPackable (spacing_of options.now)) sprites.now }
+    requires good { CanPlace (spacing_of options.now) sprites.now }
     ensures each { IfOk result (λ found. IfSome found (λ placed.
         AreAllPlaced options.now (sides_of sheet) sprites.now placed.items)) }
     ensures apart { IfOk result (λ found. IfSome found (λ placed.

@@ -1,8 +1,9 @@
 //! Small changes of the order in which sprites ask.
 ghost use Rattle.std.specs.Prelude.{◌≡◌, ◌<◌, length, slice_set, true, IfOk, IsOkUnless, IsPermutation};
-ghost use Rattle.std.specs.List.{AllZip, enumerate_from};
+ghost use Rattle.std.specs.List.{AllZip};
 ghost use Rattle.atlas_sheet.specs.declared.error.SheetError.TheVariants.{Memory};
 ghost use Rattle.atlas_sheet.specs.Lying.{MayLie, turned_size};
+ghost use Rattle.atlas_sheet.specs.Orders.{IsOrderOf};
 
 use crate::error::SheetError;
 use crate::random::Random;
@@ -61,8 +62,8 @@ fn lie_so(lying: &mut [Size], number: usize, size: Size)
 // A sprite is turned by 90 degrees.
 fn turn_one(random: &mut Random, order: &mut [(usize, Size)], lying: &mut [Size])
     requires some { 0 < length order.old }
-    requires permuted { IsPermutation (enumerate_from 0 lying.old) order.old }
-    ensures permuted { IsPermutation (enumerate_from 0 lying.new) order.new }
+    requires permuted { IsOrderOf lying.old order.old }
+    ensures permuted { IsOrderOf lying.new order.new }
     ensures lies { AllZip (MayLie true) lying.old lying.new }
 {
     let at = random.below(order.len());
@@ -74,8 +75,8 @@ fn turn_one(random: &mut Random, order: &mut [(usize, Size)], lying: &mut [Size]
 
 // One change of the order: two sprites swapped, one moved, a run turned round, or one sprite turned by 90 degrees.
 fn change(random: &mut Random, turn: bool, order: &mut [(usize, Size)], lying: &mut [Size])
-    requires { IsPermutation (enumerate_from 0 lying.old) order.old }
-    ensures permuted { IsPermutation (enumerate_from 0 lying.new) order.new }
+    requires { IsOrderOf lying.old order.old }
+    ensures permuted { IsOrderOf lying.new order.new }
     ensures lies { AllZip (MayLie turn) lying.old lying.new }
 {
     if order.is_empty() {
@@ -109,8 +110,8 @@ pub fn change_of<A: Allocator + Copy>(
     from_lying: &[Size],
     from_order: &[(usize, Size)],
 ) -> Result<Asking<A>, SheetError>
-    requires { IsPermutation (enumerate_from 0 from_lying.now) from_order.now }
-    ensures permuted { IfOk result (λ to. IsPermutation (enumerate_from 0 to.lying.items) to.order.items) }
+    requires { IsOrderOf from_lying.now from_order.now }
+    ensures permuted { IfOk result (λ to. IsOrderOf to.lying.items to.order.items) }
     ensures lies { IfOk result (λ to. AllZip (MayLie turn) from_lying.now to.lying.items) }
     ensures unless { IsOkUnless result Memory }
 {

@@ -1,16 +1,14 @@
 //! Sprites that are chosen for one sheet: whole groups, and sprites in no group.
 ghost use Rattle.std.specs.Prelude.{◌≡◌, ◌||◌, ℕ, List, Option, is_some, length, map, All, IfNone, IfOk, IfSome, IsNone, IsOkUnless};
 ghost use Rattle.std.specs.Prelude.{IsSome, Some};
-ghost use Rattle.guillotiere.specs.Boxes.{IsPositive};
 ghost use Rattle.guillotiere.specs.Pixels.{sides_of};
 ghost use Rattle.atlas_sheet.specs.declared.error.SheetError.TheVariants.{Memory};
 ghost use Rattle.atlas_sheet.specs.declared.ways.TheConstants.{WAYS};
-ghost use Rattle.atlas_sheet.specs.Allowances.{IsAllowed, IsUsable};
+ghost use Rattle.atlas_sheet.specs.Allowances.{IsAllowed};
 ghost use Rattle.atlas_sheet.specs.Dense.{IsNoLargerThanWays, NoWayFinds};
 ghost use Rattle.atlas_sheet.specs.Grouping.{AreChosen, HasMember, IsClosed, IsGroupPage, is_in, members, picked, spread};
-ghost use Rattle.atlas_sheet.specs.Lying.{IsArrangement, IsShown};
-ghost use Rattle.atlas_sheet.specs.Settings.{spacing_of};
-ghost use Rattle.atlas_sheet.specs.Sheets.{IsPackable};
+ghost use Rattle.atlas_sheet.specs.Lying.{IsArranged, IsShown};
+ghost use Rattle.atlas_sheet.specs.Settings.{CanPack, spacing_of};
 
 use crate::arrangement::Arrangement;
 use crate::climbing::is_whole;
@@ -185,11 +183,8 @@ fn plainly_filled<A: Allocator + Copy>(
     sprites: &[Size],
     options: &SheetOptions,
 ) -> Result<Arrangement<A>, SheetError>
-    requires usable { IsUsable options.now.allowed }
-    requires aligned { IsPositive (sides_of options.now.alignment) }
-    requires packable { All (IsPackable (spacing_of options.now)) sprites.now }
-    ensures arranged { IfOk result (λ a. IsArrangement (sides_of a.size) (spacing_of options.now) options.now.turn
-        sprites.now a.choice a.lying.items a.order.items a.places.items) }
+    requires { CanPack options.now sprites.now }
+    ensures arranged { IfOk result (IsArranged options.now sprites.now) }
     ensures allowed { IfOk result (λ a. IsAllowed options.now.allowed (sides_of a.size)) }
     ensures unless { IsOkUnless result Memory }
 {
@@ -207,11 +202,8 @@ fn plainly_packed<A: Allocator + Copy>(
     sprites: &[Size],
     options: &SheetOptions,
 ) -> Result<Option<Arrangement<A>>, SheetError>
-    requires usable { IsUsable options.now.allowed }
-    requires aligned { IsPositive (sides_of options.now.alignment) }
-    requires packable { All (IsPackable (spacing_of options.now)) sprites.now }
-    ensures arranged { IfOk result (λ found. IfSome found (λ a. IsArrangement (sides_of a.size) (spacing_of options.now)
-        options.now.turn sprites.now a.choice a.lying.items a.order.items a.places.items)) }
+    requires { CanPack options.now sprites.now }
+    ensures arranged { IfOk result (λ found. IfSome found (IsArranged options.now sprites.now)) }
     ensures allowed { IfOk result (λ found. IfSome found (λ a. IsAllowed options.now.allowed (sides_of a.size))) }
     ensures whole { IfOk result (λ found. IfSome found (λ a. All IsSome a.places.items)) }
     ensures none { IfOk result (λ found. IfNone found (NoWayFinds options.now sprites.now)) }
@@ -232,13 +224,10 @@ fn all_of<A: Allocator + Copy>(
     sprites: &[Size],
     options: &SheetOptions,
 ) -> Result<Option<Chosen<A>>, SheetError>
-    requires usable { IsUsable options.now.allowed }
-    requires aligned { IsPositive (sides_of options.now.alignment) }
-    requires packable { All (IsPackable (spacing_of options.now)) sprites.now }
+    requires good { CanPack options.now sprites.now }
     requires long { length row.items ≡ length sprites.now }
     ensures chosen { IfOk result (λ found. IfSome found (λ c. (groups : List (Option ℕ)) → IsClosed groups row.items
-        → AreChosen options.now sprites.now groups c.row.items (sides_of c.page.size) c.page.choice c.page.lying.items
-        c.page.order.items c.page.places.items)) }
+        → AreChosen options.now sprites.now groups c)) }
     ensures unless { IsOkUnless result Memory }
 {
     let some = picked(alloc, &row, sprites)?;
@@ -262,14 +251,10 @@ fn with_group<A: Allocator + Copy>(
     group: usize,
     chosen: Chosen<A>,
 ) -> Result<Chosen<A>, SheetError>
-    requires usable { IsUsable options.now.allowed }
-    requires aligned { IsPositive (sides_of options.now.alignment) }
-    requires packable { All (IsPackable (spacing_of options.now)) sprites.now }
+    requires good { CanPack options.now sprites.now }
     requires long { length groups.now ≡ length sprites.now }
-    requires chosen { AreChosen options.now sprites.now groups.now chosen.row.items (sides_of chosen.page.size)
-        chosen.page.choice chosen.page.lying.items chosen.page.order.items chosen.page.places.items }
-    ensures chosen { IfOk result (λ c. AreChosen options.now sprites.now groups.now c.row.items (sides_of c.page.size)
-        c.page.choice c.page.lying.items c.page.order.items c.page.places.items) }
+    requires chosen { AreChosen options.now sprites.now groups.now chosen }
+    ensures chosen { IfOk result (AreChosen options.now sprites.now groups.now) }
     ensures unless { IsOkUnless result Memory }
 {
     let row = row_with(alloc, &chosen.row, group, groups)?;
@@ -287,14 +272,10 @@ fn with_groups<A: Allocator + Copy>(
     options: &SheetOptions,
     first: Chosen<A>,
 ) -> Result<Chosen<A>, SheetError>
-    requires usable { IsUsable options.now.allowed }
-    requires aligned { IsPositive (sides_of options.now.alignment) }
-    requires packable { All (IsPackable (spacing_of options.now)) sprites.now }
+    requires good { CanPack options.now sprites.now }
     requires long { length groups.now ≡ length sprites.now }
-    requires chosen { AreChosen options.now sprites.now groups.now first.row.items (sides_of first.page.size)
-        first.page.choice first.page.lying.items first.page.order.items first.page.places.items }
-    ensures chosen { IfOk result (λ c. AreChosen options.now sprites.now groups.now c.row.items (sides_of c.page.size)
-        c.page.choice c.page.lying.items c.page.order.items c.page.places.items) }
+    requires chosen { AreChosen options.now sprites.now groups.now first }
+    ensures chosen { IfOk result (AreChosen options.now sprites.now groups.now) }
     ensures unless { IsOkUnless result Memory }
 {
     let mut chosen = first;
@@ -317,14 +298,10 @@ fn with_singles<A: Allocator + Copy>(
     options: &SheetOptions,
     first: Chosen<A>,
 ) -> Result<Chosen<A>, SheetError>
-    requires usable { IsUsable options.now.allowed }
-    requires aligned { IsPositive (sides_of options.now.alignment) }
-    requires packable { All (IsPackable (spacing_of options.now)) sprites.now }
+    requires good { CanPack options.now sprites.now }
     requires long { length groups.now ≡ length sprites.now }
-    requires chosen { AreChosen options.now sprites.now groups.now first.row.items (sides_of first.page.size)
-        first.page.choice first.page.lying.items first.page.order.items first.page.places.items }
-    ensures chosen { IfOk result (λ c. AreChosen options.now sprites.now groups.now c.row.items (sides_of c.page.size)
-        c.page.choice c.page.lying.items c.page.order.items c.page.places.items) }
+    requires chosen { AreChosen options.now sprites.now groups.now first }
+    ensures chosen { IfOk result (AreChosen options.now sprites.now groups.now) }
     ensures unless { IsOkUnless result Memory }
 {
     let mut chosen = first;
@@ -346,15 +323,11 @@ fn smallest<A: Allocator + Copy>(
     options: &SheetOptions,
     page: Arrangement<A>,
 ) -> Result<Arrangement<A>, SheetError>
-    requires usable { IsUsable options.now.allowed }
-    requires aligned { IsPositive (sides_of options.now.alignment) }
-    requires packable { All (IsPackable (spacing_of options.now)) sprites.now }
-    requires arranged { IsArrangement (sides_of page.size) (spacing_of options.now) options.now.turn
-        sprites.now page.choice page.lying.items page.order.items page.places.items }
+    requires good { CanPack options.now sprites.now }
+    requires arranged { IsArranged options.now sprites.now page }
     requires allowed { IsAllowed options.now.allowed (sides_of page.size) }
     requires whole { All IsSome page.places.items }
-    ensures arranged { IfOk result (λ a. IsArrangement (sides_of a.size) (spacing_of options.now) options.now.turn
-        sprites.now a.choice a.lying.items a.order.items a.places.items) }
+    ensures arranged { IfOk result (IsArranged options.now sprites.now) }
     ensures allowed { IfOk result (λ a. IsAllowed options.now.allowed (sides_of a.size)) }
     ensures whole { IfOk result (λ a. All IsSome a.places.items) }
     ensures larger { IfOk result (λ a. IsNoLargerThanWays options.now sprites.now (sides_of a.size)) }
@@ -374,11 +347,8 @@ fn shown_smallest<A: Allocator + Copy>(
     options: &SheetOptions,
     page: Arrangement<A>,
 ) -> Result<Filled<A>, SheetError>
-    requires usable { IsUsable options.now.allowed }
-    requires aligned { IsPositive (sides_of options.now.alignment) }
-    requires packable { All (IsPackable (spacing_of options.now)) sprites.now }
-    requires arranged { IsArrangement (sides_of page.size) (spacing_of options.now) options.now.turn
-        sprites.now page.choice page.lying.items page.order.items page.places.items }
+    requires good { CanPack options.now sprites.now }
+    requires arranged { IsArranged options.now sprites.now page }
     requires allowed { IsAllowed options.now.allowed (sides_of page.size) }
     requires whole { All IsSome page.places.items }
     ensures shown { IfOk result (λ f. IsShown (sides_of f.size) (spacing_of options.now) options.now.turn sprites.now
@@ -401,11 +371,8 @@ fn sheet_of_chosen<A: Allocator + Copy>(
     options: &SheetOptions,
     chosen: Chosen<A>,
 ) -> Result<OneSheet<A>, SheetError>
-    requires usable { IsUsable options.now.allowed }
-    requires aligned { IsPositive (sides_of options.now.alignment) }
-    requires packable { All (IsPackable (spacing_of options.now)) sprites.now }
-    requires chosen { AreChosen options.now sprites.now groups.now chosen.row.items (sides_of chosen.page.size)
-        chosen.page.choice chosen.page.lying.items chosen.page.order.items chosen.page.places.items }
+    requires good { CanPack options.now sprites.now }
+    requires chosen { AreChosen options.now sprites.now groups.now chosen }
     ensures page { IfOk result (λ s. IsGroupPage WAYS options.now sprites.now (sides_of s.size) s.places.items) }
     ensures count { IfOk result (λ s. length s.places.items ≡ length sprites.now) }
     ensures closed { IfOk result (λ s. IsClosed groups.now (map is_some s.places.items)) }
@@ -428,13 +395,10 @@ fn opened<A: Allocator + Copy>(
     options: &SheetOptions,
     group: usize,
 ) -> Result<Option<Chosen<A>>, SheetError>
-    requires usable { IsUsable options.now.allowed }
-    requires aligned { IsPositive (sides_of options.now.alignment) }
-    requires packable { All (IsPackable (spacing_of options.now)) sprites.now }
+    requires good { CanPack options.now sprites.now }
     requires long { length groups.now ≡ length sprites.now }
     requires there { HasMember group groups.now }
-    ensures chosen { IfOk result (λ found. IfSome found (λ c. AreChosen options.now sprites.now groups.now c.row.items
-        (sides_of c.page.size) c.page.choice c.page.lying.items c.page.order.items c.page.places.items)) }
+    ensures chosen { IfOk result (λ found. IfSome found (AreChosen options.now sprites.now groups.now)) }
     ensures none { IfOk result (λ found. IfNone found (NoWayFinds options.now (members group groups.now sprites.now))) }
     ensures unless { IsOkUnless result Memory }
 {
@@ -455,9 +419,7 @@ pub fn group_sheet<A: Allocator + Copy>(
     options: &SheetOptions,
     group: usize,
 ) -> Result<Option<OneSheet<A>>, SheetError>
-    requires usable { IsUsable options.now.allowed }
-    requires aligned { IsPositive (sides_of options.now.alignment) }
-    requires packable { All (IsPackable (spacing_of options.now)) sprites.now }
+    requires good { CanPack options.now sprites.now }
     requires long { length groups.now ≡ length sprites.now }
     requires there { HasMember group groups.now }
     ensures page { IfOk result (λ found. IfSome found (λ s.

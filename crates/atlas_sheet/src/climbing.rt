@@ -1,12 +1,12 @@
 //! Climbing: an order is changed a little, and what fills a sheet no worse stays.
-ghost use Rattle.std.specs.Prelude.{◌≡◌, ◌≤◌, ◌↔◌, All, IfOk, IsOkUnless, IsPermutation, IsSome, IsTrue};
-ghost use Rattle.std.specs.List.{enumerate_from};
+ghost use Rattle.std.specs.Prelude.{◌≡◌, ◌≤◌, ◌↔◌, All, IfOk, IsOkUnless, IsSome, IsTrue};
 ghost use Rattle.guillotiere.specs.Boxes.{IsPositive};
 ghost use Rattle.guillotiere.specs.Pixels.{sides_of};
 ghost use Rattle.atlas_sheet.specs.declared.error.SheetError.TheVariants.{Memory};
-ghost use Rattle.atlas_sheet.specs.Lying.{IsArrangement};
+ghost use Rattle.atlas_sheet.specs.Lying.{IsArranged};
+ghost use Rattle.atlas_sheet.specs.Orders.{IsOrderOf};
 ghost use Rattle.atlas_sheet.specs.Settings.{spacing_of};
-ghost use Rattle.atlas_sheet.specs.Sheets.{IsPackable, used_area};
+ghost use Rattle.atlas_sheet.specs.Sheets.{CanPlace, used_area};
 
 use crate::arrangement::Arrangement;
 use crate::changes::change_of;
@@ -36,11 +36,9 @@ pub fn asked_in<A: Allocator + Copy>(
     order: &[(usize, Size)],
 ) -> Result<Arrangement<A>, SheetError>
     requires positive { IsPositive (sides_of size) }
-    requires aligned { IsPositive (sides_of options.now.alignment) }
-    requires packable { All (IsPackable (spacing_of options.now)) sprites.now }
-    requires permuted { IsPermutation (enumerate_from 0 sprites.now) order.now }
-    ensures arranged { IfOk result (λ a. IsArrangement (sides_of a.size) (spacing_of options.now) options.now.turn
-        sprites.now a.choice a.lying.items a.order.items a.places.items) }
+    requires good { CanPlace (spacing_of options.now) sprites.now }
+    requires permuted { IsOrderOf sprites.now order.now }
+    ensures arranged { IfOk result (IsArranged options.now sprites.now) }
     ensures size { IfOk result (λ a. a.size ≡ size) }
     ensures unless { IsOkUnless result Memory }
 {
@@ -64,11 +62,9 @@ fn changed<A: Allocator + Copy>(
     from: &Arrangement<A>,
 ) -> Result<Arrangement<A>, SheetError>
     requires positive { IsPositive (sides_of from.now.size) }
-    requires aligned { IsPositive (sides_of options.now.alignment) }
-    requires packable { All (IsPackable (spacing_of options.now)) from.now.lying.items }
-    requires permuted { IsPermutation (enumerate_from 0 from.now.lying.items) from.now.order.items }
-    ensures arranged { IfOk result (λ to. IsArrangement (sides_of to.size) (spacing_of options.now) options.now.turn
-        from.now.lying.items to.choice to.lying.items to.order.items to.places.items) }
+    requires good { CanPlace (spacing_of options.now) from.now.lying.items }
+    requires permuted { IsOrderOf from.now.lying.items from.now.order.items }
+    ensures arranged { IfOk result (IsArranged options.now from.now.lying.items) }
     ensures size { IfOk result (λ to. to.size ≡ from.now.size) }
     ensures unless { IsOkUnless result Memory }
 {
@@ -94,12 +90,9 @@ pub fn improve<A: Allocator + Copy>(
     first: Arrangement<A>,
 ) -> Result<Arrangement<A>, SheetError>
     requires positive { IsPositive (sides_of first.size) }
-    requires aligned { IsPositive (sides_of options.now.alignment) }
-    requires packable { All (IsPackable (spacing_of options.now)) first.lying.items }
-    requires arranged { IsArrangement (sides_of first.size) (spacing_of options.now) options.now.turn
-        first.lying.items first.choice first.lying.items first.order.items first.places.items }
-    ensures arranged { IfOk result (λ best. IsArrangement (sides_of best.size) (spacing_of options.now) options.now.turn
-        first.lying.items best.choice best.lying.items best.order.items best.places.items) }
+    requires good { CanPlace (spacing_of options.now) first.lying.items }
+    requires arranged { IsArranged options.now first.lying.items first }
+    ensures arranged { IfOk result (IsArranged options.now first.lying.items) }
     ensures size { IfOk result (λ best. best.size ≡ first.size) }
     ensures more { IfOk result (λ best. used_area first.places.items ≤ used_area best.places.items) }
     ensures tries { tries.new ≤ tries.old }

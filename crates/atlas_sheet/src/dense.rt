@@ -6,11 +6,11 @@ ghost use Rattle.guillotiere.specs.Boxes.{AreDisjoint, IsPositive, IsWithin, box
 ghost use Rattle.guillotiere.specs.Pixels.{box_of, natural, sides_of};
 ghost use Rattle.atlas_sheet.specs.declared.error.SheetError.TheVariants.{Memory};
 ghost use Rattle.atlas_sheet.specs.Allowances.{IsAllowed, IsRow, IsUsable, pixels};
-ghost use Rattle.atlas_sheet.specs.Dense.{AreAllPlaced, ArePaddedApart, IsNoLargerThanWays, IsWhole, NoWayFinds};
+ghost use Rattle.atlas_sheet.specs.Dense.{AreAllPlaced, ArePaddedApart, IsNoLargerThanWays, IsWholeSheet, NoWayFinds};
 ghost use Rattle.atlas_sheet.specs.Lying.{areas_of, placed_area};
 ghost use Rattle.atlas_sheet.specs.Orders.{IsOrder};
-ghost use Rattle.atlas_sheet.specs.Settings.{IsSheetFault, spacing_of};
-ghost use Rattle.atlas_sheet.specs.Sheets.{IsPackable, used_area};
+ghost use Rattle.atlas_sheet.specs.Settings.{CanPack, IsSheetFault, spacing_of};
+ghost use Rattle.atlas_sheet.specs.Sheets.{CanPlace, used_area};
 
 use crate::allowed::Allowed;
 use crate::cells::topmost_places;
@@ -91,8 +91,7 @@ fn sheet_of<A: Allocator + Copy>(
     requires apart { ArePaddedApart (spacing_of options.now) placed.now }
     requires order { IsOrder (length sprites.now) order.now }
     requires larger { IsNoLargerThanWays options.now sprites.now (sides_of size) }
-    ensures whole { IfOk result (λ sheet. IsWhole options.now sprites.now sheet.size sheet.places.items
-        sheet.used_area sheet.order.items) }
+    ensures whole { IfOk result (IsWholeSheet options.now sprites.now) }
     ensures unless { IsOkUnless result Memory }
 {
     let areas = areas(alloc, placed)?;
@@ -123,14 +122,11 @@ fn dense_at<A: Allocator + Copy>(
     size: Size,
 ) -> Result<Option<Sheet<A>>, SheetError>
     requires positive { IsPositive (sides_of size) }
-    requires aligned { IsPositive (sides_of options.now.alignment) }
-    requires packable { All (IsPackable (spacing_of options.now)) sprites.now }
+    requires good { CanPlace (spacing_of options.now) sprites.now }
     requires order { IsOrder (length sprites.now) order.now }
     requires allowed { IsAllowed options.now.allowed (sides_of size) }
     requires larger { IsNoLargerThanWays options.now sprites.now (sides_of size) }
-    ensures whole { IfOk result (λ found. IfSome found (λ sheet.
-        IsWhole options.now sprites.now sheet.size sheet.places.items sheet.used_area
-        sheet.order.items)) }
+    ensures whole { IfOk result (λ found. IfSome found (IsWholeSheet options.now sprites.now)) }
     ensures unless { IsOkUnless result Memory }
 {
     let Some(placed) = topmost_places(alloc, sprites, options, order, size)? else {
@@ -163,17 +159,12 @@ fn denser_at<A: Allocator + Copy>(
     best: &Option<Sheet<A>>,
 ) -> Result<Option<Sheet<A>>, SheetError>
     requires positive { IsPositive (sides_of size) }
-    requires aligned { IsPositive (sides_of options.now.alignment) }
-    requires packable { All (IsPackable (spacing_of options.now)) sprites.now }
+    requires good { CanPlace (spacing_of options.now) sprites.now }
     requires order { IsOrder (length sprites.now) order.now }
     requires allowed { IsAllowed options.now.allowed (sides_of size) }
-    requires best { IfSome best.now (λ sheet.
-        IsWhole options.now sprites.now sheet.size sheet.places.items sheet.used_area
-        sheet.order.items) }
+    requires best { IfSome best.now (IsWholeSheet options.now sprites.now) }
     requires none { IfNone best.now (NoWayFinds options.now sprites.now) }
-    ensures whole { IfOk result (λ found. IfSome found (λ sheet.
-        IsWhole options.now sprites.now sheet.size sheet.places.items sheet.used_area
-        sheet.order.items)) }
+    ensures whole { IfOk result (λ found. IfSome found (IsWholeSheet options.now sprites.now)) }
     ensures unless { IsOkUnless result Memory }
 {
     if pixels_of(size) < sprite_pixels(sprites) {
@@ -204,18 +195,12 @@ fn denser_in_row<A: Allocator + Copy>(
     order: &[usize],
     first: Option<Sheet<A>>,
 ) -> Result<Option<Sheet<A>>, SheetError>
-    requires usable { IsUsable options.now.allowed }
+    requires good { CanPack options.now sprites.now }
     requires row { IsRow options.now.allowed }
-    requires aligned { IsPositive (sides_of options.now.alignment) }
-    requires packable { All (IsPackable (spacing_of options.now)) sprites.now }
     requires order { IsOrder (length sprites.now) order.now }
-    requires whole { IfSome first (λ sheet.
-        IsWhole options.now sprites.now sheet.size sheet.places.items sheet.used_area
-        sheet.order.items) }
+    requires whole { IfSome first (IsWholeSheet options.now sprites.now) }
     requires none { IfNone first (NoWayFinds options.now sprites.now) }
-    ensures whole { IfOk result (λ found. IfSome found (λ sheet.
-        IsWhole options.now sprites.now sheet.size sheet.places.items sheet.used_area
-        sheet.order.items)) }
+    ensures whole { IfOk result (λ found. IfSome found (IsWholeSheet options.now sprites.now)) }
     ensures none { IfOk result (λ found. IfNone found
         (NoWayFinds options.now sprites.now)) }
     ensures unless { IsOkUnless result Memory }
@@ -245,9 +230,7 @@ fn next_size<A: Allocator>(
     best: &Option<Sheet<A>>,
 ) -> Option<Size>
     requires usable { IsUsable options.now.allowed }
-    requires best { IfSome best.now (λ sheet.
-        IsWhole options.now sprites.now sheet.size sheet.places.items sheet.used_area
-        sheet.order.items) }
+    requires best { IfSome best.now (IsWholeSheet options.now sprites.now) }
     ensures allowed { IfSome result (λ size. IsAllowed options.now.allowed (sides_of size)) }
     ensures positive { IfSome result (λ size. IsPositive (sides_of size)) }
 {
@@ -265,17 +248,11 @@ fn denser_powers<A: Allocator + Copy>(
     order: &[usize],
     first: Option<Sheet<A>>,
 ) -> Result<Option<Sheet<A>>, SheetError>
-    requires usable { IsUsable options.now.allowed }
-    requires aligned { IsPositive (sides_of options.now.alignment) }
-    requires packable { All (IsPackable (spacing_of options.now)) sprites.now }
+    requires good { CanPack options.now sprites.now }
     requires order { IsOrder (length sprites.now) order.now }
-    requires whole { IfSome first (λ sheet.
-        IsWhole options.now sprites.now sheet.size sheet.places.items sheet.used_area
-        sheet.order.items) }
+    requires whole { IfSome first (IsWholeSheet options.now sprites.now) }
     requires none { IfNone first (NoWayFinds options.now sprites.now) }
-    ensures whole { IfOk result (λ found. IfSome found (λ sheet.
-        IsWhole options.now sprites.now sheet.size sheet.places.items sheet.used_area
-        sheet.order.items)) }
+    ensures whole { IfOk result (λ found. IfSome found (IsWholeSheet options.now sprites.now)) }
     ensures none { IfOk result (λ found. IfNone found
         (NoWayFinds options.now sprites.now)) }
     ensures unless { IsOkUnless result Memory }
@@ -301,16 +278,10 @@ fn denser<A: Allocator + Copy>(
     options: &SheetOptions,
     first: Option<Sheet<A>>,
 ) -> Result<Option<Sheet<A>>, SheetError>
-    requires usable { IsUsable options.now.allowed }
-    requires aligned { IsPositive (sides_of options.now.alignment) }
-    requires packable { All (IsPackable (spacing_of options.now)) sprites.now }
-    requires whole { IfSome first (λ sheet.
-        IsWhole options.now sprites.now sheet.size sheet.places.items sheet.used_area
-        sheet.order.items) }
+    requires good { CanPack options.now sprites.now }
+    requires whole { IfSome first (IsWholeSheet options.now sprites.now) }
     requires none { IfNone first (NoWayFinds options.now sprites.now) }
-    ensures whole { IfOk result (λ found. IfSome found (λ sheet.
-        IsWhole options.now sprites.now sheet.size sheet.places.items sheet.used_area
-        sheet.order.items)) }
+    ensures whole { IfOk result (λ found. IfSome found (IsWholeSheet options.now sprites.now)) }
     ensures none { IfOk result (λ found. IfNone found
         (NoWayFinds options.now sprites.now)) }
     ensures unless { IsOkUnless result Memory }

@@ -2,19 +2,17 @@
 ghost use Rattle.std.specs.Prelude.{◌≡◌, ℕ, Bool, ◌<◌, ◌⊎◌, ◌++◌, [], ◌∷◌, if◌then◌else◌, length, map, None, All, IfErr, IfNone, IfOk, IfSome};
 ghost use Rattle.std.specs.Prelude.{IsNone, IsOkUnless, Some, is_some};
 ghost use Rattle.std.specs.List.{AllZip};
-ghost use Rattle.guillotiere.specs.Boxes.{IsPositive};
 ghost use Rattle.guillotiere.specs.Pixels.{sides_of};
 ghost use Rattle.atlas_sheet.specs.declared.error.SheetError.TheVariants.{Memory};
 ghost use Rattle.atlas_sheet.specs.declared.ways.TheConstants.{WAYS};
-ghost use Rattle.atlas_sheet.specs.Allowances.{IsAllowed, IsUsable};
+ghost use Rattle.atlas_sheet.specs.Allowances.{IsAllowed};
 ghost use Rattle.atlas_sheet.specs.Dense.{NoWayFinds};
-ghost use Rattle.atlas_sheet.specs.Grouping.{AreGroupPages, AreSoFar, HasMember, IsGroupPage, LieTogether, SaysOf};
+ghost use Rattle.atlas_sheet.specs.Grouping.{AreGroupPages, HasMember, IsGroupPage, IsSoFar, LieTogether, SaysOf};
 ghost use Rattle.atlas_sheet.specs.Grouping.{is_in, members};
-ghost use Rattle.atlas_sheet.specs.Grouping.{padded_to, to_do, waiting, without};
-ghost use Rattle.atlas_sheet.specs.Paging.{AreApart, AreUsed, IsOnPage, IsPage, OneIsTooLarge, holes, put_on};
+ghost use Rattle.atlas_sheet.specs.Grouping.{padded_to, to_do, waiting, without_group};
+ghost use Rattle.atlas_sheet.specs.Paging.{AreUsed, IsOnPage, IsPage, NoPlacesOverlap, OneIsTooLarge, holes, put_on};
 ghost use Rattle.atlas_sheet.specs.Paging.{sprites_left};
-ghost use Rattle.atlas_sheet.specs.Settings.{IsSheetFault, spacing_of};
-ghost use Rattle.atlas_sheet.specs.Sheets.{IsPackable};
+ghost use Rattle.atlas_sheet.specs.Settings.{CanPack, IsSheetFault};
 
 use crate::choosing::{OneSheet, first_group, group_sheet, is_in};
 use crate::error::SheetError;
@@ -82,7 +80,7 @@ fn without<A: Allocator>(
     group: usize,
     groups: &[Option<usize>],
 ) -> Result<Vec<Option<usize>, A>, SheetError>
-    ensures without { IfOk result (λ all. all.items ≡ without group groups.now) }
+    ensures without { IfOk result (λ all. all.items ≡ without_group group groups.now) }
     ensures unless { IsOkUnless result Memory }
 {
     let mut all = Vec::with_capacity(alloc, groups.len())?;
@@ -96,9 +94,7 @@ fn plain_sheet<A: Allocator + Copy>(
     sprites: &[Size],
     options: &SheetOptions,
 ) -> Result<Option<OneSheet<A>>, SheetError>
-    requires usable { IsUsable options.now.allowed }
-    requires aligned { IsPositive (sides_of options.now.alignment) }
-    requires packable { All (IsPackable (spacing_of options.now)) sprites.now }
+    requires good { CanPack options.now sprites.now }
     requires some { 0 < length sprites.now }
     ensures page { IfOk result (λ found. IfSome found (λ s.
         IsPage WAYS options.now sprites.now (sides_of s.size) s.places.items)) }
@@ -154,14 +150,12 @@ fn after_sheet<A: Allocator + Copy>(
     so_far: SoFar<A>,
     sheet: OneSheet<A>,
 ) -> Result<SoFar<A>, SheetError>
-    requires so_far { AreSoFar options.now sprites.now groups.now so_far.sizes.items so_far.places.items
-        so_far.left.items so_far.kept.items }
+    requires so_far { IsSoFar options.now sprites.now groups.now so_far }
     requires page { IsGroupPage WAYS options.now so_far.left.items (sides_of sheet.size) sheet.places.items }
     requires count { length sheet.places.items ≡ length so_far.left.items }
     requires says { (whether : ℕ → Bool)
         × AllZip (SaysOf whether) (waiting so_far.kept.items so_far.places.items) (map is_some sheet.places.items) }
-    ensures so_far { IfOk result (λ s. AreSoFar options.now sprites.now groups.now s.sizes.items s.places.items
-        s.left.items s.kept.items) }
+    ensures so_far { IfOk result (IsSoFar options.now sprites.now groups.now) }
     ensures less { IfOk result (λ s. to_do s.left.items s.kept.items < to_do so_far.left.items so_far.kept.items) }
     ensures unless { IsOkUnless result Memory }
 {
@@ -178,13 +172,11 @@ fn after_group<A: Allocator + Copy>(
     so_far: SoFar<A>,
     group: usize,
 ) -> Result<SoFar<A>, SheetError>
-    requires so_far { AreSoFar options.now sprites.now groups.now so_far.sizes.items so_far.places.items
-        so_far.left.items so_far.kept.items }
+    requires so_far { IsSoFar options.now sprites.now groups.now so_far }
     requires there { HasMember group (waiting so_far.kept.items so_far.places.items) }
     requires none { NoWayFinds options.now
         (members group (waiting so_far.kept.items so_far.places.items) so_far.left.items) }
-    ensures so_far { IfOk result (λ s. AreSoFar options.now sprites.now groups.now s.sizes.items s.places.items
-        s.left.items s.kept.items) }
+    ensures so_far { IfOk result (IsSoFar options.now sprites.now groups.now) }
     ensures less { IfOk result (λ s. to_do s.left.items s.kept.items < to_do so_far.left.items so_far.kept.items) }
     ensures unless { IsOkUnless result Memory }
 {
@@ -202,15 +194,11 @@ fn group_step<A: Allocator + Copy>(
     numbers: &[Option<usize>],
     group: usize,
 ) -> Result<SoFar<A>, SheetError>
-    requires usable { IsUsable options.now.allowed }
-    requires aligned { IsPositive (sides_of options.now.alignment) }
-    requires packable { All (IsPackable (spacing_of options.now)) sprites.now }
-    requires so_far { AreSoFar options.now sprites.now groups.now so_far.sizes.items so_far.places.items
-        so_far.left.items so_far.kept.items }
+    requires good { CanPack options.now sprites.now }
+    requires so_far { IsSoFar options.now sprites.now groups.now so_far }
     requires numbers { numbers.now ≡ waiting so_far.kept.items so_far.places.items }
     requires there { HasMember group numbers.now }
-    ensures so_far { IfOk result (λ s. AreSoFar options.now sprites.now groups.now s.sizes.items s.places.items
-        s.left.items s.kept.items) }
+    ensures so_far { IfOk result (IsSoFar options.now sprites.now groups.now) }
     ensures less { IfOk result (λ s. to_do s.left.items s.kept.items < to_do so_far.left.items so_far.kept.items) }
     ensures unless { IsOkUnless result Memory }
 {
@@ -229,15 +217,11 @@ fn plain_step<A: Allocator + Copy>(
     options: &SheetOptions,
     so_far: SoFar<A>,
 ) -> Result<Option<SoFar<A>>, SheetError>
-    requires usable { IsUsable options.now.allowed }
-    requires aligned { IsPositive (sides_of options.now.alignment) }
-    requires packable { All (IsPackable (spacing_of options.now)) sprites.now }
-    requires so_far { AreSoFar options.now sprites.now groups.now so_far.sizes.items so_far.places.items
-        so_far.left.items so_far.kept.items }
+    requires good { CanPack options.now sprites.now }
+    requires so_far { IsSoFar options.now sprites.now groups.now so_far }
     requires some { 0 < length so_far.left.items }
     requires no_group { All IsNone (waiting so_far.kept.items so_far.places.items) }
-    ensures so_far { IfOk result (λ found. IfSome found (λ s. AreSoFar options.now sprites.now groups.now s.sizes.items
-        s.places.items s.left.items s.kept.items)) }
+    ensures so_far { IfOk result (λ found. IfSome found (IsSoFar options.now sprites.now groups.now)) }
     ensures less { IfOk result (λ found. IfSome found (λ s.
         to_do s.left.items s.kept.items < to_do so_far.left.items so_far.kept.items)) }
     ensures none { IfOk result (λ found. IfNone found (OneIsTooLarge options.now sprites.now)) }
@@ -261,15 +245,11 @@ fn step<A: Allocator + Copy>(
     options: &SheetOptions,
     so_far: SoFar<A>,
 ) -> Result<Option<SoFar<A>>, SheetError>
-    requires usable { IsUsable options.now.allowed }
-    requires aligned { IsPositive (sides_of options.now.alignment) }
-    requires packable { All (IsPackable (spacing_of options.now)) sprites.now }
+    requires good { CanPack options.now sprites.now }
     requires long { length groups.now ≡ length sprites.now }
-    requires so_far { AreSoFar options.now sprites.now groups.now so_far.sizes.items so_far.places.items
-        so_far.left.items so_far.kept.items }
+    requires so_far { IsSoFar options.now sprites.now groups.now so_far }
     requires some { 0 < length so_far.left.items }
-    ensures so_far { IfOk result (λ found. IfSome found (λ s. AreSoFar options.now sprites.now groups.now s.sizes.items
-        s.places.items s.left.items s.kept.items)) }
+    ensures so_far { IfOk result (λ found. IfSome found (IsSoFar options.now sprites.now groups.now)) }
     ensures less { IfOk result (λ found. IfSome found (λ s.
         to_do s.left.items s.kept.items < to_do so_far.left.items so_far.kept.items)) }
     ensures none { IfOk result (λ found. IfNone found (OneIsTooLarge options.now sprites.now)) }
@@ -293,8 +273,7 @@ fn begun<A: Allocator + Copy>(
     options: &SheetOptions,
 ) -> Result<SoFar<A>, SheetError>
     requires long { length groups.now ≡ length sprites.now }
-    ensures so_far { IfOk result (λ s. AreSoFar options.now sprites.now groups.now s.sizes.items s.places.items
-        s.left.items s.kept.items) }
+    ensures so_far { IfOk result (IsSoFar options.now sprites.now groups.now) }
     ensures unless { IsOkUnless result Memory }
 {
     let places = vec![in alloc; None; sprites.len()]?;
@@ -316,9 +295,7 @@ fn grouped<A: Allocator + Copy>(
     groups: &[Option<usize>],
     options: &SheetOptions,
 ) -> Result<Option<Pages<A>>, SheetError>
-    requires usable { IsUsable options.now.allowed }
-    requires aligned { IsPositive (sides_of options.now.alignment) }
-    requires packable { All (IsPackable (spacing_of options.now)) sprites.now }
+    requires good { CanPack options.now sprites.now }
     requires long { length groups.now ≡ length sprites.now }
     ensures pages { IfOk result (λ found. IfSome found (λ p.
         AreGroupPages WAYS options.now sprites.now p.sizes.items (map Some p.places.items))) }
@@ -365,7 +342,7 @@ pub fn pack_groups<A: Allocator + Copy>(
         All (λ q. q.page < length p.sizes.items) p.places.items)) }
     ensures each { IfOk result (λ found. IfSome found (λ p.
         AllZip (IsOnPage options.now p.sizes.items) sprites.now p.places.items)) }
-    ensures apart { IfOk result (λ found. IfSome found (λ p. AreApart p.sizes.items p.places.items)) }
+    ensures apart { IfOk result (λ found. IfSome found (λ p. NoPlacesOverlap p.sizes.items p.places.items)) }
     ensures used { IfOk result (λ found. IfSome found (λ p. AreUsed p.sizes.items p.places.items)) }
     ensures allowed { IfOk result (λ found. IfSome found (λ p.
         All (λ size. IsAllowed options.now.allowed (sides_of size)) p.sizes.items)) }

@@ -1,10 +1,10 @@
 //! The orders in which sprites are placed.
-ghost use Rattle.std.specs.Prelude.{◌≡◌, ◌<◌, pos, IfOk, IsPermutation, IsOkUnless};
+ghost use Rattle.std.specs.Prelude.{◌≡◌, ◌<◌, pos, IfOk, IsOkUnless};
 ghost use Rattle.std.specs.List.{enumerate_from};
 ghost use Rattle.guillotiere.specs.Boxes.{IsPositive};
 ghost use Rattle.guillotiere.specs.Pixels.{sides_of};
 ghost use Rattle.atlas_sheet.specs.declared.error.SheetError.TheVariants.{Memory};
-ghost use Rattle.atlas_sheet.specs.Orders.{AreGreatestFirst, key_of};
+ghost use Rattle.atlas_sheet.specs.Orders.{AreGreatestFirst, IsOrderOf, key_of};
 
 use crate::error::SheetError;
 use guillotiere::Size;
@@ -57,7 +57,7 @@ pub fn greatest_first<A: Allocator>(
     sprites: &[Size],
     key: Key,
 ) -> Result<Vec<(usize, Size), A>, SheetError>
-    ensures permuted { IfOk result (λ order. IsPermutation (enumerate_from 0 sprites.now) order.items) }
+    ensures permuted { IfOk result (λ order. IsOrderOf sprites.now order.items) }
     ensures greatest { IfOk result (λ order. AreGreatestFirst key order.items) }
     ensures unless { IsOkUnless result Memory }
 {

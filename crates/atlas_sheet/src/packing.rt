@@ -1,14 +1,12 @@
 //! Smaller and smaller sheets.
 ghost use Rattle.std.specs.Prelude.{◌≡◌, ◌<◌, ◌≤◌, ◌⊎◌, map, All, IfNone, IfOk, IfSome, IsNone, IsOkUnless, IsSome, List};
-ghost use Rattle.guillotiere.specs.Boxes.{IsPositive};
 ghost use Rattle.guillotiere.specs.Pixels.{sides_of};
 ghost use Rattle.atlas_sheet.specs.declared.error.SheetError.TheVariants.{Memory};
 ghost use Rattle.atlas_sheet.specs.declared.ways.TheConstants.{WAYS};
-ghost use Rattle.atlas_sheet.specs.Allowances.{IsAllowed, IsUsable, pixels};
-ghost use Rattle.atlas_sheet.specs.Lying.{IsArrangement};
+ghost use Rattle.atlas_sheet.specs.Allowances.{IsAllowed, pixels};
+ghost use Rattle.atlas_sheet.specs.Lying.{IsArranged};
 ghost use Rattle.atlas_sheet.specs.Packings.{IsFirstFound, IsLeastFound, IsNoLarger, IsToldLast, NoneIsFound};
-ghost use Rattle.atlas_sheet.specs.Settings.{spacing_of};
-ghost use Rattle.atlas_sheet.specs.Sheets.{IsPackable};
+ghost use Rattle.atlas_sheet.specs.Settings.{CanPack, spacing_of};
 ghost use Rattle.atlas_sheet.specs.Turnings.{AreLaid, InEach, InOne};
 
 use crate::arrangement::Arrangement;
@@ -47,8 +45,7 @@ fn arrangement_of<A: Allocator + Copy>(
 ) -> Result<Arrangement<A>, SheetError>
     requires { IsLeastFound WAYS options.now.allowed (spacing_of options.now) lying.items (sides_of packing.size)
         (record { way = packing.way; order = packing.order.items; places = packing.places.items }) }
-    ensures arranged { IfOk result (λ a. IsArrangement (sides_of a.size) (spacing_of options.now) options.now.turn
-        lying.items a.choice a.lying.items a.order.items a.places.items) }
+    ensures arranged { IfOk result (IsArranged options.now lying.items) }
     ensures lying { IfOk result (λ a. a.lying.items ≡ lying.items) }
     ensures allowed { IfOk result (λ a. IsAllowed options.now.allowed (sides_of a.size)) }
     ensures whole { IfOk result (λ a. All IsSome a.places.items) }
@@ -73,12 +70,8 @@ fn first_so<A: Allocator + Copy>(
     options: &SheetOptions,
     how: Turning,
 ) -> Result<Option<Arrangement<A>>, SheetError>
-    requires usable { IsUsable options.now.allowed }
-    requires aligned { IsPositive (sides_of options.now.alignment) }
-    requires packable { All (IsPackable (spacing_of options.now)) sprites.now }
-    ensures arranged { IfOk result (λ found. IfSome found (λ a. IsArrangement (sides_of a.size)
-        (spacing_of options.now) options.now.turn
-        sprites.now a.choice a.lying.items a.order.items a.places.items)) }
+    requires { CanPack options.now sprites.now }
+    ensures arranged { IfOk result (λ found. IfSome found (IsArranged options.now sprites.now)) }
     ensures allowed { IfOk result (λ found. IfSome found (λ a. IsAllowed options.now.allowed (sides_of a.size))) }
     ensures whole { IfOk result (λ found. IfSome found (λ a. All IsSome a.places.items)) }
     ensures laid { IfOk result (λ found. IfSome found (λ a. AreLaid options.now how sprites.now a.lying.items)) }
@@ -138,12 +131,8 @@ fn first_found<A: Allocator + Copy>(
     sprites: &[Size],
     options: &SheetOptions,
 ) -> Result<Option<Arrangement<A>>, SheetError>
-    requires usable { IsUsable options.now.allowed }
-    requires aligned { IsPositive (sides_of options.now.alignment) }
-    requires packable { All (IsPackable (spacing_of options.now)) sprites.now }
-    ensures arranged { IfOk result (λ found. IfSome found (λ a. IsArrangement (sides_of a.size)
-        (spacing_of options.now) options.now.turn
-        sprites.now a.choice a.lying.items a.order.items a.places.items)) }
+    requires { CanPack options.now sprites.now }
+    ensures arranged { IfOk result (λ found. IfSome found (IsArranged options.now sprites.now)) }
     ensures allowed { IfOk result (λ found. IfSome found (λ a. IsAllowed options.now.allowed (sides_of a.size))) }
     ensures whole { IfOk result (λ found. IfSome found (λ a. All IsSome a.places.items)) }
     ensures first { IfOk result (λ found. IfSome found (λ a. InOne options.now sprites.now (λ lying. IsFirstFound WAYS
@@ -175,15 +164,11 @@ fn descend<A: Allocator + Copy, F: FnMut(Size)>(
     mut told: F,
 ) -> Result<Arrangement<A>, SheetError>
     requires callable { F.IsAlwaysCallable told }
-    requires usable { IsUsable options.now.allowed }
-    requires aligned { IsPositive (sides_of options.now.alignment) }
-    requires packable { All (IsPackable (spacing_of options.now)) first.lying.items }
-    requires arranged { IsArrangement (sides_of first.size) (spacing_of options.now) options.now.turn
-        first.lying.items first.choice first.lying.items first.order.items first.places.items }
+    requires good { CanPack options.now first.lying.items }
+    requires arranged { IsArranged options.now first.lying.items first }
     requires allowed { IsAllowed options.now.allowed (sides_of first.size) }
     requires whole { All IsSome first.places.items }
-    ensures arranged { IfOk result (λ best. IsArrangement (sides_of best.size) (spacing_of options.now) options.now.turn
-        first.lying.items best.choice best.lying.items best.order.items best.places.items) }
+    ensures arranged { IfOk result (IsArranged options.now first.lying.items) }
     ensures allowed { IfOk result (λ best. IsAllowed options.now.allowed (sides_of best.size)) }
     ensures whole { IfOk result (λ best. All IsSome best.places.items) }
     ensures smaller { IfOk result (λ best. pixels (sides_of best.size) ≤ pixels (sides_of first.size)) }
@@ -218,12 +203,8 @@ fn squeeze<A: Allocator + Copy>(
 ) -> Result<Option<Arrangement<A>>, SheetError>
     requires none { InEach options.now sprites.now (λ lying. NoneIsFound WAYS options.now.allowed
         (spacing_of options.now) lying) }
-    requires usable { IsUsable options.now.allowed }
-    requires aligned { IsPositive (sides_of options.now.alignment) }
-    requires packable { All (IsPackable (spacing_of options.now)) sprites.now }
-    ensures arranged { IfOk result (λ found. IfSome found (λ a. IsArrangement (sides_of a.size)
-        (spacing_of options.now) options.now.turn
-        sprites.now a.choice a.lying.items a.order.items a.places.items)) }
+    requires good { CanPack options.now sprites.now }
+    ensures arranged { IfOk result (λ found. IfSome found (IsArranged options.now sprites.now)) }
     ensures allowed { IfOk result (λ found. IfSome found (λ a. IsAllowed options.now.allowed (sides_of a.size))) }
     ensures whole { IfOk result (λ found. IfSome found (λ a. All IsSome a.places.items)) }
     ensures plain { tries.old ≡ 0 → IfOk result (λ found. IsNone found) }
@@ -254,12 +235,8 @@ fn first_whole<A: Allocator + Copy>(
     random: &mut Random,
     tries: &mut u32,
 ) -> Result<Option<Arrangement<A>>, SheetError>
-    requires usable { IsUsable options.now.allowed }
-    requires aligned { IsPositive (sides_of options.now.alignment) }
-    requires packable { All (IsPackable (spacing_of options.now)) sprites.now }
-    ensures arranged { IfOk result (λ found. IfSome found (λ a. IsArrangement (sides_of a.size)
-        (spacing_of options.now) options.now.turn
-        sprites.now a.choice a.lying.items a.order.items a.places.items)) }
+    requires { CanPack options.now sprites.now }
+    ensures arranged { IfOk result (λ found. IfSome found (IsArranged options.now sprites.now)) }
     ensures allowed { IfOk result (λ found. IfSome found (λ a. IsAllowed options.now.allowed (sides_of a.size))) }
     ensures whole { IfOk result (λ found. IfSome found (λ a. All IsSome a.places.items)) }
     ensures first { tries.old ≡ 0 → IfOk result (λ found. IfSome found (λ a. InOne options.now sprites.now (λ lying.
@@ -290,12 +267,8 @@ pub fn packed<A: Allocator + Copy, F: FnMut(Size)>(
     mut told: F,
 ) -> Result<Option<Arrangement<A>>, SheetError>
     requires callable { F.IsAlwaysCallable told }
-    requires usable { IsUsable options.now.allowed }
-    requires aligned { IsPositive (sides_of options.now.alignment) }
-    requires packable { All (IsPackable (spacing_of options.now)) sprites.now }
-    ensures arranged { IfOk result (λ found. IfSome found (λ a. IsArrangement (sides_of a.size)
-        (spacing_of options.now) options.now.turn
-        sprites.now a.choice a.lying.items a.order.items a.places.items)) }
+    requires good { CanPack options.now sprites.now }
+    ensures arranged { IfOk result (λ found. IfSome found (IsArranged options.now sprites.now)) }
     ensures allowed { IfOk result (λ found. IfSome found (λ a. IsAllowed options.now.allowed (sides_of a.size))) }
     ensures whole { IfOk result (λ found. IfSome found (λ a. All IsSome a.places.items)) }
     ensures first { options.now.effort ≡ 0 → IfOk result (λ found. IfSome found (λ a. InOne options.now sprites.now

@@ -2,18 +2,17 @@
 ghost use Rattle.std.specs.Prelude.{◌≡◌, ◌<◌, ◌↔◌, ◌⊎◌, length, map, take, All, IfErr, IfNone, IfOk, IfSome, IsNone};
 ghost use Rattle.std.specs.Prelude.{IsOkUnless, IsSome, IsTrue, Some};
 ghost use Rattle.std.specs.List.{AllZip};
-ghost use Rattle.guillotiere.specs.Boxes.{IsPositive};
 ghost use Rattle.guillotiere.specs.Pixels.{sides_of};
 ghost use Rattle.atlas_sheet.specs.declared.error.SheetError.TheVariants.{Memory};
 ghost use Rattle.atlas_sheet.specs.declared.ways.TheConstants.{WAYS};
-ghost use Rattle.atlas_sheet.specs.Allowances.{IsAllowed, IsGreatest, IsUsable};
+ghost use Rattle.atlas_sheet.specs.Allowances.{IsAllowed, IsGreatest};
 ghost use Rattle.atlas_sheet.specs.Fillings.{IsNoBetter, ways_tried};
-ghost use Rattle.atlas_sheet.specs.Lying.{IsArrangement};
+ghost use Rattle.atlas_sheet.specs.Lying.{IsArranged};
 ghost use Rattle.atlas_sheet.specs.Packings.{IsNoLarger};
-ghost use Rattle.atlas_sheet.specs.Paging.{AreApart, AreGreatest, ArePages, AreUsed, IsOnPage, OneIsTooLarge};
+ghost use Rattle.atlas_sheet.specs.Paging.{AreGreatest, ArePages, AreUsed, IsOnPage, NoPlacesOverlap, OneIsTooLarge};
 ghost use Rattle.atlas_sheet.specs.Paging.{found_on, holes, put_on, sprites_left};
-ghost use Rattle.atlas_sheet.specs.Settings.{IsSheetFault, spacing_of};
-ghost use Rattle.atlas_sheet.specs.Sheets.{IsPackable, used_area};
+ghost use Rattle.atlas_sheet.specs.Settings.{CanPack, IsSheetFault, spacing_of};
+ghost use Rattle.atlas_sheet.specs.Sheets.{used_area};
 ghost use Rattle.atlas_sheet.specs.Turnings.{InEach};
 
 use crate::arrangement::Arrangement;
@@ -57,11 +56,8 @@ pub fn next_page<A: Allocator + Copy>(
     left: &[Size],
     options: &SheetOptions,
 ) -> Result<Arrangement<A>, SheetError>
-    requires usable { IsUsable options.now.allowed }
-    requires aligned { IsPositive (sides_of options.now.alignment) }
-    requires packable { All (IsPackable (spacing_of options.now)) left.now }
-    ensures arranged { IfOk result (λ a. IsArrangement (sides_of a.size) (spacing_of options.now) options.now.turn
-        left.now a.choice a.lying.items a.order.items a.places.items) }
+    requires { CanPack options.now left.now }
+    ensures arranged { IfOk result (IsArranged options.now left.now) }
     ensures allowed { IfOk result (λ a. IsAllowed options.now.allowed (sides_of a.size)) }
     ensures kind { IfOk result (λ a.
         (All IsSome a.places.items × InEach options.now left.now (λ lying. IsNoLarger WAYS options.now.allowed
@@ -162,9 +158,7 @@ fn paged<A: Allocator + Copy>(
     sprites: &[Size],
     options: &SheetOptions,
 ) -> Result<Option<Pages<A>>, SheetError>
-    requires usable { IsUsable options.now.allowed }
-    requires aligned { IsPositive (sides_of options.now.alignment) }
-    requires packable { All (IsPackable (spacing_of options.now)) sprites.now }
+    requires { CanPack options.now sprites.now }
     ensures pages { IfOk result (λ found. IfSome found (λ p.
         ArePages WAYS options.now sprites.now p.sizes.items (map Some p.places.items))) }
     ensures none { IfOk result (λ found. IfNone found (OneIsTooLarge options.now sprites.now)) }
@@ -206,7 +200,7 @@ pub fn pack_pages<A: Allocator + Copy>(
         All (λ q. q.page < length p.sizes.items) p.places.items)) }
     ensures each { IfOk result (λ found. IfSome found (λ p.
         AllZip (IsOnPage options.now p.sizes.items) sprites.now p.places.items)) }
-    ensures apart { IfOk result (λ found. IfSome found (λ p. AreApart p.sizes.items p.places.items)) }
+    ensures apart { IfOk result (λ found. IfSome found (λ p. NoPlacesOverlap p.sizes.items p.places.items)) }
     ensures used { IfOk result (λ found. IfSome found (λ p. AreUsed p.sizes.items p.places.items)) }
     ensures greatest { IfOk result (λ found. IfSome found (λ p. AreGreatest options.now p.sizes.items)) }
     ensures pages { IfOk result (λ found. IfSome found (λ p.

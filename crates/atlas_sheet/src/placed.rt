@@ -3,7 +3,7 @@ ghost use Rattle.std.specs.Prelude.{◌≡◌, map, true, All, IfOk, IfSome, IsO
 ghost use Rattle.std.specs.List.{AllZip};
 ghost use Rattle.guillotiere.specs.Pixels.{sides_of};
 ghost use Rattle.atlas_sheet.specs.declared.error.SheetError.TheVariants.{Memory};
-ghost use Rattle.atlas_sheet.specs.Lying.{IsArrangement, IsPlacedFor, MayLie, areas_of, lie, placed_area};
+ghost use Rattle.atlas_sheet.specs.Lying.{IsArranged, IsPlacedFor, MayLie, areas_of, lie, placed_area};
 ghost use Rattle.atlas_sheet.specs.Settings.{spacing_of};
 
 use crate::arrangement::Arrangement;
@@ -43,8 +43,7 @@ pub fn placed_all<A: Allocator + Copy>(
     options: &SheetOptions,
     arrangement: &Arrangement<A>,
 ) -> Result<Vec<Option<Placed>, A>, SheetError>
-    requires { IsArrangement (sides_of arrangement.now.size) (spacing_of options.now) options.now.turn sprites.now
-        arrangement.now.choice arrangement.now.lying.items arrangement.now.order.items arrangement.now.places.items }
+    requires { IsArranged options.now sprites.now arrangement.now }
     ensures areas { IfOk result (λ placed. areas_of placed.items ≡ arrangement.now.places.items) }
     ensures each { IfOk result (λ placed. AllZip (λ sprite p. IfSome p
         (IsPlacedFor (sides_of arrangement.now.size) (spacing_of options.now) options.now.turn sprite))

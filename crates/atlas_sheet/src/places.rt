@@ -1,15 +1,14 @@
 //! Places for sprites, one after another.
 ghost use Rattle.std.specs.Prelude.{◌≡◌, ◌+◌, ◌-◌, ◌<◌, ◌≤◌, max, length, pos, All, IfNone, IfOk, IfSome, IsOkUnless};
-ghost use Rattle.std.specs.Prelude.{IsPermutation, OnOk};
-ghost use Rattle.std.specs.List.{enumerate_from};
+ghost use Rattle.std.specs.Prelude.{OnOk};
 ghost use Rattle.guillotiere.specs.Boxes.{IsPositive, box_at};
 ghost use Rattle.guillotiere.specs.Pixels.{box_of, natural, sides_of};
 ghost use Rattle.guillotiere.specs.Simple.{simple_start};
 ghost use Rattle.guillotiere.specs.SimpleStored.{simple_state_of};
 ghost use Rattle.atlas_sheet.specs.declared.error.SheetError.TheVariants.{Memory};
-ghost use Rattle.atlas_sheet.specs.Orders.{AreNumberedOnce, choice_options};
+ghost use Rattle.atlas_sheet.specs.Orders.{AreNumberedOnce, IsOrderOf, choice_options};
 ghost use Rattle.atlas_sheet.specs.Packings.{AllFindPlaces, LeavesOne};
-ghost use Rattle.atlas_sheet.specs.Sheets.{AreFoundBy, ArePlaces, FindPlaces, FindsPlace, GivesBox, IsPackable};
+ghost use Rattle.atlas_sheet.specs.Sheets.{AreFoundBy, ArePlaces, CanPlace, FindPlaces, FindsPlace, GivesBox, IsPackable};
 ghost use Rattle.atlas_sheet.specs.Sheets.{asked_sides, inner_sides, padded, with_places};
 ghost use Rattle.guillotiere.specs.Replies.{IsExact};
 
@@ -166,9 +165,8 @@ pub fn find_places<A: Allocator + Copy>(
     choice: Choice,
 ) -> Result<Vec<Option<Rectangle>, A>, SheetError>
     requires positive { IsPositive (sides_of sheet) }
-    requires aligned { IsPositive (sides_of spacing.alignment) }
-    requires packable { All (IsPackable spacing) sprites.now }
-    requires permuted { IsPermutation (enumerate_from 0 sprites.now) order.now }
+    requires good { CanPlace spacing sprites.now }
+    requires permuted { IsOrderOf sprites.now order.now }
     ensures count { IfOk result (λ places. length places.items ≡ length sprites.now) }
     ensures found { IfOk result (λ places.
         FindPlaces spacing (simple_start (inner_sides spacing (sides_of sheet)) (choice_options spacing choice))
@@ -191,9 +189,8 @@ pub fn find_all<A: Allocator + Copy>(
     choice: Choice,
 ) -> Result<Option<Vec<Rectangle, A>>, SheetError>
     requires positive { IsPositive (sides_of sheet) }
-    requires aligned { IsPositive (sides_of spacing.alignment) }
-    requires packable { All (IsPackable spacing) sprites.now }
-    requires permuted { IsPermutation (enumerate_from 0 sprites.now) order.now }
+    requires good { CanPlace spacing sprites.now }
+    requires permuted { IsOrderOf sprites.now order.now }
     ensures count { IfOk result (λ found. IfSome found (λ places. length places.items ≡ length sprites.now)) }
     ensures found { IfOk result (λ found. IfSome found (λ places.
         AllFindPlaces (sides_of sheet) spacing choice order.now places.items)) }
@@ -229,8 +226,7 @@ pub fn try_way<A: Allocator + Copy>(
     way: Way,
 ) -> Result<Found<A>, SheetError>
     requires positive { IsPositive (sides_of sheet) }
-    requires aligned { IsPositive (sides_of spacing.alignment) }
-    requires packable { All (IsPackable spacing) sprites.now }
+    requires good { CanPlace spacing sprites.now }
     ensures places { IfOk result (λ found.
         ArePlaces (sides_of sheet) spacing sprites.now found.places.items) }
     ensures found { IfOk result (λ found.

@@ -2,16 +2,16 @@
 ghost use Rattle.std.specs.List.{AllZip};
 ghost use Rattle.std.specs.Prelude.{◌≡◌, ◌≤◌, ◌⊎◌, false, length, map, take, All, IfErr, IfNone, IfOk, IfSome, IsOkUnless};
 ghost use Rattle.std.specs.Prelude.{IsSome, OnOk, Some};
-ghost use Rattle.guillotiere.specs.Boxes.{AreDisjoint, IsPositive, IsWithin, box_sides};
+ghost use Rattle.guillotiere.specs.Boxes.{AreDisjoint, IsWithin, box_sides};
 ghost use Rattle.guillotiere.specs.Pixels.{box_of, sides_of};
 ghost use Rattle.atlas_sheet.specs.declared.error.SheetError.TheVariants.{Memory};
 ghost use Rattle.atlas_sheet.specs.declared.ways.TheConstants.{WAYS};
-ghost use Rattle.atlas_sheet.specs.Allowances.{IsAllowed, IsGreatest, IsUsable};
+ghost use Rattle.atlas_sheet.specs.Allowances.{IsAllowed, IsGreatest};
 ghost use Rattle.atlas_sheet.specs.Fillings.{IsBestFound, IsNoBetter, ways_tried};
-ghost use Rattle.atlas_sheet.specs.Lying.{IsArrangement, IsShown, areas_of};
+ghost use Rattle.atlas_sheet.specs.Lying.{IsArranged, IsShown, areas_of};
 ghost use Rattle.atlas_sheet.specs.Packings.{IsFirstFound, IsNoLarger, IsToldLast, NoneIsFound};
-ghost use Rattle.atlas_sheet.specs.Settings.{IsSheetFault, spacing_of};
-ghost use Rattle.atlas_sheet.specs.Sheets.{IsPackable, used_area};
+ghost use Rattle.atlas_sheet.specs.Settings.{CanPack, IsSheetFault, spacing_of};
+ghost use Rattle.atlas_sheet.specs.Sheets.{used_area};
 ghost use Rattle.atlas_sheet.specs.Turnings.{AreLaid, InEach, InOne};
 
 use crate::allowed::check_allowed;
@@ -57,9 +57,7 @@ pub struct Filled<A: Allocator = Global> {
 
 // Whether the options and all sprites are good.
 pub fn check_all(sprites: &[Size], options: &SheetOptions) -> Result<(), SheetError>
-    ensures usable { OnOk result (IsUsable options.now.allowed) }
-    ensures aligned { OnOk result (IsPositive (sides_of options.now.alignment)) }
-    ensures packable { OnOk result (All (IsPackable (spacing_of options.now)) sprites.now) }
+    ensures good { OnOk result (CanPack options.now sprites.now) }
     ensures fault { IfErr result (λ e. IsSheetFault options.now sprites.now e) }
 {
     check_allowed(options.allowed)?;
@@ -89,8 +87,7 @@ pub fn filled_of<A: Allocator + Copy>(
     options: &SheetOptions,
     arrangement: &Arrangement<A>,
 ) -> Result<Filled<A>, SheetError>
-    requires { IsArrangement (sides_of arrangement.now.size) (spacing_of options.now) options.now.turn
-        sprites.now arrangement.now.choice arrangement.now.lying.items arrangement.now.order.items arrangement.now.places.items }
+    requires { IsArranged options.now sprites.now arrangement.now }
     ensures size { IfOk result (λ filled. filled.size ≡ arrangement.now.size) }
     ensures shown { IfOk result (λ filled. IsShown (sides_of filled.size) (spacing_of options.now) options.now.turn
         sprites.now filled.order.items filled.places.items) }
@@ -118,12 +115,9 @@ fn filled_so<A: Allocator + Copy>(
     size: Size,
     how: Turning,
 ) -> Result<Arrangement<A>, SheetError>
-    requires usable { IsUsable options.now.allowed }
-    requires aligned { IsPositive (sides_of options.now.alignment) }
-    requires packable { All (IsPackable (spacing_of options.now)) sprites.now }
+    requires good { CanPack options.now sprites.now }
     requires greatest { IsGreatest options.now.allowed (sides_of size) }
-    ensures arranged { IfOk result (λ a. IsArrangement (sides_of size) (spacing_of options.now) options.now.turn
-        sprites.now a.choice a.lying.items a.order.items a.places.items) }
+    ensures arranged { IfOk result (IsArranged options.now sprites.now) }
     ensures size { IfOk result (λ a. a.size ≡ size) }
     ensures laid { IfOk result (λ a. AreLaid options.now how sprites.now a.lying.items) }
     ensures found { IfOk result (λ a. IsBestFound
@@ -161,11 +155,8 @@ fn first_filled<A: Allocator + Copy>(
     sprites: &[Size],
     options: &SheetOptions,
 ) -> Result<Arrangement<A>, SheetError>
-    requires usable { IsUsable options.now.allowed }
-    requires aligned { IsPositive (sides_of options.now.alignment) }
-    requires packable { All (IsPackable (spacing_of options.now)) sprites.now }
-    ensures arranged { IfOk result (λ a. IsArrangement (sides_of a.size) (spacing_of options.now) options.now.turn
-        sprites.now a.choice a.lying.items a.order.items a.places.items) }
+    requires { CanPack options.now sprites.now }
+    ensures arranged { IfOk result (IsArranged options.now sprites.now) }
     ensures size { IfOk result (λ a. IsGreatest options.now.allowed (sides_of a.size)) }
     ensures best { IfOk result (λ a. InEach options.now sprites.now (λ lying. All
         (IsNoBetter (sides_of a.size) (spacing_of options.now) lying (used_area a.places.items))
@@ -191,11 +182,8 @@ pub fn best_filled<A: Allocator + Copy>(
     sprites: &[Size],
     options: &SheetOptions,
 ) -> Result<Arrangement<A>, SheetError>
-    requires usable { IsUsable options.now.allowed }
-    requires aligned { IsPositive (sides_of options.now.alignment) }
-    requires packable { All (IsPackable (spacing_of options.now)) sprites.now }
-    ensures arranged { IfOk result (λ a. IsArrangement (sides_of a.size) (spacing_of options.now) options.now.turn
-        sprites.now a.choice a.lying.items a.order.items a.places.items) }
+    requires { CanPack options.now sprites.now }
+    ensures arranged { IfOk result (IsArranged options.now sprites.now) }
     ensures size { IfOk result (λ a. IsGreatest options.now.allowed (sides_of a.size)) }
     ensures best { IfOk result (λ a. InEach options.now sprites.now (λ lying. All
         (IsNoBetter (sides_of a.size) (spacing_of options.now) lying (used_area a.places.items))

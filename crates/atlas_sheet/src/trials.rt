@@ -4,8 +4,8 @@ ghost use Rattle.guillotiere.specs.Boxes.{IsPositive};
 ghost use Rattle.guillotiere.specs.Pixels.{sides_of};
 ghost use Rattle.atlas_sheet.specs.declared.error.SheetError.TheVariants.{Memory};
 ghost use Rattle.atlas_sheet.specs.Packings.{ArePacked, IsOrderBy, LeavesSprite, NoWayPacks};
+ghost use Rattle.atlas_sheet.specs.Sheets.{CanPlace};
 ghost use Rattle.atlas_sheet.specs.declared.ways.Way.{Way};
-ghost use Rattle.atlas_sheet.specs.Sheets.{IsPackable};
 
 use crate::error::SheetError;
 use crate::options::Spacing;
@@ -58,8 +58,7 @@ fn try_trial<A: Allocator + Copy>(
     spacing: Spacing,
 ) -> Result<Option<Packing<A>>, SheetError>
     requires positive { IsPositive (sides_of size) }
-    requires aligned { IsPositive (sides_of spacing.alignment) }
-    requires packable { All (IsPackable spacing) sprites.now }
+    requires good { CanPlace spacing sprites.now }
     requires order { IsOrderBy trial.now.way sprites.now trial.now.order.items }
     ensures size { IfOk result (λ found. IfSome found (λ p. p.size ≡ size)) }
     ensures packed { IfOk result (λ found. IfSome found (λ p. (ways : List Way) → Contains ways trial.now.way
@@ -92,8 +91,7 @@ pub fn try_size<A: Allocator + Copy>(
     spacing: Spacing,
 ) -> Result<Option<Packing<A>>, SheetError>
     requires positive { IsPositive (sides_of size) }
-    requires aligned { IsPositive (sides_of spacing.alignment) }
-    requires packable { All (IsPackable spacing) sprites.now }
+    requires good { CanPlace spacing sprites.now }
     requires orders { All (λ t. IsOrderBy t.way sprites.now t.order.items) trials.now }
     ensures size { IfOk result (λ found. IfSome found (λ p. p.size ≡ size)) }
     ensures packed { IfOk result (λ found. IfSome found (λ p.

@@ -1,18 +1,10 @@
 -- What a line of the tool says.
 use Rattle.std.specs.Prelude.{◌≡◌, ℕ, ◌⊎◌, List, [], ◌∷◌, ◌++◌, Contains, codes}
-use Rattle.atlas_words.specs.Grammar.{SpellsUnsigned}
 use Rattle.atlas_words.specs.Lines.{BeginsWithLine}
-use Rattle.atlas_words.specs.Words.{BeginsWithWord, IsEmptyOrSpaced}
+use Rattle.atlas_words.specs.Words.{BeginsWithUnsigned, BeginsWithWord}
 use Rattle.atlas_svg.specs.declared.lines.Corners.{Corners}
 use Rattle.atlas_svg.specs.declared.lines.Line.{Line}
 use Rattle.atlas_svg.specs.declared.lines.Line.TheVariants.{Size, Live, Free, Other}
-
--- A space and a number, and what follows them.
-pub record BeginsWithUnsigned (text : List ℕ) (number : ℕ) (rest : List ℕ) : Type 0 where
-  pub word : List ℕ
-  pub whole : text ≡ 32 ∷ (word ++ rest)
-  pub spells : SpellsUnsigned number word
-  pub spaced : IsEmptyOrSpaced rest
 
 -- Numbers, each after one space.
 abbrev pub SpellsAll : List ℕ → List ℕ → Type 0

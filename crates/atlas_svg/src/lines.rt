@@ -1,8 +1,9 @@
 //! What the lines of the tool say.
 ghost use Rattle.std.specs.Prelude.{◌≡◌, ℕ, List, IfSome, IsSome, IsSomeAnd, IsTrue, Contains, ◌↔◌, ◌∷◌, []};
+ghost use Rattle.atlas_words.specs.Words.{BeginsWithUnsigned};
 ghost use Rattle.atlas_svg.specs.declared.lines.Corners.{Corners};
 ghost use Rattle.atlas_svg.specs.declared.lines.Line.{Line};
-ghost use Rattle.atlas_svg.specs.Lines.{BeginsWithUnsigned, SpellsAll, corner_numbers, call_words, answer_words};
+ghost use Rattle.atlas_svg.specs.Lines.{SpellsAll, corner_numbers, call_words, answer_words};
 ghost use Rattle.atlas_svg.specs.Lines.{list_words, SaysLine};
 
 use atlas_words::words::{first_word, unsigned};

@@ -4,7 +4,7 @@ use Rattle.std.specs.List.{AllByRecursion}
 use Rattle.atlas_model.specs.declared.geometry.Size.{Size}
 use Rattle.atlas_model.specs.declared.options.AllocatorOptions.{AllocatorOptions}
 use Rattle.atlas_words.specs.declared.commands.Command.{Command}
-use Rattle.atlas_words.specs.Grammar.{SpellsNumber, SpellsNumbers, SpellsArguments, keyword}
+use Rattle.atlas_words.specs.Grammar.{SpellsArguments, SpellsNumber, SpellsNumbers, SpellsUnsigned, keyword}
 
 abbrev pub HasNoSpace : List ℕ → Type 0
 HasNoSpace text = AllByRecursion (λ byte. byte ≢ 32) text
@@ -25,6 +25,13 @@ pub record BeginsWithNumber (text : List ℕ) (number : ℤ) (rest : List ℕ) :
   pub word : List ℕ
   pub whole : text ≡ 32 ∷ (word ++ rest)
   pub spells : SpellsNumber number word
+  pub spaced : IsEmptyOrSpaced rest
+
+-- A space, a number from 0 on, and the rest.
+pub record BeginsWithUnsigned (text : List ℕ) (number : ℕ) (rest : List ℕ) : Type 0 where
+  pub word : List ℕ
+  pub whole : text ≡ 32 ∷ (word ++ rest)
+  pub spells : SpellsUnsigned number word
   pub spaced : IsEmptyOrSpaced rest
 
 -- Two numbers, each after a space, and the rest.

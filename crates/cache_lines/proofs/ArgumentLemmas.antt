@@ -5,9 +5,9 @@ use Rattle.std.specs.Str.Parse.{AllDigits}
 use Rattle.atlas_model.specs.declared.geometry.Size.{Size}
 use Rattle.atlas_model.specs.declared.options.AllocatorOptions.{AllocatorOptions}
 use Rattle.atlas_words.specs.Grammar.{SpellsAtlas, SpellsSize, SpellsUnsigned}
-use Rattle.atlas_words.specs.Words.{BeginsWithSize, BeginsWithWord, HasNoSpace}
+use Rattle.atlas_words.specs.Words.{BeginsWithSize, BeginsWithUnsigned, BeginsWithWord, HasNoSpace}
 use Rattle.atlas_words.proofs.Parting.{one_word}
-use Rattle.cache_lines.specs.Lines.{BeginsWithUnsigned, SpellsStart}
+use Rattle.cache_lines.specs.Lines.{SpellsStart}
 
 digits_no_space : (digits : List ℕ) → AllDigits 10 digits → HasNoSpace digits
 digits_no_space [] h = tt

@@ -3,7 +3,7 @@ use Rattle.std.proofs.Common.{◌≡◌, ℕ, ◌≢◌, Bool, true, false, not,
 use Rattle.std.specs.Prelude.{IsSomeAnd}
 use Rattle.atlas_model.specs.declared.geometry.Size.{Size}
 use Rattle.atlas_words.specs.Grammar.{SpellsSize}
-use Rattle.atlas_words.specs.Words.{BeginsWithWord, HasNoSpace, IsEmptyOrSpaced}
+use Rattle.atlas_words.specs.Words.{BeginsWithUnsigned, BeginsWithWord, HasNoSpace, IsEmptyOrSpaced}
 use Rattle.atlas_words.proofs.Keywords.{has_no_space, no_space_by_test}
 use Rattle.atlas_words.proofs.Parting.{one_word}
 use Rattle.cache_lines.specs.declared.calls.Asked.{Asked}
@@ -14,7 +14,7 @@ use Rattle.cache_lines.specs.declared.calls.Keyed.{Keyed}
 use Rattle.cache_lines.specs.declared.calls.Keyed.TheVariants as keyed
 use Rattle.cache_lines.specs.declared.calls.Sized.{Sized}
 use Rattle.cache_lines.specs.declared.calls.Sized.TheVariants as sized
-use Rattle.cache_lines.specs.Lines.{BeginsWithUnsigned, SaysCall, SpellsArguments, asked_word, keyed_word, keyword, sized_word}
+use Rattle.cache_lines.specs.Lines.{SaysCall, SpellsCallArguments, asked_word, call_word, keyed_word, sized_word}
 use Rattle.cache_lines.proofs.ArgumentLemmas.{some_number, some_size}
 
 asked_test : (a : Asked) → has_no_space (asked_word a) ≡ true
@@ -49,7 +49,7 @@ unfolding has_no_space
 sized_test sized.Insert = refl
 sized_test sized.Unusable = refl
 
-keyword_test : (c : Call) → has_no_space (keyword c) ≡ true
+keyword_test : (c : Call) → has_no_space (call_word c) ≡ true
 unfolding has_no_space
 keyword_test (call.Cache start) = refl
 keyword_test (call.Asked a) = asked_test a
@@ -59,24 +59,24 @@ keyword_test (call.Sized s n size) = sized_test s
 number_spaced : (text rest : List ℕ) (n : ℕ) → BeginsWithUnsigned text n rest → IsEmptyOrSpaced text
 number_spaced text rest n number = subst IsEmptyOrSpaced (sym number.whole) refl
 
-arguments_spaced : (c : Call) (text : List ℕ) → SpellsArguments c text → IsEmptyOrSpaced text
+arguments_spaced : (c : Call) (text : List ℕ) → SpellsCallArguments c text → IsEmptyOrSpaced text
 arguments_spaced (call.Cache start) text spells = subst IsEmptyOrSpaced (sym spells.page.width.whole) refl
 arguments_spaced (call.Asked a) text spells = subst IsEmptyOrSpaced (sym spells) tt
 arguments_spaced (call.Keyed k n) text spells = number_spaced text [] n spells
 arguments_spaced (call.Sized s n size) text spells = number_spaced text spells.0 n spells.1
 
-pub in_parts : (c : Call) (line word rest : List ℕ) → BeginsWithWord line word rest → SaysCall c line → (word ≡ keyword c) × SpellsArguments c rest
+pub in_parts : (c : Call) (line word rest : List ℕ) → BeginsWithWord line word rest → SaysCall c line → (word ≡ call_word c) × SpellsCallArguments c rest
 in_parts c line word rest begins says =
-    let same = one_word line word rest (keyword c) says.0 begins (record {
+    let same = one_word line word rest (call_word c) says.0 begins (record {
       whole = says.1;
-      no_space = no_space_by_test (keyword c) (keyword_test c);
+      no_space = no_space_by_test (call_word c) (keyword_test c);
       spaced = arguments_spaced c says.0 says.2;
     }) in
-    (same.0, subst (SpellsArguments c) (sym same.1) says.2)
+    (same.0, subst (SpellsCallArguments c) (sym same.1) says.2)
 
 -- A line with more than a word that doesn't begin with a number says nothing.
 pub no_number : (c : Call) (word rest : List ℕ) → word ≢ codes "cache" → rest ≢ [] → ((n : ℕ) (more : List ℕ) → BeginsWithUnsigned rest n more → ⊥)
-    → (word ≡ keyword c) × SpellsArguments c rest → ⊥
+    → (word ≡ call_word c) × SpellsCallArguments c rest → ⊥
 no_number (call.Cache start) word rest cache some none parts = cache parts.0
 no_number (call.Asked a) word rest cache some none parts = some parts.1
 no_number (call.Keyed k n) word rest cache some none parts = none n [] parts.1
@@ -88,7 +88,7 @@ IsRead rest after = (n : ℕ) (more : List ℕ) → BeginsWithUnsigned rest n mo
 
 -- A line with a number alone that begins with no such word says nothing.
 pub no_keyed : (c : Call) (word rest after : List ℕ) → word ≢ codes "cache" → rest ≢ [] → IsRead rest after → after ≡ []
-    → ((k : Keyed) → word ≡ keyed_word k → ⊥) → (word ≡ keyword c) × SpellsArguments c rest → ⊥
+    → ((k : Keyed) → word ≡ keyed_word k → ⊥) → (word ≡ call_word c) × SpellsCallArguments c rest → ⊥
 no_keyed (call.Cache start) word rest after cache some read end none parts = cache parts.0
 no_keyed (call.Asked a) word rest after cache some read end none parts = some parts.1
 no_keyed (call.Keyed k n) word rest after cache some read end none parts = none k parts.0
@@ -97,7 +97,7 @@ no_keyed (call.Sized s n size) word rest after cache some read end none parts =
 
 -- A line with more than a number that isn't a size says nothing.
 pub no_size : (c : Call) (word rest after : List ℕ) → word ≢ codes "cache" → rest ≢ [] → IsRead rest after → after ≢ []
-    → ((size : Size) → SpellsSize size after → ⊥) → (word ≡ keyword c) × SpellsArguments c rest → ⊥
+    → ((size : Size) → SpellsSize size after → ⊥) → (word ≡ call_word c) × SpellsCallArguments c rest → ⊥
 no_size (call.Cache start) word rest after cache some read more none parts = cache parts.0
 no_size (call.Asked a) word rest after cache some read more none parts = some parts.1
 no_size (call.Keyed k n) word rest after cache some read more none parts = more (read n [] parts.1)
@@ -106,7 +106,7 @@ no_size (call.Sized s n size) word rest after cache some read more none parts =
 
 -- A line with a number and a size that begins with no such word says nothing.
 pub no_sized : (c : Call) (word rest after : List ℕ) → word ≢ codes "cache" → rest ≢ [] → IsRead rest after → after ≢ []
-    → ((s : Sized) → word ≡ sized_word s → ⊥) → (word ≡ keyword c) × SpellsArguments c rest → ⊥
+    → ((s : Sized) → word ≡ sized_word s → ⊥) → (word ≡ call_word c) × SpellsCallArguments c rest → ⊥
 no_sized (call.Cache start) word rest after cache some read more none parts = cache parts.0
 no_sized (call.Asked a) word rest after cache some read more none parts = some parts.1
 no_sized (call.Keyed k n) word rest after cache some read more none parts = more (read n [] parts.1)

@@ -1,8 +1,8 @@
 -- The lines that say calls of a cache.
 use Rattle.std.specs.Prelude.{◌≡◌, ℕ, List, [], ◌∷◌, ◌++◌, codes}
 use Rattle.atlas_model.specs.declared.geometry.Size.{Size}
-use Rattle.atlas_words.specs.Grammar.{SpellsAtlas, SpellsSize, SpellsUnsigned}
-use Rattle.atlas_words.specs.Words.{BeginsWithSize, IsEmptyOrSpaced}
+use Rattle.atlas_words.specs.Grammar.{SpellsAtlas, SpellsSize}
+use Rattle.atlas_words.specs.Words.{BeginsWithSize, BeginsWithUnsigned}
 use Rattle.cache_lines.specs.declared.calls.Asked.{Asked}
 use Rattle.cache_lines.specs.declared.calls.Asked.TheVariants as asked
 use Rattle.cache_lines.specs.declared.calls.Call.{Call}
@@ -45,13 +45,6 @@ abbrev pub sized_word : Sized → List ℕ
 sized_word sized.Insert = codes "insert"
 sized_word sized.Unusable = codes "unusable"
 
--- A space, a number from 0 on, and the rest.
-pub record BeginsWithUnsigned (text : List ℕ) (number : ℕ) (rest : List ℕ) : Type 0 where
-  pub word : List ℕ
-  pub whole : text ≡ 32 ∷ (word ++ rest)
-  pub spells : SpellsUnsigned number word
-  pub spaced : IsEmptyOrSpaced rest
-
 -- Two sizes, the pages and the padding, and then nothing for the default options, or the options of an atlas.
 pub record SpellsStart (start : Start) (text : List ℕ) : Type 0 where
   pub after_page : List ℕ
@@ -61,20 +54,20 @@ pub record SpellsStart (start : Start) (text : List ℕ) : Type 0 where
   pub others : SpellsAtlas (record { width = start.pages; height = start.padding }) start.atlas after_largest
 
 -- What follows the word of a call.
-abbrev pub SpellsArguments : Call → List ℕ → Type 0
-SpellsArguments (call.Cache start) text = SpellsStart start text
-SpellsArguments (call.Asked asked) text = text ≡ []
-SpellsArguments (call.Keyed keyed number) text = BeginsWithUnsigned text number []
-SpellsArguments (call.Sized sized number size) text =
+abbrev pub SpellsCallArguments : Call → List ℕ → Type 0
+SpellsCallArguments (call.Cache start) text = SpellsStart start text
+SpellsCallArguments (call.Asked asked) text = text ≡ []
+SpellsCallArguments (call.Keyed keyed number) text = BeginsWithUnsigned text number []
+SpellsCallArguments (call.Sized sized number size) text =
     (rest : List ℕ) × BeginsWithUnsigned text number rest × SpellsSize size rest
 
 -- The word that a call's line begins with.
-abbrev pub keyword : Call → List ℕ
-keyword (call.Cache start) = codes "cache"
-keyword (call.Asked asked) = asked_word asked
-keyword (call.Keyed keyed number) = keyed_word keyed
-keyword (call.Sized sized number size) = sized_word sized
+abbrev pub call_word : Call → List ℕ
+call_word (call.Cache start) = codes "cache"
+call_word (call.Asked asked) = asked_word asked
+call_word (call.Keyed keyed number) = keyed_word keyed
+call_word (call.Sized sized number size) = sized_word sized
 
 -- A line, without its LF, says this call.
 abbrev pub SaysCall : Call → List ℕ → Type 0
-SaysCall call line = (arguments : List ℕ) × (line ≡ keyword call ++ arguments) × SpellsArguments call arguments
+SaysCall call line = (arguments : List ℕ) × (line ≡ call_word call ++ arguments) × SpellsCallArguments call arguments

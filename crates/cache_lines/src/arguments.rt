@@ -1,7 +1,8 @@
 //! The numbers of a line.
 ghost use Rattle.std.specs.Prelude.{◌≡◌, ℕ, List, IfSome, IsSome, IsSomeAnd};
+ghost use Rattle.atlas_words.specs.Words.{BeginsWithUnsigned};
 ghost use Rattle.cache_lines.specs.declared.calls.Start.{Start};
-ghost use Rattle.cache_lines.specs.Lines.{BeginsWithUnsigned, SpellsStart};
+ghost use Rattle.cache_lines.specs.Lines.{SpellsStart};
 
 use crate::calls::Start;
 use atlas_words::words::{atlas_arguments, first_word, size_argument, unsigned};

@@ -2,7 +2,7 @@
 ghost use Rattle.std.specs.Prelude.{◌≡◌, ◌⊎◌, ℕ, length, IfOk, IfSome};
 ghost use Rattle.atlas_sheet.specs.Dense.{NoWayFinds};
 ghost use Rattle.atlas_sheet.specs.Grouping.{LieTogether, members};
-ghost use Rattle.atlas_sheet.specs.Paging.{AreApart};
+ghost use Rattle.atlas_sheet.specs.Paging.{NoPlacesOverlap};
 
 use atlas_sheet::{Pages, SheetError, SheetOptions, pack_groups};
 use guillotiere::Size;
@@ -16,7 +16,7 @@ pub fn textures_of<A: Allocator + Copy>(
     options: &SheetOptions,
 ) -> Result<Option<Pages<A>>, SheetError>
     ensures count { IfOk result (λ found. IfSome found (λ p. length p.places.items ≡ length icons.now)) }
-    ensures apart { IfOk result (λ found. IfSome found (λ p. AreApart p.sizes.items p.places.items)) }
+    ensures apart { IfOk result (λ found. IfSome found (λ p. NoPlacesOverlap p.sizes.items p.places.items)) }
     ensures together { IfOk result (λ found. IfSome found (λ p. (theme : ℕ) → LieTogether theme themes.now p.places.items
         ⊎ NoWayFinds options.now (members theme themes.now icons.now))) }
 {

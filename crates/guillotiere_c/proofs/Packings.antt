@@ -13,7 +13,7 @@ use Rattle.atlas_sheet.specs.Fillings.{IsBestFound, IsNoBetter, ways_tried}
 use Rattle.atlas_sheet.specs.Grouping.{AreGroupPages, LieTogether, members}
 use Rattle.atlas_sheet.specs.Lying.{IsShown, areas_of}
 use Rattle.atlas_sheet.specs.Packings.{IsFirstFound, IsNoLarger}
-use Rattle.atlas_sheet.specs.Paging.{AreApart, AreGreatest, ArePages, AreUsed, IsOnPage}
+use Rattle.atlas_sheet.specs.Paging.{AreGreatest, ArePages, AreUsed, IsOnPage, NoPlacesOverlap}
 use Rattle.atlas_sheet.specs.Settings.{spacing_of}
 use Rattle.atlas_sheet.specs.Sheets.{used_area}
 use Rattle.atlas_sheet.specs.Turnings.{InEach, InOne}
@@ -59,7 +59,7 @@ pub packed_pages :
     (sizes : S → List Size) (placed : S → List OnPage) (found : Option S)
     → asked ≡ sprites
     → IfSome found (λ p. AllZip (IsOnPage o (sizes p)) asked (placed p))
-    → IfSome found (λ p. AreApart (sizes p) (placed p))
+    → IfSome found (λ p. NoPlacesOverlap (sizes p) (placed p))
     → IfSome found (λ p. AreUsed (sizes p) (placed p))
     → IfSome found (λ p. AreGreatest o (sizes p))
     → IfSome found (λ p. ArePages WAYS o asked (sizes p) (map Some (placed p)))
@@ -76,7 +76,7 @@ pub packed_groups :
     → asked ≡ sprites
     → given ≡ groups
     → IfSome found (λ p. AllZip (IsOnPage o (sizes p)) asked (placed p))
-    → IfSome found (λ p. AreApart (sizes p) (placed p))
+    → IfSome found (λ p. NoPlacesOverlap (sizes p) (placed p))
     → IfSome found (λ p. AreUsed (sizes p) (placed p))
     → IfSome found (λ p. All (λ size. IsAllowed o.allowed (sides_of size)) (sizes p))
     → IfSome found (λ p. (group : ℕ) → LieTogether group given (placed p) ⊎ NoWayFinds o (members group given asked))

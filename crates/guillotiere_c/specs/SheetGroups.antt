@@ -9,7 +9,7 @@ use Rattle.atlas_sheet.specs.declared.ways.TheConstants.{WAYS}
 use Rattle.atlas_sheet.specs.Allowances.{IsAllowed}
 use Rattle.atlas_sheet.specs.Dense.{NoWayFinds}
 use Rattle.atlas_sheet.specs.Grouping.{AreGroupPages, LieTogether, members}
-use Rattle.atlas_sheet.specs.Paging.{AreApart, AreUsed, IsOnPage}
+use Rattle.atlas_sheet.specs.Paging.{AreUsed, IsOnPage, NoPlacesOverlap}
 use Rattle.guillotiere_c.specs.declared.plain.TheConstants.{NO_GROUP}
 use Rattle.guillotiere_c.specs.Numbers.{size_in}
 use Rattle.guillotiere_c.specs.SheetNumbers.{on_page_in}
@@ -25,7 +25,7 @@ group_in n = if n == NO_GROUP then None else Some n
 pub record AreGroupedPages (o : SheetOptions) (sprites : List Size) (groups : List (Option ℕ)) (sizes : List Size)
     (placed : List OnPage) : Type 0 where
   pub each : AllZip (IsOnPage o sizes) sprites placed
-  pub apart : AreApart sizes placed
+  pub apart : NoPlacesOverlap sizes placed
   pub used : AreUsed sizes placed
   pub allowed : All (λ size. IsAllowed o.allowed (sides_of size)) sizes
   pub together : (group : ℕ) → LieTogether group groups placed ⊎ NoWayFinds o (members group groups sprites)

@@ -5,7 +5,7 @@ use Rattle.guillotiere.specs.declared.Size.{Size}
 use Rattle.atlas_sheet.specs.declared.options.SheetOptions.{SheetOptions}
 use Rattle.atlas_sheet.specs.declared.paging.OnPage.{OnPage}
 use Rattle.atlas_sheet.specs.declared.ways.TheConstants.{WAYS}
-use Rattle.atlas_sheet.specs.Paging.{AreApart, AreGreatest, ArePages, AreUsed, IsOnPage}
+use Rattle.atlas_sheet.specs.Paging.{AreGreatest, ArePages, AreUsed, IsOnPage, NoPlacesOverlap}
 use Rattle.guillotiere_c.specs.declared.plain.PlainSize.{PlainSize}
 use Rattle.guillotiere_c.specs.declared.plain_sheet.PlainOnPage.{PlainOnPage}
 use Rattle.guillotiere_c.specs.Numbers.{size_in}
@@ -16,7 +16,7 @@ use Rattle.guillotiere_c.specs.Writing.{IsWritten}
 -- sprites.
 pub record ArePackedPages (o : SheetOptions) (sprites sizes : List Size) (placed : List OnPage) : Type 0 where
   pub each : AllZip (IsOnPage o sizes) sprites placed
-  pub apart : AreApart sizes placed
+  pub apart : NoPlacesOverlap sizes placed
   pub used : AreUsed sizes placed
   pub greatest : AreGreatest o sizes
   pub pages : ArePages WAYS o sprites sizes (map Some placed)

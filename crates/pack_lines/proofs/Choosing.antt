@@ -140,8 +140,8 @@ some_with_numbers (Pages n) z y e = absurd (cc)
 some_with_numbers Group z y e = absurd (cc)
 
 -- How a word and the numbers after it are a setting.
-abbrev pub IsAlone : (s : Setting) (word tail rest : List ℕ) → Type 0
-IsAlone s word tail rest = (setting_alone word ≡ Some s) × (tail ≡ rest)
+abbrev pub IsLoneSetting : (s : Setting) (word tail rest : List ℕ) → Type 0
+IsLoneSetting s word tail rest = (setting_alone word ≡ Some s) × (tail ≡ rest)
 
 pub record HasNumber (s : Setting) (word tail rest : List ℕ) : Type 0 where
   pub not_alone : setting_alone word ≡ None
@@ -159,10 +159,10 @@ pub record HasNumbers (s : Setting) (word tail rest : List ℕ) : Type 0 where
   pub ends : BeginsWithNumber middle y rest
   pub is : setting_with_numbers word z y ≡ Some s
 
-abbrev pub IsChosen : (s : Setting) (word tail rest : List ℕ) → Type 0
-IsChosen s word tail rest = IsAlone s word tail rest ⊎ (HasNumber s word tail rest ⊎ HasNumbers s word tail rest)
+abbrev pub IsSettingChosen : (s : Setting) (word tail rest : List ℕ) → Type 0
+IsSettingChosen s word tail rest = IsLoneSetting s word tail rest ⊎ (HasNumber s word tail rest ⊎ HasNumbers s word tail rest)
 
-chosen_by : (s : Setting) (zs : List ℤ) (tail rest : List ℕ) → arguments s ≡ zs → IsSmall s → BeginsWithNumbers zs tail rest → IsChosen s (setting_name s) tail rest
+chosen_by : (s : Setting) (zs : List ℤ) (tail rest : List ℕ) → arguments s ≡ zs → IsSmall s → BeginsWithNumbers zs tail rest → IsSettingChosen s (setting_name s) tail rest
 chosen_by s [] tail rest e small h = inl (some_alone s e, h.0)
 chosen_by s (z ∷ []) tail rest e small h =
     inr (inl (record {
@@ -188,18 +188,18 @@ chosen_by s (z ∷ y ∷ x ∷ more) tail rest e small h =
 
 -- What a text begins with is chosen by the word after its space and the numbers after that.
 pub chosen : (s : Setting) (text after word tail rest : List ℕ) (first : ℕ) → text ≡ first ∷ after → BeginsWithWord after word tail
-    → BeginsWithSetting s text rest → IsChosen s word tail rest
+    → BeginsWithSetting s text rest → IsSettingChosen s word tail rest
 chosen s text after word tail rest first e parted begins =
     let parts = setting_word s text after word tail rest first e parted begins in
-    subst (λ (w : List ℕ). IsChosen s w tail rest) (sym parts.0) (chosen_by s (arguments s) tail rest refl begins.small parts.1)
+    subst (λ (w : List ℕ). IsSettingChosen s w tail rest) (sym parts.0) (chosen_by s (arguments s) tail rest refl begins.small parts.1)
 
-pub by_alone : (s found : Setting) (word tail rest : List ℕ) → IsChosen s word tail rest → Some found ≡ setting_alone word → (found ≡ s) × (tail ≡ rest)
+pub by_alone : (s found : Setting) (word tail rest : List ℕ) → IsSettingChosen s word tail rest → Some found ≡ setting_alone word → (found ≡ s) × (tail ≡ rest)
 by_alone s found word tail rest (inl h) e = let is = h.0 in (cc, h.1)
 by_alone s found word tail rest (inr (inl h)) e = let not = h.not_alone in absurd (cc)
 by_alone s found word tail rest (inr (inr h)) e = let not = h.not_alone in absurd (cc)
 
 -- A first number follows where no word is alone.
-pub first_follows : (s : Setting) (word tail rest : List ℕ) → IsChosen s word tail rest → None ≡ setting_alone word
+pub first_follows : (s : Setting) (word tail rest : List ℕ) → IsSettingChosen s word tail rest → None ≡ setting_alone word
     → (z : ℤ) × (r : List ℕ) × BeginsWithNumber tail z r
 first_follows s word tail rest (inl h) e = let is = h.0 in absurd (cc)
 first_follows s word tail rest (inr (inl h)) e = (h.z, rest, h.begins)
@@ -209,7 +209,7 @@ first_follows s word tail rest (inr (inr h)) e = (h.z, h.middle, h.begins)
 abbrev pub IsRead : (tail : List ℕ) → (first : ℤ) → (after : List ℕ) → Type 0
 IsRead tail first after = (z : ℤ) (r : List ℕ) → BeginsWithNumber tail z r → (first ≡ z) × (after ≡ r)
 
-pub by_number : (s found : Setting) (word tail rest after : List ℕ) (first : ℤ) → IsChosen s word tail rest → None ≡ setting_alone word
+pub by_number : (s found : Setting) (word tail rest after : List ℕ) (first : ℤ) → IsSettingChosen s word tail rest → None ≡ setting_alone word
     → IsRead tail first after → Some found ≡ setting_with_number word first → (found ≡ s) × (after ≡ rest)
 by_number s found word tail rest after first (inl h) e read is = let alone = h.0 in absurd (cc)
 by_number s found word tail rest after first (inr (inl h)) e read is =
@@ -222,7 +222,7 @@ by_number s found word tail rest after first (inr (inr h)) e read is =
     absurd (cc)
 
 -- A second number follows where one isn't enough.
-pub second_follows : (s : Setting) (word tail rest after : List ℕ) (first : ℤ) → IsChosen s word tail rest → None ≡ setting_alone word
+pub second_follows : (s : Setting) (word tail rest after : List ℕ) (first : ℤ) → IsSettingChosen s word tail rest → None ≡ setting_alone word
     → IsRead tail first after → None ≡ setting_with_number word first
     → (y : ℤ) × BeginsWithNumber after y rest × (setting_with_numbers word first y ≡ Some s)
 second_follows s word tail rest after first (inl h) e read not = let alone = h.0 in absurd (cc)

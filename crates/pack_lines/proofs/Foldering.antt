@@ -125,8 +125,8 @@ or_none None = refl
 abbrev by_bytes : Bor (List ℕ) → Bor (List ℕ) → Ordering
 by_bytes x y = slice_cmp nat_cmp x.now y.now
 
-abbrev is_in : (folder : List ℕ) → Sprite → Bool
-is_in folder s = is_folder folder (folder_of s)
+abbrev lies_in_folder : (folder : List ℕ) → Sprite → Bool
+lies_in_folder folder s = is_folder folder (folder_of s)
 
 -- A sprite with a folder, after earlier ones.
 module _ (sprites : List Sprite) (i : ℕ) (x : Sprite) (firsts : BTreeMap (Bor (List ℕ)) ℕ) (folder : Bor (List ℕ)) (name : List ℕ)
@@ -135,19 +135,19 @@ module _ (sprites : List Sprite) (i : ℕ) (x : Sprite) (firsts : BTreeMap (Bor 
   here : (d : Sprite) → folder_of (get_or sprites i d) ≡ Some folder.now
   here d = ap folder_of (get_or_default sprites i d x low) ∙ ap folder_in (sym named) ∙ found
 
-  next : (q : List ℕ) → position (is_in q) (take (i + 1) sprites)
-      ≡ or_else (position (is_in q) (take i sprites)) (cond (bytes_eq folder.now q) (Some i) None)
+  next : (q : List ℕ) → position (lies_in_folder q) (take (i + 1) sprites)
+      ≡ or_else (position (lies_in_folder q) (take i sprites)) (cond (bytes_eq folder.now q) (Some i) None)
   next q =
-      position_more (is_in q) sprites i x low
-      ∙ ap (λ (b : Bool). or_else (position (is_in q) (take i sprites)) (cond b (Some i) None)) (ap (is_folder q) (here x))
+      position_more (lies_in_folder q) sprites i x low
+      ∙ ap (λ (b : Bool). or_else (position (lies_in_folder q) (take i sprites)) (cond b (Some i) None)) (ap (is_folder q) (here x))
 
   by_first : (n : ℕ) (q : Bor (List ℕ)) (b : Bool) → get by_bytes firsts folder ≡ Some n → bytes_eq folder.now q.now ≡ b
-      → position (is_in q.now) (take i sprites) ≡ or_else (position (is_in q.now) (take i sprites)) (cond b (Some i) None)
-  by_first n q false e t = sym (or_none (position (is_in q.now) (take i sprites)))
+      → position (lies_in_folder q.now) (take i sprites) ≡ or_else (position (lies_in_folder q.now) (take i sprites)) (cond b (Some i) None)
+  by_first n q false e t = sym (or_none (position (lies_in_folder q.now) (take i sprites)))
   by_first n q true e t =
       let same : folder.now ≡ q.now = (bytes_eq-Decides folder.now q.now).0 t in
-      let first : position (is_in q.now) (take i sprites) ≡ Some n =
-      ap (λ (f : List ℕ). position (is_in f) (take i sprites)) (sym same) ∙ sym (known folder) ∙ e in
+      let first : position (lies_in_folder q.now) (take i sprites) ≡ Some n =
+      ap (λ (f : List ℕ). position (lies_in_folder f) (take i sprites)) (sym same) ∙ sym (known folder) ∙ e in
       first ∙ sym (ap (λ (o : Option ℕ). or_else o (Some i)) first)
 
   -- The first sprite of the folder is known.
@@ -157,15 +157,15 @@ module _ (sprites : List Sprite) (i : ℕ) (x : Sprite) (firsts : BTreeMap (Bor 
 
   pub number_known : (n : ℕ) → get by_bytes firsts folder ≡ Some n → (d : Sprite) → Some n ≡ folder_number sprites (folder_of (get_or sprites i d))
   number_known n e d =
-      sym (ap (folder_number sprites) (here d) ∙ position_kept (is_in folder.now) sprites i n (sym (known folder) ∙ e))
+      sym (ap (folder_number sprites) (here d) ∙ position_kept (lies_in_folder folder.now) sprites i n (sym (known folder) ∙ e))
 
   by_new : (q : Bor (List ℕ)) (b : Bool) → get by_bytes firsts folder ≡ None → bytes_eq folder.now q.now ≡ b
-      → cond b (Some i) (position (is_in q.now) (take i sprites)) ≡ or_else (position (is_in q.now) (take i sprites)) (cond b (Some i) None)
-  by_new q false e t = sym (or_none (position (is_in q.now) (take i sprites)))
+      → cond b (Some i) (position (lies_in_folder q.now) (take i sprites)) ≡ or_else (position (lies_in_folder q.now) (take i sprites)) (cond b (Some i) None)
+  by_new q false e t = sym (or_none (position (lies_in_folder q.now) (take i sprites)))
   by_new q true e t =
       let same : folder.now ≡ q.now = (bytes_eq-Decides folder.now q.now).0 t in
-      let none : position (is_in q.now) (take i sprites) ≡ None =
-      ap (λ (f : List ℕ). position (is_in f) (take i sprites)) (sym same) ∙ sym (known folder) ∙ e in
+      let none : position (lies_in_folder q.now) (take i sprites) ≡ None =
+      ap (λ (f : List ℕ). position (lies_in_folder f) (take i sprites)) (sym same) ∙ sym (known folder) ∙ e in
       sym (ap (λ (o : Option ℕ). or_else o (Some i)) none)
 
   -- This one is the first.
@@ -178,10 +178,10 @@ module _ (sprites : List Sprite) (i : ℕ) (x : Sprite) (firsts : BTreeMap (Bor 
   pub number_new : get by_bytes firsts folder ≡ None → (d : Sprite) → Some i ≡ folder_number sprites (folder_of (get_or sprites i d))
   number_new e d =
       let test : bytes_eq folder.now folder.now ≡ true = (bytes_eq-Decides folder.now folder.now).1 refl in
-      let first : position (is_in folder.now) (take (i + 1) sprites) ≡ Some i =
+      let first : position (lies_in_folder folder.now) (take (i + 1) sprites) ≡ Some i =
       next folder.now ∙ sym (by_new folder (bytes_eq folder.now folder.now) e refl)
-      ∙ ap (λ (b : Bool). cond b (Some i) (position (is_in folder.now) (take i sprites))) test in
-      sym (ap (folder_number sprites) (here d) ∙ position_kept (is_in folder.now) sprites (i + 1) i first)
+      ∙ ap (λ (b : Bool). cond b (Some i) (position (lies_in_folder folder.now) (take i sprites))) test in
+      sym (ap (folder_number sprites) (here d) ∙ position_kept (lies_in_folder folder.now) sprites (i + 1) i first)
 
 -- One number more.
 pub groups_more : (sprites : List Sprite) (f : Sprite → Option ℕ) (i : ℕ) (old new : List (Option ℕ)) (g : Option ℕ) → i < length sprites

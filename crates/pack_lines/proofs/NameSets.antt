@@ -42,15 +42,15 @@ known_more xs i x key old new low at same updates known q =
     ∙ ap (λ (s : Sprite). list_any (named q) (take i xs) || named q s) (sym at) ∙ sym (list_any_more (named q) xs i x low)
 
 -- No two of the first sprites have one name.
-abbrev pub AreApart : List Sprite → ℕ → Type 0
-AreApart xs i = (j k : ℕ) (d : Sprite) → j < k → k < i → string_bytes (get_or xs j d).name ≢ string_bytes (get_or xs k d).name
+abbrev pub HaveNamesApart : List Sprite → ℕ → Type 0
+HaveNamesApart xs i = (j k : ℕ) (d : Sprite) → j < k → k < i → string_bytes (get_or xs j d).name ≢ string_bytes (get_or xs k d).name
 
 same_or_below : (k i : ℕ) → k < i + 1 → (k ≡ i) ⊎ (k < i)
 same_or_below k i h = grind arith
 
 pub apart_more : (xs : List Sprite) (i : ℕ) (x : Sprite) (key : Bor (List ℕ)) → i < length xs → get_or xs i x ≡ x → key.now ≡ string_bytes x.name
     → list_any (named key) (take i xs) ≡ false
-    → AreApart xs i → AreApart xs (i + 1)
+    → HaveNamesApart xs i → HaveNamesApart xs (i + 1)
 apart_more xs i x key low at name none apart j k d first last same =
     elim (same_or_below k i last) [
       | inr below ↦ apart j k d first below same

@@ -2,7 +2,7 @@
 use Rattle.std.proofs.Common.{◌≡◌, ◌≢◌, ℕ, List, [], ◌∷◌, refl, sym, ap, ◌∙◌, ◌<◌, ◌≤◌, length, ℤ, arith, length-append}
 use Rattle.pack_lines.specs.declared.settings.Setting.{Setting}
 use Rattle.pack_lines.specs.declared.settings.Settings.{Settings}
-use Rattle.pack_lines.specs.Settings.{BeginsWithNumbers, BeginsWithSetting, SpellsSettings, arguments, changed, changed_by, setting_name}
+use Rattle.pack_lines.specs.Settings.{BeginsWithNumbers, BeginsWithSetting, SpellsSettings, arguments, with_setting, changed_by, setting_name}
 
 -- The first of the settings that a text spells.
 pub next_spelled : (all : List Setting) (text : List ℕ) → SpellsSettings all text → text ≢ []
@@ -16,9 +16,9 @@ none_spelled [] text spells none = refl
 none_spelled (s ∷ others) text spells none = let whole = spells.1.whole in absurd (cc)
 
 pub changed_more : (whole old new : Settings) (more others : List Setting) (s setting : Setting) → whole ≡ changed_by old more → more ≡ s ∷ others
-    → setting ≡ s → new ≡ changed old setting → whole ≡ changed_by new others
+    → setting ≡ s → new ≡ with_setting old setting → whole ≡ changed_by new others
 changed_more whole old new more others s setting a b c d =
-    a ∙ ap (changed_by old) b ∙ ap (λ (n : Settings). changed_by n others) (ap (changed old) (sym c) ∙ sym d)
+    a ∙ ap (changed_by old) b ∙ ap (λ (n : Settings). changed_by n others) (ap (with_setting old) (sym c) ∙ sym d)
 
 numbers_shorter : (zs : List ℤ) (text rest : List ℕ) → BeginsWithNumbers zs text rest → length rest ≤ length text
 numbers_shorter [] text rest h = let same = ap length h.0 in omega (arith, same)

@@ -43,8 +43,8 @@ members_text [] = []
 members_text (p ∷ others) = member_text p ++ flat_map next_member_text others
 
 -- The size of the sheet.
-abbrev pub size_text : Size → List ℕ
-size_text sheet =
+abbrev pub sheet_size_text : Size → List ℕ
+sheet_size_text sheet =
     codes "\n},\"meta\":{\"size\":{\"w\":"
     ++ (signed_decimal sheet.width ++ (codes ",\"h\":" ++ (signed_decimal sheet.height ++ codes "}")))
 
@@ -60,7 +60,7 @@ left_names_text (sprite ∷ others) =
 
 -- What is said of the sheet.
 abbrev pub meta_text : Size → (left : List Sprite) → List ℕ
-meta_text sheet left = size_text sheet ++ (left_names_text left ++ codes "}}\n")
+meta_text sheet left = sheet_size_text sheet ++ (left_names_text left ++ codes "}}\n")
 
 -- One object: the frames by name, and the sheet.
 abbrev pub json_of : Size → List Frame → (left : List Sprite) → List ℕ

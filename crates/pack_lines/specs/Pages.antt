@@ -4,7 +4,7 @@ use Rattle.std.specs.List.{sum_by}
 use Rattle.atlas_model.specs.declared.geometry.Size.{Size}
 use Rattle.pack_lines.specs.declared.pages.PageFrame.{PageFrame}
 use Rattle.pack_lines.specs.Frames.{pixel_count}
-use Rattle.pack_lines.specs.Texts.{full_text, place_text, sheet_line, spelled}
+use Rattle.pack_lines.specs.Texts.{full_text, frame_place_text, sheet_line, spelled}
 
 -- How many pixels the sheets have together.
 abbrev pub all_pixels : (sheets : List Size) → ℕ
@@ -19,12 +19,12 @@ abbrev pub pages_fullness : (sheets : List Size) → List PageFrame → ℕ
 pages_fullness sheets sprites = 1000 * min (used_on_pages sprites) (all_pixels sheets) / max (all_pixels sheets) 1
 
 -- The number of a sheet, after a space.
-abbrev pub page_text : ℕ → List ℕ
-page_text page = codes " " ++ decimal page
+abbrev pub page_number_text : ℕ → List ℕ
+page_number_text page = codes " " ++ decimal page
 
 -- A sprite: its name, the number of its sheet, and its place there.
 abbrev pub page_line : PageFrame → List ℕ
-page_line p = spelled (string_bytes p.frame.sprite.name) ++ (page_text p.page ++ place_text p.frame)
+page_line p = spelled (string_bytes p.frame.sprite.name) ++ (page_number_text p.page ++ frame_place_text p.frame)
 
 -- The sheets, a line for each sprite, each in order, and how full the sheets are.
 abbrev pub pages_text_of : (sheets : List Size) → List PageFrame → List ℕ

@@ -66,23 +66,23 @@ SpellsSettings [] text = text ≡ []
 SpellsSettings (s ∷ others) text = (rest : List ℕ) × BeginsWithSetting s text rest × SpellsSettings others rest
 
 -- Settings with one changed.
-abbrev pub changed : Settings → Setting → Settings
-changed old (setting.Allowed sheets) = record old { sheets = sheets }
-changed old (setting.Padding pixels) = record old { padding = pixels }
-changed old (setting.Align size) = record old { alignment = size }
-changed old setting.Turn = record old { turn = true }
-changed old (setting.Effort changes) = record old { effort = changes }
-changed old (setting.Seed start) = record old { seed = start }
-changed old setting.Fill = record old { fill = true }
-changed old setting.Dense = record old { dense = true }
-changed old setting.Json = record old { json = true }
-changed old (setting.Pages most) = record old { pages = Some most }
-changed old setting.Group = record old { group = true }
+abbrev pub with_setting : Settings → Setting → Settings
+with_setting old (setting.Allowed sheets) = record old { sheets = sheets }
+with_setting old (setting.Padding pixels) = record old { padding = pixels }
+with_setting old (setting.Align size) = record old { alignment = size }
+with_setting old setting.Turn = record old { turn = true }
+with_setting old (setting.Effort changes) = record old { effort = changes }
+with_setting old (setting.Seed start) = record old { seed = start }
+with_setting old setting.Fill = record old { fill = true }
+with_setting old setting.Dense = record old { dense = true }
+with_setting old setting.Json = record old { json = true }
+with_setting old (setting.Pages most) = record old { pages = Some most }
+with_setting old setting.Group = record old { group = true }
 
 -- Settings with several changed, one after another.
 abbrev pub changed_by : Settings → List Setting → Settings
 changed_by old [] = old
-changed_by old (s ∷ others) = changed_by (changed old s) others
+changed_by old (s ∷ others) = changed_by (with_setting old s) others
 
 -- For private functions of `settings`: the setting of a word, of a word and a number, of a word and two.
 abbrev pub setting_alone : (word : List ℕ) → Option Setting

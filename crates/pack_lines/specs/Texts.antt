@@ -26,8 +26,8 @@ abbrev pub spelled : List ℕ → List ℕ
 spelled name = if needs_quotes name then quoted name else name
 
 -- Where a sprite's upper left corner lies, its size, and whether it is turned.
-abbrev pub place_text : Frame → List ℕ
-place_text p =
+abbrev pub frame_place_text : Frame → List ℕ
+frame_place_text p =
     codes " "
     ++ (signed_decimal p.corner.x
     ++ (codes " "
@@ -38,7 +38,7 @@ place_text p =
 
 -- A sprite: its name and its place.
 abbrev pub place_line : Frame → List ℕ
-place_line p = spelled (string_bytes p.sprite.name) ++ place_text p
+place_line p = spelled (string_bytes p.sprite.name) ++ frame_place_text p
 
 -- How full the sheet is.
 abbrev pub full_text : ℕ → List ℕ

@@ -1,7 +1,7 @@
 //! A sheet as JSON.
 ghost use Rattle.std.specs.Prelude.{◌≡◌, ◌++◌, IfOk, codes, flat_map, string_bytes};
 ghost use Rattle.pack_lines.specs.Json.{corner_text, json_of, left_names_text, member_text, members_text, meta_text};
-ghost use Rattle.pack_lines.specs.Json.{next_member_text, next_name_text, quoted, rotated_text, sides_text, size_text};
+ghost use Rattle.pack_lines.specs.Json.{next_member_text, next_name_text, quoted, rotated_text, sides_text, sheet_size_text};
 
 use crate::frames::Frame;
 use crate::sprites::Sprite;
@@ -96,7 +96,7 @@ fn frames_json(alloc: Global, frames: &[Frame]) -> Result<Vec<u8>, AllocError>
 
 // The size of the sheet.
 fn size_json(alloc: Global, sheet: Size) -> Result<String, AllocError>
-    ensures { IfOk result (λ text. string_bytes text ≡ size_text sheet) }
+    ensures { IfOk result (λ text. string_bytes text ≡ sheet_size_text sheet) }
 {
     let Size { width, height } = sheet;
     format!(in alloc; "\n}},\"meta\":{{\"size\":{{\"w\":{width},\"h\":{height}}}")

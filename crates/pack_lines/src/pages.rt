@@ -1,6 +1,6 @@
 //! Several sheets as lines.
 ghost use Rattle.std.specs.Prelude.{◌≡◌, ◌<◌, ◌≤◌, ◌*◌, IfOk, flat_map, length, string_bytes};
-ghost use Rattle.pack_lines.specs.Pages.{all_pixels, page_line, page_text, pages_fullness, pages_text_of, used_on_pages};
+ghost use Rattle.pack_lines.specs.Pages.{all_pixels, page_line, page_number_text, pages_fullness, pages_text_of, used_on_pages};
 ghost use Rattle.pack_lines.specs.Texts.{sheet_line};
 
 use crate::frames::{Frame, pixel_count};
@@ -31,7 +31,7 @@ fn sheets_lines(alloc: Global, sheets: &[Size]) -> Result<Vec<u8>, AllocError>
 
 // The number of a sheet, after a space.
 fn page_word(alloc: Global, page: usize) -> Result<String, AllocError>
-    ensures { IfOk result (λ text. string_bytes text ≡ page_text page) }
+    ensures { IfOk result (λ text. string_bytes text ≡ page_number_text page) }
 {
     format!(in alloc; " {page}")
 }

@@ -1,7 +1,7 @@
 //! What the first line may set.
 ghost use Rattle.std.specs.Prelude.{◌≡◌, ℕ, List, [], ◌∷◌, Some, IfSome, IsSomeAnd};
 ghost use Rattle.pack_lines.specs.declared.settings.Setting.{Setting};
-ghost use Rattle.pack_lines.specs.Settings.{BeginsWithSetting, SpellsSettings, arguments, changed, changed_by};
+ghost use Rattle.pack_lines.specs.Settings.{BeginsWithSetting, SpellsSettings, arguments, with_setting, changed_by};
 ghost use Rattle.pack_lines.specs.Settings.{setting_name};
 ghost use Rattle.pack_lines.specs.Settings.{from_zero, setting_alone, setting_with_number, setting_with_numbers};
 
@@ -95,7 +95,7 @@ pub const DEFAULT_SETTINGS: Settings = Settings {
 
 // The settings with one changed.
 fn change(settings: &mut Settings, setting: Setting)
-    ensures { settings.new ≡ changed settings.old setting }
+    ensures { settings.new ≡ with_setting settings.old setting }
 {
     match setting {
         Setting::Allowed(sheets) => settings.sheets = sheets,

@@ -1,7 +1,7 @@
 //! A sheet as lines.
 ghost use Rattle.std.specs.Prelude.{◌≡◌, IfOk, flat_map, string_bytes};
 ghost use Rattle.pack_lines.specs.Sprites.{IsReadAgain};
-ghost use Rattle.pack_lines.specs.Texts.{full_text, left_text, needs_quotes, place_line, place_text, sheet_line, spelled};
+ghost use Rattle.pack_lines.specs.Texts.{full_text, left_text, needs_quotes, place_line, frame_place_text, sheet_line, spelled};
 ghost use Rattle.pack_lines.specs.Texts.{text_of};
 
 use crate::frames::{Frame, fullness};
@@ -41,7 +41,7 @@ pub fn spelled(alloc: Global, name: &str) -> Result<Vec<u8>, AllocError>
 
 // What stands after the name in the line of a sprite.
 pub fn place(alloc: Global, frame: &Frame) -> Result<String, AllocError>
-    ensures { IfOk result (λ text. string_bytes text ≡ place_text frame.now) }
+    ensures { IfOk result (λ text. string_bytes text ≡ frame_place_text frame.now) }
 {
     let at = frame.corner;
     let size = frame.sprite.size;

@@ -2,7 +2,7 @@ use Rattle.std.proofs.Common.{◌∙◌, take, get_or, subst, sym}
 use Rattle.std.proofs.lemmas.Bool.{false≢true}
 use Rattle.std.proofs.lemmas.List.{take_all, take_more}
 use Rattle.atlas_maxrects.specs.declared.free.FreeBox.{FreeBox}
-use Rattle.atlas_maxrects.specs.Free.{IsBestCorner, sides}
+use Rattle.atlas_maxrects.specs.Free.{IsBestCorner, sides_by}
 use Rattle.atlas_maxrects.proofs.BestCorners.{best_more, best_same}
 use Rattle.atlas_maxrects.proofs.corners.best_corner.Goals as goal
 use Rattle.atlas_maxrects.proofs.corners.best_corner.Goals.{then-has_room, else-has_room}
@@ -14,7 +14,7 @@ pub loop-one-preserved : goal.loop-one-preserved
 loop-one-preserved c =
     let xs = c.args.free.now in
     let i = c.loop-one.one-index in
-    let s = sides c.args.width c.args.height in
+    let s = sides_by c.args.width c.args.height in
     let f = get_or xs i no_box in
     let best = c.loop-one.best in
     let before = c.loop-one.invariant in
@@ -30,5 +30,5 @@ loop-one-preserved c =
 
 pub returns : goal.returns
 returns c =
-    subst (λ ys. IsBestCorner ys (sides c.args.width c.args.height) c.loop-one.best)
+    subst (λ ys. IsBestCorner ys (sides_by c.args.width c.args.height) c.loop-one.best)
     (take_all c.loop-one.one-index c.args.free.now c.loop-one-test.false) c.loop-one.invariant

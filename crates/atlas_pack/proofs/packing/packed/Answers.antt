@@ -1,5 +1,5 @@
 use Rattle.std.proofs.Common.{◌≡◌, Bool, IfOk, IfSome, Some, map, refl, subst, sym}
-use Rattle.atlas_pack.specs.Runs.{IsWhole}
+use Rattle.atlas_pack.specs.Runs.{IsAllPacked}
 use Rattle.atlas_pack.proofs.Knowing.{all_known}
 use Rattle.atlas_pack.proofs.packing.packed.Goals as goal
 
@@ -7,7 +7,7 @@ pub returns-then-dense-clause-whole : goal.returns-then-dense-clause-whole
 returns-then-dense-clause-whole g c =
     let o = c.args.options.now in
     let sizes = c.args.sizes.now in
-    subst (λ (dense : Bool). IfOk c.pack_dense.result (λ found. IfSome found (λ sheet. IsWhole dense o sizes sheet.size (map Some sheet.places.items))))
+    subst (λ (dense : Bool). IfOk c.pack_dense.result (λ found. IfSome found (λ sheet. IsAllPacked dense o sizes sheet.size (map Some sheet.places.items))))
     (sym c.if-dense.true)
     (all_known _ _ _ _ _ c.pack_dense.result c.pack_dense.ensures.allowed c.pack_dense.ensures.each c.pack_dense.ensures.padded (λ (e : o.effort ≡ o.effort). c.pack_dense.ensures.larger)
     (λ sheet a b p l. record { allowed = a; all = sheet.places.items; whole = refl; each = b; apart = p; larger = l refl }))
@@ -16,7 +16,7 @@ pub returns-clause-whole : goal.returns-clause-whole
 returns-clause-whole g c =
     let o = c.args.options.now in
     let sizes = c.args.sizes.now in
-    subst (λ (dense : Bool). IfOk c.pack_telling.result (λ found. IfSome found (λ sheet. IsWhole dense o sizes sheet.size (map Some sheet.places.items))))
+    subst (λ (dense : Bool). IfOk c.pack_telling.result (λ found. IfSome found (λ sheet. IsAllPacked dense o sizes sheet.size (map Some sheet.places.items))))
     (sym c.if-dense.false)
     (all_known _ _ _ _ _ c.pack_telling.result c.pack_telling.ensures.allowed c.pack_telling.ensures.shown c.pack_telling.ensures.larger c.pack_telling.ensures.first
     (λ sheet a s l f. record { allowed = a; all = sheet.places.items; whole = refl; order = sheet.order.items; shown = s; larger = l; first = f }))

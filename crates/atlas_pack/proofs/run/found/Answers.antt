@@ -1,5 +1,5 @@
 use Rattle.std.proofs.Common.{Bool, IfErr, IfOk, map, rules, subst, sym, true, false, None}
-use Rattle.atlas_pack.specs.Runs.{Answers, IsFilled, IsPackFault, IsWhole, sheet_options}
+use Rattle.atlas_pack.specs.Runs.{Answers, IsFilled, IsPackFault, IsAllPacked, sheet_options}
 use Rattle.atlas_pack.proofs.run.found.Goals as goal
 
 pub returns-then-settings-clause-answers : goal.returns-then-settings-clause-answers
@@ -13,7 +13,7 @@ pub returns-clause-answers : goal.returns-clause-answers
 returns-clause-answers g c =
     let s = c.args.settings in
     let sizes = map (λ sprite. sprite.size) c.args.sprites.now in
-    let fact : IfOk c.pack_whole.result (λ found. IsWhole s.dense (sheet_options s) sizes found.0 found.1.items) = search rules in
+    let fact : IfOk c.pack_whole.result (λ found. IsAllPacked s.dense (sheet_options s) sizes found.0 found.1.items) = search rules in
     subst (λ (b : Bool). IfOk c.pack_whole.result (λ found. Answers b s.dense (sheet_options s) sizes found.0 found.1.items)) (sym c.if-settings.false) fact
 
 pub returns-then-settings-clause-fault : goal.returns-then-settings-clause-fault

@@ -1,7 +1,7 @@
 use Rattle.std.proofs.Common.{◌≡◌, List, ℕ, ◌∙◌, Err, inl, inr, rules, subst, sym}
 use Rattle.std.proofs.lemmas.Result.{err_from_is_err_and}
 use Rattle.std.specs.Io.KnownBytes.{Appends}
-use Rattle.atlas_pack.specs.Runs.{IsAnswer}
+use Rattle.atlas_pack.specs.Runs.{IsPackAnswer}
 use Rattle.atlas_pack.proofs.Inputs.{read_all}
 use Rattle.atlas_pack.proofs.run.run.Goals as goal
 
@@ -16,7 +16,7 @@ returns-clause-packs g c =
       text = c.in_ok-told.told.items;
       read = read_all _ c.new-text.result.items c.read_to_end.new.buf.items _ c.in_ok-read_to_end.ensures.bytes c.new-text.ensures.items c.deref.ensures.value;
       asked = c.in_ok-job.ensures.asks;
-      answered = subst (λ (many : ℕ). IsAnswer job.settings.pages job.settings job.sprites.items many c.in_ok-told.told.items) (sym (c.len.ensures ∙ c.in_ok-told.left.ok.0)) c.in_ok-told.ensures.packs;
+      answered = subst (λ (many : ℕ). IsPackAnswer job.settings.pages job.settings job.sprites.items many c.in_ok-told.told.items) (sym (c.len.ensures ∙ c.in_ok-told.left.ok.0)) c.in_ok-told.ensures.packs;
       told = subst (λ (bytes : List ℕ). Appends (g.W.Write.contents c.args.output.now) (g.W.Write.contents c.write_all.new.self) bytes)
           c.deref-2.ensures.value c.in_ok-write_all.ensures.bytes;
     }

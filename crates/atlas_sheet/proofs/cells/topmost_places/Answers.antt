@@ -20,7 +20,7 @@ loop-number-preserved g c =
       | then-number-sprites+in_ok-area+in-Some w ↦
           rw (w.packer-is, w.placed-is)
           (going_more c.args.options.now (sides_of c.args.sheet) c.args.sprites.now _ _ _ _ (get_or c.args.order.now c.loop-number.number-index 0) no_size
-          w.in-Some.area w.upright.result w.upright.ensures c.spacing-spacing.ensures c.requires.positive c.requires.aligned c.requires.packable w.if-number-sprites.true
+          w.in-Some.area w.upright.result w.upright.ensures c.spacing-spacing.ensures c.requires.positive c.requires.good.aligned c.requires.good.packable w.if-number-sprites.true
           (rw w.in-Some.is at w.in_ok-area.ensures.placed) c.loop-number.invariant)
       | else-number-sprites w ↦ rw (w.packer-is, w.placed-is) c.loop-number.invariant
     ]

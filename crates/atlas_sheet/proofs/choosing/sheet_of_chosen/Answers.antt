@@ -1,32 +1,27 @@
-use Rattle.std.proofs.Common.{◌≡◌, ◌∙◌, All, ap, length, subst, sym}
+use Rattle.std.proofs.Common.{◌≡◌, ◌∙◌, ap, length, subst, sym}
 use Rattle.guillotiere.specs.Pixels.{sides_of}
 use Rattle.atlas_sheet.specs.Grouping.{picked, spread}
-use Rattle.atlas_sheet.specs.Lying.{IsArrangement, IsShown}
-use Rattle.atlas_sheet.specs.Dense.{IsNoLargerThanWays}
-use Rattle.atlas_sheet.specs.Settings.{spacing_of}
-use Rattle.atlas_sheet.specs.Sheets.{IsPackable}
+use Rattle.atlas_sheet.specs.Lying.{IsArranged}
+use Rattle.atlas_sheet.specs.Settings.{CanPack}
 use Rattle.atlas_sheet.proofs.GroupFinds.{chosen_closed, chosen_long, chosen_page, found_long}
-use Rattle.atlas_sheet.proofs.GroupRows.{all_picked}
+use Rattle.atlas_sheet.proofs.GroupRows.{can_pack_picked}
 use Rattle.atlas_sheet.proofs.choosing.sheet_of_chosen.Goals as goal
 
 pub picked-requires : goal.picked-requires
 picked-requires g c = ap length c.deref.ensures.value ∙ c.requires.chosen.long
 
-pub shown_smallest-requires-clause-packable : goal.shown_smallest-requires-clause-packable
-shown_smallest-requires-clause-packable g c =
+pub shown_smallest-requires-clause-good : goal.shown_smallest-requires-clause-good
+shown_smallest-requires-clause-good g c =
     let row = c.args.chosen.row.items in
     let some_is : c.deref-2.result.now ≡ picked row c.args.sprites.now =
     c.deref-2.ensures.value ∙ c.in_ok-some.ensures.picked ∙ ap (λ r. picked r c.args.sprites.now) c.deref.ensures.value in
-    subst (All (IsPackable (spacing_of c.args.options.now))) (sym some_is)
-    (all_picked (IsPackable (spacing_of c.args.options.now)) row c.args.sprites.now c.requires.packable)
+    subst (CanPack c.args.options.now) (sym some_is) (can_pack_picked c.args.options.now row c.args.sprites.now c.requires.good)
 
 pub shown_smallest-requires-clause-arranged : goal.shown_smallest-requires-clause-arranged
 shown_smallest-requires-clause-arranged g c =
-    let p = c.args.chosen.page in
     let some_is : c.deref-2.result.now ≡ picked c.args.chosen.row.items c.args.sprites.now =
     c.deref-2.ensures.value ∙ c.in_ok-some.ensures.picked ∙ ap (λ r. picked r c.args.sprites.now) c.deref.ensures.value in
-    subst (λ ss. IsArrangement (sides_of p.size) (spacing_of c.args.options.now) c.args.options.now.turn ss p.choice p.lying.items p.order.items p.places.items)
-    (sym some_is) c.requires.chosen.arranged
+    subst (λ ss. IsArranged c.args.options.now ss c.args.chosen.page) (sym some_is) c.requires.chosen.arranged
 
 pub spread-requires : goal.spread-requires
 spread-requires g c =

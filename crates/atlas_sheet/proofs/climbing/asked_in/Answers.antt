@@ -10,5 +10,5 @@ returns-clause-arranged g c =
     let order : c.in_ok-order.order.items ≡ c.args.order.now = c.in_ok-order.ensures.items in
     rw (lying, order)
     (arranged_as_given (sides_of c.args.size) (spacing_of c.args.options.now) c.args.options.now.turn c.args.sprites.now c.args.choice
-    c.args.order.now c.in_ok-places.places.items c.requires.positive c.requires.aligned c.requires.packable c.requires.permuted
+    c.args.order.now c.in_ok-places.places.items c.requires.positive c.requires.good.aligned c.requires.good.packable c.requires.permuted
     c.in_ok-places.ensures.count (rw c.spacing.ensures at c.in_ok-places.ensures.found))

@@ -3,7 +3,6 @@ use Rattle.atlas_sheet.proofs.dense.sheet_of.Goals as goal
 
 pub returns-clause-whole : goal.returns-clause-whole
 returns-clause-whole g c =
-    whole_sheet c.args.options.now c.args.sprites.now c.args.size c.args.placed.now c.in_ok-places.places.items _ c.in_ok-areas.areas.items _
-    c.args.order.now c.in_ok-order.order.items
+    whole_sheet c.args.options.now c.args.sprites.now _ c.args.placed.now _ c.in_ok-areas.areas.items c.args.order.now
     c.in_ok-places.ensures.all c.in_ok-areas.ensures.areas c.deref.ensures.value c.used_area-used_area.ensures c.in_ok-order.ensures.items c.requires.order
     c.requires.allowed c.requires.each c.requires.apart c.requires.larger

@@ -1,16 +1,14 @@
 use Rattle.std.proofs.Common.{◌∙◌, ap}
-use Rattle.atlas_sheet.specs.Grouping.{without}
+use Rattle.atlas_sheet.specs.Grouping.{without_group}
 use Rattle.atlas_sheet.proofs.GroupMore.{less_without, so_without}
 use Rattle.atlas_sheet.proofs.groups.after_group.Goals as goal
 
 pub returns-clause-so_far : goal.returns-clause-so_far
 returns-clause-so_far g c =
-    so_without c.args.options.now c.args.sprites.now c.args.groups.now c.args.so_far.sizes.items c.args.so_far.places.items c.args.so_far.left.items c.args.so_far.kept.items
-    c.requires.so_far c.args.group c.requires.there c.requires.none c.in_ok-kept.kept.items
-    (c.in_ok-kept.ensures.without ∙ ap (without c.args.group) c.deref.ensures.value)
+    so_without c.requires.so_far c.args.group c.requires.there c.requires.none c.in_ok-kept.kept.items
+    (c.in_ok-kept.ensures.without ∙ ap (without_group c.args.group) c.deref.ensures.value)
 
 pub returns-clause-less : goal.returns-clause-less
 returns-clause-less g c =
-    less_without c.args.options.now c.args.sprites.now c.args.groups.now c.args.so_far.sizes.items c.args.so_far.places.items c.args.so_far.left.items c.args.so_far.kept.items
-    c.requires.so_far c.args.group c.requires.there c.requires.none c.in_ok-kept.kept.items
-    (c.in_ok-kept.ensures.without ∙ ap (without c.args.group) c.deref.ensures.value)
+    less_without c.requires.so_far c.args.group c.requires.there c.requires.none c.in_ok-kept.kept.items
+    (c.in_ok-kept.ensures.without ∙ ap (without_group c.args.group) c.deref.ensures.value)

@@ -1,22 +1,19 @@
-use Rattle.std.proofs.Common.{◌≡◌, ◌∙◌, All, ap, is_some, length, map, subst, sym}
+use Rattle.std.proofs.Common.{◌≡◌, ◌∙◌, ap, is_some, length, map, subst, sym}
 use Rattle.std.specs.List.{AllZip}
 use Rattle.atlas_sheet.specs.Dense.{NoWayFinds}
 use Rattle.atlas_sheet.specs.Grouping.{HasMember, SaysOf, members, waiting}
-use Rattle.atlas_sheet.specs.Settings.{spacing_of}
-use Rattle.atlas_sheet.specs.Sheets.{IsPackable}
-use Rattle.atlas_sheet.proofs.GroupMore.{numbers_long, so_packable}
+use Rattle.atlas_sheet.specs.Settings.{CanPack}
+use Rattle.atlas_sheet.proofs.GroupMore.{numbers_long, so_can_pack}
 use Rattle.atlas_sheet.proofs.groups.group_step.Goals as goal
 
-pub group_sheet-requires-clause-packable : goal.group_sheet-requires-clause-packable
-group_sheet-requires-clause-packable g c =
-    subst (All (IsPackable (spacing_of c.args.options.now))) (sym c.deref.ensures.value)
-    (so_packable c.args.options.now c.args.sprites.now c.args.groups.now c.args.so_far.sizes.items c.args.so_far.places.items c.args.so_far.left.items c.args.so_far.kept.items
-    c.requires.so_far (IsPackable (spacing_of c.args.options.now)) c.requires.packable)
+pub group_sheet-requires-clause-good : goal.group_sheet-requires-clause-good
+group_sheet-requires-clause-good g c =
+    subst (CanPack c.args.options.now) (sym c.deref.ensures.value)
+    (so_can_pack c.requires.so_far c.requires.good)
 
 pub group_sheet-requires-clause-long : goal.group_sheet-requires-clause-long
 group_sheet-requires-clause-long g c =
-    ap length c.requires.numbers ∙ numbers_long c.args.options.now c.args.sprites.now c.args.groups.now c.args.so_far.sizes.items c.args.so_far.places.items c.args.so_far.left.items c.args.so_far.kept.items
-    c.requires.so_far ∙ ap length (sym c.deref.ensures.value)
+    ap length c.requires.numbers ∙ numbers_long c.requires.so_far ∙ ap length (sym c.deref.ensures.value)
 
 pub after_sheet-requires-clause-page : goal.after_sheet-requires-clause-page
 after_sheet-requires-clause-page g c = rw c.deref.ensures.value at (rw c.in-Some.is at c.in_ok-found.ensures.page)

@@ -18,10 +18,8 @@ all_on-requires g c =
 
 pub returns-clause-pages : goal.returns-clause-pages
 returns-clause-pages g c =
-    so_pages c.args.options.now c.args.sprites.now c.args.groups.now c.loop-so_far.so_far.sizes.items c.loop-so_far.so_far.places.items c.loop-so_far.so_far.left.items c.loop-so_far.so_far.kept.items
-    c.loop-so_far.invariant c.in_ok-all.all.items (c.in_ok-all.ensures.all ∙ c.deref.ensures.value)
+    so_pages c.loop-so_far.invariant c.in_ok-all.all.items (c.in_ok-all.ensures.all ∙ c.deref.ensures.value)
 
 pub returns-clause-together : goal.returns-clause-together
 returns-clause-together g c =
-    so_together c.args.options.now c.args.sprites.now c.args.groups.now c.loop-so_far.so_far.sizes.items c.loop-so_far.so_far.places.items c.loop-so_far.so_far.left.items c.loop-so_far.so_far.kept.items
-    c.loop-so_far.invariant c.in_ok-all.all.items (c.in_ok-all.ensures.all ∙ c.deref.ensures.value)
+    so_together c.loop-so_far.invariant c.in_ok-all.all.items (c.in_ok-all.ensures.all ∙ c.deref.ensures.value)

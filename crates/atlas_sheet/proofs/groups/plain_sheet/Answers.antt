@@ -11,7 +11,7 @@ returns-then-is_bare-clause-none g c =
     let bare : All IsNone c.deref.result.now = search (rules, c.is_bare.ensures, c.if-is_bare.true) in
     none_as_given WAYS c.args.options.now sprites sprites sprites refl refl p.size a.size c.in_ok-page.ensures.size p.order.items p.places.items
     a.places.items c.in_ok-page.ensures.shown c.in_ok-page.ensures.areas c.in_ok-next.ensures.kind sprites (replicate (length sprites) None)
-    (omega arith) (left_with sprites sprites (replicate (length sprites) None) refl refl) c.requires.some c.requires.packable
+    (omega arith) (left_with sprites sprites (replicate (length sprites) None) refl refl) c.requires.some c.requires.good.placing.packable
     (subst (All IsNone) c.deref.ensures.value bare)
 
 pub returns-clause-page : goal.returns-clause-page

@@ -1,18 +1,16 @@
-use Rattle.std.proofs.Common.{◌≡◌, ◌<◌, ◌∙◌, All, ap, inl, length, is_some, map, subst, sym, false}
+use Rattle.std.proofs.Common.{◌≡◌, ◌<◌, ◌∙◌, ap, inl, length, is_some, map, subst, sym, false}
 use Rattle.std.proofs.lemmas.List.{length-map}
 use Rattle.atlas_sheet.specs.Paging.{OneIsTooLarge}
-use Rattle.atlas_sheet.specs.Settings.{spacing_of}
-use Rattle.atlas_sheet.specs.Sheets.{IsPackable}
+use Rattle.atlas_sheet.specs.Settings.{CanPack}
 use Rattle.atlas_sheet.specs.Grouping.{waiting}
-use Rattle.atlas_sheet.proofs.GroupMore.{left_large, numbers_long, so_packable}
+use Rattle.atlas_sheet.proofs.GroupMore.{left_large, numbers_long, so_can_pack}
 use Rattle.atlas_sheet.proofs.GroupSteps.{none_says}
 use Rattle.atlas_sheet.proofs.groups.plain_step.Goals as goal
 
-pub plain_sheet-requires-clause-packable : goal.plain_sheet-requires-clause-packable
-plain_sheet-requires-clause-packable g c =
-    subst (All (IsPackable (spacing_of c.args.options.now))) (sym c.deref.ensures.value)
-    (so_packable c.args.options.now c.args.sprites.now c.args.groups.now c.args.so_far.sizes.items c.args.so_far.places.items c.args.so_far.left.items c.args.so_far.kept.items
-    c.requires.so_far (IsPackable (spacing_of c.args.options.now)) c.requires.packable)
+pub plain_sheet-requires-clause-good : goal.plain_sheet-requires-clause-good
+plain_sheet-requires-clause-good g c =
+    subst (CanPack c.args.options.now) (sym c.deref.ensures.value)
+    (so_can_pack c.requires.so_far c.requires.good)
 
 pub plain_sheet-requires-clause-some : goal.plain_sheet-requires-clause-some
 plain_sheet-requires-clause-some g c = subst (λ ls. 0 < length ls) (sym c.deref.ensures.value) c.requires.some
@@ -29,13 +27,11 @@ after_sheet-requires-clause-says g c =
     let count : length places ≡ length c.args.so_far.left.items = (rw c.in-Some.is at c.in_ok-found.ensures.count) ∙ ap length c.deref.ensures.value in (
       (λ n. false),
       none_says (λ n. false) (waiting c.args.so_far.kept.items c.args.so_far.places.items) (map is_some places)
-          (length-map places is_some ∙ count ∙ sym (numbers_long c.args.options.now c.args.sprites.now c.args.groups.now c.args.so_far.sizes.items c.args.so_far.places.items c.args.so_far.left.items c.args.so_far.kept.items
-          c.requires.so_far))
+          (length-map places is_some ∙ count ∙ sym (numbers_long c.requires.so_far))
           c.requires.no_group,
     )
 
 pub returns-in-None-clause-none : goal.returns-in-None-clause-none
 returns-in-None-clause-none g c =
-    left_large c.args.options.now c.args.sprites.now c.args.groups.now c.args.so_far.sizes.items c.args.so_far.places.items c.args.so_far.left.items c.args.so_far.kept.items
-    c.requires.so_far
+    left_large c.requires.so_far
     (subst (OneIsTooLarge c.args.options.now) c.deref.ensures.value (rw c.in-None.is at c.in_ok-found.ensures.none))

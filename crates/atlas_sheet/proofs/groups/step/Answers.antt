@@ -4,7 +4,4 @@ use Rattle.atlas_sheet.proofs.groups.step.Goals as goal
 
 pub waiting-requires : goal.waiting-requires
 waiting-requires g c =
-    let s = c.args.so_far in
-    ap length c.deref-2.ensures.value
-    ∙ kept_long c.args.options.now c.args.sprites.now c.args.groups.now s.sizes.items s.places.items s.left.items s.kept.items c.requires.so_far
-    ∙ ap length (sym c.deref.ensures.value)
+    ap length c.deref-2.ensures.value ∙ kept_long c.requires.so_far ∙ ap length (sym c.deref.ensures.value)

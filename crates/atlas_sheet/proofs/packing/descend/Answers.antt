@@ -3,49 +3,35 @@ use Rattle.std.proofs.lemmas.Fn.{FoldsTo-push}
 use Rattle.guillotiere.specs.declared.Size.{Size}
 use Rattle.guillotiere.specs.Pixels.{sides_of}
 use Rattle.atlas_sheet.specs.Allowances.{IsAllowed, pixels}
-use Rattle.atlas_sheet.specs.Settings.{spacing_of}
-use Rattle.atlas_sheet.proofs.Arranging.{own, rebased}
-use Rattle.atlas_sheet.proofs.Flipping.{lie_packable}
+use Rattle.atlas_sheet.proofs.Arranging.{can_place_lying, own, rebased}
 use Rattle.atlas_sheet.proofs.Telling.{falling_push}
 use Rattle.atlas_sheet.proofs.packing.descend.Goals as goal
 
-pub asked_in-requires-clause-packable : goal.asked_in-requires-clause-packable
-asked_in-requires-clause-packable g c =
-    rw c.deref.ensures.value
-    (lie_packable (spacing_of c.args.options.now) c.args.options.now.turn c.args.first.lying.items c.loop-tries.best.lying.items
-    c.loop-tries.invariant.arranged.lies c.requires.packable)
+pub asked_in-requires-clause-good : goal.asked_in-requires-clause-good
+asked_in-requires-clause-good g c =
+    rw c.deref.ensures.value (can_place_lying c.loop-tries.invariant.arranged c.requires.good.placing)
 
-pub improve-requires-clause-packable : goal.improve-requires-clause-packable
-improve-requires-clause-packable g c =
-    lie_packable (spacing_of c.args.options.now) c.args.options.now.turn c.loop-tries.best.lying.items c.in_ok-moved.moved.lying.items
-    (let moved = rw c.deref.ensures.value at c.in_ok-moved.ensures.arranged in moved.lies)
-    (lie_packable (spacing_of c.args.options.now) c.args.options.now.turn c.args.first.lying.items c.loop-tries.best.lying.items
-    c.loop-tries.invariant.arranged.lies c.requires.packable)
+pub improve-requires-clause-good : goal.improve-requires-clause-good
+improve-requires-clause-good g c =
+    can_place_lying (rw c.deref.ensures.value at c.in_ok-moved.ensures.arranged)
+    (can_place_lying c.loop-tries.invariant.arranged c.requires.good.placing)
 
 pub improve-requires-clause-arranged : goal.improve-requires-clause-arranged
-improve-requires-clause-arranged g c =
-    let m = c.in_ok-moved.moved in
-    own (sides_of m.size) (spacing_of c.args.options.now) c.args.options.now.turn _ m.lying.items m.choice m.order.items m.places.items
-    c.in_ok-moved.ensures.arranged
+improve-requires-clause-arranged g c = own c.in_ok-moved.ensures.arranged
 
 pub loop-tries-preserved : goal.loop-tries-preserved
 loop-tries-preserved g c =
     let before = c.loop-tries.invariant in
     let best = c.loop-tries.best in
-    let m = c.in_ok-moved.moved in
     let f = c.in_ok-found.found in
-    let turn = c.args.options.now.turn in
-    let spacing = spacing_of c.args.options.now in
     let moved = rw c.deref.ensures.value at c.in_ok-moved.ensures.arranged in
     let size : f.size ≡ c.in-Some.size = c.in_ok-found.ensures.size ∙ c.in_ok-moved.ensures.size in
     let step = c.in-Some.ensures in
     let fewer : pixels (sides_of f.size) < pixels (sides_of best.size) =
     subst (λ (s : Size). pixels (sides_of s) < pixels (sides_of best.size)) (sym size) step.1 in
     record {
-      arranged = rebased (sides_of f.size) spacing turn c.args.first.lying.items best.lying.items f.lying.items f.choice f.order.items f.places.items
-          before.arranged.lies
-          (rebased (sides_of f.size) spacing turn best.lying.items m.lying.items f.lying.items f.choice f.order.items f.places.items moved.lies
-          c.in_ok-found.ensures.arranged);
+      arranged = rebased c.args.first.lying.items best.lying.items before.arranged.lies
+          (rebased best.lying.items c.in_ok-moved.moved.lying.items moved.lies c.in_ok-found.ensures.arranged);
       allowed = subst (λ (s : Size). IsAllowed c.args.options.now.allowed (sides_of s)) (sym size) step.0;
       whole = search (rules, c.is_whole.ensures);
       callable = search of_calls;

@@ -3,15 +3,13 @@ use Rattle.std.specs.List.{FoldsTo}
 use Rattle.guillotiere.specs.declared.Size.{Size}
 use Rattle.guillotiere.specs.Pixels.{sides_of}
 use Rattle.atlas_sheet.specs.Allowances.{IsAllowed, pixels}
-use Rattle.atlas_sheet.specs.Lying.{IsArrangement}
+use Rattle.atlas_sheet.specs.Lying.{IsArranged}
 use Rattle.atlas_sheet.specs.Packings.{AreFalling}
-use Rattle.atlas_sheet.specs.Settings.{spacing_of}
 use Rattle.atlas_sheet.proofs.packing.descend.Given as goal
 
 abbrev pub invariant-loop-tries : goal.invariant-loop-tries
 invariant-loop-tries g l = record {
-  arranged : IsArrangement (sides_of l.best.size) (spacing_of l.options) l.options.turn l.fn.first.lying.items l.best.choice
-      l.best.lying.items l.best.order.items l.best.places.items;
+  arranged : IsArranged l.options l.fn.first.lying.items l.best;
   allowed : IsAllowed l.options.allowed (sides_of l.best.size);
   whole : All IsSome l.best.places.items;
   callable : goal.F-IsAlwaysCallable g l.told;

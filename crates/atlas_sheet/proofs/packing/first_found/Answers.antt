@@ -3,15 +3,13 @@ use Rattle.guillotiere.specs.Pixels.{sides_of}
 use Rattle.atlas_sheet.specs.declared.turnings.Turning.TheVariants as turning
 use Rattle.atlas_sheet.specs.declared.ways.TheConstants.{WAYS}
 use Rattle.atlas_sheet.specs.Allowances.{IsAllowed}
-use Rattle.atlas_sheet.specs.Lying.{IsArrangement}
-use Rattle.atlas_sheet.specs.Settings.{spacing_of}
+use Rattle.atlas_sheet.specs.Lying.{IsArranged}
 use Rattle.atlas_sheet.proofs.LaidWays.{found_best, found_each, found_none, found_one, smallest_found, taken_found}
 use Rattle.atlas_sheet.proofs.packing.first_found.Goals as goal
 
 pub returns-clause-arranged : goal.returns-clause-arranged
 returns-clause-arranged g c =
-    taken_found (λ a. IsArrangement (sides_of a.size) (spacing_of c.args.options.now) c.args.options.now.turn c.args.sprites.now
-    a.choice a.lying.items a.order.items a.places.items)
+    taken_found (IsArranged c.args.options.now c.args.sprites.now)
     c.in_ok-given.given c.in_ok-wide.wide c.in_ok-high.high c.smaller_of.result c.smaller_of-2.result c.smaller_of.ensures.kept
     c.smaller_of-2.ensures.kept c.in_ok-given.ensures.arranged c.in_ok-wide.ensures.arranged c.in_ok-high.ensures.arranged
 

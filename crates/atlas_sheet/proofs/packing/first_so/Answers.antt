@@ -28,6 +28,4 @@ arrangement_of-requires g c =
 
 pub returns-in_ok-first-in-Some-clause-arranged : goal.returns-in_ok-first-in-Some-clause-arranged
 returns-in_ok-first-in-Some-clause-arranged g c =
-    let a = c.in_ok-first-in-Some.first in
-    rebased (sides_of a.size) (spacing_of c.args.options.now) c.args.options.now.turn c.args.sprites.now c.in_ok-lying.lying.items a.lying.items
-    a.choice a.order.items a.places.items c.in_ok-lying.ensures.lies c.in_ok-first-in-Some.ensures.arranged
+    rebased c.args.sprites.now c.in_ok-lying.lying.items c.in_ok-lying.ensures.lies c.in_ok-first-in-Some.ensures.arranged

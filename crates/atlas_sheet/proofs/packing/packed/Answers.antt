@@ -4,29 +4,23 @@ use Rattle.guillotiere.specs.Pixels.{sides_of}
 use Rattle.atlas_sheet.specs.Packings.{IsNoLarger}
 use Rattle.atlas_sheet.specs.Settings.{spacing_of}
 use Rattle.atlas_sheet.specs.declared.ways.TheConstants.{WAYS}
-use Rattle.atlas_sheet.proofs.Arranging.{no_larger, own, rebased}
-use Rattle.atlas_sheet.proofs.Flipping.{lie_packable}
+use Rattle.atlas_sheet.proofs.Arranging.{can_place_lying, no_larger, own, rebased}
 use Rattle.atlas_sheet.proofs.Laying.{each_weaker}
 use Rattle.atlas_sheet.proofs.packing.packed.Goals as goal
 
-pub descend-requires-clause-packable : goal.descend-requires-clause-packable
-descend-requires-clause-packable g c =
-    let arranged = rw c.in-Some.is at c.in_ok-found.ensures.arranged in
-    lie_packable (spacing_of c.args.options.now) c.args.options.now.turn c.args.sprites.now c.in-Some.first.lying.items arranged.lies c.requires.packable
+pub descend-requires-clause-good : goal.descend-requires-clause-good
+descend-requires-clause-good g c = record {
+  usable = c.requires.good.usable;
+  placing = can_place_lying (rw c.in-Some.is at c.in_ok-found.ensures.arranged) c.requires.good.placing;
+}
 
 pub descend-requires-clause-arranged : goal.descend-requires-clause-arranged
-descend-requires-clause-arranged g c =
-    let a = c.in-Some.first in
-    own (sides_of a.size) (spacing_of c.args.options.now) c.args.options.now.turn c.args.sprites.now a.lying.items a.choice a.order.items
-    a.places.items (rw c.in-Some.is at c.in_ok-found.ensures.arranged)
+descend-requires-clause-arranged g c = own (rw c.in-Some.is at c.in_ok-found.ensures.arranged)
 
 pub returns-clause-arranged : goal.returns-clause-arranged
 returns-clause-arranged g c =
-    let a = c.in-Some.first in
-    let b = c.in_ok-best.best in
     let arranged = rw c.in-Some.is at c.in_ok-found.ensures.arranged in
-    rebased (sides_of b.size) (spacing_of c.args.options.now) c.args.options.now.turn c.args.sprites.now a.lying.items b.lying.items
-    b.choice b.order.items b.places.items arranged.lies c.in_ok-best.ensures.arranged
+    rebased c.args.sprites.now c.in-Some.first.lying.items arranged.lies c.in_ok-best.ensures.arranged
 
 pub returns-clause-larger : goal.returns-clause-larger
 returns-clause-larger g c =

@@ -3,34 +3,23 @@ use Rattle.guillotiere.specs.Pixels.{sides_of}
 use Rattle.atlas_sheet.specs.declared.ways.TheConstants.{WAYS}
 use Rattle.atlas_sheet.specs.Packings.{IsNoLarger, NoneIsFound}
 use Rattle.atlas_sheet.specs.Settings.{spacing_of}
-use Rattle.atlas_sheet.proofs.Arranging.{own, rebased}
-use Rattle.atlas_sheet.proofs.Flipping.{lie_packable}
+use Rattle.atlas_sheet.proofs.Arranging.{can_place_lying, own, rebased}
 use Rattle.atlas_sheet.proofs.Laying.{each_weaker}
 use Rattle.atlas_sheet.proofs.packing.squeeze.Goals as goal
 
-pub improve-requires-clause-packable : goal.improve-requires-clause-packable
-improve-requires-clause-packable g c =
-    let asked = rw c.deref-2.ensures.value at c.in_ok-asked.ensures.arranged in
-    lie_packable (spacing_of c.args.options.now) c.args.options.now.turn c.in_ok-lying.lying.items c.in_ok-asked.asked.lying.items
-    asked.lies c.in_ok-lying.ensures.packable
+pub improve-requires-clause-good : goal.improve-requires-clause-good
+improve-requires-clause-good g c =
+    can_place_lying (rw c.deref-2.ensures.value at c.in_ok-asked.ensures.arranged) c.in_ok-lying.ensures.good
 
 pub improve-requires-clause-arranged : goal.improve-requires-clause-arranged
-improve-requires-clause-arranged g c =
-    let a = c.in_ok-asked.asked in
-    own (sides_of a.size) (spacing_of c.args.options.now) c.args.options.now.turn _ a.lying.items a.choice a.order.items
-    a.places.items c.in_ok-asked.ensures.arranged
+improve-requires-clause-arranged g c = own c.in_ok-asked.ensures.arranged
 
 pub returns-clause-arranged : goal.returns-clause-arranged
 returns-clause-arranged g c =
-    let a = c.in_ok-asked.asked in
-    let b = c.in_ok-found.found in
-    let spacing = spacing_of c.args.options.now in
-    let turn = c.args.options.now.turn in
+    let lying = c.in_ok-lying.lying.items in
     let asked = rw c.deref-2.ensures.value at c.in_ok-asked.ensures.arranged in
-    rebased (sides_of b.size) spacing turn c.args.sprites.now c.in_ok-lying.lying.items b.lying.items b.choice b.order.items b.places.items
-    c.in_ok-lying.ensures.lies
-    (rebased (sides_of b.size) spacing turn c.in_ok-lying.lying.items a.lying.items b.lying.items b.choice b.order.items b.places.items
-    asked.lies c.in_ok-found.ensures.arranged)
+    rebased c.args.sprites.now lying c.in_ok-lying.ensures.lies
+    (rebased lying c.in_ok-asked.asked.lying.items asked.lies c.in_ok-found.ensures.arranged)
 
 pub returns-clause-larger : goal.returns-clause-larger
 returns-clause-larger g c =

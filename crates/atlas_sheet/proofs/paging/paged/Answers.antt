@@ -1,9 +1,9 @@
 use Rattle.std.proofs.Common.{arith, rules, ◌≡◌, ◌∙◌, length, replicate, All, IsNone, IsSome, None, ap, subst, sym}
 use Rattle.atlas_sheet.specs.declared.ways.TheConstants.{WAYS}
 use Rattle.atlas_sheet.specs.Paging.{IsPage, holes, put_on, sprites_left}
-use Rattle.atlas_sheet.specs.Settings.{spacing_of}
+use Rattle.atlas_sheet.specs.Settings.{CanPack, spacing_of}
 use Rattle.atlas_sheet.specs.Sheets.{IsPackable}
-use Rattle.atlas_sheet.proofs.PageFinds.{begun_with, count_as_given, empty_left, fewer_left, left_holes, left_packable, left_with, more_pages, none_as_given, none_left, page_as_given, put_as_long, some_left}
+use Rattle.atlas_sheet.proofs.PageFinds.{begun_with, can_pack_left, count_as_given, empty_left, fewer_left, left_holes, left_packable, left_with, more_pages, none_as_given, none_left, page_as_given, put_as_long, some_left}
 use Rattle.atlas_sheet.proofs.paging.paged.Goals as goal
 
 pub loop-left-init : goal.loop-left-init
@@ -15,12 +15,11 @@ loop-left-init g c =
       left = left_with sprites c.in_ok-left.left.items c.in_ok-places.places.items bare c.in_ok-left.ensures.items;
     }
 
-pub next_page-requires-clause-packable : goal.next_page-requires-clause-packable
-next_page-requires-clause-packable g c =
+pub next_page-requires : goal.next_page-requires
+next_page-requires g c =
     let before = c.loop-left.invariant in
-    subst (All (IsPackable (spacing_of c.args.options.now))) (sym c.deref.ensures.value)
-    (left_packable c.args.sprites.now c.loop-left.left.items c.loop-left.places.items before.are.long before.left
-    (IsPackable (spacing_of c.args.options.now)) c.requires.packable)
+    subst (CanPack c.args.options.now) (sym c.deref.ensures.value)
+    (can_pack_left c.args.sprites.now c.loop-left.left.items c.loop-left.places.items before.are.long before.left c.args.options.now c.requires)
 
 pub returns-then-is_bare-clause-none : goal.returns-then-is_bare-clause-none
 returns-then-is_bare-clause-none g c =
@@ -34,7 +33,7 @@ returns-then-is_bare-clause-none g c =
     c.deref-in-loop-left.ensures.value p.size a.size c.in_ok-page.ensures.size p.order.items p.places.items a.places.items
     c.in_ok-page.ensures.shown c.in_ok-page.ensures.areas c.in_ok-next.ensures.kind sprites c.loop-left.places.items (omega arith) before.left
     (some_left left.len left.items c.is_empty.result left.ok.0 c.is_empty.ensures c.loop-left-test.true)
-    (left_packable sprites left.items c.loop-left.places.items before.are.long before.left (IsPackable (spacing_of c.args.options.now)) c.requires.packable)
+    (left_packable sprites left.items c.loop-left.places.items before.are.long before.left (IsPackable (spacing_of c.args.options.now)) c.requires.placing.packable)
     (subst (All IsNone) c.deref-in-loop-left-2.ensures.value bare)
 
 pub put_on-requires : goal.put_on-requires

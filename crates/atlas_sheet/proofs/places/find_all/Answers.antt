@@ -12,7 +12,7 @@ use Rattle.atlas_sheet.proofs.places.find_all.Goals as goal
 pub place-requires-clause-packable : goal.place-requires-clause-packable
 place-requires-clause-packable g c =
     All-get_or (λ s. IsPackable c.args.spacing s.1) c.args.order.now c.loop-sprite.sprite-index no_sprite c.loop-sprite-test.true
-    (order_all c.args.sprites.now c.args.order.now c.requires.permuted (IsPackable c.args.spacing) c.requires.packable)
+    (order_all c.args.sprites.now c.args.order.now c.requires.permuted (IsPackable c.args.spacing) c.requires.good.packable)
 
 pub index_mut-requires : goal.index_mut-requires
 index_mut-requires g c =

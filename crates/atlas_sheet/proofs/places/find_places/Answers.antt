@@ -5,7 +5,7 @@ use Rattle.atlas_sheet.proofs.places.find_places.Goals as goal
 
 pub find_in-requires-clause-packable : goal.find_in-requires-clause-packable
 find_in-requires-clause-packable g c =
-    order_all c.args.sprites.now c.args.order.now c.requires.permuted (IsPackable c.args.spacing) c.requires.packable
+    order_all c.args.sprites.now c.args.order.now c.requires.permuted (IsPackable c.args.spacing) c.requires.good.packable
 
 pub find_in-requires-clause-numbers : goal.find_in-requires-clause-numbers
 find_in-requires-clause-numbers g c =

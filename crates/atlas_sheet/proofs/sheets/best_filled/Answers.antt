@@ -6,9 +6,8 @@ use Rattle.atlas_sheet.specs.Fillings.{IsNoBetter, ways_tried}
 use Rattle.atlas_sheet.specs.Settings.{spacing_of}
 use Rattle.atlas_sheet.specs.Sheets.{used_area}
 use Rattle.atlas_sheet.specs.Turnings.{InEach}
-use Rattle.atlas_sheet.proofs.Arranging.{own, rebased}
+use Rattle.atlas_sheet.proofs.Arranging.{can_place_lying, own, rebased}
 use Rattle.atlas_sheet.proofs.BestWays.{still_best}
-use Rattle.atlas_sheet.proofs.Flipping.{lie_packable}
 use Rattle.atlas_sheet.proofs.Laying.{each_weaker}
 use Rattle.atlas_sheet.proofs.sheets.best_filled.Goals as goal
 
@@ -26,20 +25,12 @@ returns-clause-best g c =
     (used_area best.places.items) c.in_ok-best.ensures.more is)
     c.in_ok-first.ensures.best)
 
-pub improve-requires-clause-packable : goal.improve-requires-clause-packable
-improve-requires-clause-packable g c =
-    lie_packable (spacing_of c.args.options.now) c.args.options.now.turn c.args.sprites.now c.in_ok-first.first.lying.items
-    c.in_ok-first.ensures.arranged.lies c.requires.packable
+pub improve-requires-clause-good : goal.improve-requires-clause-good
+improve-requires-clause-good g c = can_place_lying c.in_ok-first.ensures.arranged c.requires.placing
 
 pub improve-requires-clause-arranged : goal.improve-requires-clause-arranged
-improve-requires-clause-arranged g c =
-    let a = c.in_ok-first.first in
-    own (sides_of a.size) (spacing_of c.args.options.now) c.args.options.now.turn c.args.sprites.now a.lying.items a.choice a.order.items
-    a.places.items c.in_ok-first.ensures.arranged
+improve-requires-clause-arranged g c = own c.in_ok-first.ensures.arranged
 
 pub returns-clause-arranged : goal.returns-clause-arranged
 returns-clause-arranged g c =
-    let a = c.in_ok-first.first in
-    let b = c.in_ok-best.best in
-    rebased (sides_of b.size) (spacing_of c.args.options.now) c.args.options.now.turn c.args.sprites.now a.lying.items b.lying.items
-    b.choice b.order.items b.places.items c.in_ok-first.ensures.arranged.lies c.in_ok-best.ensures.arranged
+    rebased c.args.sprites.now c.in_ok-first.first.lying.items c.in_ok-first.ensures.arranged.lies c.in_ok-best.ensures.arranged

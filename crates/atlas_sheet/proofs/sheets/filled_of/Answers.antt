@@ -1,7 +1,4 @@
-use Rattle.std.proofs.Common.{◌∙◌, map, ap, subst, sym}
-use Rattle.guillotiere.specs.Pixels.{sides_of}
-use Rattle.atlas_sheet.specs.Lying.{IsArrangement}
-use Rattle.atlas_sheet.specs.Settings.{spacing_of}
+use Rattle.std.proofs.Common.{◌∙◌, map, ap, sym}
 use Rattle.atlas_sheet.specs.Sheets.{used_area}
 use Rattle.atlas_sheet.proofs.sheets.filled_of.Goals as goal
 
@@ -14,8 +11,7 @@ returns-clause-shown g c =
       numbered = a.order.items;
       numbers = sym (c.in_ok-order.ensures.numbers ∙ ap (map (λ s. s.0)) c.deref-2.ensures.value);
       choice = a.choice;
-      arranged = subst (IsArrangement (sides_of a.size) (spacing_of c.args.options.now) c.args.options.now.turn c.args.sprites.now a.choice
-          a.lying.items a.order.items) (sym c.in_ok-places.ensures.areas) c.requires;
+      arranged = rw c.in_ok-places.ensures.areas c.requires;
     }
 
 pub returns-clause-order : goal.returns-clause-order

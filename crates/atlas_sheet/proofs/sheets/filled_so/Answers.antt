@@ -12,7 +12,7 @@ returns-clause-arranged g c =
     let spacing = spacing_of c.args.options.now in
     let turn = c.args.options.now.turn in
     let best = rw (c.spacing.ensures, c.deref.ensures.value) at c.in_ok-filling.ensures.best in
-    rebased size spacing turn c.args.sprites.now lying lying f.way.choice f.found.order.items f.found.places.items c.in_ok-lying.ensures.lies
+    rebased c.args.sprites.now lying c.in_ok-lying.ensures.lies
     (arranged_as_given size spacing turn lying f.way.choice f.found.order.items f.found.places.items
-    (allowed_positive c.args.options.now.allowed size c.requires.usable c.requires.greatest.allowed)
-    c.requires.aligned c.in_ok-lying.ensures.packable best.found.permuted best.found.count best.found.found)
+    (allowed_positive c.args.options.now.allowed size c.requires.good.usable c.requires.greatest.allowed)
+    c.requires.good.placing.aligned c.in_ok-lying.ensures.good.packable best.found.permuted best.found.count best.found.found)

@@ -5,7 +5,7 @@ use Rattle.atlas_sheet.specs.declared.turnings.Turning.TheVariants as turning
 use Rattle.atlas_sheet.specs.declared.ways.TheConstants.{WAYS}
 use Rattle.atlas_sheet.specs.Allowances.{IsGreatest}
 use Rattle.atlas_sheet.specs.Fillings.{IsBestFound, IsNoBetter, ways_tried}
-use Rattle.atlas_sheet.specs.Lying.{IsArrangement}
+use Rattle.atlas_sheet.specs.Lying.{IsArranged}
 use Rattle.atlas_sheet.specs.Settings.{spacing_of}
 use Rattle.atlas_sheet.specs.Sheets.{used_area}
 use Rattle.atlas_sheet.specs.Turnings.{InEach, InOne}
@@ -14,15 +14,8 @@ use Rattle.atlas_sheet.proofs.sheets.first_filled.Goals as goal
 
 pub returns-clause-arranged : goal.returns-clause-arranged
 returns-clause-arranged g c =
-    let best = c.fuller-2.result in
-    let size : best.size ≡ c.greatest_sheet-size.result =
-    taken (λ a. a.size ≡ c.greatest_sheet-size.result) c.in_ok-given.given c.in_ok-wide.wide c.in_ok-high.high c.fuller.result best
-    c.fuller.ensures c.fuller-2.ensures c.in_ok-given.ensures.size c.in_ok-wide.ensures.size c.in_ok-high.ensures.size in
-    subst (λ (s : Size). IsArrangement (sides_of s) (spacing_of c.args.options.now) c.args.options.now.turn c.args.sprites.now best.choice
-    best.lying.items best.order.items best.places.items) (sym size)
-    (taken (λ a. IsArrangement (sides_of c.greatest_sheet-size.result) (spacing_of c.args.options.now) c.args.options.now.turn c.args.sprites.now
-    a.choice a.lying.items a.order.items a.places.items) c.in_ok-given.given c.in_ok-wide.wide c.in_ok-high.high c.fuller.result best
-    c.fuller.ensures c.fuller-2.ensures c.in_ok-given.ensures.arranged c.in_ok-wide.ensures.arranged c.in_ok-high.ensures.arranged)
+    taken (IsArranged c.args.options.now c.args.sprites.now) c.in_ok-given.given c.in_ok-wide.wide c.in_ok-high.high c.fuller.result c.fuller-2.result
+    c.fuller.ensures c.fuller-2.ensures c.in_ok-given.ensures.arranged c.in_ok-wide.ensures.arranged c.in_ok-high.ensures.arranged
 
 pub returns-clause-size : goal.returns-clause-size
 returns-clause-size g c =

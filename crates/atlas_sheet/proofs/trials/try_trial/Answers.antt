@@ -11,4 +11,4 @@ returns-clause-packed g c = λ ways tried.
     rw e
     (a_way_packs ways (sides_of c.args.size) c.args.spacing c.args.sprites.now
     (record { way = c.args.trial.now.way; order = c.args.trial.now.order.items; places = c.in-Some.places.items })
-    tried c.requires.positive c.requires.aligned c.requires.packable c.requires.order long found)
+    tried c.requires.positive c.requires.good.aligned c.requires.good.packable c.requires.order long found)
