@@ -10,7 +10,7 @@ use Rattle.atlas_cache.proofs.cache.holding.grant.Goals as goal
 
 pub returns-in-Ok-clause-held : goal.returns-in-Ok-clause-held
 returns-in-Ok-clause-held g c =
-    let adds = rw c.in-Some.is at c.in_ok-page.ensures.adds in
+    let placed = rw c.in-Some.is at c.in_ok-page.ensures.placed in
     let entry : Entry g.row.K.Denot = record {
       key = c.args.key;
       size = c.args.size;
@@ -20,26 +20,25 @@ returns-in-Ok-clause-held g c =
       number = c.in-Ok.number;
       frame = c.args.frame;
     } in
-    let numbered = rw c.in-Some.is at c.in_ok-page.ensures.numbered in
-    let lies : is_blank entry ≡ false = ne_eqb c.in-Some.page no_page (λ q. omega (arith, q, numbered)) in
+    let lies : is_blank entry ≡ false = ne_eqb c.in-Some.page no_page (λ q. omega (arith, q, placed.numbered)) in
     rw (c.in-Ok.ensures.joined, lies)
-    (joined c.args.rooms.now.pages c.place_among.new.self.pages entry adds (lying (entries_of c.args.entries.now.entries)) c.requires.held)
+    (joined c.args.rooms.now.pages c.place_among.new.self.pages entry placed.adds (lying (entries_of c.args.entries.now.entries)) c.requires.held)
 
 pub returns-in-Ok-clause-lies : goal.returns-in-Ok-clause-lies
 returns-in-Ok-clause-lies g c =
-    let numbered = rw c.in-Some.is at c.in_ok-page.ensures.numbered in ne_eqb c.in-Some.page no_page (λ q. omega (arith, q, numbered))
+    let placed = rw c.in-Some.is at c.in_ok-page.ensures.placed in ne_eqb c.in-Some.page no_page (λ q. omega (arith, q, placed.numbered))
 
 pub returns-in-Err-clause-held : goal.returns-in-Err-clause-held
 returns-in-Err-clause-held g c =
-    let adds = rw c.in-Some.is at c.in_ok-page.ensures.adds in
+    let placed = rw c.in-Some.is at c.in_ok-page.ensures.placed in
     rw c.in-Err.ensures.refused
     (stays c.args.rooms.now.pages c.free.new.self.pages
-    (pages_given_back _ _ _ _ _ _ adds c.free.ensures.leaves) (lying (entries_of c.args.entries.now.entries)) c.requires.held)
+    (pages_given_back _ _ _ _ _ _ placed.adds c.free.ensures.leaves) (lying (entries_of c.args.entries.now.entries)) c.requires.held)
 
 pub returns-in-Err-clause-refused : goal.returns-in-Err-clause-refused
 returns-in-Err-clause-refused g c =
-    let adds = rw c.in-Some.is at c.in_ok-page.ensures.adds in
-    (pages_given_back _ _ _ _ _ _ adds c.free.ensures.leaves, c.in-Err.ensures.refused)
+    let placed = rw c.in-Some.is at c.in_ok-page.ensures.placed in
+    (pages_given_back _ _ _ _ _ _ placed.adds c.free.ensures.leaves, c.in-Err.ensures.refused)
 
 pub returns-in-Err-clause-slots : goal.returns-in-Err-clause-slots
 returns-in-Err-clause-slots g c =
