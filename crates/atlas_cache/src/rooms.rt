@@ -1,7 +1,7 @@
 //! The pages of a cache, each an atlas: small steps, of which none evicts.
 ghost use Rattle.std.specs.Prelude.{◌≡◌, ◌≢◌, ◌↔◌, ◌*◌, ◌<◌, ◌≤◌, ℕ, min, pos, [], ◌∷◌, ◌++◌, length};
 ghost use Rattle.std.specs.Prelude.{slice_get, slice_set, IfErr, IfNone, IfOk, IfSome, IsOkUnless, IsSome, IsTrue};
-ghost use Rattle.std.specs.Prelude.{None, Ok, OnErr, Some};
+ghost use Rattle.std.specs.Prelude.{Err, None, Ok, OnErr, Some};
 ghost use Rattle.guillotiere.specs.Boxes.{Fits, IsPositive};
 ghost use Rattle.guillotiere.specs.Callers.{IsShortage};
 ghost use Rattle.guillotiere.specs.Pages.{rectangle_on, AllLieApartOn, AllLieWithinOn, HasSameRectangles, KeepsPages};
@@ -11,7 +11,7 @@ ghost use Rattle.atlas_cache.specs.declared.options.CacheOptions.{CacheOptions};
 ghost use Rattle.atlas_cache.specs.Asking.{AreUsable};
 ghost use Rattle.atlas_cache.specs.Entries.{no_page};
 ghost use Rattle.atlas_cache.specs.Placing.{PlacesFirst};
-ghost use Rattle.atlas_cache.specs.Reserving.{UseAtMost};
+ghost use Rattle.atlas_cache.specs.Reserving.{IsShortOfSlots, UseAtMost};
 ghost use Rattle.atlas_cache.specs.Rooms.{grown_sides, growth_left, page_sizes, rooms_of, AreAllLargest};
 ghost use Rattle.atlas_cache.specs.Rooms.{AreLargestBelow, HasRoomOnlyAmong, IsFirstToGrow, IsNothingLive};
 ghost use Rattle.atlas_cache.specs.Rooms.{IsRefusal, KeepsRooms, LargestHasRoom};
@@ -179,15 +179,14 @@ impl<A: Allocator + Copy> Rooms<A> {
         ensures within { (page : ℕ) → AllLieWithinOn self.now.pages page }
         ensures room { LargestHasRoom self.now }
     {
-        for page in 0..self.pages.len() {
-            prove_page(&self.pages, page);
+        for at in 0..self.pages.len() {
+            prove_page(&self.pages, at);
         }
     }
 
     /// Grants a request on the first page that has room for it: the page, and what it granted, which has the sides that
-    /// were asked for, rounded up to the alignment. None if no page has
-    /// room. No page grows and no other rectangle moves. `Slots` if that page has too few of them, `Memory` if memory
-    /// is refused. Unless something is granted, nothing changes.
+    /// were asked for, rounded up to the alignment. None if no page has room. No page grows and no other rectangle moves.
+    /// `Slots` if that page has too few of them, `Memory` if memory is refused. Unless something is granted, nothing changes.
     pub fn place(&mut self, asked: Size) -> Result<Option<(u32, Allocation)>, CacheError>
         ensures { PlacesFirst asked self.old self.new result }
     {
@@ -248,6 +247,7 @@ impl<A: Allocator + Copy> Rooms<A> {
         ensures nothing { result ≡ Ok None → self.new ≡ self.old }
         ensures refused { OnErr result (self.new ≡ self.old) }
         ensures errors { IfErr result IsRefusal }
+        ensures short { result ≡ Err Slots → IsShortOfSlots self.old.pages }
     {
         let Some((page, old)) = first_to_grow(&self.pages, self.options.largest_page) else {
             return Ok(None);

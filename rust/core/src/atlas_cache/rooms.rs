@@ -120,15 +120,14 @@ impl<A: Allocator + Copy> Rooms<A> {
     /// within it; an idle page of the largest size has room for whatever `CacheOptions::asked` asks for.
     #[inline]
     pub fn prove_kept(&self) {
-        for page in 0..self.pages.len() {
-            prove_page(&self.pages, page);
+        for at in 0..self.pages.len() {
+            prove_page(&self.pages, at);
         }
     }
 
     /// Grants a request on the first page that has room for it: the page, and what it granted, which has the sides that
-    /// were asked for, rounded up to the alignment. None if no page has
-    /// room. No page grows and no other rectangle moves. `Slots` if that page has too few of them, `Memory` if memory
-    /// is refused. Unless something is granted, nothing changes.
+    /// were asked for, rounded up to the alignment. None if no page has room. No page grows and no other rectangle moves.
+    /// `Slots` if that page has too few of them, `Memory` if memory is refused. Unless something is granted, nothing changes.
     #[inline]
     pub fn place(&mut self, asked: Size) -> Result<Option<(u32, Allocation)>, CacheError> {
         let to = self.pages.len();

@@ -1,10 +1,11 @@
-use Rattle.std.proofs.Common.{◌≡◌, false, arith}
+use Rattle.std.proofs.Common.{◌≡◌, false, ap, arith, rules, Err}
 use Rattle.std.proofs.lemmas.Bool.{ne_eqb}
 use Rattle.guillotiere.proofs.Callers.{pages_given_back}
 use Rattle.atlas_cache.specs.Caches.{entries_of}
 use Rattle.atlas_cache.specs.Entries.{is_blank, lying, no_page}
 use Rattle.atlas_cache.specs.declared.entries.Entry.{Entry}
 use Rattle.atlas_cache.proofs.HoldingLemmas.{joined, stays}
+use Rattle.atlas_cache.proofs.ReadyLemmas.{error_is}
 use Rattle.atlas_cache.proofs.RoomLemmas.Reserving.{both_used}
 use Rattle.atlas_cache.proofs.cache.holding.grant.Goals as goal
 
@@ -44,3 +45,9 @@ pub returns-in-Err-clause-slots : goal.returns-in-Err-clause-slots
 returns-in-Err-clause-slots g c =
     both_used 4 0 4 c.args.rooms.now.pages c.place_among.new.self.pages c.free.new.self.pages (omega arith) c.place_among.ensures.slots
     c.free.ensures.slots
+
+pub returns-in_err-page-clause-short : goal.returns-in_err-page-clause-short
+returns-in_err-page-clause-short g c = λ is.
+    let same : c.from_residual.result ≡ Err c.in_err-page.field-0.0 = search rules in
+    let stays : c.place_among.new.self ≡ c.args.rooms.now = c.in_err-page.ensures.refused in
+    rw stays (c.in_err-page.ensures.short (ap Err (error_is c.in_err-page.field-0.0 c.from_residual.result same is)))

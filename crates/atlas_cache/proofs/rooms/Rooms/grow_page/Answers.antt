@@ -1,9 +1,15 @@
 use Rattle.std.proofs.Common.{◌≡◌, ◌∙◌, Some, ap, arith, refl, subst, sym}
 use Rattle.std.proofs.lemmas.Option.{slice_get-get_or}
 use Rattle.guillotiere.specs.Pixels.{sides_of, size_of}
+use Rattle.guillotiere.specs.Steps.{Step}
+use Rattle.guillotiere.specs.Steps.AtlasCall.{Grow}
+use Rattle.guillotiere.specs.Steps.AtlasReply.{Refused}
+use Rattle.guillotiere.specs.Stored.{state_of}
+use Rattle.atlas_cache.specs.declared.error.CacheError.TheVariants.{Slots}
 use Rattle.atlas_cache.specs.Rooms.{page_sizes, rooms_of, KeepsRooms}
 use Rattle.atlas_cache.proofs.RoomLemmas.Growing.{grown_less, growth_of, not_all_largest}
 use Rattle.atlas_cache.proofs.RoomLemmas.Paging.{nothing_changes, others_kept, page_grows, rectangles_stay, rooms_keep, sizes_set}
+use Rattle.atlas_cache.proofs.RoomLemmas.Reserving.{growth_short}
 use Rattle.atlas_cache.proofs.rooms.Rooms.grow_page.Goals as goal
 
 pub grown-size-requires-clause-positive : goal.grown-size-requires-clause-positive
@@ -58,6 +64,18 @@ returns-in-Err-clause-refused g c =
     (rw c.deref.ensures.value at c.in-Some.ensures.here) c.in-Some.ensures.smaller in
     ap (rooms_of c.self.inside.options) (nothing_changes c.self.inside.pages.items c.in-Some.page c.index_mut.result.now c.grow.new.self
     c.index_mut.ensures.value growth.within c.in-Err.ensures.refused) ∙ c.self.view_is
+
+pub returns-in-Err-clause-short : goal.returns-in-Err-clause-short
+returns-in-Err-clause-short g c = λ is.
+    let growth = growth_of (rooms_of c.self.inside.options c.self.inside.pages.items) c.self.invariant c.in-Some.page c.in-Some.old
+    (rw c.deref.ensures.value at c.in-Some.ensures.here) c.in-Some.ensures.smaller in
+    let a = c.index_mut.result.now in
+    let b = c.grow.new.self in
+    let n = sides_of c.grown-size.result in
+    let slots : c.refusal.result ≡ Slots = cc in
+    let step = subst (λ e. Step (state_of a) (Grow n) (Refused e) (state_of b)) (c.refusal.ensures.slots slots) c.in-Err.ensures.step in
+    rw (← c.self.view_is) (growth_short c.self.inside.pages.items c.in-Some.page a b c.index_mut.ensures.value growth.within
+    c.self.inside.options c.self.invariant n (state_of b) step)
 
 pub invariant_of-self-2 : goal.invariant_of-self-2
 invariant_of-self-2 g c =

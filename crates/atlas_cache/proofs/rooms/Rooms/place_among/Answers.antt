@@ -1,9 +1,14 @@
-use Rattle.std.proofs.Common.{◌≡◌, ◌∙◌, ◌<◌, ap, arith, length, refl, subst, sym, Err, None, Ok, Some}
-use Rattle.atlas_cache.specs.declared.error.CacheError.TheVariants.{Memory}
+use Rattle.std.proofs.Common.{◌≡◌, ◌∙◌, ◌<◌, ap, arith, length, refl, rules, subst, sym, Err, None, Ok, Some}
+use Rattle.guillotiere.specs.Pixels.{sides_of}
+use Rattle.guillotiere.specs.Steps.{Step}
+use Rattle.guillotiere.specs.Steps.AtlasCall.{Allocate}
+use Rattle.guillotiere.specs.Steps.AtlasReply.{Refused}
+use Rattle.guillotiere.specs.Stored.{state_of}
+use Rattle.atlas_cache.specs.declared.error.CacheError.TheVariants.{Memory, Slots}
 use Rattle.atlas_cache.specs.Placing.{PlacesFirst}
 use Rattle.atlas_cache.specs.Rooms.{rooms_of, KeepsRooms, RoomsState}
 use Rattle.atlas_cache.proofs.RoomLemmas.Paging.{none_yet, no_room, nothing_changes, rooms_stay, rounded_as, sizes_stay, takes}
-use Rattle.atlas_cache.proofs.RoomLemmas.Reserving.{none_used, page_has, page_uses}
+use Rattle.atlas_cache.proofs.RoomLemmas.Reserving.{none_used, page_has, page_uses, request_short}
 use Rattle.atlas_cache.proofs.RoomLemmas.Standing.{is_at_least}
 use Rattle.atlas_cache.proofs.rooms.Rooms.place_among.Goals as goal
 
@@ -59,7 +64,7 @@ returns-in-Ok-Some g c =
     rw (c.number.ensures, ← was.same) (record {
       placed = record {
         adds = takes pages page a b is within (Some granted) exact adds;
-        large = is_at_least _ c.args.asked granted.rectangle exact answer;
+        large = search (rules, is_at_least, exact, answer);
         sides = rounded_as pages page a b is within options kept c.args.asked (Some granted) answer;
         first = rw (← was.same) at was.none;
         there = within;
@@ -69,6 +74,7 @@ returns-in-Ok-Some g c =
       none = λ no. cc;
       refused = tt;
       errors = tt;
+      short = λ no. cc;
       sizes = sizes_stay pages page a b is within c.allocate.ensures.frame;
       options = refl;
       slots = page_uses pages page a b is within 4 c.allocate.ensures.slots;
@@ -92,23 +98,29 @@ returns-in-Err g c =
     let page = c.loop-page.page in
     let a = c.index_mut.result.now in
     let b = c.allocate.new.self in
-    let is = c.index_mut.ensures.value in
+    let is_a = c.index_mut.ensures.value in
     let old = c.args.self.now in
     let within : page < length pages =
     omega (arith, c.loop-page-test.true, c.requires.inside, ap (λ (r : RoomsState). length r.pages) was.same) in
-    let same = ap (rooms_of c.loop-page.self-inside.options) (nothing_changes pages page a b is within c.in-Err.ensures.refused) ∙ was.same in
+    let same = ap (rooms_of c.loop-page.self-inside.options) (nothing_changes pages page a b is_a within c.in-Err.ensures.refused) ∙ was.same in
     subst (λ r. PlacesFirst c.args.asked old r (Err c.refusal.result)) (sym same) (record {
       placed = tt;
       full = λ no. cc;
       none = λ no. cc;
       refused = refl;
       errors = c.refusal.ensures.refusal;
+      short = λ is.
+          let slots : c.refusal.result ≡ Slots = cc in
+          let kept = subst KeepsRooms (c.self.view_is ∙ sym was.same) c.self.invariant in
+          let step = subst (λ e. Step (state_of a) (Allocate (sides_of c.args.asked)) (Refused e) (state_of b)) (c.refusal.ensures.slots slots)
+          c.in-Err.ensures.step in
+          rw (← was.same) (request_short pages page a b is_a within c.loop-page.self-inside.options kept (sides_of c.args.asked) (state_of b) step);
       sizes = refl;
       options = refl;
       slots = none_used 4 old.pages;
       memory = λ have no.
           let short : c.refusal.result ≡ Memory = cc in
-          c.in-Err.ensures.memory (page_has pages page a b is within 4 (rw (← was.same) at have)) (ap Err (c.refusal.ensures.memory short));
+          c.in-Err.ensures.memory (page_has pages page a b is_a within 4 (rw (← was.same) at have)) (ap Err (c.refusal.ensures.memory short));
     })
 
 pub returns : goal.returns
@@ -123,6 +135,7 @@ returns g c =
       none = λ _. refl;
       refused = tt;
       errors = tt;
+      short = λ no. cc;
       sizes = refl;
       options = refl;
       slots = none_used 4 old.pages;
