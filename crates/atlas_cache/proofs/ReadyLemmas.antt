@@ -1,22 +1,28 @@
 -- What an insert leaves in reserve.
-use Rattle.std.proofs.Common.{ℕ, ◌≡◌, ◌+◌, ◌-◌, ◌*◌, ◌<◌, ◌≤◌, ◌∙◌, length, Result, Ok, Err, sym, ap, arith}
+use Rattle.std.proofs.Common.{ℕ, ◌≡◌, ◌+◌, ◌-◌, ◌*◌, ◌<◌, ◌≤◌, ◌∙◌, length, Result, Ok, Err, sym, ap, arith, inl, inr}
 use Rattle.guillotiere.specs.declared.Size.{Size}
 use Rattle.atlas_cache.specs.declared.error.CacheError.{CacheError}
-use Rattle.atlas_cache.specs.declared.error.CacheError.TheVariants.{Memory}
+use Rattle.atlas_cache.specs.declared.error.CacheError.TheVariants.{Slots}
 use Rattle.atlas_cache.specs.declared.inserted.Inserted.{Inserted}
 use Rattle.atlas_cache.specs.declared.inserted.Inserted.TheVariants.{Placed, Held, FrameFull, NeverFits}
 use Rattle.atlas_cache.specs.declared.options.CacheOptions.{CacheOptions}
 use Rattle.atlas_cache.specs.Caches.{CacheState, IsFull}
 use Rattle.atlas_cache.specs.Changes.{InsertsBlank}
+use Rattle.atlas_cache.specs.Refusals.{IsWithoutNumber}
 use Rattle.atlas_cache.specs.Reserving.{HasReserves, HaveSlots, UseAtMost}
 use Rattle.atlas_cache.specs.Rooms.{page_sizes}
 use Rattle.atlas_cache.proofs.RoomLemmas.Paging.{as_many}
 use Rattle.atlas_cache.proofs.RoomLemmas.Reserving.{none_used, slots_left}
 
 -- What an error is that is passed on.
-pub error_is : {X : Type 0} (error : CacheError) (result : Result X CacheError) → result ≡ Err error → result ≡ Err Memory
-    → error ≡ Memory
-error_is error result is memory = let same = sym is ∙ memory in cc
+pub error_is : {X : Type 0} {kind : CacheError} (error : CacheError) (result : Result X CacheError) → result ≡ Err error
+    → result ≡ Err kind → error ≡ kind
+error_is error result is told = let same = sym is ∙ told in cc
+
+-- No page is short of slots where an entry gets no number.
+pub not_short : (n : ℕ) (error : CacheError) → IsWithoutNumber n error → error ≡ Slots → ⊥
+not_short n error (inl memory) slots = let same = sym memory ∙ slots in cc
+not_short n error (inr numbers) slots = let same = sym numbers.0 ∙ slots in cc
 
 module _ {K : Type 0} where
   -- Where the sizes and the options stay, every page is there and at its largest still.
@@ -65,3 +71,10 @@ module _ {K : Type 0} where
   pub one_reserved : (full len : ℕ) (s : CacheState K) → 0 < s.reserved → HaveSlots 4 s.pages → len + length s.entries < full
       → HasReserves (0 + 1) (full - len) s
   one_reserved full len s some slots room = record { entries = omega (arith, some); slots = slots; changes = omega (arith, room) }
+
+  -- An insert of an empty size takes no slots.
+  pub blank_not_short : (key : K) (size : Size) (result : Result Inserted CacheError) (s t : CacheState K)
+      → InsertsBlank key size result s t → result ≡ Err Slots → ⊥
+  blank_not_short key size (Ok x) s t inserts slots = cc
+  blank_not_short key size (Err error) s t inserts slots =
+      let same : error ≡ Slots = cc in not_short (length s.entries) error inserts.1 same

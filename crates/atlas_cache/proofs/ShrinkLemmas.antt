@@ -1,5 +1,5 @@
 -- Pages that go from the end.
-use Rattle.std.proofs.Common.{ℕ, zero, suc, ◌+◌, ◌<◌, ◌≤◌, ◌≡◌, inl, inr, Bool, List, [], ◌∷◌, ◌++◌, None, Some, length, refl, sym, ap, subst, ◌∙◌}
+use Rattle.std.proofs.Common.{ℕ, zero, suc, ◌+◌, ◌-◌, ◌<◌, ◌≤◌, ◌≡◌, ◌==◌, inl, inr, Bool, true, false, List, [], ◌∷◌, ◌++◌, None, Some, length, refl, sym, ap, subst, ◌∙◌}
 use Rattle.std.proofs.Common.{append_assoc, arith, eq-eqb, get_or, length-append, slice_get}
 use Rattle.std.specs.Prelude.{take}
 use Rattle.std.specs.List.{AllByRecursion}
@@ -50,6 +50,23 @@ rooms_left o pages last was = record {
   few = let all = was.few in omega (arith, all, length-append pages (last ∷ []));
   each = λ k s is. was.each k s (still_there pages (last ∷ []) k s is);
 }
+
+-- Where there are pages, the last one's number is one less than how many there are.
+pub last_number : (n : ℕ) (none : Bool) → none ≡ (n == 0) → none ≡ false → n ≡ n - 1 + 1
+last_number zero none is some = let none_is : none ≡ true = is in cc
+last_number (suc n) none is some = omega arith
+
+-- The last page goes, and it is idle.
+pub drops_last : (pages left : List AtlasValue) (n page : ℕ) (a : AtlasValue) → length pages ≡ n + 1 → a ≡ get_or pages n a
+    → left ≡ take n pages → live_in (state_of a) ≡ [] → page ≡ n → DropsIdle page pages left
+drops_last pages left n page a long is taken idle named =
+    let was : pages ≡ left ++ a ∷ [] = rw taken (split_last pages n a long is) in
+    record {
+      last = a;
+      was = was;
+      idle = idle;
+      number = omega (arith, named, long, ap length was, length-append left (a ∷ []));
+    }
 
 -- A page that is in use is the last one, whatever the list is called.
 pub in_use : (pages : List AtlasValue) (n : ℕ) (a : AtlasValue) → length pages ≡ n + 1 → a ≡ get_or pages n a

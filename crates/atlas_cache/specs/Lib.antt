@@ -5,6 +5,7 @@ pub mod Clearing
 pub mod Counting
 pub mod Entries
 pub mod Orders
+pub mod Placing
 pub mod Rings
 pub mod Refusals
 pub mod Relocating

@@ -1,10 +1,11 @@
 -- What is in reserve on the pages of a cache, and for inserts that are still to come.
-use Rattle.std.specs.Prelude.{◌≡◌, ◌+◌, ◌-◌, ◌*◌, ◌≤◌, ℕ, List, length, Some, slice_get, Vec, vec_capacity, vec_len}
+use Rattle.std.specs.Prelude.{◌≡◌, ◌+◌, ◌-◌, ◌*◌, ◌<◌, ◌≤◌, ℕ, List, length, Some, slice_get, Vec, vec_capacity, vec_len}
 use Rattle.guillotiere.specs.declared.Size.{Size}
 use Rattle.guillotiere.specs.Boxes.{IsPositive}
 use Rattle.guillotiere.specs.Pixels.{sides_of, size_of}
 use Rattle.guillotiere.specs.Reserves.{HasReserve, UsesAtMost}
-use Rattle.guillotiere.specs.Stored.{AtlasValue}
+use Rattle.guillotiere.specs.States.{used_in}
+use Rattle.guillotiere.specs.Stored.{state_of, AtlasValue}
 use Rattle.atlas_cache.specs.Asking.{bordered}
 use Rattle.atlas_cache.specs.Caches.{CacheState, HasNoPageFor, IsFull}
 
@@ -17,6 +18,11 @@ abbrev pub UseAtMost : ℕ → (old new : List AtlasValue) → Type 0
 UseAtMost n old new =
     (page : ℕ) (t : AtlasValue) → slice_get new page ≡ Some t
     → (s : AtlasValue) × (slice_get old page ≡ Some s) × UsesAtMost n s t
+
+-- Some page uses all but 3 at most of the 16,777,216 slots that there can be.
+abbrev pub IsShortOfSlots : List AtlasValue → Type 0
+IsShortOfSlots pages =
+    (page : ℕ) × (s : AtlasValue) × (slice_get pages page ≡ Some s) × (16777216 < used_in (state_of s) + 4)
 
 -- For how many more items a list has memory.
 abbrev pub room_in : {X Z : Type 0} → Vec X Z → ℕ

@@ -9,9 +9,9 @@ ghost use Rattle.atlas_cache.specs.Asking.{bordered, AreUsable, CanStand, IsFaul
 ghost use Rattle.atlas_cache.specs.Counting.{one_more};
 ghost use Rattle.atlas_cache.specs.Entries.{lying};
 ghost use Rattle.atlas_cache.specs.Refusals.{IsRefusedNew};
-ghost use Rattle.atlas_cache.specs.Reserving.{room_in, HasReserves, HaveSlots, KeepsPageSizes};
+ghost use Rattle.atlas_cache.specs.Reserving.{room_in, HasReserves, HaveSlots, IsShortOfSlots, KeepsPageSizes};
 ghost use Rattle.atlas_cache.specs.Rooms.{page_sizes, HasRoomOnlyAmong, IsRefusal};
-ghost use Rattle.atlas_cache.specs.declared.error.CacheError.TheVariants.{Memory};
+ghost use Rattle.atlas_cache.specs.declared.error.CacheError.TheVariants.{Memory, Slots};
 ghost use Rattle.atlas_cache.specs.declared.inserted.Inserted.TheVariants.{FrameFull, Held, NeverFits, Placed};
 
 mod clearing;
@@ -245,6 +245,7 @@ impl<K: Copy + Eq + Hash, S: BuildHasher, A: Allocator + Copy> TextureCache<K, S
         ensures told { Tells K.eq key result changes.old.items changes.new.items self.old self.new }
         ensures errors { entry_for K.eq key self.old.entries ≡ None
             → IfErr result (IsRefusedNew (length self.new.entries)) }
+        ensures short { result ≡ Err Slots → IsShortOfSlots self.new.pages }
         ensures room { IsNoneInUse self.old → result ≢ Ok FrameFull }
         ensures memory { (IsPositive (sides_of size) → ⊥) → 0 < self.old.reserved → result ≢ Err Memory }
         ensures takes { self.old.reserved ≤ self.new.reserved + 1 }
@@ -312,6 +313,7 @@ impl<K: Copy + Eq + Hash, S: BuildHasher, A: Allocator + Copy> TextureCache<K, S
         requires asked { asked ≡ size_of (bordered self.old.options size) }
         ensures inserts { Inserts asked key size result changes.old.items changes.new.items self.old self.new }
         ensures errors { IfErr result (IsRefusedNew (length self.new.entries)) }
+        ensures short { result ≡ Err Slots → IsShortOfSlots self.new.pages }
         ensures room { IsNoneInUse self.old → result ≢ Ok FrameFull }
         ensures reserves { (n : ℕ) → HasReserves (n + 1) (room_in changes.old) self.old
             → (HasNoPageFor asked self.old → IsFull self.old)
@@ -354,6 +356,7 @@ impl<K: Copy + Eq + Hash, S: BuildHasher, A: Allocator + Copy> TextureCache<K, S
         ensures full { result ≡ Ok None → HasNoPageFor asked self.old }
         ensures refused { OnErr result (LooksSame self.old self.new) }
         ensures errors { IfErr result (IsRefusedNew (length self.new.entries)) }
+        ensures short { result ≡ Err Slots → IsShortOfSlots self.new.pages }
         ensures reserves { (n room : ℕ) → HasReserves (n + 1) room self.old
             → (result ≢ Err Memory) × HasReserves n room self.new }
     {
@@ -390,6 +393,7 @@ impl<K: Copy + Eq + Hash, S: BuildHasher, A: Allocator + Copy> TextureCache<K, S
         ensures stays { result ≡ Ok None → (self.new ≡ self.old) × (changes.new.items ≡ changes.old.items) }
         ensures refused { OnErr result ((self.new ≡ self.old) × (changes.new.items ≡ changes.old.items)) }
         ensures errors { IfErr result IsRefusal }
+        ensures short { result ≡ Err Slots → IsShortOfSlots self.new.pages }
         ensures reserves { IsFull self.old → (n : ℕ) → HasReserves n (room_in changes.old) self.old
             → HasReserves n (room_in changes.new) self.new }
         ensures memory { IsFull self.old → 0 < room_in changes.old → result ≢ Err Memory }

@@ -1,20 +1,20 @@
 //! The pages of a cache, each an atlas: small steps, of which none evicts.
 ghost use Rattle.std.specs.Prelude.{◌≡◌, ◌≢◌, ◌↔◌, ◌*◌, ◌<◌, ◌≤◌, ℕ, min, pos, [], ◌∷◌, ◌++◌, length};
-ghost use Rattle.std.specs.Prelude.{slice_get, slice_set, Err, IfErr, IfNone, IfOk, IfSome, IsOkUnless, IsSome, IsTrue};
-ghost use Rattle.std.specs.Prelude.{None, Ok, OnErr, OnOk, Some};
+ghost use Rattle.std.specs.Prelude.{slice_get, slice_set, IfErr, IfNone, IfOk, IfSome, IsOkUnless, IsSome, IsTrue};
+ghost use Rattle.std.specs.Prelude.{Err, None, Ok, OnErr, Some};
 ghost use Rattle.guillotiere.specs.Boxes.{Fits, IsPositive};
 ghost use Rattle.guillotiere.specs.Callers.{IsShortage};
-ghost use Rattle.guillotiere.specs.Pages.{rectangle_on, AddsBoxOn, AllLieApartOn, AllLieWithinOn, HasRoomOn};
-ghost use Rattle.guillotiere.specs.Pages.{HasSameRectangles, KeepsPages, LeavesNoBoxOn, NoneHasRoomBelow};
+ghost use Rattle.guillotiere.specs.Pages.{rectangle_on, AllLieApartOn, AllLieWithinOn, HasSameRectangles, KeepsPages};
+ghost use Rattle.guillotiere.specs.Pages.{LeavesNoBoxOn};
 ghost use Rattle.guillotiere.specs.Pixels.{natural, sides_of, size_of};
-ghost use Rattle.guillotiere.specs.Stored.{AtlasValue, state_of};
 ghost use Rattle.atlas_cache.specs.declared.options.CacheOptions.{CacheOptions};
 ghost use Rattle.atlas_cache.specs.Asking.{AreUsable};
 ghost use Rattle.atlas_cache.specs.Entries.{no_page};
-ghost use Rattle.atlas_cache.specs.Rooms.{grown_sides, growth_left, page_sizes, AreAllLargest, AreLargestBelow};
-ghost use Rattle.atlas_cache.specs.Rooms.{rooms_of, IsAtLeast, IsFirstToGrow, IsNothingLive, IsRefusal, KeepsRooms};
-ghost use Rattle.atlas_cache.specs.Rooms.{HasRoomOnlyAmong, IsRounded, LargestHasRoom};
-ghost use Rattle.atlas_cache.specs.Reserving.{HaveSlots, UseAtMost};
+ghost use Rattle.atlas_cache.specs.Placing.{PlacesFirst};
+ghost use Rattle.atlas_cache.specs.Reserving.{IsShortOfSlots, UseAtMost};
+ghost use Rattle.atlas_cache.specs.Rooms.{grown_sides, growth_left, page_sizes, rooms_of, AreAllLargest};
+ghost use Rattle.atlas_cache.specs.Rooms.{AreLargestBelow, HasRoomOnlyAmong, IsFirstToGrow, IsNothingLive};
+ghost use Rattle.atlas_cache.specs.Rooms.{IsRefusal, KeepsRooms, LargestHasRoom};
 ghost use Rattle.atlas_cache.specs.Shrinking.{DropsIdle, IsLastInUse};
 ghost use Rattle.atlas_cache.specs.declared.error.CacheError.TheVariants.{Memory, Slots};
 
@@ -65,83 +65,6 @@ fn number(page: usize, most: u32) -> u32
     ensures { result ≡ page }
 {
     page as u32
-}
-
-// Grants a request on a page; None if it has no room there.
-fn take<A: Allocator + Copy>(
-    pages: &mut Vec<AtlasAllocator<A>, A>,
-    page: usize,
-    asked: Size,
-) -> Result<Option<Allocation>, CacheError>
-    requires page { page < length pages.old.items }
-    ensures adds { IfOk result (λ granted. IfSome granted (λ a.
-        AddsBoxOn pages.old.items pages.new.items page a.id a.rectangle)) }
-    ensures large { IfOk result (λ granted. IfSome granted (λ a. IsAtLeast asked a.rectangle)) }
-    ensures sides { (o : CacheOptions) → KeepsRooms (rooms_of o pages.old.items)
-        → IfOk result (λ granted. IfSome granted (λ a. IsRounded o asked a.rectangle)) }
-    ensures sizes { page_sizes pages.new.items ≡ page_sizes pages.old.items }
-    ensures kept { (o : CacheOptions) → KeepsRooms (rooms_of o pages.old.items)
-        → KeepsRooms (rooms_of o pages.new.items) }
-    ensures full { result ≡ Ok None → HasRoomOn asked pages.old.items page → ⊥ }
-    ensures none { result ≡ Ok None → pages.new.items ≡ pages.old.items }
-    ensures refused { OnErr result (pages.new.items ≡ pages.old.items) }
-    ensures errors { IfErr result IsRefusal }
-    ensures slots { UseAtMost 4 pages.old.items pages.new.items }
-    ensures memory { HaveSlots 4 pages.old.items → result ≢ Err Memory }
-{
-    match pages[page].allocate(asked) {
-        Ok(granted) => Ok(granted),
-        Err(error) => Err(refusal(error)),
-    }
-}
-
-// Grants a request on the first page that has room for it, which is one of these, if any has.
-fn place_first<A: Allocator + Copy>(
-    pages: &mut Vec<AtlasAllocator<A>, A>,
-    options: &CacheOptions,
-    from: usize,
-    to: usize,
-    asked: Size,
-) -> Result<Option<(u32, Allocation)>, CacheError>
-    requires kept { KeepsRooms (rooms_of options.now pages.old.items) }
-    requires inside { to ≤ length pages.old.items }
-    requires others { HasRoomOnlyAmong asked pages.old.items from to }
-    ensures adds { IfOk result (λ placed. IfSome placed (λ place.
-        AddsBoxOn pages.old.items pages.new.items place.0 place.1.id place.1.rectangle)) }
-    ensures large { IfOk result (λ placed. IfSome placed (λ place. IsAtLeast asked place.1.rectangle)) }
-    ensures sides { IfOk result (λ placed. IfSome placed (λ place.
-        IsRounded options.now asked place.1.rectangle)) }
-    ensures first { IfOk result (λ placed. IfSome placed (λ place.
-        NoneHasRoomBelow asked pages.old.items place.0)) }
-    ensures page { IfOk result (λ placed. IfSome placed (λ place. place.0 < length pages.old.items)) }
-    ensures numbered { IfOk result (λ placed. IfSome placed (λ place. place.0 < no_page)) }
-    ensures sizes { page_sizes pages.new.items ≡ page_sizes pages.old.items }
-    ensures kept { KeepsRooms (rooms_of options.now pages.new.items) }
-    ensures full { result ≡ Ok None → NoneHasRoomBelow asked pages.old.items (length pages.old.items) }
-    ensures none { result ≡ Ok None → pages.new.items ≡ pages.old.items }
-    ensures refused { OnErr result (pages.new.items ≡ pages.old.items) }
-    ensures errors { IfErr result IsRefusal }
-    ensures slots { UseAtMost 4 pages.old.items pages.new.items }
-    ensures memory { HaveSlots 4 pages.old.items → result ≢ Err Memory }
-{
-    for page in from..to {
-        if let Some(granted) = take(pages, page, asked)? {
-            return Ok(Some((number(page, options.pages), granted)));
-        }
-    }
-    Ok(None)
-}
-
-// Frees the rectangle of an id of a page, if it has one.
-fn give_back<A: Allocator + Copy>(pages: &mut Vec<AtlasAllocator<A>, A>, page: usize, id: AllocId)
-    requires { page < length pages.old.items }
-    ensures leaves { LeavesNoBoxOn pages.old.items pages.new.items page id }
-    ensures sizes { page_sizes pages.new.items ≡ page_sizes pages.old.items }
-    ensures kept { (o : CacheOptions) → KeepsRooms (rooms_of o pages.old.items)
-        → KeepsRooms (rooms_of o pages.new.items) }
-    ensures slots { UseAtMost 0 pages.old.items pages.new.items }
-{
-    let _freed = pages[page].deallocate(id);
 }
 
 // Whether a page is at its largest.
@@ -202,132 +125,6 @@ fn grown(size: Size, largest: Size) -> Size
     }
 }
 
-// A page grows to this size.
-fn grow_to<A: Allocator + Copy>(
-    pages: &mut Vec<AtlasAllocator<A>, A>,
-    page: usize,
-    size: Size,
-) -> Result<(), CacheError>
-    requires page { page < length pages.old.items }
-    requires exact { size_of (sides_of size) ≡ size }
-    requires larger { (s : AtlasValue) → slice_get pages.old.items page ≡ Some s
-        → Fits (state_of s).size (sides_of size) }
-    ensures same { HasSameRectangles pages.old.items pages.new.items }
-    ensures others { KeepsPages pages.old.items pages.new.items page }
-    ensures sizes { OnOk result (page_sizes pages.new.items ≡ slice_set (page_sizes pages.old.items) page size) }
-    ensures kept { (o : CacheOptions) → Fits (sides_of size) (sides_of o.largest_page)
-        → KeepsRooms (rooms_of o pages.old.items) → KeepsRooms (rooms_of o pages.new.items) }
-    ensures refused { OnErr result (pages.new.items ≡ pages.old.items) }
-    ensures errors { IfErr result IsRefusal }
-{
-    match pages[page].grow(size) {
-        Ok(()) => Ok(()),
-        Err(error) => Err(refusal(error)),
-    }
-}
-
-// The first page that isn't at its largest grows.
-fn grow_first<A: Allocator + Copy>(
-    pages: &mut Vec<AtlasAllocator<A>, A>,
-    options: &CacheOptions,
-) -> Result<Option<(u32, Size)>, CacheError>
-    requires { KeepsRooms (rooms_of options.now pages.old.items) }
-    ensures first { IfOk result (λ grown. IfSome grown (λ growth.
-        IsFirstToGrow options.now (page_sizes pages.old.items) growth.0 growth.1)) }
-    ensures sizes { IfOk result (λ grown. IfSome grown (λ growth.
-        page_sizes pages.new.items ≡ slice_set (page_sizes pages.old.items) growth.0 growth.1)) }
-    ensures less { IfOk result (λ grown. IfSome grown (λ _.
-        growth_left options.now (page_sizes pages.new.items)
-        < growth_left options.now (page_sizes pages.old.items))) }
-    ensures same { HasSameRectangles pages.old.items pages.new.items }
-    ensures others { IfOk result (λ grown. IfSome grown (λ growth.
-        KeepsPages pages.old.items pages.new.items growth.0)) }
-    ensures kept { KeepsRooms (rooms_of options.now pages.new.items) }
-    ensures none { (result ≡ Ok None) ↔ AreAllLargest options.now (page_sizes pages.old.items) }
-    ensures nothing { result ≡ Ok None → pages.new.items ≡ pages.old.items }
-    ensures refused { OnErr result (pages.new.items ≡ pages.old.items) }
-    ensures errors { IfErr result IsRefusal }
-{
-    let Some((page, old)) = first_to_grow(pages, options.largest_page) else {
-        return Ok(None);
-    };
-    let size = grown(old, options.largest_page);
-    grow_to(pages, page, size)?;
-    Ok(Some((number(page, options.pages), size)))
-}
-
-// A new page with nothing on it comes last.
-fn push_page<A: Allocator + Copy>(
-    pages: &mut Vec<AtlasAllocator<A>, A>,
-    options: &CacheOptions,
-) -> Result<(), CacheError>
-    requires { AreUsable options.now }
-    ensures same { HasSameRectangles pages.old.items pages.new.items }
-    ensures others { OnOk result (KeepsPages pages.old.items pages.new.items (length pages.old.items)) }
-    ensures sizes { OnOk result
-        (page_sizes pages.new.items ≡ page_sizes pages.old.items ++ options.now.page ∷ []) }
-    ensures kept { OnOk result (length pages.old.items < options.now.pages
-        → KeepsRooms (rooms_of options.now pages.old.items) → KeepsRooms (rooms_of options.now pages.new.items)) }
-    ensures less { OnOk result (length pages.old.items < options.now.pages
-        → growth_left options.now (page_sizes pages.new.items)
-        < growth_left options.now (page_sizes pages.old.items)) }
-    ensures refused { OnErr result (pages.new.items ≡ pages.old.items) }
-    ensures unless { IsOkUnless result CacheError.Memory }
-{
-    let alloc = *pages.allocator();
-    match AtlasAllocator::with_options(alloc, options.page, &options.atlas) {
-        Ok(page) => {
-            pages.push(page)?;
-            Ok(())
-        }
-        Err(_) => Err(CacheError::Memory),
-    }
-}
-
-// The last page goes, if nothing is live on it: its number.
-fn pop_idle<A: Allocator + Copy>(
-    pages: &mut Vec<AtlasAllocator<A>, A>,
-    options: &CacheOptions,
-) -> Option<u32>
-    requires { KeepsRooms (rooms_of options.now pages.old.items) }
-    ensures drops { IfSome result (λ page. DropsIdle page pages.old.items pages.new.items) }
-    ensures used { result ≡ None → IsLastInUse pages.old.items }
-    ensures none { result ≡ None → pages.new.items ≡ pages.old.items }
-    ensures kept { KeepsRooms (rooms_of options.now pages.new.items) }
-{
-    if pages.is_empty() {
-        return None;
-    }
-    let last = pages.len() - 1;
-    if !pages[last].is_empty() {
-        return None;
-    }
-    pages.truncate(last);
-    Some(number(last, options.pages))
-}
-
-// All rectangles of each page go.
-fn clear_pages<A: Allocator + Copy>(pages: &mut Vec<AtlasAllocator<A>, A>)
-    ensures nothing { IsNothingLive pages.new.items }
-    ensures sizes { page_sizes pages.new.items ≡ page_sizes pages.old.items }
-    ensures kept { (o : CacheOptions) → KeepsRooms (rooms_of o pages.old.items)
-        → KeepsRooms (rooms_of o pages.new.items) }
-{
-    for page in 0..pages.len() {
-        let _cleared = pages[page].clear();
-    }
-}
-
-// Says of each page what `prove_page` says of one, and does nothing.
-fn prove_pages<A: Allocator + Copy>(pages: &[AtlasAllocator<A>])
-    ensures apart { (page : ℕ) → AllLieApartOn pages.now page }
-    ensures within { (page : ℕ) → AllLieWithinOn pages.now page }
-{
-    for page in 0..pages.len() {
-        prove_page(pages, page);
-    }
-}
-
 impl<A: Allocator + Copy> Rooms<A> {
     /// No pages. Asks options of which `check` is Ok. Takes no memory.
     pub fn new(alloc: A, options: CacheOptions) -> Self
@@ -382,31 +179,16 @@ impl<A: Allocator + Copy> Rooms<A> {
         ensures within { (page : ℕ) → AllLieWithinOn self.now.pages page }
         ensures room { LargestHasRoom self.now }
     {
-        prove_pages(&self.pages);
+        for at in 0..self.pages.len() {
+            prove_page(&self.pages, at);
+        }
     }
 
     /// Grants a request on the first page that has room for it: the page, and what it granted, which has the sides that
-    /// were asked for, rounded up to the alignment. None if no page has
-    /// room. No page grows and no other rectangle moves. `Slots` if that page has too few of them, `Memory` if memory
-    /// is refused. Unless something is granted, nothing changes.
+    /// were asked for, rounded up to the alignment. None if no page has room. No page grows and no other rectangle moves.
+    /// `Slots` if that page has too few of them, `Memory` if memory is refused. Unless something is granted, nothing changes.
     pub fn place(&mut self, asked: Size) -> Result<Option<(u32, Allocation)>, CacheError>
-        ensures adds { IfOk result (λ placed. IfSome placed (λ place.
-            AddsBoxOn self.old.pages self.new.pages place.0 place.1.id place.1.rectangle)) }
-        ensures large { IfOk result (λ placed. IfSome placed (λ place. IsAtLeast asked place.1.rectangle)) }
-        ensures sides { IfOk result (λ placed. IfSome placed (λ place.
-            IsRounded self.old.options asked place.1.rectangle)) }
-        ensures first { IfOk result (λ placed. IfSome placed (λ place.
-            NoneHasRoomBelow asked self.old.pages place.0)) }
-        ensures page { IfOk result (λ placed. IfSome placed (λ place. place.0 < length self.old.pages)) }
-        ensures numbered { IfOk result (λ placed. IfSome placed (λ place. place.0 < no_page)) }
-        ensures sizes { page_sizes self.new.pages ≡ page_sizes self.old.pages }
-        ensures options { self.new.options ≡ self.old.options }
-        ensures full { result ≡ Ok None → NoneHasRoomBelow asked self.old.pages (length self.old.pages) }
-        ensures none { result ≡ Ok None → self.new ≡ self.old }
-        ensures refused { OnErr result (self.new ≡ self.old) }
-        ensures errors { IfErr result IsRefusal }
-        ensures slots { UseAtMost 4 self.old.pages self.new.pages }
-        ensures memory { HaveSlots 4 self.old.pages → result ≢ Err Memory }
+        ensures { PlacesFirst asked self.old self.new result }
     {
         let to = self.pages.len();
         self.place_among(0, to, asked)
@@ -421,25 +203,16 @@ impl<A: Allocator + Copy> Rooms<A> {
     ) -> Result<Option<(u32, Allocation)>, CacheError>
         requires inside { to ≤ length self.old.pages }
         requires others { HasRoomOnlyAmong asked self.old.pages from to }
-        ensures adds { IfOk result (λ placed. IfSome placed (λ place.
-            AddsBoxOn self.old.pages self.new.pages place.0 place.1.id place.1.rectangle)) }
-        ensures large { IfOk result (λ placed. IfSome placed (λ place. IsAtLeast asked place.1.rectangle)) }
-        ensures sides { IfOk result (λ placed. IfSome placed (λ place.
-            IsRounded self.old.options asked place.1.rectangle)) }
-        ensures first { IfOk result (λ placed. IfSome placed (λ place.
-            NoneHasRoomBelow asked self.old.pages place.0)) }
-        ensures page { IfOk result (λ placed. IfSome placed (λ place. place.0 < length self.old.pages)) }
-        ensures numbered { IfOk result (λ placed. IfSome placed (λ place. place.0 < no_page)) }
-        ensures sizes { page_sizes self.new.pages ≡ page_sizes self.old.pages }
-        ensures options { self.new.options ≡ self.old.options }
-        ensures full { result ≡ Ok None → NoneHasRoomBelow asked self.old.pages (length self.old.pages) }
-        ensures none { result ≡ Ok None → self.new ≡ self.old }
-        ensures refused { OnErr result (self.new ≡ self.old) }
-        ensures errors { IfErr result IsRefusal }
-        ensures slots { UseAtMost 4 self.old.pages self.new.pages }
-        ensures memory { HaveSlots 4 self.old.pages → result ≢ Err Memory }
+        ensures { PlacesFirst asked self.old self.new result }
     {
-        place_first(&mut self.pages, &self.options, from, to, asked)
+        for page in from..to {
+            match self.pages[page].allocate(asked) {
+                Ok(None) => {}
+                Ok(Some(granted)) => return Ok(Some((number(page, self.options.pages), granted))),
+                Err(error) => return Err(refusal(error)),
+            }
+        }
+        Ok(None)
     }
 
     /// Frees the rectangle of an id of a page. Asks that the id is live there. No other rectangle moves. Takes no
@@ -451,7 +224,7 @@ impl<A: Allocator + Copy> Rooms<A> {
         ensures options { self.new.options ≡ self.old.options }
         ensures slots { UseAtMost 0 self.old.pages self.new.pages }
     {
-        give_back(&mut self.pages, page as usize, id);
+        let _freed = self.pages[page as usize].deallocate(id);
     }
 
     /// The first page that isn't at its largest grows: the page, and its size from now on, in pixels. Its lesser side,
@@ -474,8 +247,16 @@ impl<A: Allocator + Copy> Rooms<A> {
         ensures nothing { result ≡ Ok None → self.new ≡ self.old }
         ensures refused { OnErr result (self.new ≡ self.old) }
         ensures errors { IfErr result IsRefusal }
+        ensures short { result ≡ Err Slots → IsShortOfSlots self.old.pages }
     {
-        grow_first(&mut self.pages, &self.options)
+        let Some((page, old)) = first_to_grow(&self.pages, self.options.largest_page) else {
+            return Ok(None);
+        };
+        let size = grown(old, self.options.largest_page);
+        if let Err(error) = self.pages[page].grow(size) {
+            return Err(refusal(error));
+        }
+        Ok(Some((number(page, self.options.pages), size)))
     }
 
     /// A new page with nothing on it comes last: its number and its size, in pixels. None exactly if there are as many
@@ -501,8 +282,14 @@ impl<A: Allocator + Copy> Rooms<A> {
         if number == self.options.pages {
             return Ok(None);
         }
-        push_page(&mut self.pages, &self.options)?;
-        Ok(Some((number, self.options.page)))
+        let alloc = *self.pages.allocator();
+        match AtlasAllocator::with_options(alloc, self.options.page, &self.options.atlas) {
+            Ok(page) => {
+                self.pages.push(page)?;
+                Ok(Some((number, self.options.page)))
+            }
+            Err(_) => Err(CacheError::Memory),
+        }
     }
 
     /// The last page goes, if nothing is live on it: its number. None exactly if there is no page, or if something is live
@@ -513,7 +300,15 @@ impl<A: Allocator + Copy> Rooms<A> {
         ensures used { result ≡ None → IsLastInUse self.old.pages }
         ensures none { result ≡ None → self.new ≡ self.old }
     {
-        pop_idle(&mut self.pages, &self.options)
+        if self.pages.is_empty() {
+            return None;
+        }
+        let last = self.pages.len() - 1;
+        if !self.pages[last].is_empty() {
+            return None;
+        }
+        self.pages.truncate(last);
+        Some(number(last, self.options.pages))
     }
 
     /// All rectangles go. The pages stay, with their sizes. Takes no memory.
@@ -522,6 +317,8 @@ impl<A: Allocator + Copy> Rooms<A> {
         ensures sizes { page_sizes self.new.pages ≡ page_sizes self.old.pages }
         ensures options { self.new.options ≡ self.old.options }
     {
-        clear_pages(&mut self.pages);
+        for page in 0..self.pages.len() {
+            let _cleared = self.pages[page].clear();
+        }
     }
 }

@@ -1,17 +1,20 @@
 -- How far the pages of a cache can still grow, and what a step leaves of it.
-use Rattle.std.proofs.Common.{◌≡◌, ◌≢◌, ◌<◌, ◌≤◌, ◌+◌, ◌-◌, ◌*◌, ◌⊎◌, ℕ, min, List, Some, length, cond}
-use Rattle.std.proofs.Common.{Bool, true, false, slice_get, slice_set, refl, sym, ap, subst, ◌∙◌, inl, inr, arith}
+use Rattle.std.proofs.Common.{◌≡◌, ◌≢◌, ◌<◌, ◌≤◌, ◌+◌, ◌-◌, ◌*◌, ◌⊎◌, ◌++◌, ◌∷◌, [], ℕ, suc, min, List, Some, length, cond}
+use Rattle.std.proofs.Common.{Bool, true, false, slice_get, slice_set, refl, sym, ap, subst, ◌∙◌, inl, inr, arith, length-append}
 use Rattle.std.specs.Prelude.{ℤ, pos, negsuc}
 use Rattle.std.proofs.lemmas.Bool.Decides.{nat_tests, eqb_tells}
-use Rattle.std.proofs.lemmas.List.{length-set}
-use Rattle.std.proofs.lemmas.List.Sums.{sum_by-set}
+use Rattle.std.proofs.lemmas.List.{length-set, map-append}
+use Rattle.std.proofs.lemmas.List.Sums.{sum_by-set, sum_by_push}
+use Rattle.std.proofs.Math.Nat.{suc-mul}
 use Rattle.std.proofs.lemmas.Option.{get_or_from_slice_get, slice_get_within}
 use Rattle.guillotiere.specs.declared.Size.{Size}
 use Rattle.guillotiere.specs.Boxes.{Fits, IsPositive, Sides}
-use Rattle.guillotiere.specs.Pixels.{natural, sides_of, size_of}
+use Rattle.guillotiere.specs.Pixels.{natural, options_of, sides_of, size_of}
+use Rattle.guillotiere.specs.States.{started, State}
 use Rattle.guillotiere.specs.Stored.{AtlasValue, state_of}
 use Rattle.atlas_cache.specs.declared.options.CacheOptions.{CacheOptions}
-use Rattle.atlas_cache.specs.Rooms.{both_sides, grown_sides, growth_left, grows_in_width, page_sizes, AreAllLargest, KeepsRooms, RoomsState}
+use Rattle.atlas_cache.specs.Asking.{AreUsable}
+use Rattle.atlas_cache.specs.Rooms.{both_sides, grown_sides, growth_left, grows_in_width, page_sizes, size_of_page, AreAllLargest, KeepsRooms, RoomsState}
 use Rattle.atlas_cache.proofs.RoomLemmas.Paging.{page_at}
 
 -- A side above 0 is the natural number that it counts as.
@@ -137,3 +140,19 @@ pub not_all_largest : (o : CacheOptions) (sizes : List Size) (page : ℕ) (old :
     → old ≢ o.largest_page → AreAllLargest o sizes → ⊥
 not_all_largest o sizes page old is smaller all =
     let here = all page (slice_get_within sizes page old is) in smaller (cc)
+
+-- A new page comes last: its size, and that less is left.
+module _ (o : CacheOptions) (usable : AreUsable o) where
+  pub sizes_joined : (pages : List AtlasValue) (b : AtlasValue)
+      → state_of b ≡ started (sides_of o.page) (options_of o.atlas) 16777216
+      → page_sizes (pages ++ b ∷ []) ≡ page_sizes pages ++ o.page ∷ []
+  sizes_joined pages b new =
+      map-append size_of_page pages (b ∷ [])
+      ∙ ap (λ (s : Size). page_sizes pages ++ s ∷ []) (ap (λ (t : State). size_of t.size) new ∙ size_is o.page usable.page)
+
+  pub joined_less : (sizes : List Size) → length sizes < o.pages → growth_left o (sizes ++ o.page ∷ []) < growth_left o sizes
+  joined_less sizes less =
+      let next : o.pages - length sizes ≡ suc (o.pages - (length sizes + 1)) = omega (arith, less) in
+      let one = ap (λ n. n * both_sides o.largest_page) next ∙ suc-mul (o.pages - (length sizes + 1)) (both_sides o.largest_page) in
+      let long : length (sizes ++ o.page ∷ []) ≡ length sizes + 1 = length-append sizes (o.page ∷ []) in
+      rw long (omega (arith, one, sum_by_push (short_of o) sizes o.page, usable.page.0, usable.largest.0, usable.largest.1))

@@ -6,16 +6,23 @@ use Rattle.std.proofs.lemmas.Bool.Decides.{eqb_tells}
 use Rattle.std.proofs.lemmas.List.{length-map}
 use Rattle.std.proofs.lemmas.Option.{slice_get-get_or, slice_get-map, slice_get_cases}
 use Rattle.std.proofs.Math.Seq.{map-set_same}
-use Rattle.guillotiere.specs.Boxes.{Fits}
+use Rattle.guillotiere.specs.declared.AtlasError.TheVariants.{Slots}
+use Rattle.guillotiere.specs.Boxes.{Fits, Sides}
 use Rattle.guillotiere.specs.Callers.{rectangle_in}
+use Rattle.guillotiere.specs.Choice.{rounded}
 use Rattle.guillotiere.specs.Pages.{HasSameRectangles, KeepsPages}
 use Rattle.guillotiere.specs.Pixels.{sides_of, size_of}
 use Rattle.guillotiere.specs.Reserves.{HasReserve, UsesAtMost}
 use Rattle.guillotiere.specs.States.{IsSound, State}
+use Rattle.guillotiere.specs.Steps.{Step}
+use Rattle.guillotiere.specs.Steps.AtlasCall.{Allocate, Grow}
+use Rattle.guillotiere.specs.Steps.AtlasReply.{Refused}
 use Rattle.guillotiere.specs.Stored.{AtlasValue, state_of}
+use Rattle.guillotiere.proofs.ChoiceLemmas.Rounding.{rounded_positive}
+use Rattle.guillotiere.proofs.TreeLemmas.TreeCounts.{grow_most, place_most}
 use Rattle.guillotiere.proofs.ListLemmas.CallerLemmas.{slice_get-set_here, slice_get-set_other}
 use Rattle.atlas_cache.specs.declared.options.CacheOptions.{CacheOptions}
-use Rattle.atlas_cache.specs.Reserving.{HaveSlots, UseAtMost}
+use Rattle.atlas_cache.specs.Reserving.{HaveSlots, IsShortOfSlots, UseAtMost}
 use Rattle.atlas_cache.specs.Rooms.{page_sizes, rooms_of, size_of_page, KeepsRooms}
 
 -- Where nothing changes, no slot is used.
@@ -60,6 +67,23 @@ module _ (pages : List AtlasValue) (page : ℕ) (a b : AtlasValue) (is : a ≡ g
     | inr other ↦
         (t, sym (slice_get-set_other pages page k b other.1) ∙ at, record { used = omega arith; capacity = omega arith })
   ]
+
+  -- Where a request or a growth of the page is refused for want of slots, the page is short of them.
+  pub request_short : (o : CacheOptions) → KeepsRooms (rooms_of o pages) → (r : Sides) (t : State)
+      → Step (state_of a) (Allocate r) (Refused Slots) t → IsShortOfSlots pages
+  request_short o kept r t step =
+      let s = state_of a in
+      let own = kept.each page a there in
+      let positive = rounded_positive s.options r own.sound.valid step.1.positive in
+      let few = place_most s.size s.tree step.0 (rounded s.options r) own.sound.well_formed positive
+      step.1.pick.best.candidate.fitting.fits in
+      (page, a, there, omega (arith, step.2, few, own.limit))
+
+  pub growth_short : (o : CacheOptions) → KeepsRooms (rooms_of o pages) → (n : Sides) (t : State)
+      → Step (state_of a) (Grow n) (Refused Slots) t → IsShortOfSlots pages
+  growth_short o kept n t step =
+      let s = state_of a in
+      (page, a, there, omega (arith, step.1, grow_most s.size n s.tree, (kept.each page a there).limit))
 
   pub page_states : state_of b ≡ state_of a → map state_of (slice_set pages page b) ≡ map state_of pages
   page_states same = map-set_same state_of pages page b a (same ∙ ap state_of is)

@@ -4,17 +4,21 @@ use Rattle.std.proofs.Common.{slice_get, slice_set, refl, ap, subst, sym, inl, i
 use Rattle.std.specs.Prelude.{ℤ, pos, negsuc, ◌≤ℤ◌, ◌<ℤ◌, ◌+ℤ◌, find}
 use Rattle.std.proofs.lemmas.Bool.Decides.{eqb_tells}
 use Rattle.std.proofs.lemmas.Int.{ints}
+use Rattle.guillotiere.specs.declared.Rectangle.{Rectangle}
+use Rattle.guillotiere.specs.declared.Size.{Size}
 use Rattle.guillotiere.specs.Boxes.{Fits}
+use Rattle.guillotiere.specs.Callers.{IsGranted}
 use Rattle.guillotiere.specs.Choice.{Options, rounded}
 use Rattle.guillotiere.specs.Pages.{rectangle_on}
-use Rattle.guillotiere.specs.Pixels.{natural, options_of, rectangle_of, sides_of}
-use Rattle.guillotiere.specs.States.{live_in}
+use Rattle.guillotiere.specs.Pixels.{box_of, natural, options_of, rectangle_of, sides_of}
+use Rattle.guillotiere.specs.Replies.{IsExact}
+use Rattle.guillotiere.specs.States.{live_in, State}
 use Rattle.guillotiere.specs.Stored.{AtlasValue, state_of}
 use Rattle.guillotiere.specs.Trees.{Grant}
 use Rattle.guillotiere.proofs.ListLemmas.CallerLemmas.{slice_get-set_here, slice_get-set_other}
 use Rattle.guillotiere.proofs.StepLemmas.CallerGrants.{idle_has_room}
 use Rattle.atlas_cache.specs.Asking.{bordered}
-use Rattle.atlas_cache.specs.Rooms.{KeepsRooms, LargestHasRoom, RoomsState}
+use Rattle.atlas_cache.specs.Rooms.{IsAtLeast, KeepsRooms, LargestHasRoom, RoomsState}
 use Rattle.atlas_cache.proofs.RoomLemmas.Paging.{page_at}
 
 -- Nothing is granted where no id has a rectangle.
@@ -43,6 +47,18 @@ largest_has_room r kept page size is idle stands none =
 reaches : (from z to : ℤ) (a b : ℕ) → from ≡ pos a → to ≡ pos b → pos 0 <ℤ z → (from +ℤ z) ≤ℤ to → a + natural z ≤ b
 reaches from (pos n) to a b first last positive within = omega (arith, ints)
 reaches from (negsuc n) to a b first last positive within = absurd (omega (arith, ints))
+
+-- What is granted is as large as what was asked for.
+pub is_at_least : (s : State) (asked : Size) (r : Rectangle) → IsExact r → IsGranted s asked r → IsAtLeast asked r
+is_at_least s asked r exact granted = record {
+  exact = exact;
+  wide =
+      reaches r.min.x asked.width r.max.x (box_of r).min.x (box_of r).max.x (ap (λ (q : Rectangle). q.min.x) exact)
+      (ap (λ (q : Rectangle). q.max.x) exact) granted.positive.0 granted.wide;
+  high =
+      reaches r.min.y asked.height r.max.y (box_of r).min.y (box_of r).max.y (ap (λ (q : Rectangle). q.min.y) exact)
+      (ap (λ (q : Rectangle). q.max.y) exact) granted.positive.1 granted.high;
+}
 
 -- A page that is cleared, after others.
 pub one_more_idle : (pages : List AtlasValue) (n : ℕ) (b : AtlasValue) → n < length pages → live_in (state_of b) ≡ []

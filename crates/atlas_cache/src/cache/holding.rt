@@ -6,9 +6,9 @@ ghost use Rattle.atlas_cache.specs.Caches.{entries_of, entry_for, shown, HoldsEn
 ghost use Rattle.atlas_cache.specs.Changes.{GetsPlace};
 ghost use Rattle.atlas_cache.specs.Entries.{entry_at, is_blank, lying, number_of, without_number, IsNextNumber};
 ghost use Rattle.atlas_cache.specs.Refusals.{IsRefusedNew, IsWithoutNumber};
-ghost use Rattle.atlas_cache.specs.Reserving.{HaveSlots, UseAtMost};
+ghost use Rattle.atlas_cache.specs.Reserving.{HaveSlots, IsShortOfSlots, UseAtMost};
 ghost use Rattle.atlas_cache.specs.Rooms.{page_sizes, HasRoomOnlyAmong, IsRounded};
-ghost use Rattle.atlas_cache.specs.declared.error.CacheError.TheVariants.{Memory};
+ghost use Rattle.atlas_cache.specs.declared.error.CacheError.TheVariants.{Memory, Slots};
 
 use crate::entries::{Entries, Entry, NO_PAGE};
 use crate::error::CacheError;
@@ -123,6 +123,7 @@ pub fn grant<K: Copy + Eq + Hash, S: BuildHasher, A: Allocator + Copy>(
     ensures refused { OnErr result (HasSameRectangles rooms.old.pages rooms.new.pages
         × (entries.new ≡ entries.old)) }
     ensures errors { IfErr result (IsRefusedNew (length entries.old.entries)) }
+    ensures short { result ≡ Err Slots → IsShortOfSlots rooms.new.pages }
     ensures slots { UseAtMost 4 rooms.old.pages rooms.new.pages }
     ensures memory { 0 < entries.old.reserved → HaveSlots 4 rooms.old.pages → result ≢ Err Memory }
 {

@@ -9,13 +9,11 @@ ghost use Rattle.guillotiere.specs.Replies.{allocate_reply, grant_of, IsExact};
 ghost use Rattle.guillotiere.specs.Steps.{Step};
 ghost use Rattle.guillotiere.specs.Steps.AtlasCall.{Allocate};
 ghost use Rattle.guillotiere.specs.Stored.{state_of};
-ghost use Rattle.atlas_cache.specs.declared.options.CacheOptions.{CacheOptions};
 ghost use Rattle.atlas_cache.specs.Repacking.{free_by_page, live_by_page, IsLargestFirst, NamesPage, PlacesAnew};
-ghost use Rattle.atlas_cache.specs.Repacking.{PlacesInOrder, RepacksPage};
-ghost use Rattle.atlas_cache.specs.Rooms.{page_sizes, rooms_of, IsRefusal, KeepsRooms};
+ghost use Rattle.atlas_cache.specs.Repacking.{RepacksPage};
+ghost use Rattle.atlas_cache.specs.Rooms.{page_sizes, IsRefusal};
 
 use crate::error::CacheError;
-use crate::options::CacheOptions;
 use crate::rooms::usable::extent;
 use crate::rooms::{Rooms, refusal};
 use guillotiere::{Allocation, AtlasAllocator, Change, ChangeList, Rectangle, Size};
@@ -92,36 +90,6 @@ fn place_all<A: Allocator + Copy>(
     Ok(ChangeList { changes, failures })
 }
 
-// A page becomes an empty one of its size, in which these rectangles are placed.
-fn replace_on<A: Allocator + Copy>(
-    pages: &mut Vec<AtlasAllocator<A>, A>,
-    page: usize,
-    options: &CacheOptions,
-    order: Vec<Allocation, A>,
-) -> Result<ChangeList<A>, CacheError>
-    requires page { page < length pages.old.items }
-    requires kept { KeepsRooms (rooms_of options.now pages.old.items) }
-    requires exact { All HasExactRectangle order.items }
-    ensures repacks { NamesPage pages.old.items page order.items
-        → IfOk result (RepacksPage pages.old.items pages.new.items page) }
-    ensures placed { IfOk result (λ list. PlacesInOrder pages.old.items pages.new.items page order.items
-        list.changes.items list.failures.items) }
-    ensures sizes { page_sizes pages.new.items ≡ page_sizes pages.old.items }
-    ensures kept { KeepsRooms (rooms_of options.now pages.new.items) }
-    ensures refused { OnErr result (pages.new.items ≡ pages.old.items) }
-    ensures errors { IfErr result IsRefusal }
-{
-    let alloc = *pages.allocator();
-    let size = pages[page].size();
-    let Ok(mut placed) = AtlasAllocator::with_options(alloc, size, &options.atlas) else {
-        return Err(CacheError::Memory);
-    };
-    let list = place_all(&mut placed, order)?;
-    placed.prove_sound();
-    pages[page] = placed;
-    Ok(list)
-}
-
 impl<A: Allocator + Copy> Rooms<A> {
     /// Places rectangles in an empty page of the size of this one, which becomes this page: the largest first, and those
     /// of one area in the order of the list. Asks that there is such a page, and rectangles with the coordinates of
@@ -147,7 +115,16 @@ impl<A: Allocator + Copy> Rooms<A> {
     {
         let mut order = held;
         sort_by_area(&mut order)?;
-        replace_on(&mut self.pages, page as usize, &self.options, order)
+        let page = page as usize;
+        let alloc = *self.pages.allocator();
+        let size = self.pages[page].size();
+        let Ok(mut placed) = AtlasAllocator::with_options(alloc, size, &self.options.atlas) else {
+            return Err(CacheError::Memory);
+        };
+        let list = place_all(&mut placed, order)?;
+        placed.prove_sound();
+        self.pages[page] = placed;
+        Ok(list)
     }
 
     /// The area of all live rectangles of a page together, in unit squares. Asks that there is such a page. Takes no

@@ -1,50 +1,12 @@
 //! Memory for slots of the pages before they are used.
-ghost use Rattle.std.specs.Prelude.{◌≡◌, ◌<◌, length, map, slice_get, IfErr, OnOk, Some};
-ghost use Rattle.guillotiere.specs.Pages.{KeepsPages};
-ghost use Rattle.guillotiere.specs.Reserves.{HasReserve};
-ghost use Rattle.guillotiere.specs.Stored.{state_of, AtlasValue};
+ghost use Rattle.std.specs.Prelude.{◌≡◌, map, IfErr, OnOk};
+ghost use Rattle.guillotiere.specs.Stored.{state_of};
 ghost use Rattle.atlas_cache.specs.Reserving.{HaveSlots, UseAtMost};
 ghost use Rattle.atlas_cache.specs.Rooms.{IsRefusal};
 
 use crate::error::CacheError;
 use crate::rooms::{Rooms, refusal};
-use guillotiere::AtlasAllocator;
 use std::alloc::Allocator;
-
-// So many slots are in reserve on a page.
-fn reserve_on<A: Allocator + Copy>(
-    pages: &mut Vec<AtlasAllocator<A>, A>,
-    page: usize,
-    additional: u32,
-) -> Result<(), CacheError>
-    requires { page < length pages.old.items }
-    ensures ready { OnOk result ((s : AtlasValue) → slice_get pages.new.items page ≡ Some s → HasReserve additional s) }
-    ensures others { KeepsPages pages.old.items pages.new.items page }
-    ensures states { map state_of pages.new.items ≡ map state_of pages.old.items }
-    ensures slots { UseAtMost 0 pages.old.items pages.new.items }
-    ensures errors { IfErr result IsRefusal }
-{
-    match pages[page].reserve(additional) {
-        Ok(()) => Ok(()),
-        Err(error) => Err(refusal(error)),
-    }
-}
-
-// So many are on each page.
-fn reserve_each<A: Allocator + Copy>(
-    pages: &mut Vec<AtlasAllocator<A>, A>,
-    additional: u32,
-) -> Result<(), CacheError>
-    ensures ready { OnOk result (HaveSlots additional pages.new.items) }
-    ensures states { map state_of pages.new.items ≡ map state_of pages.old.items }
-    ensures slots { UseAtMost 0 pages.old.items pages.new.items }
-    ensures errors { IfErr result IsRefusal }
-{
-    for page in 0..pages.len() {
-        reserve_on(pages, page, additional)?;
-    }
-    Ok(())
-}
 
 impl<A: Allocator + Copy> Rooms<A> {
     /// At least so many slots are in reserve on each page from now on, so that a grant on it, which takes at most 4, asks for
@@ -57,6 +19,11 @@ impl<A: Allocator + Copy> Rooms<A> {
         ensures options { self.new.options ≡ self.old.options }
         ensures errors { IfErr result IsRefusal }
     {
-        reserve_each(&mut self.pages, additional)
+        for page in 0..self.pages.len() {
+            if let Err(error) = self.pages[page].reserve(additional) {
+                return Err(refusal(error));
+            }
+        }
+        Ok(())
     }
 }

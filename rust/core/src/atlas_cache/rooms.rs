@@ -34,42 +34,6 @@ fn number(page: usize, most: u32) -> u32 {
     page as u32
 }
 
-// Grants a request on a page; None if it has no room there.
-#[inline]
-fn take<A: Allocator + Copy>(
-    pages: &mut Vec<AtlasAllocator<A>, A>,
-    page: usize,
-    asked: Size,
-) -> Result<Option<Allocation>, CacheError> {
-    match pages[page].allocate(asked) {
-        Ok(granted) => Ok(granted),
-        Err(error) => Err(refusal(error)),
-    }
-}
-
-// Grants a request on the first page that has room for it, which is one of these, if any has.
-#[inline]
-fn place_first<A: Allocator + Copy>(
-    pages: &mut Vec<AtlasAllocator<A>, A>,
-    options: &CacheOptions,
-    from: usize,
-    to: usize,
-    asked: Size,
-) -> Result<Option<(u32, Allocation)>, CacheError> {
-    for page in from..to {
-        if let Some(granted) = take(pages, page, asked)? {
-            return Ok(Some((number(page, options.pages), granted)));
-        }
-    }
-    Ok(None)
-}
-
-// Frees the rectangle of an id of a page, if it has one.
-#[inline]
-fn give_back<A: Allocator + Copy>(pages: &mut Vec<AtlasAllocator<A>, A>, page: usize, id: AllocId) {
-    let _freed = pages[page].deallocate(id);
-}
-
 // Whether a page is at its largest.
 #[inline]
 fn is_largest(size: Size, largest: Size) -> bool {
@@ -117,85 +81,6 @@ fn grown(size: Size, largest: Size) -> Size {
     }
 }
 
-// A page grows to this size.
-#[inline]
-fn grow_to<A: Allocator + Copy>(
-    pages: &mut Vec<AtlasAllocator<A>, A>,
-    page: usize,
-    size: Size,
-) -> Result<(), CacheError> {
-    match pages[page].grow(size) {
-        Ok(()) => Ok(()),
-        Err(error) => Err(refusal(error)),
-    }
-}
-
-// The first page that isn't at its largest grows.
-#[inline]
-fn grow_first<A: Allocator + Copy>(
-    pages: &mut Vec<AtlasAllocator<A>, A>,
-    options: &CacheOptions,
-) -> Result<Option<(u32, Size)>, CacheError> {
-    let (page, old) = match first_to_grow(pages, options.largest_page) {
-        Some((page, old)) => (page, old),
-        _ => {
-            return Ok(None);
-        }
-    };
-    let size = grown(old, options.largest_page);
-    grow_to(pages, page, size)?;
-    Ok(Some((number(page, options.pages), size)))
-}
-
-// A new page with nothing on it comes last.
-#[inline]
-fn push_page<A: Allocator + Copy>(
-    pages: &mut Vec<AtlasAllocator<A>, A>,
-    options: &CacheOptions,
-) -> Result<(), CacheError> {
-    let alloc = *pages.allocator();
-    match AtlasAllocator::with_options(alloc, options.page, &options.atlas) {
-        Ok(page) => {
-            pages.push(page)?;
-            Ok(())
-        }
-        Err(_) => Err(CacheError::Memory),
-    }
-}
-
-// The last page goes, if nothing is live on it: its number.
-#[inline]
-fn pop_idle<A: Allocator + Copy>(
-    pages: &mut Vec<AtlasAllocator<A>, A>,
-    options: &CacheOptions,
-) -> Option<u32> {
-    if pages.is_empty() {
-        return None;
-    }
-    let last = pages.len() - 1;
-    if !pages[last].is_empty() {
-        return None;
-    }
-    pages.truncate(last);
-    Some(number(last, options.pages))
-}
-
-// All rectangles of each page go.
-#[inline]
-fn clear_pages<A: Allocator + Copy>(pages: &mut Vec<AtlasAllocator<A>, A>) {
-    for page in 0..pages.len() {
-        let _cleared = pages[page].clear();
-    }
-}
-
-// Says of each page what `prove_page` says of one, and does nothing.
-#[inline]
-fn prove_pages<A: Allocator + Copy>(pages: &[AtlasAllocator<A>]) {
-    for page in 0..pages.len() {
-        prove_page(pages, page);
-    }
-}
-
 impl<A: Allocator + Copy> Rooms<A> {
     /// No pages. Asks options of which `check` is Ok. Takes no memory.
     #[inline]
@@ -235,13 +120,14 @@ impl<A: Allocator + Copy> Rooms<A> {
     /// within it; an idle page of the largest size has room for whatever `CacheOptions::asked` asks for.
     #[inline]
     pub fn prove_kept(&self) {
-        prove_pages(&self.pages);
+        for at in 0..self.pages.len() {
+            prove_page(&self.pages, at);
+        }
     }
 
     /// Grants a request on the first page that has room for it: the page, and what it granted, which has the sides that
-    /// were asked for, rounded up to the alignment. None if no page has
-    /// room. No page grows and no other rectangle moves. `Slots` if that page has too few of them, `Memory` if memory
-    /// is refused. Unless something is granted, nothing changes.
+    /// were asked for, rounded up to the alignment. None if no page has room. No page grows and no other rectangle moves.
+    /// `Slots` if that page has too few of them, `Memory` if memory is refused. Unless something is granted, nothing changes.
     #[inline]
     pub fn place(&mut self, asked: Size) -> Result<Option<(u32, Allocation)>, CacheError> {
         let to = self.pages.len();
@@ -256,14 +142,21 @@ impl<A: Allocator + Copy> Rooms<A> {
         to: usize,
         asked: Size,
     ) -> Result<Option<(u32, Allocation)>, CacheError> {
-        place_first(&mut self.pages, &self.options, from, to, asked)
+        for page in from..to {
+            match self.pages[page].allocate(asked) {
+                Ok(None) => {}
+                Ok(Some(granted)) => return Ok(Some((number(page, self.options.pages), granted))),
+                Err(error) => return Err(refusal(error)),
+            }
+        }
+        Ok(None)
     }
 
     /// Frees the rectangle of an id of a page. Asks that the id is live there. No other rectangle moves. Takes no
     /// memory.
     #[inline]
     pub fn free(&mut self, page: u32, id: AllocId) {
-        give_back(&mut self.pages, page as usize, id);
+        let _freed = self.pages[page as usize].deallocate(id);
     }
 
     /// The first page that isn't at its largest grows: the page, and its size from now on, in pixels. Its lesser side,
@@ -272,7 +165,17 @@ impl<A: Allocator + Copy> Rooms<A> {
     /// `Memory` if memory is refused. Unless a page grows, nothing changes.
     #[inline]
     pub fn grow_page(&mut self) -> Result<Option<(u32, Size)>, CacheError> {
-        grow_first(&mut self.pages, &self.options)
+        let (page, old) = match first_to_grow(&self.pages, self.options.largest_page) {
+            Some((page, old)) => (page, old),
+            _ => {
+                return Ok(None);
+            }
+        };
+        let size = grown(old, self.options.largest_page);
+        if let Err(error) = self.pages[page].grow(size) {
+            return Err(refusal(error));
+        }
+        Ok(Some((number(page, self.options.pages), size)))
     }
 
     /// A new page with nothing on it comes last: its number and its size, in pixels. None exactly if there are as many
@@ -283,20 +186,36 @@ impl<A: Allocator + Copy> Rooms<A> {
         if number == self.options.pages {
             return Ok(None);
         }
-        push_page(&mut self.pages, &self.options)?;
-        Ok(Some((number, self.options.page)))
+        let alloc = *self.pages.allocator();
+        match AtlasAllocator::with_options(alloc, self.options.page, &self.options.atlas) {
+            Ok(page) => {
+                self.pages.push(page)?;
+                Ok(Some((number, self.options.page)))
+            }
+            Err(_) => Err(CacheError::Memory),
+        }
     }
 
     /// The last page goes, if nothing is live on it: its number. None exactly if there is no page, or if something is live
     /// on the last one; then nothing changes. Takes no memory.
     #[inline]
     pub fn remove_page(&mut self) -> Option<u32> {
-        pop_idle(&mut self.pages, &self.options)
+        if self.pages.is_empty() {
+            return None;
+        }
+        let last = self.pages.len() - 1;
+        if !self.pages[last].is_empty() {
+            return None;
+        }
+        self.pages.truncate(last);
+        Some(number(last, self.options.pages))
     }
 
     /// All rectangles go. The pages stay, with their sizes. Takes no memory.
     #[inline]
     pub fn clear(&mut self) {
-        clear_pages(&mut self.pages);
+        for page in 0..self.pages.len() {
+            let _cleared = self.pages[page].clear();
+        }
     }
 }

@@ -2,7 +2,6 @@
 //! A page's rectangles placed anew, and the areas of a page.
 
 use crate::atlas_cache::error::CacheError;
-use crate::atlas_cache::options::CacheOptions;
 use crate::atlas_cache::rooms::usable::extent;
 use crate::atlas_cache::rooms::{refusal, Rooms};
 use crate::guillotiere::{Allocation, AtlasAllocator, Change, ChangeList, Rectangle, Size};
@@ -64,28 +63,6 @@ fn place_all<A: Allocator + Copy>(
     Ok(ChangeList { changes, failures })
 }
 
-// A page becomes an empty one of its size, in which these rectangles are placed.
-#[inline]
-fn replace_on<A: Allocator + Copy>(
-    pages: &mut Vec<AtlasAllocator<A>, A>,
-    page: usize,
-    options: &CacheOptions,
-    order: Vec<Allocation, A>,
-) -> Result<ChangeList<A>, CacheError> {
-    let alloc = *pages.allocator();
-    let size = pages[page].size();
-    let mut placed = match AtlasAllocator::with_options(alloc, size, &options.atlas) {
-        Ok(placed) => placed,
-        _ => {
-            return Err(CacheError::Memory);
-        }
-    };
-    let list = place_all(&mut placed, order)?;
-    placed.prove_sound();
-    pages[page] = placed;
-    Ok(list)
-}
-
 impl<A: Allocator + Copy> Rooms<A> {
     /// Places rectangles in an empty page of the size of this one, which becomes this page: the largest first, and those
     /// of one area in the order of the list. Asks that there is such a page, and rectangles with the coordinates of
@@ -101,7 +78,19 @@ impl<A: Allocator + Copy> Rooms<A> {
     ) -> Result<ChangeList<A>, CacheError> {
         let mut order = held;
         sort_by_area(&mut order)?;
-        replace_on(&mut self.pages, page as usize, &self.options, order)
+        let page = page as usize;
+        let alloc = *self.pages.allocator();
+        let size = self.pages[page].size();
+        let mut placed = match AtlasAllocator::with_options(alloc, size, &self.options.atlas) {
+            Ok(placed) => placed,
+            _ => {
+                return Err(CacheError::Memory);
+            }
+        };
+        let list = place_all(&mut placed, order)?;
+        placed.prove_sound();
+        self.pages[page] = placed;
+        Ok(list)
     }
 
     /// The area of all live rectangles of a page together, in unit squares. Asks that there is such a page. Takes no

@@ -92,3 +92,8 @@ returns-clause-reserves g c =
       reserves_left n (n + 1) room room 4 _ _ c.grant.ensures.slots (omega arith) (omega (arith, reserved))
           (omega (arith, ap length first)) had,
     ))
+
+pub returns-in_err-granted-clause-short : goal.returns-in_err-granted-clause-short
+returns-in_err-granted-clause-short g c = λ is.
+    let same : c.from_residual.result ≡ Err c.in_err-granted.field-0.0 = search rules in
+    c.in_err-granted.ensures.short (ap Err (error_is c.in_err-granted.field-0.0 c.from_residual.result same is))

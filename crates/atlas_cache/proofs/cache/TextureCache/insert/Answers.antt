@@ -14,7 +14,7 @@ use Rattle.guillotiere.specs.Pixels.{size_of}
 use Rattle.atlas_cache.specs.Asking.{bordered}
 use Rattle.atlas_cache.specs.Caches.{HasNoPageFor}
 use Rattle.atlas_cache.proofs.BlankLemmas.{length-less}
-use Rattle.atlas_cache.proofs.ReadyLemmas.{blank_full, blank_reserves, one_fewer, one_reserved, reserves_left}
+use Rattle.atlas_cache.proofs.ReadyLemmas.{blank_full, blank_not_short, blank_reserves, one_fewer, one_reserved, reserves_left}
 use Rattle.atlas_cache.proofs.RoomLemmas.Reserving.{none_used}
 use Rattle.atlas_cache.proofs.cache.TextureCache.insert.Goals as goal
 
@@ -219,3 +219,7 @@ returns-clause-one g c = λ some slots room keeps.
     let had = one_reserved (vec_capacity c.args.changes.now) (vec_len c.args.changes.now) c.args.self.now some slots room in
     (c.insert_new.ensures.reserves 0 had (λ none.
     keeps stands.positive (subst (λ (asked : Size). HasNoPageFor asked c.args.self.now) is none))).0
+
+pub returns-then-not-is_positive-clause-short : goal.returns-then-not-is_positive-clause-short
+returns-then-not-is_positive-clause-short g c = λ is.
+    absurd (blank_not_short c.args.key c.args.size c.add_blank.result c.args.self.now c.add_blank.new.self c.add_blank.ensures.inserts is)

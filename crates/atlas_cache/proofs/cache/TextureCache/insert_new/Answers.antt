@@ -134,3 +134,13 @@ returns-in_default-2-clause-full g c = λ full.
     let same = c.in_ok-place.ensures.none (ap Ok c.in_default.is) in
     let stays = rw same at c.make_room.ensures.full in
     stays (c.loop-place.invariant.full full)
+
+pub returns-in_err-place-clause-short : goal.returns-in_err-place-clause-short
+returns-in_err-place-clause-short g c = λ is.
+    let same : c.from_residual.result ≡ Err c.in_err-place.field-0.0 = search rules in
+    c.in_err-place.ensures.short (ap Err (error_is c.in_err-place.field-0.0 c.from_residual.result same is))
+
+pub returns-in_err-page-clause-short : goal.returns-in_err-page-clause-short
+returns-in_err-page-clause-short g c = λ is.
+    let same : c.from_residual-in_err-page.result ≡ Err c.in_err-page.field-0.0 = search rules in
+    c.in_err-page.ensures.short (ap Err (error_is c.in_err-page.field-0.0 c.from_residual-in_err-page.result same is))

@@ -1,8 +1,8 @@
-use Rattle.std.proofs.Common.{ap, arith, Ok}
+use Rattle.std.proofs.Common.{◌≡◌, ap, arith, rules, Err, Ok}
 use Rattle.atlas_cache.specs.Caches.{entries_of}
 use Rattle.atlas_cache.specs.Entries.{lying}
 use Rattle.atlas_cache.proofs.HoldingLemmas.{stays}
-use Rattle.atlas_cache.proofs.ReadyLemmas.{reserves_left}
+use Rattle.atlas_cache.proofs.ReadyLemmas.{error_is, reserves_left}
 use Rattle.atlas_cache.proofs.RoomLemmas.Reserving.{none_used}
 use Rattle.atlas_cache.proofs.cache.TextureCache.make_room.Goals as goal
 
@@ -93,3 +93,9 @@ returns-clause-reserves g c =
     rw (← c.self.view_is) (λ full n had. goes n (
     reserves_left n n _ _ 0 _ _ (none_used 0 _) (omega arith) (omega arith)
     (omega (arith, c.reserve.ensures.len, c.reserve.ensures.capacity)) had))
+
+pub returns-in_err-page-clause-short : goal.returns-in_err-page-clause-short
+returns-in_err-page-clause-short g c = λ is.
+    let same : c.from_residual-in_err-page.result ≡ Err c.in_err-page.field-0.0 = search rules in
+    rw c.in_err-page.ensures.refused
+    (c.in_err-page.ensures.short (ap Err (error_is c.in_err-page.field-0.0 c.from_residual-in_err-page.result same is)))

@@ -1,20 +1,41 @@
-use Rattle.std.proofs.Common.{◌<◌, length, arith}
+use Rattle.std.proofs.Common.{◌<◌, ap, length, arith}
+use Rattle.std.proofs.lemmas.List.{length-map}
+use Rattle.guillotiere.specs.States.{live_in}
+use Rattle.guillotiere.proofs.Callers.{page_added}
+use Rattle.atlas_cache.specs.Rooms.{page_sizes, size_of_page}
+use Rattle.atlas_cache.proofs.RoomLemmas.Growing.{joined_less, sizes_joined}
+use Rattle.atlas_cache.proofs.RoomLemmas.Paging.{new_is_page, others_stay, rooms_joined}
 use Rattle.atlas_cache.proofs.rooms.Rooms.add_page.Goals as goal
 
-pub returns-clause-less : goal.returns-clause-less
-returns-clause-less g c =
+pub invariant_of-self : goal.invariant_of-self
+invariant_of-self g c = rw c.in_err-push-in-Ok.ensures.items c.self.invariant
+
+pub invariant_of-self-in-Ok : goal.invariant_of-self-in-Ok
+invariant_of-self-in-Ok g c =
     let count = rw (← c.self.view_is) at c.len-number.ensures.pages in
     let less : length c.self.inside.pages.items < c.self.inside.options.pages = omega (arith, count, c.self.invariant.few) in
-    rw (← c.self.view_is) (c.in_ok-push_page.ensures.less less)
+    rw c.in_ok-push-in-Ok.ensures.items (rooms_joined c.self.inside.options c.self.inside.pages.items c.in-Ok.page
+    (new_is_page c.self.inside.options c.in-Ok.page c.self.invariant.usable c.in-Ok.ensures.sound c.in-Ok.ensures.state)
+    less c.self.invariant)
 
-pub returns-clause-same : goal.returns-clause-same
-returns-clause-same g c = rw (← c.self.view_is) c.in_ok-push_page.ensures.same
+pub returns-in_ok-push-in-Ok-clause-sizes : goal.returns-in_ok-push-in-Ok-clause-sizes
+returns-in_ok-push-in-Ok-clause-sizes g c =
+    rw (c.in_ok-push-in-Ok.ensures.items, ← c.self.view_is)
+    (sizes_joined c.self.inside.options c.self.invariant.usable c.self.inside.pages.items c.in-Ok.page c.in-Ok.ensures.state)
 
-pub returns-clause-others : goal.returns-clause-others
-returns-clause-others g c = rw (c.len-number.ensures.pages, ← c.self.view_is) c.in_ok-push_page.ensures.others
-
-pub invariant_of-self-2 : goal.invariant_of-self-2
-invariant_of-self-2 g c =
+pub returns-in_ok-push-in-Ok-clause-less : goal.returns-in_ok-push-in-Ok-clause-less
+returns-in_ok-push-in-Ok-clause-less g c =
     let count = rw (← c.self.view_is) at c.len-number.ensures.pages in
     let less : length c.self.inside.pages.items < c.self.inside.options.pages = omega (arith, count, c.self.invariant.few) in
-    c.in_ok-push_page.ensures.kept less c.self.invariant
+    rw (returns-in_ok-push-in-Ok-clause-sizes g c, ← c.self.view_is)
+    (joined_less c.self.inside.options c.self.invariant.usable (page_sizes c.self.inside.pages.items) (rw (length-map c.self.inside.pages.items size_of_page) less))
+
+pub returns-in_ok-push-in-Ok-clause-same : goal.returns-in_ok-push-in-Ok-clause-same
+returns-in_ok-push-in-Ok-clause-same g c =
+    rw (c.in_ok-push-in-Ok.ensures.items, ← c.self.view_is)
+    (page_added c.self.inside.pages.items c.in-Ok.page (ap live_in c.in-Ok.ensures.state))
+
+pub returns-in_ok-push-in-Ok-clause-others : goal.returns-in_ok-push-in-Ok-clause-others
+returns-in_ok-push-in-Ok-clause-others g c =
+    rw (c.in_ok-push-in-Ok.ensures.items, c.len-number.ensures.pages, ← c.self.view_is)
+    (others_stay c.self.inside.pages.items c.in-Ok.page)

@@ -1,12 +1,33 @@
-use Rattle.atlas_cache.proofs.RoomLemmas.Paging.{page_of}
+use Rattle.std.proofs.Common.{arith}
+use Rattle.atlas_cache.proofs.RoomLemmas.Paging.{gives_back, page_of, rooms_stay, sizes_stay}
+use Rattle.atlas_cache.proofs.RoomLemmas.Reserving.{page_uses}
 use Rattle.atlas_cache.proofs.rooms.Rooms.free.Goals as goal
 
-pub give_back-requires : goal.give_back-requires
-give_back-requires g c =
-    page_of c.self.inside.pages.items c.args.page c.args.id (rw (← c.self.view_is) at c.requires)
+pub index_mut-requires : goal.index_mut-requires
+index_mut-requires g c =
+    let within = page_of c.self.inside.pages.items c.args.page c.args.id (rw (← c.self.view_is) at c.requires) in
+    omega (arith, within, c.self.inside.pages.ok.0)
 
-pub invariant_of-self : goal.invariant_of-self
-invariant_of-self g c = c.give_back.ensures.kept c.self.inside.options c.self.invariant
+pub returns-clause-leaves : goal.returns-clause-leaves
+returns-clause-leaves g c =
+    let within = page_of c.self.inside.pages.items c.args.page c.args.id (rw (← c.self.view_is) at c.requires) in
+    rw (← c.self.view_is) (gives_back _ _ c.index_mut.result.now _ c.index_mut.ensures.value within c.args.id
+    c.deallocate-freed.ensures.leaves)
+
+pub returns-clause-sizes : goal.returns-clause-sizes
+returns-clause-sizes g c =
+    let within = page_of c.self.inside.pages.items c.args.page c.args.id (rw (← c.self.view_is) at c.requires) in
+    rw (← c.self.view_is) (sizes_stay _ _ c.index_mut.result.now _ c.index_mut.ensures.value within
+    c.deallocate-freed.ensures.frame)
 
 pub returns-clause-slots : goal.returns-clause-slots
-returns-clause-slots g c = rw (← c.self.view_is) c.give_back.ensures.slots
+returns-clause-slots g c =
+    let within = page_of c.self.inside.pages.items c.args.page c.args.id (rw (← c.self.view_is) at c.requires) in
+    rw (← c.self.view_is) (page_uses _ _ c.index_mut.result.now _ c.index_mut.ensures.value within 0
+    c.deallocate-freed.ensures.slots)
+
+pub invariant_of-self : goal.invariant_of-self
+invariant_of-self g c =
+    let within = page_of c.self.inside.pages.items c.args.page c.args.id (rw (← c.self.view_is) at c.requires) in
+    rooms_stay _ _ c.index_mut.result.now _ c.index_mut.ensures.value within c.self.inside.options
+    c.deallocate-freed.ensures.leaves.sound c.deallocate-freed.ensures.frame c.self.invariant

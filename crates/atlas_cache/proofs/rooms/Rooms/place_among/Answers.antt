@@ -1,39 +1,143 @@
-use Rattle.std.proofs.Common.{◌∙◌, ap}
-use Rattle.std.proofs.lemmas.Result.{on_err_weaker}
-use Rattle.atlas_cache.specs.Rooms.{rooms_of}
+use Rattle.std.proofs.Common.{◌≡◌, ◌∙◌, ◌<◌, ap, arith, length, refl, rules, subst, sym, Err, None, Ok, Some}
+use Rattle.guillotiere.specs.Pixels.{sides_of}
+use Rattle.guillotiere.specs.Steps.{Step}
+use Rattle.guillotiere.specs.Steps.AtlasCall.{Allocate}
+use Rattle.guillotiere.specs.Steps.AtlasReply.{Refused}
+use Rattle.guillotiere.specs.Stored.{state_of}
+use Rattle.atlas_cache.specs.declared.error.CacheError.TheVariants.{Memory, Slots}
+use Rattle.atlas_cache.specs.Placing.{PlacesFirst}
+use Rattle.atlas_cache.specs.Rooms.{rooms_of, KeepsRooms, RoomsState}
+use Rattle.atlas_cache.proofs.RoomLemmas.Paging.{none_yet, no_room, nothing_changes, rooms_stay, rounded_as, sizes_stay, takes}
+use Rattle.atlas_cache.proofs.RoomLemmas.Reserving.{none_used, page_has, page_uses, request_short}
+use Rattle.atlas_cache.proofs.RoomLemmas.Standing.{is_at_least}
 use Rattle.atlas_cache.proofs.rooms.Rooms.place_among.Goals as goal
 
-pub returns-clause-adds : goal.returns-clause-adds
-returns-clause-adds g c = rw (← c.self.view_is) c.place_first.ensures.adds
+pub loop-page-init : goal.loop-page-init
+loop-page-init g c = record {
+  same = c.self.view_is;
+  none = λ k s below is room. let among = c.requires.others k s is room in omega (arith, among.0, below);
+}
 
-pub returns-clause-first : goal.returns-clause-first
-returns-clause-first g c = rw (← c.self.view_is) c.place_first.ensures.first
+pub loop-page-preserved : goal.loop-page-preserved
+loop-page-preserved g c =
+    let was = c.loop-page.invariant in
+    let pages = c.loop-page.self-inside.pages.items in
+    let a = c.index_mut.result.now in
+    let b = c.allocate.new.self in
+    let within : c.loop-page.page < length pages =
+    omega (arith, c.loop-page-test.true, c.requires.inside, ap (λ (r : RoomsState). length r.pages) was.same) in
+    let answer = rw c.in-Ok-None.field-0-is at c.in-Ok-None.ensures.answer in
+    let none = no_room pages c.loop-page.page a b c.index_mut.ensures.value within c.args.asked None refl answer in
+    let same = c.in-Ok-None.ensures.none (ap Ok c.in-Ok-None.field-0-is) in
+    record {
+      same = ap (rooms_of c.loop-page.self-inside.options)
+          (nothing_changes pages c.loop-page.page a b c.index_mut.ensures.value within same) ∙ was.same;
+      none = none_yet c.args.asked c.args.self.now.pages c.loop-page.page (rw (← was.same) none) was.none;
+    }
 
-pub returns-clause-page : goal.returns-clause-page
-returns-clause-page g c = rw (← c.self.view_is) c.place_first.ensures.page
+pub invariant_of-self-in-Ok-Some : goal.invariant_of-self-in-Ok-Some
+invariant_of-self-in-Ok-Some g c =
+    let was = c.loop-page.invariant in
+    let pages = c.loop-page.self-inside.pages.items in
+    let within : c.loop-page.page < length pages =
+    omega (arith, c.loop-page-test.true, c.requires.inside, ap (λ (r : RoomsState). length r.pages) was.same) in
+    rooms_stay pages c.loop-page.page c.index_mut.result.now c.allocate.new.self c.index_mut.ensures.value within
+    c.loop-page.self-inside.options c.allocate.ensures.keeps.sound c.allocate.ensures.frame
+    (subst KeepsRooms (c.self.view_is ∙ sym was.same) c.self.invariant)
 
-pub returns-clause-full : goal.returns-clause-full
-returns-clause-full g c = rw (← c.self.view_is) c.place_first.ensures.full
+pub returns-in-Ok-Some : goal.returns-in-Ok-Some
+returns-in-Ok-Some g c =
+    let was = c.loop-page.invariant in
+    let pages = c.loop-page.self-inside.pages.items in
+    let options = c.loop-page.self-inside.options in
+    let page = c.loop-page.page in
+    let a = c.index_mut.result.now in
+    let b = c.allocate.new.self in
+    let is = c.index_mut.ensures.value in
+    let within : page < length pages =
+    omega (arith, c.loop-page-test.true, c.requires.inside, ap (λ (r : RoomsState). length r.pages) was.same) in
+    let kept : KeepsRooms (rooms_of options pages) = subst KeepsRooms (c.self.view_is ∙ sym was.same) c.self.invariant in
+    let granted = c.in-Ok-Some.granted in
+    let exact = rw c.in-Ok-Some.field-0-is at c.in-Ok-Some.ensures.exact in
+    let adds = rw c.in-Ok-Some.field-0-is at c.in-Ok-Some.ensures.adds in
+    let answer = rw c.in-Ok-Some.field-0-is at c.in-Ok-Some.ensures.answer in
+    rw (c.number.ensures, ← was.same) (record {
+      placed = record {
+        adds = takes pages page a b is within (Some granted) exact adds;
+        large = search (rules, is_at_least, exact, answer);
+        sides = rounded_as pages page a b is within options kept c.args.asked (Some granted) answer;
+        first = rw (← was.same) at was.none;
+        there = within;
+        numbered = omega (arith, within, kept.few);
+      };
+      full = λ no. cc;
+      none = λ no. cc;
+      refused = tt;
+      errors = tt;
+      short = λ no. cc;
+      sizes = sizes_stay pages page a b is within c.allocate.ensures.frame;
+      options = refl;
+      slots = page_uses pages page a b is within 4 c.allocate.ensures.slots;
+      memory = λ have no. cc;
+    })
 
-pub returns-clause-none : goal.returns-clause-none
-returns-clause-none g c = λ is.
-    ap (rooms_of c.self.inside.options) (c.place_first.ensures.none is) ∙ c.self.view_is
+pub invariant_of-self-in-Err : goal.invariant_of-self-in-Err
+invariant_of-self-in-Err g c =
+    let was = c.loop-page.invariant in
+    let pages = c.loop-page.self-inside.pages.items in
+    let within : c.loop-page.page < length pages =
+    omega (arith, c.loop-page-test.true, c.requires.inside, ap (λ (r : RoomsState). length r.pages) was.same) in
+    rooms_stay pages c.loop-page.page c.index_mut.result.now c.allocate.new.self c.index_mut.ensures.value within
+    c.loop-page.self-inside.options c.allocate.ensures.keeps.sound c.allocate.ensures.frame
+    (subst KeepsRooms (c.self.view_is ∙ sym was.same) c.self.invariant)
 
-pub returns-clause-refused : goal.returns-clause-refused
-returns-clause-refused g c =
-    on_err_weaker c.place_first.result (λ is. ap (rooms_of c.self.inside.options) is ∙ c.self.view_is) c.place_first.ensures.refused
+pub returns-in-Err : goal.returns-in-Err
+returns-in-Err g c =
+    let was = c.loop-page.invariant in
+    let pages = c.loop-page.self-inside.pages.items in
+    let page = c.loop-page.page in
+    let a = c.index_mut.result.now in
+    let b = c.allocate.new.self in
+    let is_a = c.index_mut.ensures.value in
+    let old = c.args.self.now in
+    let within : page < length pages =
+    omega (arith, c.loop-page-test.true, c.requires.inside, ap (λ (r : RoomsState). length r.pages) was.same) in
+    let same = ap (rooms_of c.loop-page.self-inside.options) (nothing_changes pages page a b is_a within c.in-Err.ensures.refused) ∙ was.same in
+    subst (λ r. PlacesFirst c.args.asked old r (Err c.refusal.result)) (sym same) (record {
+      placed = tt;
+      full = λ no. cc;
+      none = λ no. cc;
+      refused = refl;
+      errors = c.refusal.ensures.refusal;
+      short = λ is.
+          let slots : c.refusal.result ≡ Slots = cc in
+          let kept = subst KeepsRooms (c.self.view_is ∙ sym was.same) c.self.invariant in
+          let step = subst (λ e. Step (state_of a) (Allocate (sides_of c.args.asked)) (Refused e) (state_of b)) (c.refusal.ensures.slots slots)
+          c.in-Err.ensures.step in
+          rw (← was.same) (request_short pages page a b is_a within c.loop-page.self-inside.options kept (sides_of c.args.asked) (state_of b) step);
+      sizes = refl;
+      options = refl;
+      slots = none_used 4 old.pages;
+      memory = λ have no.
+          let short : c.refusal.result ≡ Memory = cc in
+          c.in-Err.ensures.memory (page_has pages page a b is_a within 4 (rw (← was.same) at have)) (ap Err (c.refusal.ensures.memory short));
+    })
 
-pub returns-clause-sides : goal.returns-clause-sides
-returns-clause-sides g c = rw (← c.self.view_is) c.place_first.ensures.sides
-
-pub place_first-requires-clause-others : goal.place_first-requires-clause-others
-place_first-requires-clause-others g c = rw (← c.self.view_is) at c.requires.others
-
-pub place_first-requires-clause-inside : goal.place_first-requires-clause-inside
-place_first-requires-clause-inside g c = rw (← c.self.view_is) at c.requires.inside
-
-pub returns-clause-slots : goal.returns-clause-slots
-returns-clause-slots g c = rw (← c.self.view_is) c.place_first.ensures.slots
-
-pub returns-clause-memory : goal.returns-clause-memory
-returns-clause-memory g c = rw (← c.self.view_is) c.place_first.ensures.memory
+pub returns : goal.returns
+returns g c =
+    let was = c.loop-page.invariant in
+    let old = c.args.self.now in
+    subst (λ r. PlacesFirst c.args.asked old r (Ok None)) (sym was.same) (record {
+      placed = tt;
+      full = λ _ k s below is room.
+          let among = c.requires.others k s is room in
+          was.none k s (omega (arith, among.1, c.loop-page-test.false)) is room;
+      none = λ _. refl;
+      refused = tt;
+      errors = tt;
+      short = λ no. cc;
+      sizes = refl;
+      options = refl;
+      slots = none_used 4 old.pages;
+      memory = λ have no. cc;
+    })

@@ -1,34 +1,72 @@
-use Rattle.std.proofs.Common.{◌∙◌, ap}
+use Rattle.std.proofs.Common.{◌<◌, length}
 use Rattle.std.proofs.lemmas.List.Sorted.{All-permutation}
-use Rattle.std.proofs.lemmas.Result.{on_err_weaker, IfOk-weaker}
 use Rattle.guillotiere.specs.Refits.Refitted.{HasExactRectangle}
-use Rattle.atlas_cache.specs.Repacking.{PlacesAnew, PlacesInOrder}
-use Rattle.atlas_cache.specs.Rooms.{rooms_of}
-use Rattle.atlas_cache.proofs.RoomLemmas.Repacking.{named_permuted}
+use Rattle.guillotiere.specs.Stored.{state_of}
+use Rattle.atlas_cache.proofs.RoomLemmas.Paging.{rooms_stay, sizes_stay}
+use Rattle.atlas_cache.proofs.RoomLemmas.Repacking.{frame_here, named_permuted, named_there, page_placed, page_repacks, placing_tells, refits_here, starts_alike, state_here}
 use Rattle.atlas_cache.proofs.rooms.Rooms.repack.Goals as goal
 
-pub replace_on-requires-clause-page : goal.replace_on-requires-clause-page
-replace_on-requires-clause-page g c = rw (← c.self.view_is) at c.requires.page
+pub place_all-requires : goal.place_all-requires
+place_all-requires g c = record {
+  exact = All-permutation HasExactRectangle _ _ c.sort_by_area.ensures.permuted c.requires.exact;
+}
 
-pub replace_on-requires-clause-exact : goal.replace_on-requires-clause-exact
-replace_on-requires-clause-exact g c = All-permutation HasExactRectangle _ _ c.sort_by_area.ensures.permuted c.requires.exact
+pub invariant_of-self : goal.invariant_of-self
+invariant_of-self g c =
+    let pages = c.self.inside.pages.items in
+    let a = c.index.result.now in
+    let b = c.place_all.new.atlas in
+    let within : c.args.page < length pages = rw (← c.self.view_is) at c.requires.page in
+    let start = starts_alike pages c.args.page a b c.index.ensures within c.self.inside.options c.size-size.result
+    (state_of c.in-Ok.placed) c.self.invariant c.size-size.ensures.size c.in-Ok.ensures.state in
+    rooms_stay pages c.args.page a b c.index.ensures within c.self.inside.options c.prove_sound.ensures.sound
+    (frame_here (state_of a) (state_of c.in-Ok.placed) (state_of b) c.sort_by_area.new.held.items c.in_ok-list.list
+    c.size-size.ensures.sound c.prove_sound.ensures.sound start c.in_ok-list.ensures.refits)
+    c.self.invariant
 
 pub returns-clause-repacks : goal.returns-clause-repacks
 returns-clause-repacks g c = λ names.
-    rw (← c.self.view_is) (c.replace_on.ensures.repacks
-    (named_permuted _ _ _ _ c.sort_by_area.ensures.permuted (rw (← c.self.view_is) at names)))
-
-pub returns-clause-refused : goal.returns-clause-refused
-returns-clause-refused g c =
-    on_err_weaker c.replace_on.result (λ is. ap (rooms_of c.self.inside.options) is ∙ c.self.view_is)
-    c.replace_on.ensures.refused
+    let pages = c.self.inside.pages.items in
+    let a = c.index.result.now in
+    let b = c.place_all.new.atlas in
+    let within : c.args.page < length pages = rw (← c.self.view_is) at c.requires.page in
+    let start = starts_alike pages c.args.page a b c.index.ensures within c.self.inside.options c.size-size.result
+    (state_of c.in-Ok.placed) c.self.invariant c.size-size.ensures.size c.in-Ok.ensures.state in
+    let order = c.sort_by_area.new.held.items in
+    let named = named_permuted _ _ _ _ c.sort_by_area.ensures.permuted (rw (← c.self.view_is) at names) in
+    let exact = All-permutation HasExactRectangle _ _ c.sort_by_area.ensures.permuted c.requires.exact in
+    rw (← c.self.view_is) (page_repacks pages c.args.page a b c.index.ensures within c.in_ok-list.list
+    (placing_tells (state_of a) (state_of c.in-Ok.placed) (state_of b) c.sort_by_area.new.held.items c.in_ok-list.list
+    c.size-size.ensures.sound c.prove_sound.ensures.sound start c.in_ok-list.ensures.refits exact
+    (named_there pages c.args.page a b c.index.ensures within order named) named.once c.in_ok-list.ensures.exact))
 
 pub returns-clause-placed : goal.returns-clause-placed
 returns-clause-placed g c =
-    let old = c.self.inside.pages.items in
-    let new = c.replace_on.new.pages.items in
-    rw (← c.self.view_is) (IfOk-weaker c.replace_on.result
-    (λ list. PlacesInOrder old new c.args.page c.sort_by_area.new.held.items list.changes.items list.failures.items)
-    (λ list. PlacesAnew old new c.args.page c.args.held.items list.changes.items list.failures.items)
-    (λ list placed. record { order = c.sort_by_area.new.held.items; ordered = c.in_ok-sort_by_area.ensures.ordered; placed = placed })
-    c.replace_on.ensures.placed)
+    let pages = c.self.inside.pages.items in
+    let a = c.index.result.now in
+    let b = c.place_all.new.atlas in
+    let within : c.args.page < length pages = rw (← c.self.view_is) at c.requires.page in
+    let start = starts_alike pages c.args.page a b c.index.ensures within c.self.inside.options c.size-size.result
+    (state_of c.in-Ok.placed) c.self.invariant c.size-size.ensures.size c.in-Ok.ensures.state in
+    let order = c.sort_by_area.new.held.items in
+    rw (← c.self.view_is) (record {
+      order = order;
+      ordered = c.in_ok-sort_by_area.ensures.ordered;
+      placed = page_placed pages c.args.page a b c.index.ensures within order c.in_ok-list.list
+          (refits_here (state_of a) (state_of c.in-Ok.placed) (state_of b) c.sort_by_area.new.held.items c.in_ok-list.list
+          c.size-size.ensures.sound c.prove_sound.ensures.sound start c.in_ok-list.ensures.refits)
+          (state_here (state_of a) (state_of c.in-Ok.placed) (state_of b) c.sort_by_area.new.held.items c.in_ok-list.list
+          c.size-size.ensures.sound c.prove_sound.ensures.sound start c.in_ok-list.ensures.refits);
+    })
+
+pub returns-clause-sizes : goal.returns-clause-sizes
+returns-clause-sizes g c =
+    let pages = c.self.inside.pages.items in
+    let a = c.index.result.now in
+    let b = c.place_all.new.atlas in
+    let within : c.args.page < length pages = rw (← c.self.view_is) at c.requires.page in
+    let start = starts_alike pages c.args.page a b c.index.ensures within c.self.inside.options c.size-size.result
+    (state_of c.in-Ok.placed) c.self.invariant c.size-size.ensures.size c.in-Ok.ensures.state in
+    rw (← c.self.view_is) (sizes_stay pages c.args.page a b c.index.ensures within
+    (frame_here (state_of a) (state_of c.in-Ok.placed) (state_of b) c.sort_by_area.new.held.items c.in_ok-list.list
+    c.size-size.ensures.sound c.prove_sound.ensures.sound start c.in_ok-list.ensures.refits))

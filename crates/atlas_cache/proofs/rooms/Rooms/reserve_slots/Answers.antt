@@ -1,13 +1,71 @@
-use Rattle.atlas_cache.proofs.RoomLemmas.Reserving.{same_rooms}
+use Rattle.std.proofs.Common.{◌∙◌, ◌<◌, ap, arith, length, map, slice_set}
+use Rattle.std.proofs.lemmas.{List.{length-set}, Option.{slice_get_within}}
+use Rattle.guillotiere.specs.States.{used_in, State}
+use Rattle.guillotiere.specs.Stored.{state_of}
+use Rattle.atlas_cache.specs.Rooms.{RoomsState}
+use Rattle.atlas_cache.proofs.RoomLemmas.Paging.{others_kept}
+use Rattle.atlas_cache.proofs.RoomLemmas.Reserving.{both_used, none_used, one_more_ready, page_states, page_uses, reserve_there, same_rooms}
 use Rattle.atlas_cache.proofs.rooms.Rooms.reserve_slots.Goals as goal
 
-pub returns-clause-states : goal.returns-clause-states
-returns-clause-states g c = rw (← c.self.view_is) c.reserve_each.ensures.states
+pub loop-page-init : goal.loop-page-init
+loop-page-init g c = record {
+  options = ap (λ (r : RoomsState). r.options) c.self.view_is;
+  same = omega (arith, c.len-page-end.ensures, c.self.inside.pages.ok.0);
+  ready = λ k s below at. absurd (omega (arith, below));
+  states = ap (λ (r : RoomsState). map state_of r.pages) c.self.view_is;
+  slots = rw (← c.self.view_is) (none_used 0 c.self.inside.pages.items);
+  kept = c.self.invariant;
+}
 
-pub returns-clause-slots : goal.returns-clause-slots
-returns-clause-slots g c = rw (← c.self.view_is) c.reserve_each.ensures.slots
+pub loop-page-preserved : goal.loop-page-preserved
+loop-page-preserved g c =
+    let was = c.loop-page.invariant in
+    let pages = c.loop-page.self-inside.pages.items in
+    let page = c.loop-page.page in
+    let a = c.index_mut.result.now in
+    let b = c.reserve.new.self in
+    let is = c.index_mut.ensures.value in
+    let within : page < length pages = omega (arith, was.same) in
+    let states = page_states pages page a b is within c.reserve.ensures.state in
+    record {
+      options = was.options;
+      same = omega (arith, length-set pages page b, was.same);
+      ready = one_more_ready c.args.additional page pages (slice_set pages page b) (others_kept pages page a b is within)
+          (reserve_there pages page a b is within c.args.additional c.in_default.ensures.ready) was.ready;
+      states = states ∙ was.states;
+      slots = both_used 0 0 0 c.args.self.now.pages pages (slice_set pages page b) (omega arith) was.slots
+          (page_uses pages page a b is within 0 (record {
+            used = omega (arith, ap (λ (u : State). used_in u) c.reserve.ensures.state);
+            capacity = c.reserve.ensures.capacity;
+          }));
+      kept = same_rooms pages (slice_set pages page b) states c.loop-page.self-inside.options was.kept;
+    }
 
-pub invariant_of-self : goal.invariant_of-self
-invariant_of-self g c =
-    same_rooms c.self.inside.pages.items c.reserve_each.new.pages.items c.reserve_each.ensures.states c.self.inside.options
-    c.self.invariant
+pub invariant_of-self-in-Err : goal.invariant_of-self-in-Err
+invariant_of-self-in-Err g c =
+    let was = c.loop-page.invariant in
+    let pages = c.loop-page.self-inside.pages.items in
+    let page = c.loop-page.page in
+    let b = c.reserve.new.self in
+    let within : page < length pages = omega (arith, was.same) in
+    same_rooms pages (slice_set pages page b)
+    (page_states pages page c.index_mut.result.now b c.index_mut.ensures.value within c.reserve.ensures.state)
+    c.loop-page.self-inside.options was.kept
+
+pub returns-in-Err-clause-slots : goal.returns-in-Err-clause-slots
+returns-in-Err-clause-slots g c =
+    let was = c.loop-page.invariant in
+    let pages = c.loop-page.self-inside.pages.items in
+    let page = c.loop-page.page in
+    let b = c.reserve.new.self in
+    let within : page < length pages = omega (arith, was.same) in
+    both_used 0 0 0 c.args.self.now.pages pages (slice_set pages page b) (omega arith) was.slots
+    (page_uses pages page c.index_mut.result.now b c.index_mut.ensures.value within 0 (record {
+      used = omega (arith, ap (λ (u : State). used_in u) c.reserve.ensures.state);
+      capacity = c.reserve.ensures.capacity;
+    }))
+
+pub returns-clause-ready : goal.returns-clause-ready
+returns-clause-ready g c = λ page s at.
+    let within = slice_get_within c.loop-page.self-inside.pages.items page s at in
+    c.loop-page.invariant.ready page s (omega (arith, within, c.loop-page.invariant.same)) at

@@ -1,0 +1,35 @@
+-- What a placing on the pages of a cache does.
+use Rattle.std.specs.Prelude.{◌≡◌, ◌≢◌, ◌<◌, ℕ, length, Option, None, Result, Ok, Err, IfErr, IfOk, IfSome, OnErr}
+use Rattle.guillotiere.specs.declared.Allocation.{Allocation}
+use Rattle.guillotiere.specs.declared.Size.{Size}
+use Rattle.guillotiere.specs.Pages.{AddsBoxOn, NoneHasRoomBelow}
+use Rattle.atlas_cache.specs.declared.error.CacheError.{CacheError}
+use Rattle.atlas_cache.specs.declared.error.CacheError.TheVariants.{Memory, Slots}
+use Rattle.atlas_cache.specs.Entries.{no_page}
+use Rattle.atlas_cache.specs.Reserving.{HaveSlots, IsShortOfSlots, UseAtMost}
+use Rattle.atlas_cache.specs.Rooms.{page_sizes, IsAtLeast, IsRefusal, IsRounded, RoomsState}
+
+-- A request is granted on this page, the first that has room for it, with the sides that were asked for, rounded up to
+-- the alignment. Every other rectangle stays.
+pub record PlacesOn (asked : Size) (old new : RoomsState) (page : ℕ) (granted : Allocation) : Type 0 where
+  pub adds : AddsBoxOn old.pages new.pages page granted.id granted.rectangle
+  pub large : IsAtLeast asked granted.rectangle
+  pub sides : IsRounded old.options asked granted.rectangle
+  pub first : NoneHasRoomBelow asked old.pages page
+  pub there : page < length old.pages
+  pub numbered : page < no_page
+
+-- A request is granted on the first page that has room for it; none, if no page has. Unless it is granted, nothing
+-- changes. It takes at most 4 slots of a page, and memory only where fewer are in reserve; a page is short of them where they
+-- don't suffice.
+pub record PlacesFirst (asked : Size) (old new : RoomsState) (result : Result (Option (ℕ × Allocation)) CacheError) : Type 0 where
+  pub placed : IfOk result (λ placed. IfSome placed (λ place. PlacesOn asked old new place.0 place.1))
+  pub full : result ≡ Ok None → NoneHasRoomBelow asked old.pages (length old.pages)
+  pub none : result ≡ Ok None → new ≡ old
+  pub refused : OnErr result (new ≡ old)
+  pub errors : IfErr result IsRefusal
+  pub short : result ≡ Err Slots → IsShortOfSlots old.pages
+  pub sizes : page_sizes new.pages ≡ page_sizes old.pages
+  pub options : new.options ≡ old.options
+  pub slots : UseAtMost 4 old.pages new.pages
+  pub memory : HaveSlots 4 old.pages → result ≢ Err Memory
