@@ -34,7 +34,19 @@ invariant_of-self-2 g c =
     let new = c.push_front.new.links in
     let last = c.push_front.new.ends in
     let i = c.in_ok-number.number in
-    let w : IsJoined r.links.items mid.items r.ends new last r.unused c.take_number.new.unused i = subst (λ l. IsJoined r.links.items l r.ends new last r.unused c.take_number.new.unused i) c.deref_mut.ensures.value (record { ring = λ xs h. subst (λ l. IsRing l r.ends xs) (sym c.deref_mut.ensures.value) (c.in_ok-number.ensures.ring r.ends xs h); rest = λ xs h. subst (λ l. HasSpare l r.ends c.take_number.new.unused (i ∷ xs)) (sym c.deref_mut.ensures.value) (c.in_ok-number.ensures.rest r.ends xs h); made = ap length c.deref_mut.ensures.value ∙ c.in_ok-number.ensures.made; short = rw c.deref_mut.ensures.value c.in_ok-number.ensures.short; pushed = c.push_front.ensures.ring; others = c.push_front.ensures.others; size = c.push_front.ensures.size }) in
+    let w : IsJoined r.links.items mid.items r.ends new last r.unused c.take_number.new.unused i =
+    subst (λ l. IsJoined r.links.items l r.ends new last r.unused c.take_number.new.unused i) c.deref_mut.ensures.value (record {
+      ring = λ xs h. subst (λ l. IsRing l r.ends xs) (sym c.deref_mut.ensures.value) (c.in_ok-number.ensures.ring r.ends xs h);
+      rest = λ xs h.
+          subst (λ l. HasSpare l r.ends c.take_number.new.unused (i ∷ xs)) (sym c.deref_mut.ensures.value)
+          (c.in_ok-number.ensures.rest r.ends xs h);
+      made = ap length c.deref_mut.ensures.value ∙ c.in_ok-number.ensures.made;
+      short = rw c.deref_mut.ensures.value c.in_ok-number.ensures.short;
+      pushed = c.push_front.ensures.ring;
+      others = c.push_front.ensures.others;
+      size = c.push_front.ensures.size;
+    })
+    in
     let e = with_items_is mid new (w.size ∙ sym mid.ok.0) in
     let joined = IsRecency-joined r.links.items mid.items new r.ends last r.unused c.take_number.new.unused r.count i c.self.invariant.0 w in (
       subst (λ l. IsRecency l last c.take_number.new.unused (r.count + 1)) (sym e) joined,
@@ -48,7 +60,19 @@ returns-clause-few g c =
     let new = c.push_front.new.links in
     let last = c.push_front.new.ends in
     let i = c.in_ok-number.number in
-    let w : IsJoined r.links.items mid.items r.ends new last r.unused c.take_number.new.unused i = subst (λ l. IsJoined r.links.items l r.ends new last r.unused c.take_number.new.unused i) c.deref_mut.ensures.value (record { ring = λ xs h. subst (λ l. IsRing l r.ends xs) (sym c.deref_mut.ensures.value) (c.in_ok-number.ensures.ring r.ends xs h); rest = λ xs h. subst (λ l. HasSpare l r.ends c.take_number.new.unused (i ∷ xs)) (sym c.deref_mut.ensures.value) (c.in_ok-number.ensures.rest r.ends xs h); made = ap length c.deref_mut.ensures.value ∙ c.in_ok-number.ensures.made; short = rw c.deref_mut.ensures.value c.in_ok-number.ensures.short; pushed = c.push_front.ensures.ring; others = c.push_front.ensures.others; size = c.push_front.ensures.size }) in
+    let w : IsJoined r.links.items mid.items r.ends new last r.unused c.take_number.new.unused i =
+    subst (λ l. IsJoined r.links.items l r.ends new last r.unused c.take_number.new.unused i) c.deref_mut.ensures.value (record {
+      ring = λ xs h. subst (λ l. IsRing l r.ends xs) (sym c.deref_mut.ensures.value) (c.in_ok-number.ensures.ring r.ends xs h);
+      rest = λ xs h.
+          subst (λ l. HasSpare l r.ends c.take_number.new.unused (i ∷ xs)) (sym c.deref_mut.ensures.value)
+          (c.in_ok-number.ensures.rest r.ends xs h);
+      made = ap length c.deref_mut.ensures.value ∙ c.in_ok-number.ensures.made;
+      short = rw c.deref_mut.ensures.value c.in_ok-number.ensures.short;
+      pushed = c.push_front.ensures.ring;
+      others = c.push_front.ensures.others;
+      size = c.push_front.ensures.size;
+    })
+    in
     let joined = IsRecency-joined r.links.items mid.items new r.ends last r.unused c.take_number.new.unused r.count i c.self.invariant.0 w in
     let e = with_items_is mid new (w.size ∙ sym mid.ok.0) in
     rw e (omega (arith, w.size, mid.ok.0, joined.rest.all, length-line (r.count + 1) (next_at new last) last.next))
@@ -60,7 +84,19 @@ returns-clause-new g c =
     let new = c.push_front.new.links in
     let last = c.push_front.new.ends in
     let i = c.in_ok-number.number in
-    let w : IsJoined r.links.items mid.items r.ends new last r.unused c.take_number.new.unused i = subst (λ l. IsJoined r.links.items l r.ends new last r.unused c.take_number.new.unused i) c.deref_mut.ensures.value (record { ring = λ xs h. subst (λ l. IsRing l r.ends xs) (sym c.deref_mut.ensures.value) (c.in_ok-number.ensures.ring r.ends xs h); rest = λ xs h. subst (λ l. HasSpare l r.ends c.take_number.new.unused (i ∷ xs)) (sym c.deref_mut.ensures.value) (c.in_ok-number.ensures.rest r.ends xs h); made = ap length c.deref_mut.ensures.value ∙ c.in_ok-number.ensures.made; short = rw c.deref_mut.ensures.value c.in_ok-number.ensures.short; pushed = c.push_front.ensures.ring; others = c.push_front.ensures.others; size = c.push_front.ensures.size }) in
+    let w : IsJoined r.links.items mid.items r.ends new last r.unused c.take_number.new.unused i =
+    subst (λ l. IsJoined r.links.items l r.ends new last r.unused c.take_number.new.unused i) c.deref_mut.ensures.value (record {
+      ring = λ xs h. subst (λ l. IsRing l r.ends xs) (sym c.deref_mut.ensures.value) (c.in_ok-number.ensures.ring r.ends xs h);
+      rest = λ xs h.
+          subst (λ l. HasSpare l r.ends c.take_number.new.unused (i ∷ xs)) (sym c.deref_mut.ensures.value)
+          (c.in_ok-number.ensures.rest r.ends xs h);
+      made = ap length c.deref_mut.ensures.value ∙ c.in_ok-number.ensures.made;
+      short = rw c.deref_mut.ensures.value c.in_ok-number.ensures.short;
+      pushed = c.push_front.ensures.ring;
+      others = c.push_front.ensures.others;
+      size = c.push_front.ensures.size;
+    })
+    in
     let e = with_items_is mid new (w.size ∙ sym mid.ok.0) in
     subst (IsFreshNumber i) c.self.view_is (joined-new r.links.items mid.items new r.ends last r.unused c.take_number.new.unused r.count i c.self.invariant.0 w r.reserved c.in_ok-number.ensures.next c.in_ok-number.ensures.dense)
 
@@ -71,7 +107,19 @@ returns-clause-joined g c =
     let new = c.push_front.new.links in
     let last = c.push_front.new.ends in
     let i = c.in_ok-number.number in
-    let w : IsJoined r.links.items mid.items r.ends new last r.unused c.take_number.new.unused i = subst (λ l. IsJoined r.links.items l r.ends new last r.unused c.take_number.new.unused i) c.deref_mut.ensures.value (record { ring = λ xs h. subst (λ l. IsRing l r.ends xs) (sym c.deref_mut.ensures.value) (c.in_ok-number.ensures.ring r.ends xs h); rest = λ xs h. subst (λ l. HasSpare l r.ends c.take_number.new.unused (i ∷ xs)) (sym c.deref_mut.ensures.value) (c.in_ok-number.ensures.rest r.ends xs h); made = ap length c.deref_mut.ensures.value ∙ c.in_ok-number.ensures.made; short = rw c.deref_mut.ensures.value c.in_ok-number.ensures.short; pushed = c.push_front.ensures.ring; others = c.push_front.ensures.others; size = c.push_front.ensures.size }) in
+    let w : IsJoined r.links.items mid.items r.ends new last r.unused c.take_number.new.unused i =
+    subst (λ l. IsJoined r.links.items l r.ends new last r.unused c.take_number.new.unused i) c.deref_mut.ensures.value (record {
+      ring = λ xs h. subst (λ l. IsRing l r.ends xs) (sym c.deref_mut.ensures.value) (c.in_ok-number.ensures.ring r.ends xs h);
+      rest = λ xs h.
+          subst (λ l. HasSpare l r.ends c.take_number.new.unused (i ∷ xs)) (sym c.deref_mut.ensures.value)
+          (c.in_ok-number.ensures.rest r.ends xs h);
+      made = ap length c.deref_mut.ensures.value ∙ c.in_ok-number.ensures.made;
+      short = rw c.deref_mut.ensures.value c.in_ok-number.ensures.short;
+      pushed = c.push_front.ensures.ring;
+      others = c.push_front.ensures.others;
+      size = c.push_front.ensures.size;
+    })
+    in
     let e = with_items_is mid new (w.size ∙ sym mid.ok.0) in
     rw c.saturating_sub-self-inside.ensures
     (ap (λ l. stored l last (r.count + 1) (r.reserved - 1)) e ∙ joined-is r.links.items mid.items new r.ends last r.unused c.take_number.new.unused r.count i c.self.invariant.0 w r.reserved ∙ ap (with_newest i) c.self.view_is)
