@@ -4,10 +4,11 @@ ghost use Rattle.guillotiere.specs.Pixels.{sides_of};
 ghost use Rattle.atlas_sheet.specs.declared.error.SheetError.TheVariants.{Memory};
 ghost use Rattle.atlas_sheet.specs.declared.ways.TheConstants.{WAYS};
 ghost use Rattle.atlas_sheet.specs.Allowances.{IsAllowed, pixels};
+ghost use Rattle.atlas_sheet.specs.Dense.{IsNoLargerThanWays, NoWayFinds};
 ghost use Rattle.atlas_sheet.specs.Lying.{IsArranged};
-ghost use Rattle.atlas_sheet.specs.Packings.{IsFirstFound, IsLeastFound, IsNoLarger, IsToldLast, NoneIsFound};
+ghost use Rattle.atlas_sheet.specs.Packings.{IsFirstFound, IsLeastFound, IsToldLast, NoneIsFound};
 ghost use Rattle.atlas_sheet.specs.Settings.{CanPack, spacing_of};
-ghost use Rattle.atlas_sheet.specs.Turnings.{AreLaid, InEach, InOne};
+ghost use Rattle.atlas_sheet.specs.Turnings.{AreLaid, InOne};
 
 use crate::arrangement::Arrangement;
 use crate::climbing::{asked_in, improve, is_whole};
@@ -138,10 +139,8 @@ fn first_found<A: Allocator + Copy>(
     ensures first { IfOk result (λ found. IfSome found (λ a. InOne options.now sprites.now (λ lying. IsFirstFound WAYS
         options.now.allowed (spacing_of options.now) lying (sides_of a.size) (map (λ s. s.0) a.order.items)
         a.places.items))) }
-    ensures larger { IfOk result (λ found. IfSome found (λ a. InEach options.now sprites.now (λ lying. IsNoLarger WAYS
-        options.now.allowed (spacing_of options.now) lying (sides_of a.size)))) }
-    ensures none { IfOk result (λ found. IfNone found (InEach options.now sprites.now (λ lying.
-        NoneIsFound WAYS options.now.allowed (spacing_of options.now) lying))) }
+    ensures larger { IfOk result (λ found. IfSome found (λ a. IsNoLargerThanWays options.now sprites.now (sides_of a.size))) }
+    ensures none { IfOk result (λ found. IfNone found (NoWayFinds options.now sprites.now)) }
     ensures unless { IsOkUnless result Memory }
 {
     let given = first_so(alloc, sprites, options, Turning::AsGiven)?;
@@ -201,15 +200,13 @@ fn squeeze<A: Allocator + Copy>(
     random: &mut Random,
     tries: &mut u32,
 ) -> Result<Option<Arrangement<A>>, SheetError>
-    requires none { InEach options.now sprites.now (λ lying. NoneIsFound WAYS options.now.allowed
-        (spacing_of options.now) lying) }
+    requires none { NoWayFinds options.now sprites.now }
     requires good { CanPack options.now sprites.now }
     ensures arranged { IfOk result (λ found. IfSome found (IsArranged options.now sprites.now)) }
     ensures allowed { IfOk result (λ found. IfSome found (λ a. IsAllowed options.now.allowed (sides_of a.size))) }
     ensures whole { IfOk result (λ found. IfSome found (λ a. All IsSome a.places.items)) }
     ensures plain { tries.old ≡ 0 → IfOk result (λ found. IsNone found) }
-    ensures larger { IfOk result (λ found. IfSome found (λ a. InEach options.now sprites.now (λ lying. IsNoLarger WAYS
-        options.now.allowed (spacing_of options.now) lying (sides_of a.size)))) }
+    ensures larger { IfOk result (λ found. IfSome found (λ a. IsNoLargerThanWays options.now sprites.now (sides_of a.size))) }
     ensures unless { IsOkUnless result Memory }
 {
     if *tries == 0 {
@@ -242,10 +239,8 @@ fn first_whole<A: Allocator + Copy>(
     ensures first { tries.old ≡ 0 → IfOk result (λ found. IfSome found (λ a. InOne options.now sprites.now (λ lying.
         IsFirstFound WAYS options.now.allowed (spacing_of options.now) lying (sides_of a.size)
         (map (λ s. s.0) a.order.items) a.places.items))) }
-    ensures larger { IfOk result (λ found. IfSome found (λ a. InEach options.now sprites.now (λ lying. IsNoLarger WAYS
-        options.now.allowed (spacing_of options.now) lying (sides_of a.size)))) }
-    ensures none { IfOk result (λ found. IfNone found (InEach options.now sprites.now (λ lying.
-        NoneIsFound WAYS options.now.allowed (spacing_of options.now) lying))) }
+    ensures larger { IfOk result (λ found. IfSome found (λ a. IsNoLargerThanWays options.now sprites.now (sides_of a.size))) }
+    ensures none { IfOk result (λ found. IfNone found (NoWayFinds options.now sprites.now)) }
     ensures unless { IsOkUnless result Memory }
 {
     let found = first_found(alloc, sprites, options)?;
@@ -274,10 +269,8 @@ pub fn packed<A: Allocator + Copy, F: FnMut(Size)>(
     ensures first { options.now.effort ≡ 0 → IfOk result (λ found. IfSome found (λ a. InOne options.now sprites.now
         (λ lying. IsFirstFound WAYS options.now.allowed (spacing_of options.now) lying (sides_of a.size)
         (map (λ s. s.0) a.order.items) a.places.items))) }
-    ensures larger { IfOk result (λ found. IfSome found (λ a. InEach options.now sprites.now (λ lying. IsNoLarger WAYS
-        options.now.allowed (spacing_of options.now) lying (sides_of a.size)))) }
-    ensures none { IfOk result (λ found. IfNone found (InEach options.now sprites.now (λ lying.
-        NoneIsFound WAYS options.now.allowed (spacing_of options.now) lying))) }
+    ensures larger { IfOk result (λ found. IfSome found (λ a. IsNoLargerThanWays options.now sprites.now (sides_of a.size))) }
+    ensures none { IfOk result (λ found. IfNone found (NoWayFinds options.now sprites.now)) }
     ensures told { IfOk result (λ found. IfSome found (λ a. IsToldLast (λ p size q. F.step p size tt q) told a.size)) }
     ensures unless { IsOkUnless result Memory }
 {

@@ -6,9 +6,9 @@ ghost use Rattle.guillotiere.specs.Pixels.{sides_of};
 ghost use Rattle.atlas_sheet.specs.declared.error.SheetError.TheVariants.{Memory};
 ghost use Rattle.atlas_sheet.specs.declared.ways.TheConstants.{WAYS};
 ghost use Rattle.atlas_sheet.specs.Allowances.{IsAllowed, IsGreatest};
+ghost use Rattle.atlas_sheet.specs.Dense.{IsNoLargerThanWays};
 ghost use Rattle.atlas_sheet.specs.Fillings.{IsNoBetter, ways_tried};
 ghost use Rattle.atlas_sheet.specs.Lying.{IsArranged};
-ghost use Rattle.atlas_sheet.specs.Packings.{IsNoLarger};
 ghost use Rattle.atlas_sheet.specs.Paging.{AreGreatest, ArePages, AreUsed, IsOnPage, NoPlacesOverlap, OneIsTooLarge};
 ghost use Rattle.atlas_sheet.specs.Paging.{found_on, holes, put_on, sprites_left};
 ghost use Rattle.atlas_sheet.specs.Settings.{CanPack, IsSheetFault, spacing_of};
@@ -60,8 +60,7 @@ pub fn next_page<A: Allocator + Copy>(
     ensures arranged { IfOk result (IsArranged options.now left.now) }
     ensures allowed { IfOk result (λ a. IsAllowed options.now.allowed (sides_of a.size)) }
     ensures kind { IfOk result (λ a.
-        (All IsSome a.places.items × InEach options.now left.now (λ lying. IsNoLarger WAYS options.now.allowed
-        (spacing_of options.now) lying (sides_of a.size)))
+        (All IsSome a.places.items × IsNoLargerThanWays options.now left.now (sides_of a.size))
         ⊎ (IsGreatest options.now.allowed (sides_of a.size)
         × InEach options.now left.now (λ lying. All
         (IsNoBetter (sides_of a.size) (spacing_of options.now) lying (used_area a.places.items))
