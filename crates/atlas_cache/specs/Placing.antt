@@ -19,10 +19,11 @@ pub record PlacesOn (asked : Size) (old new : RoomsState) (page : ℕ) (granted 
   pub there : page < length old.pages
   pub numbered : page < no_page
 
--- A request is granted on the first page that has room for it; none, if no page has. Unless it is granted, nothing
--- changes. It takes at most 4 slots of a page, and memory only where fewer are in reserve; a page is short of them where they
--- don't suffice.
-pub record PlacesFirst (asked : Size) (old new : RoomsState) (result : Result (Option (ℕ × Allocation)) CacheError) : Type 0 where
+-- A request is granted on the first page that has room for it; none is, if no page has. Unless it is granted, nothing
+-- changes. It takes at most 4 slots of a page, and memory only where fewer are in reserve; it is refused for want of
+-- slots only where some page is short of them.
+pub record PlacesFirst (asked : Size) (old new : RoomsState)
+    (result : Result (Option (ℕ × Allocation)) CacheError) : Type 0 where
   pub placed : IfOk result (λ placed. IfSome placed (λ place. PlacesOn asked old new place.0 place.1))
   pub full : result ≡ Ok None → NoneHasRoomBelow asked old.pages (length old.pages)
   pub none : result ≡ Ok None → new ≡ old

@@ -185,8 +185,9 @@ impl<A: Allocator + Copy> Rooms<A> {
     }
 
     /// Grants a request on the first page that has room for it: the page, and what it granted, which has the sides that
-    /// were asked for, rounded up to the alignment. None if no page has room. No page grows and no other rectangle moves.
-    /// `Slots` if that page has too few of them, `Memory` if memory is refused. Unless something is granted, nothing changes.
+    /// were asked for, rounded up to the alignment. None if no page has room. No page grows and no other rectangle
+    /// moves. `Slots` if that page has too few of them, `Memory` if memory is refused. Unless something is granted,
+    /// nothing changes.
     pub fn place(&mut self, asked: Size) -> Result<Option<(u32, Allocation)>, CacheError>
         ensures { PlacesFirst asked self.old self.new result }
     {

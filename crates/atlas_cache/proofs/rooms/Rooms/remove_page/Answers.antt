@@ -1,4 +1,4 @@
-use Rattle.std.proofs.Common.{◌≡◌, ◌+◌, ◌-◌, ◌∙◌, ◌∷◌, [], ap, arith, length, length-append, subst, sym}
+use Rattle.std.proofs.Common.{◌≡◌, ◌+◌, ◌-◌, ◌∙◌, ◌∷◌, [], ap, arith, length, length-append, rules, subst, sym}
 use Rattle.std.proofs.lemmas.Bool.{eqb-true}
 use Rattle.atlas_cache.specs.Rooms.{rooms_of, KeepsRooms}
 use Rattle.atlas_cache.proofs.ShrinkLemmas.{drops_last, in_use, last_number, rooms_left}
@@ -23,7 +23,7 @@ invariant_of-self g c =
     let long : length c.self.inside.pages.items ≡ c.len-last.result - 1 + 1 =
     omega (arith, number, c.len-last.ensures, c.self.inside.pages.ok.0) in
     let drops = drops_last c.self.inside.pages.items c.truncate.new.self.items (c.len-last.result - 1) c.number.result c.index.result.now
-    long c.index.ensures c.truncate.ensures.items (c.is_empty-2.ensures.empty.0 c.if-not-is_empty.false) c.number.ensures in
+    long (search rules) (search rules) (c.is_empty-2.ensures.empty.0 c.if-not-is_empty.false) c.number.ensures in
     rooms_left c.self.inside.options c.truncate.new.self.items drops.last
     (subst (λ ps. KeepsRooms (rooms_of c.self.inside.options ps)) drops.was c.self.invariant)
 
@@ -33,4 +33,4 @@ returns-clause-drops g c =
     let long : length c.self.inside.pages.items ≡ c.len-last.result - 1 + 1 =
     omega (arith, number, c.len-last.ensures, c.self.inside.pages.ok.0) in
     rw (← c.self.view_is) (drops_last c.self.inside.pages.items c.truncate.new.self.items (c.len-last.result - 1) c.number.result
-    c.index.result.now long c.index.ensures c.truncate.ensures.items (c.is_empty-2.ensures.empty.0 c.if-not-is_empty.false) c.number.ensures)
+    c.index.result.now long (search rules) (search rules) (c.is_empty-2.ensures.empty.0 c.if-not-is_empty.false) c.number.ensures)
