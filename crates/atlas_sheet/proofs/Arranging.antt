@@ -18,7 +18,7 @@ use Rattle.atlas_sheet.specs.Allowances.{pixels}
 use Rattle.atlas_sheet.specs.Lying.{IsArrangement, IsPlacedFor, MayLie, areas_of, lie, placed_area}
 use Rattle.atlas_sheet.specs.Orders.{choice_options}
 use Rattle.atlas_sheet.specs.Packings.{ArePacked, IsNoLarger, Packed}
-use Rattle.atlas_sheet.specs.Sheets.{CanPlace, FindPlaces, IsPackable, IsPlaceFor, inner_sides, with_places}
+use Rattle.atlas_sheet.specs.Sheets.{ArePackable, FindPlaces, IsPackable, IsPlaceFor, inner_sides, with_places}
 use Rattle.atlas_sheet.proofs.Flipping.{lie_as_given, lie_on, lie_packable}
 use Rattle.atlas_sheet.proofs.WholeSheets.{found_places}
 
@@ -66,10 +66,10 @@ module _ {sheet : Sides} {spacing : Spacing} {turn : Bool} {choice : Choice} {ly
     found = are.found;
   }
 
-  -- Sprites that can be placed can be placed as they lie.
-  pub can_place_lying : {sprites : List Size} → IsArrangement sheet spacing turn sprites choice lying order places
-      → CanPlace spacing sprites → CanPlace spacing lying
-  can_place_lying {sprites} are can = record {
+  -- Packable sprites are packable as they lie.
+  pub lying_packable : {sprites : List Size} → IsArrangement sheet spacing turn sprites choice lying order places
+      → ArePackable spacing sprites → ArePackable spacing lying
+  lying_packable {sprites} are can = record {
     aligned = can.aligned;
     packable = lie_packable spacing turn sprites lying are.lies can.packable;
   }

@@ -9,7 +9,7 @@ use Rattle.atlas_sheet.specs.declared.options.SheetOptions.{SheetOptions}
 use Rattle.atlas_sheet.specs.declared.options.Spacing.{Spacing}
 use Rattle.atlas_sheet.specs.Allowances.{IsAllowanceFault, IsUsable}
 use Rattle.atlas_sheet.specs.Fillings.{HasFault}
-use Rattle.atlas_sheet.specs.Sheets.{CanPlace}
+use Rattle.atlas_sheet.specs.Sheets.{ArePackable}
 
 -- The padding and the alignment.
 abbrev pub spacing_of : SheetOptions → Spacing
@@ -19,10 +19,10 @@ spacing_of o = record { padding = o.padding; alignment = o.alignment }
 abbrev pub plain_spacing : Spacing
 plain_spacing = record { padding = 0; alignment = record { width = pos 1; height = pos 1 } }
 
--- A sheet is allowed, and the sprites can be placed.
+-- A sheet is allowed, and the sprites are packable.
 pub record CanPack (o : SheetOptions) (sprites : List Size) : Type 0 where
   pub usable : IsUsable o.allowed
-  pub placing : CanPlace (spacing_of o) sprites
+  pub placing : ArePackable (spacing_of o) sprites
 
 -- What an error says of the options or of a sprite.
 abbrev pub IsSheetFault : SheetOptions → List Size → SheetError → Type 0

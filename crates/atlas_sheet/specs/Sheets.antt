@@ -21,7 +21,7 @@ pub record IsPackable (spacing : Spacing) (sprite : Size) : Type 0 where
   pub high : (sides_of sprite).height + spacing.padding + spacing.padding ≤ 2147483647
 
 -- The alignment is positive, and none of the sprites is empty or too large.
-pub record CanPlace (spacing : Spacing) (sprites : List Size) : Type 0 where
+pub record ArePackable (spacing : Spacing) (sprites : List Size) : Type 0 where
   pub aligned : IsPositive (sides_of spacing.alignment)
   pub packable : All (IsPackable spacing) sprites
 

@@ -7,7 +7,7 @@ ghost use Rattle.guillotiere.specs.Replies.{IsExact};
 ghost use Rattle.atlas_sheet.specs.declared.error.SheetError.TheVariants.{Memory};
 ghost use Rattle.atlas_sheet.specs.Dense.{AreAllPlaced, ArePaddedApart, IsGridIn, IsSmallGrid, TakesCells};
 ghost use Rattle.atlas_sheet.specs.Settings.{spacing_of};
-ghost use Rattle.atlas_sheet.specs.Sheets.{CanPlace, IsPackable, asked_sides};
+ghost use Rattle.atlas_sheet.specs.Sheets.{ArePackable, IsPackable, asked_sides};
 
 use crate::error::SheetError;
 use crate::options::{SheetOptions, Spacing};
@@ -155,7 +155,7 @@ pub fn topmost_places<A: Allocator + Copy>(
     sheet: Size,
 ) -> Result<Option<Vec<Option<Placed>, A>>, SheetError>
     requires positive { IsPositive (sides_of sheet) }
-    requires good { CanPlace (spacing_of options.now) sprites.now }
+    requires good { ArePackable (spacing_of options.now) sprites.now }
     ensures each { IfOk result (λ found. IfSome found (λ placed.
         AreAllPlaced options.now (sides_of sheet) sprites.now placed.items)) }
     ensures apart { IfOk result (λ found. IfSome found (λ placed.

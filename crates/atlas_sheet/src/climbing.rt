@@ -6,7 +6,7 @@ ghost use Rattle.atlas_sheet.specs.declared.error.SheetError.TheVariants.{Memory
 ghost use Rattle.atlas_sheet.specs.Lying.{IsArranged};
 ghost use Rattle.atlas_sheet.specs.Orders.{IsOrderOf};
 ghost use Rattle.atlas_sheet.specs.Settings.{spacing_of};
-ghost use Rattle.atlas_sheet.specs.Sheets.{CanPlace, used_area};
+ghost use Rattle.atlas_sheet.specs.Sheets.{ArePackable, used_area};
 
 use crate::arrangement::Arrangement;
 use crate::changes::change_of;
@@ -36,7 +36,7 @@ pub fn asked_in<A: Allocator + Copy>(
     order: &[(usize, Size)],
 ) -> Result<Arrangement<A>, SheetError>
     requires positive { IsPositive (sides_of size) }
-    requires good { CanPlace (spacing_of options.now) sprites.now }
+    requires good { ArePackable (spacing_of options.now) sprites.now }
     requires permuted { IsOrderOf sprites.now order.now }
     ensures arranged { IfOk result (IsArranged options.now sprites.now) }
     ensures size { IfOk result (λ a. a.size ≡ size) }
@@ -62,7 +62,7 @@ fn changed<A: Allocator + Copy>(
     from: &Arrangement<A>,
 ) -> Result<Arrangement<A>, SheetError>
     requires positive { IsPositive (sides_of from.now.size) }
-    requires good { CanPlace (spacing_of options.now) from.now.lying.items }
+    requires good { ArePackable (spacing_of options.now) from.now.lying.items }
     requires permuted { IsOrderOf from.now.lying.items from.now.order.items }
     ensures arranged { IfOk result (IsArranged options.now from.now.lying.items) }
     ensures size { IfOk result (λ to. to.size ≡ from.now.size) }
@@ -90,7 +90,7 @@ pub fn improve<A: Allocator + Copy>(
     first: Arrangement<A>,
 ) -> Result<Arrangement<A>, SheetError>
     requires positive { IsPositive (sides_of first.size) }
-    requires good { CanPlace (spacing_of options.now) first.lying.items }
+    requires good { ArePackable (spacing_of options.now) first.lying.items }
     requires arranged { IsArranged options.now first.lying.items first }
     ensures arranged { IfOk result (IsArranged options.now first.lying.items) }
     ensures size { IfOk result (λ best. best.size ≡ first.size) }

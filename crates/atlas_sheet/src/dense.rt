@@ -10,7 +10,7 @@ ghost use Rattle.atlas_sheet.specs.Dense.{AreAllPlaced, ArePaddedApart, IsNoLarg
 ghost use Rattle.atlas_sheet.specs.Lying.{areas_of, placed_area};
 ghost use Rattle.atlas_sheet.specs.Orders.{IsOrder};
 ghost use Rattle.atlas_sheet.specs.Settings.{CanPack, IsSheetFault, spacing_of};
-ghost use Rattle.atlas_sheet.specs.Sheets.{CanPlace, used_area};
+ghost use Rattle.atlas_sheet.specs.Sheets.{ArePackable, used_area};
 
 use crate::allowed::Allowed;
 use crate::cells::topmost_places;
@@ -122,7 +122,7 @@ fn dense_at<A: Allocator + Copy>(
     size: Size,
 ) -> Result<Option<Sheet<A>>, SheetError>
     requires positive { IsPositive (sides_of size) }
-    requires good { CanPlace (spacing_of options.now) sprites.now }
+    requires good { ArePackable (spacing_of options.now) sprites.now }
     requires order { IsOrder (length sprites.now) order.now }
     requires allowed { IsAllowed options.now.allowed (sides_of size) }
     requires larger { IsNoLargerThanWays options.now sprites.now (sides_of size) }
@@ -159,7 +159,7 @@ fn denser_at<A: Allocator + Copy>(
     best: &Option<Sheet<A>>,
 ) -> Result<Option<Sheet<A>>, SheetError>
     requires positive { IsPositive (sides_of size) }
-    requires good { CanPlace (spacing_of options.now) sprites.now }
+    requires good { ArePackable (spacing_of options.now) sprites.now }
     requires order { IsOrder (length sprites.now) order.now }
     requires allowed { IsAllowed options.now.allowed (sides_of size) }
     requires best { IfSome best.now (IsWholeSheet options.now sprites.now) }

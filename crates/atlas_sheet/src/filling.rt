@@ -4,7 +4,7 @@ ghost use Rattle.guillotiere.specs.Boxes.{IsPositive};
 ghost use Rattle.guillotiere.specs.Pixels.{natural, sides_of};
 ghost use Rattle.atlas_sheet.specs.declared.error.SheetError.TheVariants.{Memory};
 ghost use Rattle.atlas_sheet.specs.Fillings.{AreBest, HasFault, IsSpriteFault};
-ghost use Rattle.atlas_sheet.specs.Sheets.{ArePlaces, CanPlace, IsPackable, place_area, used_area};
+ghost use Rattle.atlas_sheet.specs.Sheets.{ArePackable, ArePlaces, IsPackable, place_area, used_area};
 
 use crate::error::SheetError;
 use crate::options::Spacing;
@@ -95,7 +95,7 @@ pub fn fill_by<A: Allocator + Copy>(
     ways: &[Way],
 ) -> Result<Filling<A>, SheetError>
     requires positive { IsPositive (sides_of size) }
-    requires good { CanPlace spacing sprites.now }
+    requires good { ArePackable spacing sprites.now }
     requires ways { 0 < length ways.now }
     ensures places { IfOk result (λ filling.
         ArePlaces (sides_of size) spacing sprites.now filling.found.places.items) }

@@ -8,7 +8,7 @@ ghost use Rattle.guillotiere.specs.SimpleStored.{simple_state_of};
 ghost use Rattle.atlas_sheet.specs.declared.error.SheetError.TheVariants.{Memory};
 ghost use Rattle.atlas_sheet.specs.Orders.{AreNumberedOnce, IsOrderOf, choice_options};
 ghost use Rattle.atlas_sheet.specs.Packings.{AllFindPlaces, LeavesOne};
-ghost use Rattle.atlas_sheet.specs.Sheets.{AreFoundBy, ArePlaces, CanPlace, FindPlaces, FindsPlace, GivesBox, IsPackable};
+ghost use Rattle.atlas_sheet.specs.Sheets.{AreFoundBy, ArePackable, ArePlaces, FindPlaces, FindsPlace, GivesBox, IsPackable};
 ghost use Rattle.atlas_sheet.specs.Sheets.{asked_sides, inner_sides, padded, with_places};
 ghost use Rattle.guillotiere.specs.Replies.{IsExact};
 
@@ -165,7 +165,7 @@ pub fn find_places<A: Allocator + Copy>(
     choice: Choice,
 ) -> Result<Vec<Option<Rectangle>, A>, SheetError>
     requires positive { IsPositive (sides_of sheet) }
-    requires good { CanPlace spacing sprites.now }
+    requires good { ArePackable spacing sprites.now }
     requires permuted { IsOrderOf sprites.now order.now }
     ensures count { IfOk result (λ places. length places.items ≡ length sprites.now) }
     ensures found { IfOk result (λ places.
@@ -189,7 +189,7 @@ pub fn find_all<A: Allocator + Copy>(
     choice: Choice,
 ) -> Result<Option<Vec<Rectangle, A>>, SheetError>
     requires positive { IsPositive (sides_of sheet) }
-    requires good { CanPlace spacing sprites.now }
+    requires good { ArePackable spacing sprites.now }
     requires permuted { IsOrderOf sprites.now order.now }
     ensures count { IfOk result (λ found. IfSome found (λ places. length places.items ≡ length sprites.now)) }
     ensures found { IfOk result (λ found. IfSome found (λ places.
@@ -226,7 +226,7 @@ pub fn try_way<A: Allocator + Copy>(
     way: Way,
 ) -> Result<Found<A>, SheetError>
     requires positive { IsPositive (sides_of sheet) }
-    requires good { CanPlace spacing sprites.now }
+    requires good { ArePackable spacing sprites.now }
     ensures places { IfOk result (λ found.
         ArePlaces (sides_of sheet) spacing sprites.now found.places.items) }
     ensures found { IfOk result (λ found.

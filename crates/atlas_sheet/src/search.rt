@@ -7,7 +7,7 @@ ghost use Rattle.atlas_sheet.specs.Allowances.{HasHalfOf, IsAllowed, IsGreatest,
 ghost use Rattle.atlas_sheet.specs.Allowances.{row_length};
 ghost use Rattle.atlas_sheet.specs.Packings.{ArePacked, IsLeastFound, IsOrderBy, NoWayPacks, NoneIsFound};
 ghost use Rattle.atlas_sheet.specs.Packings.{IsPowerPacked, NoShapePacks};
-ghost use Rattle.atlas_sheet.specs.Sheets.{CanPlace};
+ghost use Rattle.atlas_sheet.specs.Sheets.{ArePackable};
 
 use crate::allowed::Allowed;
 use crate::error::SheetError;
@@ -81,7 +81,7 @@ fn bisect<A: Allocator + Copy>(
 ) -> Result<Option<Packing<A>>, SheetError>
     requires usable { IsUsable allowed }
     requires row { IsRow allowed }
-    requires good { CanPlace spacing sprites.now }
+    requires good { ArePackable spacing sprites.now }
     requires orders { All (λ t. IsOrderBy t.way sprites.now t.order.items) trials.now }
     ensures least { IfOk result (λ found. IfSome found (λ sheet. IsLeastFound (map (λ t. t.way) trials.now) allowed
         spacing sprites.now (sides_of sheet.size)
@@ -165,7 +165,7 @@ fn try_shapes<A: Allocator + Copy>(
 ) -> Result<Option<Packing<A>>, SheetError>
     requires most { most < 31 }
     requires sum { sum ≤ 2 * most }
-    requires good { CanPlace spacing sprites.now }
+    requires good { ArePackable spacing sprites.now }
     requires orders { All (λ t. IsOrderBy t.way sprites.now t.order.items) trials.now }
     ensures packed { IfOk result (λ found. IfSome found (λ sheet. IsPowerPacked (map (λ t. t.way) trials.now) most sum
         spacing sprites.now (sides_of sheet.size)
@@ -201,7 +201,7 @@ fn scan<A: Allocator + Copy>(
     spacing: Spacing,
 ) -> Result<Option<Packing<A>>, SheetError>
     requires positive { 0 < natural greatest }
-    requires good { CanPlace spacing sprites.now }
+    requires good { ArePackable spacing sprites.now }
     requires orders { All (λ t. IsOrderBy t.way sprites.now t.order.items) trials.now }
     ensures least { IfOk result (λ found. IfSome found (λ sheet. IsLeastFound (map (λ t. t.way) trials.now)
         (Allowed.Powers greatest) spacing sprites.now (sides_of sheet.size)
@@ -229,7 +229,7 @@ pub fn smallest<A: Allocator + Copy>(
     spacing: Spacing,
 ) -> Result<Option<Packing<A>>, SheetError>
     requires usable { IsUsable allowed }
-    requires good { CanPlace spacing sprites.now }
+    requires good { ArePackable spacing sprites.now }
     requires orders { All (λ t. IsOrderBy t.way sprites.now t.order.items) trials.now }
     ensures least { IfOk result (λ found. IfSome found (λ sheet. IsLeastFound (map (λ t. t.way) trials.now) allowed
         spacing sprites.now (sides_of sheet.size)

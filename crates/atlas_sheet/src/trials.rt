@@ -4,7 +4,7 @@ ghost use Rattle.guillotiere.specs.Boxes.{IsPositive};
 ghost use Rattle.guillotiere.specs.Pixels.{sides_of};
 ghost use Rattle.atlas_sheet.specs.declared.error.SheetError.TheVariants.{Memory};
 ghost use Rattle.atlas_sheet.specs.Packings.{ArePacked, IsOrderBy, LeavesSprite, NoWayPacks};
-ghost use Rattle.atlas_sheet.specs.Sheets.{CanPlace};
+ghost use Rattle.atlas_sheet.specs.Sheets.{ArePackable};
 ghost use Rattle.atlas_sheet.specs.declared.ways.Way.{Way};
 
 use crate::error::SheetError;
@@ -58,7 +58,7 @@ fn try_trial<A: Allocator + Copy>(
     spacing: Spacing,
 ) -> Result<Option<Packing<A>>, SheetError>
     requires positive { IsPositive (sides_of size) }
-    requires good { CanPlace spacing sprites.now }
+    requires good { ArePackable spacing sprites.now }
     requires order { IsOrderBy trial.now.way sprites.now trial.now.order.items }
     ensures size { IfOk result (λ found. IfSome found (λ p. p.size ≡ size)) }
     ensures packed { IfOk result (λ found. IfSome found (λ p. (ways : List Way) → Contains ways trial.now.way
@@ -91,7 +91,7 @@ pub fn try_size<A: Allocator + Copy>(
     spacing: Spacing,
 ) -> Result<Option<Packing<A>>, SheetError>
     requires positive { IsPositive (sides_of size) }
-    requires good { CanPlace spacing sprites.now }
+    requires good { ArePackable spacing sprites.now }
     requires orders { All (λ t. IsOrderBy t.way sprites.now t.order.items) trials.now }
     ensures size { IfOk result (λ found. IfSome found (λ p. p.size ≡ size)) }
     ensures packed { IfOk result (λ found. IfSome found (λ p.

@@ -7,7 +7,7 @@ ghost use Rattle.guillotiere.specs.Pixels.{natural, sides_of};
 ghost use Rattle.atlas_sheet.specs.declared.error.SheetError.TheVariants.{Memory};
 ghost use Rattle.atlas_sheet.specs.Lying.{MayLie};
 ghost use Rattle.atlas_sheet.specs.Settings.{CanPack, spacing_of};
-ghost use Rattle.atlas_sheet.specs.Sheets.{CanPlace};
+ghost use Rattle.atlas_sheet.specs.Sheets.{ArePackable};
 ghost use Rattle.atlas_sheet.specs.Turnings.{AreLaid, fitted, has_room, turned_to};
 
 use crate::changes::flipped;
@@ -121,7 +121,7 @@ pub fn laid<A: Allocator + Copy>(
     requires { CanPack options.now sprites.now }
     ensures laid { IfOk result (λ lying. AreLaid options.now how sprites.now lying.items) }
     ensures lies { IfOk result (λ lying. AllZip (MayLie options.now.turn) sprites.now lying.items) }
-    ensures good { IfOk result (λ lying. CanPlace (spacing_of options.now) lying.items) }
+    ensures good { IfOk result (λ lying. ArePackable (spacing_of options.now) lying.items) }
     ensures unless { IsOkUnless result Memory }
 {
     let sheet = greatest_sheet(options.allowed);

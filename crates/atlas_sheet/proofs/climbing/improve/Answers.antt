@@ -1,10 +1,10 @@
 use Rattle.std.proofs.Common.{◌∙◌, ap, arith}
 use Rattle.atlas_sheet.specs.Sheets.{used_area}
-use Rattle.atlas_sheet.proofs.Arranging.{can_place_lying, rebased}
+use Rattle.atlas_sheet.proofs.Arranging.{lying_packable, rebased}
 use Rattle.atlas_sheet.proofs.climbing.improve.Goals as goal
 
 pub changed-requires-clause-good : goal.changed-requires-clause-good
-changed-requires-clause-good g c = can_place_lying c.loop-tries.invariant.arranged c.requires.good
+changed-requires-clause-good g c = lying_packable c.loop-tries.invariant.arranged c.requires.good
 
 pub loop-tries-preserved-then-most-area : goal.loop-tries-preserved-then-most-area
 loop-tries-preserved-then-most-area g c =

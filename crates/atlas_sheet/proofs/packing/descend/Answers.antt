@@ -3,18 +3,18 @@ use Rattle.std.proofs.lemmas.Fn.{FoldsTo-push}
 use Rattle.guillotiere.specs.declared.Size.{Size}
 use Rattle.guillotiere.specs.Pixels.{sides_of}
 use Rattle.atlas_sheet.specs.Allowances.{IsAllowed, pixels}
-use Rattle.atlas_sheet.proofs.Arranging.{can_place_lying, own, rebased}
+use Rattle.atlas_sheet.proofs.Arranging.{lying_packable, own, rebased}
 use Rattle.atlas_sheet.proofs.Telling.{falling_push}
 use Rattle.atlas_sheet.proofs.packing.descend.Goals as goal
 
 pub asked_in-requires-clause-good : goal.asked_in-requires-clause-good
 asked_in-requires-clause-good g c =
-    rw c.deref.ensures.value (can_place_lying c.loop-tries.invariant.arranged c.requires.good.placing)
+    rw c.deref.ensures.value (lying_packable c.loop-tries.invariant.arranged c.requires.good.placing)
 
 pub improve-requires-clause-good : goal.improve-requires-clause-good
 improve-requires-clause-good g c =
-    can_place_lying (rw c.deref.ensures.value at c.in_ok-moved.ensures.arranged)
-    (can_place_lying c.loop-tries.invariant.arranged c.requires.good.placing)
+    lying_packable (rw c.deref.ensures.value at c.in_ok-moved.ensures.arranged)
+    (lying_packable c.loop-tries.invariant.arranged c.requires.good.placing)
 
 pub improve-requires-clause-arranged : goal.improve-requires-clause-arranged
 improve-requires-clause-arranged g c = own c.in_ok-moved.ensures.arranged

@@ -4,14 +4,14 @@ use Rattle.guillotiere.specs.Pixels.{sides_of}
 use Rattle.atlas_sheet.specs.Packings.{IsNoLarger}
 use Rattle.atlas_sheet.specs.Settings.{spacing_of}
 use Rattle.atlas_sheet.specs.declared.ways.TheConstants.{WAYS}
-use Rattle.atlas_sheet.proofs.Arranging.{can_place_lying, no_larger, own, rebased}
+use Rattle.atlas_sheet.proofs.Arranging.{lying_packable, no_larger, own, rebased}
 use Rattle.atlas_sheet.proofs.Laying.{each_weaker}
 use Rattle.atlas_sheet.proofs.packing.packed.Goals as goal
 
 pub descend-requires-clause-good : goal.descend-requires-clause-good
 descend-requires-clause-good g c = record {
   usable = c.requires.good.usable;
-  placing = can_place_lying (rw c.in-Some.is at c.in_ok-found.ensures.arranged) c.requires.good.placing;
+  placing = lying_packable (rw c.in-Some.is at c.in_ok-found.ensures.arranged) c.requires.good.placing;
 }
 
 pub descend-requires-clause-arranged : goal.descend-requires-clause-arranged

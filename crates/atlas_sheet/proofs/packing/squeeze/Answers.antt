@@ -3,13 +3,13 @@ use Rattle.guillotiere.specs.Pixels.{sides_of}
 use Rattle.atlas_sheet.specs.declared.ways.TheConstants.{WAYS}
 use Rattle.atlas_sheet.specs.Packings.{IsNoLarger, NoneIsFound}
 use Rattle.atlas_sheet.specs.Settings.{spacing_of}
-use Rattle.atlas_sheet.proofs.Arranging.{can_place_lying, own, rebased}
+use Rattle.atlas_sheet.proofs.Arranging.{lying_packable, own, rebased}
 use Rattle.atlas_sheet.proofs.Laying.{each_weaker}
 use Rattle.atlas_sheet.proofs.packing.squeeze.Goals as goal
 
 pub improve-requires-clause-good : goal.improve-requires-clause-good
 improve-requires-clause-good g c =
-    can_place_lying (rw c.deref-2.ensures.value at c.in_ok-asked.ensures.arranged) c.in_ok-lying.ensures.good
+    lying_packable (rw c.deref-2.ensures.value at c.in_ok-asked.ensures.arranged) c.in_ok-lying.ensures.good
 
 pub improve-requires-clause-arranged : goal.improve-requires-clause-arranged
 improve-requires-clause-arranged g c = own c.in_ok-asked.ensures.arranged

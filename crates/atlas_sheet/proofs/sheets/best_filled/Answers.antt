@@ -6,7 +6,7 @@ use Rattle.atlas_sheet.specs.Fillings.{IsNoBetter, ways_tried}
 use Rattle.atlas_sheet.specs.Settings.{spacing_of}
 use Rattle.atlas_sheet.specs.Sheets.{used_area}
 use Rattle.atlas_sheet.specs.Turnings.{InEach}
-use Rattle.atlas_sheet.proofs.Arranging.{can_place_lying, own, rebased}
+use Rattle.atlas_sheet.proofs.Arranging.{lying_packable, own, rebased}
 use Rattle.atlas_sheet.proofs.BestWays.{still_best}
 use Rattle.atlas_sheet.proofs.Laying.{each_weaker}
 use Rattle.atlas_sheet.proofs.sheets.best_filled.Goals as goal
@@ -26,7 +26,7 @@ returns-clause-best g c =
     c.in_ok-first.ensures.best)
 
 pub improve-requires-clause-good : goal.improve-requires-clause-good
-improve-requires-clause-good g c = can_place_lying c.in_ok-first.ensures.arranged c.requires.placing
+improve-requires-clause-good g c = lying_packable c.in_ok-first.ensures.arranged c.requires.placing
 
 pub improve-requires-clause-arranged : goal.improve-requires-clause-arranged
 improve-requires-clause-arranged g c = own c.in_ok-first.ensures.arranged
