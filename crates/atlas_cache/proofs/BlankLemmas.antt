@@ -23,13 +23,15 @@ module _ {K : Type 0} where
   lying-past e es blank = rw blank refl
 
   -- Without a blank entry the same lie on a page.
-  pub parts-blank : (e : Entry K) (es rest : List (Entry K)) → is_blank e ≡ true → Parts e es rest → lying es ≡ lying rest
+  pub parts-blank : (e : Entry K) (es rest : List (Entry K)) → is_blank e ≡ true → Parts e es rest
+      → lying es ≡ lying rest
   parts-blank e es rest blank p =
       ap lying p.was ∙ lying-append p.newer (e ∷ p.older) ∙ ap (λ ys. lying p.newer ++ ys) (lying-past e p.older blank)
       ∙ sym (ap lying p.rests ∙ lying-append p.newer p.older)
 
   -- And without another one, those but this.
-  pub parts-lying : (e : Entry K) (es rest : List (Entry K)) → is_blank e ≡ false → Parts e es rest → Parts e (lying es) (lying rest)
+  pub parts-lying : (e : Entry K) (es rest : List (Entry K)) → is_blank e ≡ false → Parts e es rest
+      → Parts e (lying es) (lying rest)
   parts-lying e es rest lies p = record {
     newer = lying p.newer;
     older = lying p.older;
@@ -45,7 +47,8 @@ module _ {K : Type 0} where
       | inr lies ↦ rw lies (all.0, each-lying es all.1)
     ]
 
-    pub each-where : (es : List (Entry K)) → AllByRecursion P (lying es) → AllByRecursion (λ e. is_blank e ≡ false → P e) es
+    pub each-where : (es : List (Entry K)) → AllByRecursion P (lying es)
+        → AllByRecursion (λ e. is_blank e ≡ false → P e) es
     each-where [] all = tt
     each-where (e ∷ es) all = elim (cases_Bool (is_blank e)) [
       | inl blank ↦
@@ -62,7 +65,8 @@ module _ {K : Type 0} where
   ]
 
   -- Where the oldest that lies on a page is used in this frame, all are.
-  pub all-in-use : (frame : ℕ) (newer : List (Entry K)) (e : Entry K) (older : List (Entry K)) → is_blank e ≡ false → lying older ≡ []
+  pub all-in-use : (frame : ℕ) (newer : List (Entry K)) (e : Entry K) (older : List (Entry K)) → is_blank e ≡ false
+      → lying older ≡ []
       → FramesFall frame (newer ++ e ∷ older) → e.frame ≡ frame
       → AllByRecursion (λ x. x.frame ≡ frame) (lying (newer ++ e ∷ older))
   all-in-use frame newer e older lies blank falls same =
@@ -70,7 +74,8 @@ module _ {K : Type 0} where
       lying-append newer (e ∷ older) ∙ ap (λ ys. lying newer ++ ys) (lying-here e older lies ∙ ap (λ ys. e ∷ ys) blank) in
       rw is (falls-all frame frame (lying newer) e (rw is at (falls-lying frame (newer ++ e ∷ older) falls)) (omega arith) same)
 
-  pub falls-here : (f : ℕ) (xs : List (Entry K)) (e : Entry K) (ys : List (Entry K)) → FramesFall f (xs ++ e ∷ ys) → e.frame ≤ f
+  pub falls-here : (f : ℕ) (xs : List (Entry K)) (e : Entry K) (ys : List (Entry K)) → FramesFall f (xs ++ e ∷ ys)
+      → e.frame ≤ f
   falls-here f [] e ys h = h.0
   falls-here f (x ∷ xs) e ys h = let here = h.0 in omega (arith, here, falls-here x.frame xs e ys h.1)
 

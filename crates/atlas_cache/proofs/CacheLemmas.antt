@@ -77,7 +77,8 @@ module _ {K : Type 0} where
     pub rest_falls : FramesFall frame es → FramesFall frame rest
     rest_falls frames = rw p.rests (falls-without frame p.newer e p.older (rw p.was at frames))
 
-    pub rest_held : (new : List AtlasValue) → HoldsEntries pages (lying es) → is_blank e ≡ false → LeavesNoBoxOn pages new e.page e.id
+    pub rest_held : (new : List AtlasValue) → HoldsEntries pages (lying es) → is_blank e ≡ false
+        → LeavesNoBoxOn pages new e.page e.id
         → HoldsEntries new (lying rest)
     rest_held new held lies leaves =
         let q = parts-lying e es rest lies p in
@@ -108,7 +109,8 @@ module _ {K : Type 0} where
 
   -- What an entry was granted is at least as large as it is with its padding.
   pub is_bordered : (o : CacheOptions) (asked size : Size) (e : Entry K) → AreUsable o → CanStand o size
-      → asked ≡ size_of (bordered o size) → IsAtLeast asked e.rectangle → e.size ≡ size → is_blank e ≡ false → IsBordered o.padding e
+      → asked ≡ size_of (bordered o size) → IsAtLeast asked e.rectangle → e.size ≡ size → is_blank e ≡ false
+      → IsBordered o.padding e
   is_bordered o asked size e usable stands is large sized lies =
       let large_too = rw is at large in
       record {

@@ -43,7 +43,8 @@ module _ {K S : Type 0} (eq : K → K → Bool) (map : HashMap K ℕ S) (order :
   pub found-number : (k : K) (n : ℕ) → get eq map k ≡ Some n → IsNumber n (numbered items order.entries)
   found-number k n e = number-is n (h.found k n e).listed
 
-  pub found-numbers : (k : K) (o : Option ℕ) → o ≡ get eq map k → IfSome o (λ n. IsNumber n (numbered items order.entries))
+  pub found-numbers : (k : K) (o : Option ℕ) → o ≡ get eq map k
+      → IfSome o (λ n. IsNumber n (numbered items order.entries))
   found-numbers k None e = tt
   found-numbers k (Some n) e = found-number k n (sym e)
 
@@ -52,10 +53,12 @@ module _ {K S : Type 0} (eq : K → K → Bool) (map : HashMap K ℕ S) (order :
   numbers-are es v = ap numbers (sym v) ∙ numbers-numbered items order.entries h.inside
 
   -- Whatever is the number of an entry stands in the order.
-  pub entry-is : (es : List (ℕ × Entry K)) → numbered items order.entries ≡ es → (n : ℕ) → IsNumber n es → IsEntry n order
+  pub entry-is : (es : List (ℕ × Entry K)) → numbered items order.entries ≡ es → (n : ℕ) → IsNumber n es
+      → IsEntry n order
   entry-is es v n i = number-occurs items n order.entries (subst (IsNumber n) (sym v) i)
 
-  pub each-number : (es : List (ℕ × Entry K)) → numbered items order.entries ≡ es → (o : Option ℕ) → IfSome o (λ n. IsEntry n order) → IfSome o (λ n. IsNumber n es)
+  pub each-number : (es : List (ℕ × Entry K)) → numbered items order.entries ≡ es → (o : Option ℕ)
+      → IfSome o (λ n. IsEntry n order) → IfSome o (λ n. IsNumber n es)
   each-number es v None i = tt
   each-number es v (Some n) i = subst (IsNumber n) v (number-is n i)
 
@@ -83,7 +86,8 @@ module _ {K S : Type 0} (eq : K → K → Bool) (map : HashMap K ℕ S) (order :
 
   -- What belongs to one number changes, but not its key.
   module _ (n : ℕ) (e e' : Entry K) (new : List (Entry K)) (l : IsEntry n order) (s : slice_get items n ≡ Some e) (t : slice_get new n ≡ Some e') (key : e'.key ≡ e.key) (label : e'.number ≡ e.number) (size : length new ≡ length items) (o : (k : ℕ) → (k ≡ n → ⊥) → slice_get new k ≡ slice_get items k) where
-    back : (k : K) (m : ℕ) (x : Entry K) → slice_get new m ≡ Some x → eq k x.key ≡ true → (y : Entry K) × (slice_get items m ≡ Some y) × (eq k y.key ≡ true)
+    back : (k : K) (m : ℕ) (x : Entry K) → slice_get new m ≡ Some x → eq k x.key ≡ true
+        → (y : Entry K) × (slice_get items m ≡ Some y) × (eq k y.key ≡ true)
     back k m x p q =
         elim (cases_eq m n) [
           | inl is ↦ (let same_entry : e' ≡ x = same_Some e' x (sym t ∙ ap (slice_get new) (sym is) ∙ p) in
@@ -91,7 +95,8 @@ module _ {K S : Type 0} (eq : K → K → Bool) (map : HashMap K ℕ S) (order :
           | inr ne ↦ (x, sym (o m ne) ∙ p, q)
         ]
 
-    forth : (k : K) (m : ℕ) (x : Entry K) → slice_get items m ≡ Some x → eq k x.key ≡ true → (y : Entry K) × (slice_get new m ≡ Some y) × (eq k y.key ≡ true)
+    forth : (k : K) (m : ℕ) (x : Entry K) → slice_get items m ≡ Some x → eq k x.key ≡ true
+        → (y : Entry K) × (slice_get new m ≡ Some y) × (eq k y.key ≡ true)
     forth k m x p q =
         elim (cases_eq m n) [
           | inl is ↦ (let same_entry : e ≡ x = same_Some e x (sym s ∙ ap (slice_get items) (sym is) ∙ p) in
@@ -127,7 +132,9 @@ module _ {K S : Type 0} (eq : K → K → Bool) (map : HashMap K ℕ S) (order :
       }
 
   -- An entry goes, from the map and from the order.
-  pub kept-gone : IsEquivalence eq → (n : ℕ) (e : Entry K) (new : HashMap K ℕ S) → IsEntry n order → slice_get items n ≡ Some e → ((k : K) → get eq new k ≡ cond (eq e.key k) None (get eq map k)) → AreKept eq new (gone n order) items
+  pub kept-gone : IsEquivalence eq → (n : ℕ) (e : Entry K) (new : HashMap K ℕ S) → IsEntry n order
+      → slice_get items n ≡ Some e → ((k : K) → get eq new k ≡ cond (eq e.key k) None (get eq map k))
+      → AreKept eq new (gone n order) items
   kept-gone laws n e new l s u =
       let there : (m : ℕ) → IsEntry m (gone n order) → IsEntry m order = (λ m i. omega (arith, i, occurs-without n order.entries l m)) in
       let ended : occurs n (without n order.entries) ≡ 0 = omega (arith, h.once n, occurs-without n order.entries l n, same-self n) in
@@ -193,7 +200,9 @@ module _ {K S : Type 0} (eq : K → K → Bool) (map : HashMap K ℕ S) (order :
     }
 
   -- What a new entry makes of the list of entries.
-  pub joined-is : (n : ℕ) (e : Entry K) (stored : List (Entry K)) → IsFreshNumber n order → slice_get stored n ≡ Some e → ((k : ℕ) → (k ≡ n → ⊥) → k < length items → slice_get stored k ≡ slice_get items k) → numbered stored (n ∷ order.entries) ≡ (n, e) ∷ numbered items order.entries
+  pub joined-is : (n : ℕ) (e : Entry K) (stored : List (Entry K)) → IsFreshNumber n order → slice_get stored n ≡ Some e
+      → ((k : ℕ) → (k ≡ n → ⊥) → k < length items → slice_get stored k ≡ slice_get items k)
+      → numbered stored (n ∷ order.entries) ≡ (n, e) ∷ numbered items order.entries
   joined-is n e stored fresh t o =
       numbered-cons stored n order.entries e t ∙
       ap (λ r. (n, e) ∷ r) (numbered-same items stored order.entries (λ k l. o k (λ q. omega (arith, l, fresh.free, ap (λ v. occurs v order.entries) q)) (h.inside k l)))
@@ -223,12 +232,14 @@ module _ {K S : Type 0} (eq : K → K → Bool) (map : HashMap K ℕ S) (order :
       go (Some e) is first rest = rw is (first, rest)
 
   -- A number that is new is that of no entry.
-  pub new-none : (es : List (ℕ × Entry K)) → numbered items order.entries ≡ es → (n : ℕ) → IsFreshNumber n order → is_some (entry_at n es) ≡ false
+  pub new-none : (es : List (ℕ × Entry K)) → numbered items order.entries ≡ es → (n : ℕ) → IsFreshNumber n order
+      → is_some (entry_at n es) ≡ false
   new-none es v n fresh =
       ap (λ es. is_some (entry_at n es)) (sym v) ∙ ap is_some (entry_at-none items n order.entries fresh.free)
 
   -- A key without an entry isn't in the map.
-  pub absent-is : (es : List (ℕ × Entry K)) → numbered items order.entries ≡ es → (k : K) → is_some (number_of eq k es) ≡ false → get eq map k ≡ None
+  pub absent-is : (es : List (ℕ × Entry K)) → numbered items order.entries ≡ es → (k : K)
+      → is_some (number_of eq k es) ≡ false → get eq map k ≡ None
   absent-is es v k z =
       elim (option_is (get eq map k)) [
         | inl none ↦ none
@@ -241,7 +252,8 @@ module _ {K S : Type 0} (eq : K → K → Bool) (map : HashMap K ℕ S) (order :
     kept-written =
         kept-changed n r e (set items n e) l s (slice_get-set_same items n e (h.inside n l)) key label (length-set items n e) (λ k ne. slice_get-set_other items n k e ne)
 
-  pub touched-is : (n frame : ℕ) (r : Entry K) → IsEntry n order → slice_get items n ≡ Some r → numbered (set items n (record r { frame = frame })) (n ∷ without n order.entries) ≡ touched n frame (numbered items order.entries)
+  pub touched-is : (n frame : ℕ) (r : Entry K) → IsEntry n order → slice_get items n ≡ Some r
+      → numbered (set items n (record r { frame = frame })) (n ∷ without n order.entries) ≡ touched n frame (numbered items order.entries)
   touched-is n frame r l s =
       let e : Entry K = record r { frame = frame } in
       let es = numbered items order.entries in
@@ -251,13 +263,16 @@ module _ {K S : Type 0} (eq : K → K → Bool) (map : HashMap K ℕ S) (order :
       ap (λ r. (n, e) ∷ r) (numbered-same items (set items n e) rest (λ k m. slice_get-set_other items n k e (λ q. omega (arith, m, ended, ap (λ v. occurs v rest) q))) ∙ numbered-without items n order.entries h.inside) ∙
       sym (ap (λ o. option_map_or (λ (x : Entry K). (n, record x { frame = frame }) ∷ without_number n es) o es) (entry_at-numbered items n order.entries h.inside l ∙ s))
 
-  pub moved-is : (n id : ℕ) (rectangle : Rectangle) (r : Entry K) → IsEntry n order → slice_get items n ≡ Some r → numbered (set items n (record r { id = id; rectangle = rectangle })) order.entries ≡ moved n id rectangle (numbered items order.entries)
+  pub moved-is : (n id : ℕ) (rectangle : Rectangle) (r : Entry K) → IsEntry n order → slice_get items n ≡ Some r
+      → numbered (set items n (record r { id = id; rectangle = rectangle })) order.entries ≡ moved n id rectangle (numbered items order.entries)
   moved-is n id rectangle r l s =
       let e : Entry K = record r { id = id; rectangle = rectangle } in
       numbered-moved items (set items n e) n id rectangle r order.entries h.inside s (slice_get-set_same items n e (h.inside n l)) (λ k ne. slice_get-set_other items n k e ne) (h.once n)
 
   -- No two entries of a part of the order have equal keys.
-  keys-apart : IsEquivalence eq → (x : ℕ) (e : Entry K) (ns : List ℕ) → IsEntry x order → slice_get items x ≡ Some e → occurs x ns ≡ 0 → ((m : ℕ) → 0 < occurs m ns → IsEntry m order) → AllByRecursion (λ k. eq e.key k ≡ false) (keys (numbered items ns))
+  keys-apart : IsEquivalence eq → (x : ℕ) (e : Entry K) (ns : List ℕ) → IsEntry x order → slice_get items x ≡ Some e
+      → occurs x ns ≡ 0 → ((m : ℕ) → 0 < occurs m ns → IsEntry m order)
+      → AllByRecursion (λ k. eq e.key k ≡ false) (keys (numbered items ns))
   keys-apart laws x e [] l s z inner = tt
   keys-apart laws x e (y ∷ ns) l s z inner =
       let w = first-stored items y ns (λ m i. h.inside m (inner m i)) in
@@ -271,7 +286,8 @@ module _ {K S : Type 0} (eq : K → K → Bool) (map : HashMap K ℕ S) (order :
       subst (λ es. AllByRecursion (λ k. eq e.key k ≡ false) (keys es)) (sym (numbered-cons items y ns w.0 w.1))
       (apart, keys-apart laws x e ns l s (omega (arith, z)) (λ m i. inner m (omega (arith, i))))
 
-  keys-distinct : IsEquivalence eq → (ns : List ℕ) → ((m : ℕ) → occurs m ns ≤ 1) → ((m : ℕ) → 0 < occurs m ns → IsEntry m order) → IsDistinct eq (keys (numbered items ns))
+  keys-distinct : IsEquivalence eq → (ns : List ℕ) → ((m : ℕ) → occurs m ns ≤ 1)
+      → ((m : ℕ) → 0 < occurs m ns → IsEntry m order) → IsDistinct eq (keys (numbered items ns))
   unfolding IsDistinct
   keys-distinct laws [] once inner = tt
   keys-distinct laws (x ∷ ns) once inner =

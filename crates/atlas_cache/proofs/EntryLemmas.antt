@@ -53,7 +53,8 @@ module _ {K : Type 0} where
   IsInside items ns = (k : ℕ) → 0 < occurs k ns → k < length items
 
   module _ (items : List (Entry K)) where
-    pub numbered-cons : (n : ℕ) (ns : List ℕ) (e : Entry K) → slice_get items n ≡ Some e → numbered items (n ∷ ns) ≡ (n, e) ∷ numbered items ns
+    pub numbered-cons : (n : ℕ) (ns : List ℕ) (e : Entry K) → slice_get items n ≡ Some e
+        → numbered items (n ∷ ns) ≡ (n, e) ∷ numbered items ns
     numbered-cons n ns e h =
         ap (λ o. option_map_or (λ x. (n, x) ∷ numbered items ns) o (numbered items ns)) h
 
@@ -63,7 +64,8 @@ module _ {K : Type 0} where
     pub inside-tail : (x : ℕ) (ns : List ℕ) → IsInside items (x ∷ ns) → IsInside items ns
     inside-tail x ns h = λ k l. h k (omega (arith, l))
 
-    pub entry_at-numbered : (n : ℕ) (ns : List ℕ) → IsInside items ns → 0 < occurs n ns → entry_at n (numbered items ns) ≡ slice_get items n
+    pub entry_at-numbered : (n : ℕ) (ns : List ℕ) → IsInside items ns → 0 < occurs n ns
+        → entry_at n (numbered items ns) ≡ slice_get items n
     entry_at-numbered n [] h l = absurd (omega arith)
     entry_at-numbered n (x ∷ ns) h l =
         let w = first-stored x ns h in
@@ -90,7 +92,8 @@ module _ {K : Type 0} where
           | inr ne ↦ omega (arith, ne)
         ]
 
-    pub numbered-without : (n : ℕ) (ns : List ℕ) → IsInside items ns → numbered items (without n ns) ≡ without_number n (numbered items ns)
+    pub numbered-without : (n : ℕ) (ns : List ℕ) → IsInside items ns
+        → numbered items (without n ns) ≡ without_number n (numbered items ns)
     numbered-without n [] h = refl
     numbered-without n (x ∷ ns) h =
         let w = first-stored x ns h in
@@ -115,14 +118,19 @@ module _ {K : Type 0} where
         omega (arith, ap length (numbered-cons x ns w.0 w.1), length-numbered ns (inside-tail x ns h))
 
   -- What belongs to the numbers of a list is the same.
-  pub numbered-same : (items new : List (Entry K)) (ns : List ℕ) → ((k : ℕ) → 0 < occurs k ns → slice_get new k ≡ slice_get items k) → numbered new ns ≡ numbered items ns
+  pub numbered-same : (items new : List (Entry K)) (ns : List ℕ)
+      → ((k : ℕ) → 0 < occurs k ns → slice_get new k ≡ slice_get items k) → numbered new ns ≡ numbered items ns
   numbered-same items new [] h = refl
   numbered-same items new (x ∷ ns) h =
       ap (λ o. option_map_or (λ e. (x, e) ∷ numbered new ns) o (numbered new ns)) (h x (first-occurs x ns)) ∙
       ap (λ r. option_map_or (λ e. (x, e) ∷ r) (slice_get items x) r) (numbered-same items new ns (λ k l. h k (omega (arith, l))))
 
   -- One entry of a list has another id and rectangle.
-  pub numbered-moved : (items new : List (Entry K)) (n id : ℕ) (rectangle : Rectangle) (e : Entry K) (ns : List ℕ) → IsInside items ns → slice_get items n ≡ Some e → slice_get new n ≡ Some (record e { id = id; rectangle = rectangle }) → ((k : ℕ) → (k ≡ n → ⊥) → slice_get new k ≡ slice_get items k) → occurs n ns ≤ 1 → numbered new ns ≡ moved n id rectangle (numbered items ns)
+  pub numbered-moved : (items new : List (Entry K)) (n id : ℕ) (rectangle : Rectangle) (e : Entry K) (ns : List ℕ)
+      → IsInside items ns → slice_get items n ≡ Some e
+      → slice_get new n ≡ Some (record e { id = id; rectangle = rectangle })
+      → ((k : ℕ) → (k ≡ n → ⊥) → slice_get new k ≡ slice_get items k) → occurs n ns ≤ 1
+      → numbered new ns ≡ moved n id rectangle (numbered items ns)
   numbered-moved items new n id rectangle e [] h s t o once = refl
   numbered-moved items new n id rectangle e (x ∷ ns) h s t o once =
       let w = first-stored items x ns h in
@@ -142,7 +150,8 @@ module _ {K : Type 0} where
 
   module _ (eq : K → K → Bool) (k : K) (items : List (Entry K)) where
     -- The number that is found is that of an entry with the key.
-    pub number_of-some : (n : ℕ) (ns : List ℕ) → IsInside items ns → number_of eq k (numbered items ns) ≡ Some n → (0 < occurs n ns) × (e : Entry K) × (slice_get items n ≡ Some e) × (eq k e.key ≡ true)
+    pub number_of-some : (n : ℕ) (ns : List ℕ) → IsInside items ns → number_of eq k (numbered items ns) ≡ Some n
+        → (0 < occurs n ns) × (e : Entry K) × (slice_get items n ≡ Some e) × (eq k e.key ≡ true)
     number_of-some n [] h q = absurd (none-some n q)
     number_of-some n (x ∷ ns) h q =
         let w = first-stored items x ns h in
@@ -155,7 +164,9 @@ module _ {K : Type 0} where
         ]
 
     -- Where none is found, no entry has the key.
-    pub number_of-none : (n : ℕ) (e : Entry K) (ns : List ℕ) → IsInside items ns → number_of eq k (numbered items ns) ≡ None → 0 < occurs n ns → slice_get items n ≡ Some e → eq k e.key ≡ true → ⊥
+    pub number_of-none : (n : ℕ) (e : Entry K) (ns : List ℕ) → IsInside items ns
+        → number_of eq k (numbered items ns) ≡ None → 0 < occurs n ns → slice_get items n ≡ Some e → eq k e.key ≡ true
+        → ⊥
     number_of-none n e [] h q l s t = omega (arith, l)
     number_of-none n e (x ∷ ns) h q l s t =
         let w = first-stored items x ns h in

@@ -36,7 +36,8 @@ module _ {K : Type 0} (page : ℕ) where
     pub count : length rest + passed ≡ length all
     pub told : held ≡ held_on page (entries_of done)
 
-  pub none-gathered : (all : List (ℕ × Entry K)) (next : Option ℕ) (held : List Allocation) → held ≡ [] → next ≡ newest_of (numbers all)
+  pub none-gathered : (all : List (ℕ × Entry K)) (next : Option ℕ) (held : List Allocation) → held ≡ []
+      → next ≡ newest_of (numbers all)
       → Gathered all next 0 held
   none-gathered all next held empty first =
       record { done = []; rest = all; was = refl; next = first; count = omega arith; told = empty }
@@ -58,7 +59,8 @@ module _ {K : Type 0} (page : ℕ) where
       → held ≡ held_on page (entries_of all)
   gathered-none all passed held w = finished all w.done w.rest held (no-first w.rest w.next) w.was w.told
 
-  pub gathered-all : (all : List (ℕ × Entry K)) (next : Option ℕ) (passed : ℕ) (held : List Allocation) → Gathered all next passed held
+  pub gathered-all : (all : List (ℕ × Entry K)) (next : Option ℕ) (passed : ℕ) (held : List Allocation)
+      → Gathered all next passed held
       → length all ≤ passed → held ≡ held_on page (entries_of all)
   gathered-all all next passed held w le = finished all w.done w.rest held (no-length w.rest (omega (arith, w.count, le))) w.was w.told
 
@@ -121,7 +123,8 @@ module _ {K : Type 0} (page : ℕ) where
     gathered-past other is = let off = ne_eqb e.page page other in gathered-on (rw off (is ∙ sym (append-none held)))
 
   -- What is found by an id among the rectangles of a page's entries is live there.
-  found-live : (pages : List AtlasValue) (id : ℕ) (a : Allocation) (es : List (Entry K)) → AllByRecursion (IsLiveOn pages) es
+  found-live : (pages : List AtlasValue) (id : ℕ) (a : Allocation) (es : List (Entry K))
+      → AllByRecursion (IsLiveOn pages) es
       → find (λ b. b.id == id) (held_on page es) ≡ Some a → rectangle_on pages page id ≡ Some a.rectangle
   found-live pages id a [] live is = absurd (let none : None ≡ Some a = is in cc)
   found-live pages id a (e ∷ es) live is = elim (eqb_tells e.page page) [
@@ -152,7 +155,8 @@ module _ {K : Type 0} (page : ℕ) where
           rw is (omega (arith, rest, one))
 
   -- The gathered rectangles name what is live on the page.
-  all-name : (pages : List AtlasValue) (es : List (Entry K)) → HoldsEntries pages es → NamesPage pages page (held_on page es)
+  all-name : (pages : List AtlasValue) (es : List (Entry K)) → HoldsEntries pages es
+      → NamesPage pages page (held_on page es)
   all-name pages es held = record {
     told = λ id. by_found id (find (λ a. a.id == id) (held_on page es)) refl (rectangle_on pages page id) refl;
     once = λ id. omega (arith, counted-held id es, held.once page id);
@@ -180,7 +184,8 @@ module _ {K : Type 0} (page : ℕ) where
     | inr lies ↦ rw lies (ap (cons_option (held_of page e)) (held-lying off es))
   ]
 
-  pub entries-name : (pages : List AtlasValue) (es : List (Entry K)) → (page ≡ no_page → ⊥) → HoldsEntries pages (lying es)
+  pub entries-name : (pages : List AtlasValue) (es : List (Entry K)) → (page ≡ no_page → ⊥)
+      → HoldsEntries pages (lying es)
       → NamesPage pages page (held_on page es)
   entries-name pages es off held = subst (λ hs. NamesPage pages page hs) (held-lying off es) (all-name pages (lying es) held)
 

@@ -13,7 +13,8 @@ module _ {K : Type 0} where
   IsLiveOn pages e = rectangle_on pages e.page e.id ≡ Some e.rectangle
 
   pub id_cases : (page id : ℕ) (e : Entry K)
-      → ((has_id page id e ≡ true) × (e.page ≡ page) × (e.id ≡ id)) ⊎ ((has_id page id e ≡ false) × (e.page ≡ page → e.id ≢ id))
+      → ((has_id page id e ≡ true) × (e.page ≡ page) × (e.id ≡ id))
+      ⊎ ((has_id page id e ≡ false) × (e.page ≡ page → e.id ≢ id))
   id_cases page id e = elim (eqb_tells e.page page) [
     | inl p ↦ elim (eqb_tells e.id id) [
       | inl i ↦ inl (rw (p.0, i.0) refl, p.1, i.1)
@@ -22,7 +23,8 @@ module _ {K : Type 0} where
     | inr n ↦ inr (rw n.0 refl, λ p. absurd (n.1 p))
   ]
 
-  holders-append : (page id : ℕ) (xs ys : List (Entry K)) → holders page id (xs ++ ys) ≡ holders page id xs + holders page id ys
+  holders-append : (page id : ℕ) (xs ys : List (Entry K))
+      → holders page id (xs ++ ys) ≡ holders page id xs + holders page id ys
   holders-append page id [] ys = omega arith
   holders-append page id (x ∷ xs) ys = omega (arith, holders-append page id xs ys)
 
@@ -36,7 +38,8 @@ module _ {K : Type 0} where
 
   module _ (old new : List AtlasValue) where
     -- No rectangle moves.
-    still_live : HasSameRectangles old new → (es : List (Entry K)) → AllByRecursion (IsLiveOn old) es → AllByRecursion (IsLiveOn new) es
+    still_live : HasSameRectangles old new → (es : List (Entry K)) → AllByRecursion (IsLiveOn old) es
+        → AllByRecursion (IsLiveOn new) es
     still_live same [] live = tt
     still_live same (e ∷ es) live = (same e.page e.id ∙ live.0, still_live same es live.1)
 

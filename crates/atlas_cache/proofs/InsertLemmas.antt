@@ -64,7 +64,8 @@ module _ {K : Type 0} where
   does_reserved (Moved key from to) s t does = absurd does
   does_reserved (PageRemoved page) s t does = absurd does
 
-  led_reserved : (asked : Size) (cs : List (CacheChange K)) (s t : CacheState K) → Leads asked cs s t → t.reserved ≡ s.reserved
+  led_reserved : (asked : Size) (cs : List (CacheChange K)) (s t : CacheState K) → Leads asked cs s t
+      → t.reserved ≡ s.reserved
   led_reserved asked [] s t same = ap (λ (u : CacheState K). u.reserved) (sym same)
   led_reserved asked (c ∷ cs) s t leads =
       led_reserved asked cs leads.0 t leads.3 ∙ does_reserved c s leads.0 leads.2

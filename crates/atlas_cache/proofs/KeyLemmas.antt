@@ -20,7 +20,8 @@ module _ {K : Type 0} (eq : K → K → Bool) where
   own_keys (e ∷ es) h =
       (differ e.1.key es (IsDistinct-head eq e.1.key (keys es) h), own_keys es (IsDistinct-tail eq e.1.key (keys es) h))
 
-  pub own_without : (xs : List (Entry K)) (e : Entry K) (ys : List (Entry K)) → HaveOwnKeys eq (xs ++ e ∷ ys) → HaveOwnKeys eq (xs ++ ys)
+  pub own_without : (xs : List (Entry K)) (e : Entry K) (ys : List (Entry K)) → HaveOwnKeys eq (xs ++ e ∷ ys)
+      → HaveOwnKeys eq (xs ++ ys)
   own_without [] e ys h = h.1
   own_without (x ∷ xs) e ys h = (each-without (λ f. eq x.key f.key ≡ false) xs e ys h.0, own_without xs e ys h.1)
 
@@ -47,7 +48,8 @@ module _ {K : Type 0} (eq : K → K → Bool) where
     others_differ (x ∷ xs) e ys h =
         (laws.symm e.key x.key ∙ each-here (λ f. eq x.key f.key ≡ false) xs e ys h.0, others_differ xs e ys h.1)
 
-    none_found : (e : Entry K) (q : K) → eq e.key q ≡ true → (es : List (Entry K)) → AllByRecursion (λ f. eq e.key f.key ≡ false) es
+    none_found : (e : Entry K) (q : K) → eq e.key q ≡ true → (es : List (Entry K))
+        → AllByRecursion (λ f. eq e.key f.key ≡ false) es
         → entry_for eq q es ≡ None
     none_found e q same [] h = refl
     none_found e q same (f ∷ es) h =
@@ -96,6 +98,7 @@ module _ {K : Type 0} (eq : K → K → Bool) where
       | inr apart ↦ let rest = rw apart at none in (rw named apart, differ_named e k named es rest)
     ]
 
-    pub own_joined : (e : Entry K) (k : K) → e.key ≡ k → (es : List (Entry K)) → entry_for eq k es ≡ None → HaveOwnKeys eq es
+    pub own_joined : (e : Entry K) (k : K) → e.key ≡ k → (es : List (Entry K)) → entry_for eq k es ≡ None
+        → HaveOwnKeys eq es
         → HaveOwnKeys eq (e ∷ es)
     own_joined e k named es none own = (differ_named e k named es none, own)

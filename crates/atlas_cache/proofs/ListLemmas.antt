@@ -31,7 +31,8 @@ pub append-none : {X : Type 0} (xs : List X) → xs ++ [] ≡ xs
 append-none [] = refl
 append-none (x ∷ xs) = ap (λ ys. x ∷ ys) (append-none xs)
 
-last-among : (m n : ℕ) (ns : List ℕ) → oldest_of ns ≡ Some n → AllByRecursion (λ y. eqb m y ≡ false) ns → eqb m n ≡ false
+last-among : (m n : ℕ) (ns : List ℕ) → oldest_of ns ≡ Some n → AllByRecursion (λ y. eqb m y ≡ false) ns
+    → eqb m n ≡ false
 last-among m n [] is all = cc
 last-among m n (x ∷ []) is all = let first = all.0 in cc
 last-among m n (x ∷ (y ∷ ns)) is all = last-among m n (y ∷ ns) is all.1
@@ -41,7 +42,8 @@ module _ {K : Type 0} where
   falls-later f g [] le h = tt
   falls-later f g (e ∷ es) le h = let least = h.0 in (omega (arith, le, least), h.1)
 
-  pub falls-without : (f : ℕ) (xs : List (Entry K)) (e : Entry K) (ys : List (Entry K)) → FramesFall f (xs ++ e ∷ ys) → FramesFall f (xs ++ ys)
+  pub falls-without : (f : ℕ) (xs : List (Entry K)) (e : Entry K) (ys : List (Entry K)) → FramesFall f (xs ++ e ∷ ys)
+      → FramesFall f (xs ++ ys)
   falls-without f [] e ys h = falls-later e.frame f ys h.0 h.1
   falls-without f (x ∷ xs) e ys h = (h.0, falls-without x.frame xs e ys h.1)
 
@@ -50,7 +52,8 @@ module _ {K : Type 0} where
   falls-last f (x ∷ xs) e h = let here = h.0 in omega (arith, here, falls-last x.frame xs e h.1)
 
   -- Where the last is used in this frame, all are.
-  pub falls-all : (f now : ℕ) (xs : List (Entry K)) (e : Entry K) → FramesFall f (xs ++ e ∷ []) → f ≤ now → e.frame ≡ now
+  pub falls-all : (f now : ℕ) (xs : List (Entry K)) (e : Entry K) → FramesFall f (xs ++ e ∷ []) → f ≤ now
+      → e.frame ≡ now
       → AllByRecursion (λ x. x.frame ≡ now) (xs ++ e ∷ [])
   falls-all f now [] e h le same = (same, tt)
   falls-all f now (x ∷ xs) e h le same =
@@ -95,7 +98,8 @@ module _ {K : Type 0} where
       | inr miss ↦ let there = rw miss at is in number-among m n es there all.1
     ]
 
-    pub found : (n : ℕ) (e : Entry K) (es : List (ℕ × Entry K)) → IsDistinct eqb (numbers es) → number_of eq k es ≡ Some n
+    pub found : (n : ℕ) (e : Entry K) (es : List (ℕ × Entry K)) → IsDistinct eqb (numbers es)
+        → number_of eq k es ≡ Some n
         → entry_at n es ≡ Some e → entry_for eq k (entries_of es) ≡ Some e
     found n e [] apart is at = cc
     found n e (x ∷ es) apart is at = elim (cases_Bool (eq k x.1.key)) [
@@ -130,7 +134,8 @@ module _ {K : Type 0} where
   pub record IsLast (e : Entry K) (es rest : List (Entry K)) : Type 0 where
     pub was : es ≡ rest ++ e ∷ []
 
-  pub last : (n : ℕ) (e : Entry K) (es : List (ℕ × Entry K)) → IsDistinct eqb (numbers es) → oldest_of (numbers es) ≡ Some n
+  pub last : (n : ℕ) (e : Entry K) (es : List (ℕ × Entry K)) → IsDistinct eqb (numbers es)
+      → oldest_of (numbers es) ≡ Some n
       → entry_at n es ≡ Some e → IsLast e (entries_of es) (entries_of (without_number n es))
   last n e [] apart is at = absurd (let none : None ≡ Some e = at in cc)
   last n e (x ∷ []) apart is at = elim (eqb_tells n x.0) [

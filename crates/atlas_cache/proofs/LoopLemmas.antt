@@ -17,17 +17,20 @@ module _ {K : Type 0} where
     pub listed : now ≡ before ++ made
     pub leads : Leads asked made s t
 
-  pub nothing_yet : (asked : Size) (before : List (CacheChange K)) (s : CacheState K) → before ≡ before ++ [] → Reached asked before before s s
+  pub nothing_yet : (asked : Size) (before : List (CacheChange K)) (s : CacheState K) → before ≡ before ++ []
+      → Reached asked before before s s
   nothing_yet asked before s same = record { made = []; listed = same; leads = refl }
 
-  leads-last : (asked : Size) (cs : List (CacheChange K)) (c : CacheChange K) (s t u : CacheState K) → Leads asked cs s t
+  leads-last : (asked : Size) (cs : List (CacheChange K)) (c : CacheChange K) (s t u : CacheState K)
+      → Leads asked cs s t
       → HasNoPageFor asked t → Does c t u → Leads asked (cs ++ c ∷ []) s u
   leads-last asked [] c s t u same none does =
       (u, subst (HasNoPageFor asked) (sym same) none, subst (λ v. Does c v u) (sym same) does, refl)
   leads-last asked (d ∷ cs) c s t u leads none does =
       (leads.0, leads.1, leads.2, leads-last asked cs c leads.0 t u leads.3 none does)
 
-  pub one_more_change : (asked : Size) (before now new : List (CacheChange K)) (s t u : CacheState K) → Reached asked before now s t
+  pub one_more_change : (asked : Size) (before now new : List (CacheChange K)) (s t u : CacheState K)
+      → Reached asked before now s t
       → HasNoPageFor asked t → DoesOne now new t u → Reached asked before new s u
   one_more_change asked before now new s t u was none one = record {
     made = was.made ++ one.change ∷ [];
@@ -42,7 +45,8 @@ module _ {K : Type 0} where
   does_options (Moved key from to) s t does = absurd does
   does_options (PageRemoved page) s t does = absurd does
 
-  pub one_options : (before after : List (CacheChange K)) (s t : CacheState K) → DoesOne before after s t → t.options ≡ s.options
+  pub one_options : (before after : List (CacheChange K)) (s t : CacheState K) → DoesOne before after s t
+      → t.options ≡ s.options
   one_options before after s t one = does_options one.change s t one.does
 
   module _ (eq : K → K → Bool) (k : K) where
@@ -57,7 +61,8 @@ module _ {K : Type 0} where
       | inr miss ↦ let rest = rw miss at none in rw miss (none_left xs e ys rest)
     ]
 
-    does_absent : (c : CacheChange K) (s t : CacheState K) → Does c s t → entry_for eq k s.entries ≡ None → entry_for eq k t.entries ≡ None
+    does_absent : (c : CacheChange K) (s t : CacheState K) → Does c s t → entry_for eq k s.entries ≡ None
+        → entry_for eq k t.entries ≡ None
     does_absent (PageAdded page size) s t does none = rw does.keeps.entries none
     does_absent (PageGrown page size) s t does none = rw does.keeps.entries none
     does_absent (Evicted key place) s t does none = rw does.is (none_left does.newer does.entry does.older (rw does.was at none))

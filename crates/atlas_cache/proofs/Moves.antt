@@ -14,13 +14,15 @@ stored links ends count reserved = record { entries = run links ends count; made
 
 pub record IsTouched (links : List Link) (ends : Link) (new : List Link) (last : Link) (i : ℕ) : Type 0 where
   pub ring : (xs : List ℕ) → IsRing links ends xs → 0 < occurs i xs → IsRing new last (i ∷ without i xs)
-  pub others : (xs : List ℕ) (k : ℕ) → IsRing links ends xs → 0 < occurs i xs → k < length links → occurs k xs ≡ 0 → next_at new last k ≡ next_at links ends k
+  pub others : (xs : List ℕ) (k : ℕ) → IsRing links ends xs → 0 < occurs i xs → k < length links → occurs k xs ≡ 0
+      → next_at new last k ≡ next_at links ends k
   pub size : length new ≡ length links
 
 pub record IsGiven (links : List Link) (ends : Link) (new : List Link) (last : Link) (i u : ℕ) : Type 0 where
   pub ring : (xs : List ℕ) → IsRing links ends xs → 0 < occurs i xs → IsRing new last (without i xs)
   pub own : next_at new last i ≡ u
-  pub others : (xs : List ℕ) (k : ℕ) → IsRing links ends xs → 0 < occurs i xs → k < length links → occurs k xs ≡ 0 → next_at new last k ≡ next_at links ends k
+  pub others : (xs : List ℕ) (k : ℕ) → IsRing links ends xs → 0 < occurs i xs → k < length links → occurs k xs ≡ 0
+      → next_at new last k ≡ next_at links ends k
   pub size : length new ≡ length links
 
 module _ (links new : List Link) (ends last : Link) (u n i : ℕ) (h : IsRecency links ends u n) (l : 0 < occurs i (run links ends n)) where
@@ -32,7 +34,8 @@ module _ (links new : List Link) (ends last : Link) (u n i : ℕ) (h : IsRecency
       let xs = run links ends n in
       IsRecency-made new last u n (i ∷ without i xs) (omega (arith, h.short, w.size)) (w.ring xs h.ring l) (HasSpare-same links new ends last u xs (i ∷ without i xs) w.size (λ k. omega (arith, occurs-without i xs l k)) (omega (arith, length-without i xs l)) (λ k m z. w.others xs k h.ring l m z) h.rest) (omega (arith, length-run, length-without i xs l))
 
-  pub touched-is : (reserved : ℕ) → IsTouched links ends new last i → stored new last n reserved ≡ used i (stored links ends n reserved)
+  pub touched-is : (reserved : ℕ) → IsTouched links ends new last i
+      → stored new last n reserved ≡ used i (stored links ends n reserved)
   touched-is reserved w =
       let xs = run links ends n in
       order-is new last n (length links) reserved (i ∷ without i xs) (w.ring xs h.ring l) (omega (arith, length-run, length-without i xs l)) w.size
@@ -42,7 +45,8 @@ module _ (links new : List Link) (ends last : Link) (u n i : ℕ) (h : IsRecency
       let xs = run links ends n in
       IsRecency-made new last i (n - 1) (without i xs) (omega (arith, h.short, w.size)) (w.ring xs h.ring l) (HasSpare-given links new ends last u i xs w.size l (h.ring.once i) w.own (λ k m z _. w.others xs k h.ring l m z) h.rest) (omega (arith, length-run, length-without i xs l))
 
-  pub given-is : (reserved : ℕ) → IsGiven links ends new last i u → stored new last (n - 1) reserved ≡ gone i (stored links ends n reserved)
+  pub given-is : (reserved : ℕ) → IsGiven links ends new last i u
+      → stored new last (n - 1) reserved ≡ gone i (stored links ends n reserved)
   given-is reserved w =
       let xs = run links ends n in
       order-is new last (n - 1) (length links) reserved (without i xs) (w.ring xs h.ring l) (omega (arith, length-run, length-without i xs l)) w.size
@@ -80,7 +84,8 @@ module _ (links mid new : List Link) (ends last : Link) (u v n i : ℕ) (h : IsR
   joined-is reserved =
       order-is new last (n + 1) (max (length links) (i + 1)) (reserved - 1) (i ∷ run links ends n) joined-ring (omega (arith, length-old)) (w.size ∙ w.made)
 
-  pub joined-new : (reserved : ℕ) → i ≤ length links → (i ≡ length links → u ≡ no_entry) → IsFreshNumber i (stored links ends n reserved)
+  pub joined-new : (reserved : ℕ) → i ≤ length links → (i ≡ length links → u ≡ no_entry)
+      → IsFreshNumber i (stored links ends n reserved)
   joined-new reserved e last = record {
     free = free;
     next = e;

@@ -8,14 +8,16 @@ use Rattle.atlas_cache.specs.Caches.{entries_of, HaveNumbersBelow, HaveOwnNumber
 use Rattle.atlas_cache.specs.Entries.{numbers, AreNumbered}
 
 module _ {K : Type 0} where
-  differ : (n m : ℕ) (es : List (ℕ × Entry K)) → m ≡ n → AllByRecursion (λ y. eqb n y ≡ false) (numbers es) → AreNumbered es
+  differ : (n m : ℕ) (es : List (ℕ × Entry K)) → m ≡ n → AllByRecursion (λ y. eqb n y ≡ false) (numbers es)
+      → AreNumbered es
       → AllByRecursion (λ f. m ≢ f.number) (entries_of es)
   differ n m [] is apart own = tt
   differ n m (e ∷ es) is apart own =
       (λ same. false≢true (sym apart.0 ∙ eq-eqb n e.0 (sym is ∙ same ∙ own.0)), differ n m es is apart.1 own.1)
 
   -- No two entries have one number.
-  pub own_numbers : (es : List (ℕ × Entry K)) → IsDistinct eqb (numbers es) → AreNumbered es → HaveOwnNumbers (entries_of es)
+  pub own_numbers : (es : List (ℕ × Entry K)) → IsDistinct eqb (numbers es) → AreNumbered es
+      → HaveOwnNumbers (entries_of es)
   own_numbers [] apart own = tt
   own_numbers (e ∷ es) apart own = (
     differ e.0 e.1.number es own.0 (IsDistinct-head eqb e.0 (numbers es) apart) own.1,

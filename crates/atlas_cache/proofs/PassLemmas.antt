@@ -108,7 +108,8 @@ module _ {K : Type 0} where
       }
 
   -- A blank entry is passed.
-  pub passed-one : (es : List (ℕ × Entry K)) (n : ℕ) (e : Entry K) (next : Option ℕ) (count : ℕ) (l : Looked es n e count)
+  pub passed-one : (es : List (ℕ × Entry K)) (n : ℕ) (e : Entry K) (next : Option ℕ) (count : ℕ)
+      (l : Looked es n e count)
       → is_blank e ≡ true → next ≡ oldest_of (numbers l.newer) → Passed es next (count + 1)
   passed-one es n e next count l blank is = record {
     newer = l.newer;

@@ -18,7 +18,8 @@ use Rattle.atlas_cache.specs.Rooms.{page_sizes}
 use Rattle.atlas_cache.proofs.KeyLemmas.{first, fronted, gone, here, own_without}
 use Rattle.atlas_cache.proofs.ListLemmas.{append-none}
 
-map-cond : {X Y : Type 0} (f : X → Y) (b : Bool) (o p : Option X) → option_map f (cond b o p) ≡ cond b (option_map f o) (option_map f p)
+map-cond : {X Y : Type 0} (f : X → Y) (b : Bool) (o p : Option X)
+    → option_map f (cond b o p) ≡ cond b (option_map f o) (option_map f p)
 map-cond f true o p = refl
 map-cond f false o p = refl
 
@@ -30,18 +31,21 @@ module _ {K : Type 0} (eq : K → K → Bool) where
   same_after (Moved key from to) p q same = record { places = λ k. ap (λ o. cond (eq key k) (Some to) o) (same.places k); pages = same.pages }
   same_after (PageRemoved page) p q same = record { places = same.places; pages = ap (λ ns. take page ns) same.pages }
 
-  all_same_after : (cs : List (CacheChange K)) (p q : Picture K) → ShowsSame p q → ShowsSame (all_changed eq cs p) (all_changed eq cs q)
+  all_same_after : (cs : List (CacheChange K)) (p q : Picture K) → ShowsSame p q
+      → ShowsSame (all_changed eq cs p) (all_changed eq cs q)
   all_same_after [] p q same = same
   all_same_after (c ∷ cs) p q same = all_same_after cs (changed eq c p) (changed eq c q) (same_after c p q same)
 
   pub same_both : (p q r : Picture K) → ShowsSame p q → ShowsSame q r → ShowsSame p r
   same_both p q r one two = record { places = λ k. one.places k ∙ two.places k; pages = one.pages ∙ two.pages }
 
-  pub places_stay : (s t : CacheState K) → t.entries ≡ s.entries → t.options ≡ s.options → (k : K) → place_for eq s k ≡ place_for eq t k
+  pub places_stay : (s t : CacheState K) → t.entries ≡ s.entries → t.options ≡ s.options → (k : K)
+      → place_for eq s k ≡ place_for eq t k
   places_stay s t entries options k = rw (entries, options) refl
 
   module _ (laws : IsEquivalence eq) where
-    pub taken : (s t : CacheState K) (xs : List (Entry K)) (e : Entry K) (ys : List (Entry K)) → HaveOwnKeys eq s.entries
+    pub taken : (s t : CacheState K) (xs : List (Entry K)) (e : Entry K) (ys : List (Entry K))
+        → HaveOwnKeys eq s.entries
         → s.entries ≡ xs ++ e ∷ ys → t.entries ≡ xs ++ ys → t.options ≡ s.options → (k : K)
         → cond (eq e.key k) None (place_for eq s k) ≡ place_for eq t k
     taken s t xs e ys own was is options k =
@@ -69,7 +73,8 @@ module _ {K : Type 0} (eq : K → K → Bool) where
     one_step (PageRemoved page) s t own does = absurd does
 
     -- Changes that lead from one state to another tell a caller all of it.
-    pub told : (asked : Size) (cs : List (CacheChange K)) (s t : CacheState K) → HaveOwnKeys eq s.entries → Leads asked cs s t
+    pub told : (asked : Size) (cs : List (CacheChange K)) (s t : CacheState K) → HaveOwnKeys eq s.entries
+        → Leads asked cs s t
         → ShowsSame (all_changed eq cs (picture_of eq s)) (picture_of eq t) × HaveOwnKeys eq t.entries
     told asked [] s t own same = (
       record { places = λ k. ap (λ (u : CacheState K). place_for eq u k) same; pages = ap (λ (u : CacheState K). (picture_of eq u).pages) same },
@@ -81,7 +86,8 @@ module _ {K : Type 0} (eq : K → K → Bool) where
         let rest = told asked cs next t step.1 leads.3 in
         (same_both _ _ _ (all_same_after cs _ _ step.0) rest.0, rest.1)
 
-    pub added : (asked : Size) (key : K) (size : Size) (place : Place) (s t : CacheState K) → Adds asked key size place s t
+    pub added : (asked : Size) (key : K) (size : Size) (place : Place) (s t : CacheState K)
+        → Adds asked key size place s t
         → ShowsSame (placed eq key (Some place) (picture_of eq s)) (picture_of eq t)
     added asked key size place s t adds = record {
       places = λ k. rw (adds.first, adds.options, first eq laws adds.entry s.entries k, ← adds.placed.named, adds.shows)
@@ -126,7 +132,8 @@ module _ {K : Type 0} (eq : K → K → Bool) where
         }
 
     -- A new key of an empty size.
-    pub blanks_tell : (key : K) (size : Size) (result : Result Inserted CacheError) (before : List (CacheChange K)) (s t : CacheState K)
+    pub blanks_tell : (key : K) (size : Size) (result : Result Inserted CacheError) (before : List (CacheChange K))
+        (s t : CacheState K)
         → InsertsBlank key size result s t → Tells eq key result before before s t
     blanks_tell key size (Ok (Placed place)) before s t ins = record {
       made = [];
@@ -159,7 +166,8 @@ module _ {K : Type 0} (eq : K → K → Bool) where
         record { places = λ q. sym (places_kept entry s t own uses q); pages = ap page_sizes (sym uses.pages) }
 
     -- Where an entry is removed, its key has no place, and the others keep theirs.
-    pub removes_tell : (key : K) (entry : Entry K) (s t : CacheState K) → HaveOwnKeys eq s.entries → eq entry.key key ≡ true
+    pub removes_tell : (key : K) (entry : Entry K) (s t : CacheState K) → HaveOwnKeys eq s.entries
+        → eq entry.key key ≡ true
         → Removes entry s t → ShowsSame (placed eq key None (picture_of eq s)) (picture_of eq t)
     removes_tell key entry s t own named removes = record {
       places = λ q. ap (λ b. cond b None (place_for eq s q)) (sym (laws.congr entry.key key q named))
@@ -168,7 +176,8 @@ module _ {K : Type 0} (eq : K → K → Bool) where
     }
 
     -- A key that is used keeps its place, and so do the others.
-    pub uses_tell : (key : K) (entry : Entry K) (s t : CacheState K) → HaveOwnKeys eq s.entries → eq entry.key key ≡ true
+    pub uses_tell : (key : K) (entry : Entry K) (s t : CacheState K) → HaveOwnKeys eq s.entries
+        → eq entry.key key ≡ true
         → Uses entry s t
         → ShowsSame (placed eq key (Some (shown s.options.padding entry)) (picture_of eq s)) (picture_of eq t)
     uses_tell key entry s t own named uses = record {

@@ -26,14 +26,16 @@ not_short n error (inr numbers) slots = let same = sym numbers.0 ∙ slots in cc
 
 module _ {K : Type 0} where
   -- Where the sizes and the options stay, every page is there and at its largest still.
-  pub full_stays : (s t : CacheState K) → t.options ≡ s.options → page_sizes t.pages ≡ page_sizes s.pages → IsFull s → IsFull t
+  pub full_stays : (s t : CacheState K) → t.options ≡ s.options → page_sizes t.pages ≡ page_sizes s.pages → IsFull s
+      → IsFull t
   full_stays s t options sizes full = record {
     all = as_many s.pages t.pages sizes ∙ full.all ∙ ap (λ (o : CacheOptions). o.pages) (sym options);
     largest = rw (options, sizes) full.largest;
   }
 
   -- What is left after a step that takes one entry at most, 4 slots of a page, and room for one change more than entries go.
-  pub reserves_left : (n k room left uses : ℕ) (s t : CacheState K) → UseAtMost uses s.pages t.pages → 4 * n + uses ≤ 4 * k
+  pub reserves_left : (n k room left uses : ℕ) (s t : CacheState K) → UseAtMost uses s.pages t.pages
+      → 4 * n + uses ≤ 4 * k
       → n + s.reserved ≤ k + t.reserved → length t.entries + n + room ≤ length s.entries + k + left
       → HasReserves k room s → HasReserves n left t
   reserves_left n k room left uses s t slots most entries changes had = record {
@@ -68,7 +70,8 @@ module _ {K : Type 0} where
   blank_full key size (Err error) s t ins full = rw ins.0 full
 
   -- What one insert asks for.
-  pub one_reserved : (full len : ℕ) (s : CacheState K) → 0 < s.reserved → HaveSlots 4 s.pages → len + length s.entries < full
+  pub one_reserved : (full len : ℕ) (s : CacheState K) → 0 < s.reserved → HaveSlots 4 s.pages
+      → len + length s.entries < full
       → HasReserves (0 + 1) (full - len) s
   one_reserved full len s some slots room = record { entries = omega (arith, some); slots = slots; changes = omega (arith, room) }
 

@@ -35,12 +35,14 @@ module _ {X Y : Type 0} (f : X → Option Y) where
       by_option None h = h
       by_option (Some w) h = h.1
 
-cons-append : {Y : Type 0} (xs : List Y) (o : Option Y) (ys : List Y) → (xs ++ cons_option o []) ++ ys ≡ xs ++ cons_option o ys
+cons-append : {Y : Type 0} (xs : List Y) (o : Option Y) (ys : List Y)
+    → (xs ++ cons_option o []) ++ ys ≡ xs ++ cons_option o ys
 cons-append xs None ys = ap (λ zs. zs ++ ys) (append-none xs)
 cons-append xs (Some y) ys = append_assoc xs (y ∷ []) ys
 
 module _ {K : Type 0} where
-  pub moved-at : (n id : ℕ) (r : Rectangle) (e : Entry K) (xs ys : List (ℕ × Entry K)) → IsDistinct eqb (numbers (xs ++ (n, e) ∷ ys))
+  pub moved-at : (n id : ℕ) (r : Rectangle) (e : Entry K) (xs ys : List (ℕ × Entry K))
+      → IsDistinct eqb (numbers (xs ++ (n, e) ∷ ys))
       → moved n id r (xs ++ (n, e) ∷ ys) ≡ xs ++ (n, record e { id = id; rectangle = r }) ∷ ys
   moved-at n id r e [] ys apart = elim (eqb_tells n n) [
     | inl same ↦ rw same.0 refl
@@ -73,7 +75,8 @@ module _ {K : Type 0} where
     abbrev pub settled : ℕ × Entry K → Option (ℕ × Entry K)
     settled x = numbered_as x.0 (become page (renewed_by cs) x.1)
 
-    settled-entries : (xs : List (ℕ × Entry K)) → entries_of (filter_map settled xs) ≡ filter_map (become page (renewed_by cs)) (entries_of xs)
+    settled-entries : (xs : List (ℕ × Entry K))
+        → entries_of (filter_map settled xs) ≡ filter_map (become page (renewed_by cs)) (entries_of xs)
     settled-entries [] = refl
     settled-entries (x ∷ xs) = by_option (become page (renewed_by cs) x.1) (settled-entries xs)
       where
@@ -95,7 +98,8 @@ module _ {K : Type 0} where
       pub told : after ≡ before ++ filter_map (told_of padding page (renewed_by cs)) (entries_of done)
       pub room : length rest ≤ spare
 
-    pub none-walked : (was : List (ℕ × Entry K)) (next : Option ℕ) (before : List (CacheChange K)) (spare : ℕ) → next ≡ newest_of (numbers was)
+    pub none-walked : (was : List (ℕ × Entry K)) (next : Option ℕ) (before : List (CacheChange K)) (spare : ℕ)
+        → next ≡ newest_of (numbers was)
         → length was ≤ spare → Walked was was next 0 before before spare
     none-walked was next before spare first room = record {
       done = [];
@@ -113,9 +117,11 @@ module _ {K : Type 0} where
       pub entries : entries_of now ≡ filter_map (become page (renewed_by cs)) (entries_of all)
       pub told : after ≡ before ++ filter_map (told_of padding page (renewed_by cs)) (entries_of all)
 
-    finished : (was now done rest : List (ℕ × Entry K)) (before after : List (CacheChange K)) → rest ≡ [] → was ≡ done ++ rest
+    finished : (was now done rest : List (ℕ × Entry K)) (before after : List (CacheChange K)) → rest ≡ []
+        → was ≡ done ++ rest
         → now ≡ filter_map settled done ++ rest
-        → after ≡ before ++ filter_map (told_of padding page (renewed_by cs)) (entries_of done) → Finished was now before after
+        → after ≡ before ++ filter_map (told_of padding page (renewed_by cs)) (entries_of done)
+        → Finished was now before after
     finished was now done rest before after none was_is now_is told =
         let all : was ≡ done = was_is ∙ ap (λ r. done ++ r) none ∙ append-none done in
         record {
@@ -137,7 +143,8 @@ module _ {K : Type 0} where
     walked-none was now count before after spare w =
         finished was now w.done w.rest before after (no-first w.rest w.next) w.was w.is w.told
 
-    pub walked-all : (was now : List (ℕ × Entry K)) (next : Option ℕ) (count : ℕ) (before after : List (CacheChange K)) (spare : ℕ)
+    pub walked-all : (was now : List (ℕ × Entry K)) (next : Option ℕ) (count : ℕ) (before after : List (CacheChange K))
+        (spare : ℕ)
         → Walked was now next count before after spare → length was ≤ count → Finished was now before after
     walked-all was now next count before after spare w le =
         finished was now w.done w.rest before after (no-length w.rest (omega (arith, w.count, le))) w.was w.is w.told
@@ -152,7 +159,8 @@ module _ {K : Type 0} where
       pub told : after ≡ before ++ filter_map (told_of padding page (renewed_by cs)) (entries_of done)
       pub room : length rest + 1 ≤ spare
 
-    pub ahead : (was now : List (ℕ × Entry K)) (n : ℕ) (e : Entry K) (count : ℕ) (before after : List (CacheChange K)) (spare : ℕ)
+    pub ahead : (was now : List (ℕ × Entry K)) (n : ℕ) (e : Entry K) (count : ℕ) (before after : List (CacheChange K))
+        (spare : ℕ)
         → Walked was now (Some n) count before after spare → IsDistinct eqb (numbers now) → entry_at n now ≡ Some e
         → Ahead was now n e count before after spare
     ahead was now n e count before after spare w apart at = go w.rest w.was w.is w.next w.count w.room
@@ -179,7 +187,8 @@ module _ {K : Type 0} where
             }
 
     -- An entry is settled.
-    pub walked-on : (was now new : List (ℕ × Entry K)) (n : ℕ) (e : Entry K) (next : Option ℕ) (count : ℕ) (before after later : List (CacheChange K)) (spare left : ℕ)
+    pub walked-on : (was now new : List (ℕ × Entry K)) (n : ℕ) (e : Entry K) (next : Option ℕ) (count : ℕ)
+        (before after later : List (CacheChange K)) (spare left : ℕ)
         → (a : Ahead was now n e count before after spare)
         → new ≡ filter_map settled a.done ++ cons_option (settled (n, e)) a.rest
         → later ≡ after ++ cons_option (told_of padding page (renewed_by cs) e) []
@@ -205,13 +214,16 @@ module _ {K : Type 0} where
     -- An entry of the page is settled; another one stays.
     module _ (was now new : List (ℕ × Entry K)) (n : ℕ) (e : Entry K) (next : Option ℕ) (count : ℕ) (before after later : List (CacheChange K)) (spare left : ℕ) (a : Ahead was now n e count before after spare)
         (first : next ≡ newest_of (numbers a.rest)) (room : length a.rest ≤ left) where
-      pub walked-here : e.page ≡ page → new ≡ filter_map settled a.done ++ cons_option (numbered_as n (renewed_by cs e)) a.rest
-          → later ≡ after ++ told_as padding e (renewed_by cs e) ∷ [] → Walked was new next (count + 1) before later left
+      pub walked-here : e.page ≡ page
+          → new ≡ filter_map settled a.done ++ cons_option (numbered_as n (renewed_by cs e)) a.rest
+          → later ≡ after ++ told_as padding e (renewed_by cs e) ∷ []
+          → Walked was new next (count + 1) before later left
       walked-here here new_is later_is =
           let is = eq-eqb e.page page here in
           walked-on was now new n e next count before after later spare left a (rw is new_is) (rw is later_is) first room
 
-      pub walked-past : (e.page ≡ page → ⊥) → new ≡ now → later ≡ after → Walked was new next (count + 1) before later left
+      pub walked-past : (e.page ≡ page → ⊥) → new ≡ now → later ≡ after
+          → Walked was new next (count + 1) before later left
       walked-past other new_is later_is =
           let is = ne_eqb e.page page other in
           walked-on was now new n e next count before after later spare left a (rw is (new_is ∙ a.is)) (rw is (later_is ∙ sym (append-none after))) first room
@@ -229,11 +241,13 @@ module _ {K : Type 0} where
           filter_map-each (become page (renewed_by cs)) (IsBordered padding) (entries_of a.done) e
           (entries_of a.rest) f (rw at is) (rw (a.was, entries-append a.done (n, e) a.rest) at all)
 
-    pub next-number : (was now : List (ℕ × Entry K)) (n : ℕ) (count : ℕ) (before after : List (CacheChange K)) (spare : ℕ)
+    pub next-number : (was now : List (ℕ × Entry K)) (n : ℕ) (count : ℕ) (before after : List (CacheChange K))
+        (spare : ℕ)
         → Walked was now (Some n) count before after spare → IsDistinct eqb (numbers now) → IsNumber n now
     next-number was now n count before after spare w apart = go w.rest w.is w.next
       where
-        go : (rest : List (ℕ × Entry K)) → now ≡ filter_map settled w.done ++ rest → Some n ≡ newest_of (numbers rest) → IsNumber n now
+        go : (rest : List (ℕ × Entry K)) → now ≡ filter_map settled w.done ++ rest → Some n ≡ newest_of (numbers rest)
+            → IsNumber n now
         go [] now_is next = absurd (let some : Some n ≡ None = next in cc)
         go (x ∷ rest) now_is next =
             let num : x.0 ≡ n = (let h : Some n ≡ Some x.0 = next in cc) in

@@ -84,20 +84,23 @@ module _ {A : Type 0} (old new : List AtlasValue) (page : ℕ) (list : ChangeLis
     abbrev becomes : Entry K → Option (Entry K)
     becomes e = become page (renewed_by cs) e
 
-    all_live : (es : List (Entry K)) → AllByRecursion (IsLiveOn old) es → AllByRecursion (IsLiveOn new) (filter_map becomes es)
+    all_live : (es : List (Entry K)) → AllByRecursion (IsLiveOn old) es
+        → AllByRecursion (IsLiveOn new) (filter_map becomes es)
     all_live [] live = tt
     all_live (e ∷ es) live = elim (eqb_tells e.page page) [
       | inl here ↦ rw here.0 (by_option here.1 (find (old_is e.id) cs) refl (all_live es live.1))
       | inr other ↦ rw other.0 (ap (λ o. option_and_then (λ s. rectangle_in (state_of s) e.id) o) (does.others e.page other.1) ∙ live.0, all_live es live.1)
     ]
       where
-        by_option : e.page ≡ page → (o : Option Change) → find (old_is e.id) cs ≡ o → AllByRecursion (IsLiveOn new) (filter_map becomes es)
+        by_option : e.page ≡ page → (o : Option Change) → find (old_is e.id) cs ≡ o
+            → AllByRecursion (IsLiveOn new) (filter_map becomes es)
             → AllByRecursion (IsLiveOn new) (cons_option (option_map (λ (c : Change). record e { id = c.new.id; rectangle = c.new.rectangle }) o) (filter_map becomes es))
         by_option here None is rest = rest
         by_option here (Some c) is rest = (rw here (live_new c (Contains-find (old_is e.id) cs c is).0), rest)
 
     -- Entries of other pages keep their ids.
-    others_hold : (p id : ℕ) → (p ≡ page → ⊥) → (es : List (Entry K)) → holders p id (filter_map becomes es) ≡ holders p id es
+    others_hold : (p id : ℕ) → (p ≡ page → ⊥) → (es : List (Entry K))
+        → holders p id (filter_map becomes es) ≡ holders p id es
     others_hold p id off [] = refl
     others_hold p id off (e ∷ es) = elim (eqb_tells e.page page) [
       | inl here ↦ rw (here.0, ne_eqb e.page p (λ q. off (sym q ∙ here.1)))
@@ -111,7 +114,8 @@ module _ {A : Type 0} (old new : List AtlasValue) (page : ℕ) (list : ChangeLis
         by_option apart (Some c) rest = rw apart (omega (arith, rest))
 
     -- Where no change leads to an id, no entry has it.
-    none_hold : (id : ℕ) → find (new_is id) cs ≡ None → (es : List (Entry K)) → holders page id (filter_map becomes es) ≡ 0
+    none_hold : (id : ℕ) → find (new_is id) cs ≡ None → (es : List (Entry K))
+        → holders page id (filter_map becomes es) ≡ 0
     none_hold id none [] = refl
     none_hold id none (e ∷ es) = elim (eqb_tells e.page page) [
       | inl here ↦ rw here.0 (by_option (find (old_is e.id) cs) refl (none_hold id none es))
@@ -135,7 +139,8 @@ module _ {A : Type 0} (old new : List AtlasValue) (page : ℕ) (list : ChangeLis
       | inr other ↦ rw other.0 (rw other.0 (omega (arith, one_holds id d found es)))
     ]
       where
-        by_option : e.page ≡ page → (o : Option Change) → find (old_is e.id) cs ≡ o → holders page id (filter_map becomes es) ≡ holders page d.old.id es
+        by_option : e.page ≡ page → (o : Option Change) → find (old_is e.id) cs ≡ o
+            → holders page id (filter_map becomes es) ≡ holders page d.old.id es
             → holders page id (cons_option (option_map (λ (c : Change). record e { id = c.new.id; rectangle = c.new.rectangle }) o) (filter_map becomes es))
             ≡ (cond (e.id == d.old.id) 1 0) + holders page d.old.id es
         by_option here None is rest = elim (eqb_tells e.id d.old.id) [
@@ -204,11 +209,13 @@ module _ {A : Type 0} (old new : List AtlasValue) (page : ℕ) (list : ChangeLis
       | inr other ↦ let at = rw other.0 at is in ap (λ (x : Entry K). x.frame) (same_Some f e (sym at))
     ]
 
-    pub repacked_falls : (frame : ℕ) (es : List (Entry K)) → FramesFall frame es → FramesFall frame (filter_map becomes es)
+    pub repacked_falls : (frame : ℕ) (es : List (Entry K)) → FramesFall frame es
+        → FramesFall frame (filter_map becomes es)
     repacked_falls frame [] h = tt
     repacked_falls frame (e ∷ es) h = by_option (becomes e) (λ f is. one_frame e f is) (repacked_falls e.frame es h.1)
       where
-        by_option : (o : Option (Entry K)) → ((f : Entry K) → o ≡ Some f → f.frame ≡ e.frame) → FramesFall e.frame (filter_map becomes es)
+        by_option : (o : Option (Entry K)) → ((f : Entry K) → o ≡ Some f → f.frame ≡ e.frame)
+            → FramesFall e.frame (filter_map becomes es)
             → FramesFall frame (cons_option o (filter_map becomes es))
         by_option None same rest = falls-later e.frame frame (filter_map becomes es) h.0 rest
         by_option (Some f) same rest = (rw (same f refl) h.0, rw (same f refl) rest)
@@ -230,7 +237,8 @@ module _ {A : Type 0} (old new : List AtlasValue) (page : ℕ) (list : ChangeLis
           high = omega (arith, height, before.high, was.positive.1);
         }
 
-    pub repacked_bordered : (padding : ℤ) (es : List (Entry K)) → AllByRecursion (λ e. is_blank e ≡ false → IsLiveOn old e) es
+    pub repacked_bordered : (padding : ℤ) (es : List (Entry K))
+        → AllByRecursion (λ e. is_blank e ≡ false → IsLiveOn old e) es
         → AreBordered padding es → AreBordered padding (filter_map becomes es)
     repacked_bordered padding [] live h = tt
     repacked_bordered padding (e ∷ es) live h = elim (eqb_tells e.page page) [
@@ -238,7 +246,8 @@ module _ {A : Type 0} (old new : List AtlasValue) (page : ℕ) (list : ChangeLis
       | inr other ↦ rw other.0 (h.0, repacked_bordered padding es live.1 h.1)
     ]
       where
-        by_option : e.page ≡ page → (o : Option Change) → find (old_is e.id) cs ≡ o → AreBordered padding (filter_map becomes es)
+        by_option : e.page ≡ page → (o : Option Change) → find (old_is e.id) cs ≡ o
+            → AreBordered padding (filter_map becomes es)
             → AreBordered padding (cons_option (option_map (λ (c : Change). record e { id = c.new.id; rectangle = c.new.rectangle }) o) (filter_map becomes es))
         by_option here None is rest = rest
         by_option here (Some c) is rest = (
@@ -253,7 +262,8 @@ module _ {A : Type 0} (old new : List AtlasValue) (page : ℕ) (list : ChangeLis
         )
 
     -- What lies on a page lies there still.
-    pub lying_later : (page ≡ no_page → ⊥) → (es : List (Entry K)) → lying (filter_map becomes es) ≡ filter_map becomes (lying es)
+    pub lying_later : (page ≡ no_page → ⊥) → (es : List (Entry K))
+        → lying (filter_map becomes es) ≡ filter_map becomes (lying es)
     lying_later off [] = refl
     lying_later off (e ∷ es) = elim (eqb_tells e.page page) [
       | inl here ↦
@@ -265,7 +275,8 @@ module _ {A : Type 0} (old new : List AtlasValue) (page : ℕ) (list : ChangeLis
       ]
     ]
       where
-        by_option : is_blank e ≡ false → (o : Option Change) → lying (filter_map becomes es) ≡ filter_map becomes (lying es)
+        by_option : is_blank e ≡ false → (o : Option Change)
+            → lying (filter_map becomes es) ≡ filter_map becomes (lying es)
             → lying (cons_option (option_map (λ (c : Change). record e { id = c.new.id; rectangle = c.new.rectangle }) o) (filter_map becomes es))
             ≡ cons_option (option_map (λ (c : Change). record e { id = c.new.id; rectangle = c.new.rectangle }) o) (filter_map becomes (lying es))
         by_option lies None rest = rest
@@ -281,12 +292,14 @@ module _ {X Y : Type 0} (f : X → Option Y) where
   filter_map-shorter [] = omega arith
   filter_map-shorter (x ∷ xs) = by_option (f x) (filter_map-shorter xs)
     where
-      by_option : (o : Option Y) → length (filter_map f xs) ≤ length xs → length (cons_option o (filter_map f xs)) ≤ length (x ∷ xs)
+      by_option : (o : Option Y) → length (filter_map f xs) ≤ length xs
+          → length (cons_option o (filter_map f xs)) ≤ length (x ∷ xs)
       by_option None le = omega (arith, le)
       by_option (Some y) le = omega (arith, le)
 
 module _ {K : Type 0} where
-  pub shorter : (was now : List (ℕ × Entry K)) (f : Entry K → Option (Entry K)) → entries_of now ≡ filter_map f (entries_of was)
+  pub shorter : (was now : List (ℕ × Entry K)) (f : Entry K → Option (Entry K))
+      → entries_of now ≡ filter_map f (entries_of was)
       → length now ≤ length was
   shorter was now f is = omega (
     arith,

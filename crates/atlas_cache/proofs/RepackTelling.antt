@@ -36,7 +36,8 @@ module _ {K : Type 0} (eq : K → K → Bool) (laws : IsEquivalence eq) (padding
           rest (changed eq (Moved e.key (shown padding e) (shown padding f)) p)
           ∙ ap (λ b. cond b (Some (shown padding f)) (p.places k)) h.0
 
-  absent : (k : K) (es : List (Entry K)) → AllByRecursion (λ f. eq f.key k ≡ false) es → entry_for eq k (later es) ≡ None
+  absent : (k : K) (es : List (Entry K)) → AllByRecursion (λ f. eq f.key k ≡ false) es
+      → entry_for eq k (later es) ≡ None
   absent k [] h = refl
   absent k (e ∷ es) h = elim (eqb_tells e.page page) [
     | inl here ↦ rw here.0 (by_option (renewed e) refl (absent k es h.1))
@@ -49,7 +50,8 @@ module _ {K : Type 0} (eq : K → K → Bool) (laws : IsEquivalence eq) (padding
       by_option (Some f) is rest =
           let off = ap (λ q. eq k q) (named e f is) ∙ (laws.symm k e.key ∙ h.0) in rw off rest
 
-  others : (e : Entry K) (k : K) → eq e.key k ≡ true → (es : List (Entry K)) → AllByRecursion (λ f. eq e.key f.key ≡ false) es
+  others : (e : Entry K) (k : K) → eq e.key k ≡ true → (es : List (Entry K))
+      → AllByRecursion (λ f. eq e.key f.key ≡ false) es
       → AllByRecursion (λ f. eq f.key k ≡ false) es
   others e k hit [] h = tt
   others e k hit (f ∷ es) h =
@@ -92,7 +94,8 @@ module _ {K : Type 0} (eq : K → K → Bool) (laws : IsEquivalence eq) (padding
 
       missed : ((q : Picture K) → q.places k ≡ option_map (shown padding) (entry_for eq k es)
           → (all_changed eq (tell es) q).places k ≡ option_map (shown padding) (entry_for eq k (later es)))
-          → (o : Option (Entry K)) → renewed e ≡ o → eq e.key k ≡ false → p.places k ≡ option_map (shown padding) (entry_for eq k es)
+          → (o : Option (Entry K)) → renewed e ≡ o → eq e.key k ≡ false
+          → p.places k ≡ option_map (shown padding) (entry_for eq k es)
           → (all_changed eq (told_as padding e o ∷ tell es) p).places k ≡ option_map (shown padding) (entry_for eq k (cons_option o (later es)))
       missed rest None is_o miss was =
           rest (changed eq (Evicted e.key (shown padding e)) p) (ap (λ b. cond b None (p.places k)) miss ∙ was)
@@ -114,7 +117,8 @@ module _ {K : Type 0} (eq : K → K → Bool) (laws : IsEquivalence eq) (padding
       by_option rest None = rest (changed eq (Evicted e.key (shown padding e)) p)
       by_option rest (Some f) = rest (changed eq (Moved e.key (shown padding e) (shown padding f)) p)
 
-pub repacks_tell : {K : Type 0} (eq : K → K → Bool) → IsEquivalence eq → (page : ℕ) (before after : List (CacheChange K)) (s t : CacheState K)
+pub repacks_tell : {K : Type 0} (eq : K → K → Bool) → IsEquivalence eq
+    → (page : ℕ) (before after : List (CacheChange K)) (s t : CacheState K)
     → HaveOwnKeys eq s.entries → Repacks page before after s t → TellsChanges eq before after s t
 repacks_tell eq laws page before after s t own h =
     let named = λ (e f : Entry _) (is : h.renewed e ≡ Some f). ap (λ (x : Entry _). x.key) (h.same e f is) in

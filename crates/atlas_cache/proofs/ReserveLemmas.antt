@@ -16,7 +16,8 @@ module _ {K S : Type 0} (map : HashMap K ℕ S) (order : Order) (room : ℕ) (h 
   entries-fit items made = omega (arith, h.few, made)
 
   -- Another map and another list with as much memory.
-  pub memory-kept : (new : HashMap K ℕ S) (more : ℕ) → spare map ≤ spare new → hash_map_len new ≡ hash_map_len map → room ≤ more
+  pub memory-kept : (new : HashMap K ℕ S) (more : ℕ) → spare map ≤ spare new → hash_map_len new ≡ hash_map_len map
+      → room ≤ more
       → HasMemory new order more
   memory-kept new more places held items = record {
     places = omega (arith, h.places, places);
@@ -26,7 +27,8 @@ module _ {K S : Type 0} (map : HashMap K ℕ S) (order : Order) (room : ℕ) (h 
   }
 
   -- More is in reserve.
-  pub memory-reserved : (new : HashMap K ℕ S) (more n : ℕ) → spare map ≤ spare new → n ≤ spare new → hash_map_len new ≡ hash_map_len map
+  pub memory-reserved : (new : HashMap K ℕ S) (more n : ℕ) → spare map ≤ spare new → n ≤ spare new
+      → hash_map_len new ≡ hash_map_len map
       → room ≤ more → length order.entries + n ≤ more → HasMemory new (with_reserve n order) more
   memory-reserved new more n places asked held items fits = record {
     places = omega (arith, h.places, places, asked);
@@ -45,7 +47,8 @@ module _ {K S : Type 0} (map : HashMap K ℕ S) (order : Order) (room : ℕ) (h 
   }
 
   -- An entry goes, from the map and from the order.
-  pub memory-gone : (n : ℕ) (new : HashMap K ℕ S) → IsEntry n order → spare map ≤ spare new → hash_map_len map ≤ hash_map_len new + 1
+  pub memory-gone : (n : ℕ) (new : HashMap K ℕ S) → IsEntry n order → spare map ≤ spare new
+      → hash_map_len map ≤ hash_map_len new + 1
       → HasMemory new (gone n order) room
   memory-gone n new l places held = record {
     places = omega (arith, h.places, places);

@@ -8,14 +8,16 @@ use Rattle.atlas_cache.proofs.RingLemmas.{IsUnlinked, RunsThrough-unlinked, Runs
 use Rattle.atlas_search.proofs.Occurrences.{same-self, same-ne, ne-from_occurs, occurs-without}
 
 -- No entry has the number of none.
-pub none-occurs : (links : List Link) (ends : Link) (xs : List ℕ) → length links ≤ 4294967295 → IsRing links ends xs → occurs no_entry xs ≡ 0
+pub none-occurs : (links : List Link) (ends : Link) (xs : List ℕ) → length links ≤ 4294967295 → IsRing links ends xs
+    → occurs no_entry xs ≡ 0
 none-occurs links ends xs short h =
     elim (cases_eq (occurs no_entry xs) 0) [
       | inl e ↦ e
       | inr ne ↦ let l = h.inside no_entry (omega (arith, ne)) in absurd (omega (arith, l, short))
     ]
 
-unlinked-from : (nx pv n1 p1 mx qv : ℕ → ℕ) (i p n : ℕ) → p ≡ pv i → n ≡ nx i → ((k : ℕ) → n1 k ≡ at_once p n nx k) → ((k : ℕ) → p1 k ≡ pv k) → ((k : ℕ) → mx k ≡ n1 k) → ((k : ℕ) → qv k ≡ at_once n p p1 k) → IsUnlinked nx pv mx qv i
+unlinked-from : (nx pv n1 p1 mx qv : ℕ → ℕ) (i p n : ℕ) → p ≡ pv i → n ≡ nx i → ((k : ℕ) → n1 k ≡ at_once p n nx k)
+    → ((k : ℕ) → p1 k ≡ pv k) → ((k : ℕ) → mx k ≡ n1 k) → ((k : ℕ) → qv k ≡ at_once n p p1 k) → IsUnlinked nx pv mx qv i
 unlinked-from nx pv n1 p1 mx qv i p n ep en e1 e2 e3 e4 =
     record {
       before = e3 (pv i) ∙ e1 (pv i) ∙ at_once-here p n nx (pv i) (sym ep) ∙ en;
@@ -24,12 +26,18 @@ unlinked-from nx pv n1 p1 mx qv i p n ep en e1 e2 e3 e4 =
       previous = λ k ne. e4 k ∙ at_once-there n p p1 k (λ q. ne (q ∙ en)) ∙ e2 k;
     }
 
-pub unlinked-by : (l0 l1 l2 : List Link) (e0 e1 e2 : Link) (i p n : ℕ) → p ≡ previous_at l0 e0 i → n ≡ next_at l0 e0 i → ((k : ℕ) → next_at l1 e1 k ≡ at_once p n (next_at l0 e0) k) → ((k : ℕ) → previous_at l1 e1 k ≡ previous_at l0 e0 k) → ((k : ℕ) → next_at l2 e2 k ≡ next_at l1 e1 k) → ((k : ℕ) → previous_at l2 e2 k ≡ at_once n p (previous_at l1 e1) k) → IsUnlinked (next_at l0 e0) (previous_at l0 e0) (next_at l2 e2) (previous_at l2 e2) i
+pub unlinked-by : (l0 l1 l2 : List Link) (e0 e1 e2 : Link) (i p n : ℕ) → p ≡ previous_at l0 e0 i → n ≡ next_at l0 e0 i
+    → ((k : ℕ) → next_at l1 e1 k ≡ at_once p n (next_at l0 e0) k)
+    → ((k : ℕ) → previous_at l1 e1 k ≡ previous_at l0 e0 k) → ((k : ℕ) → next_at l2 e2 k ≡ next_at l1 e1 k)
+    → ((k : ℕ) → previous_at l2 e2 k ≡ at_once n p (previous_at l1 e1) k)
+    → IsUnlinked (next_at l0 e0) (previous_at l0 e0) (next_at l2 e2) (previous_at l2 e2) i
 unlinked-by l0 l1 l2 e0 e1 e2 i p n =
     unlinked-from (next_at l0 e0) (previous_at l0 e0) (next_at l1 e1) (previous_at l1 e1) (next_at l2 e2) (previous_at l2 e2) i p n
 
 module _ (links : List Link) (ends : Link) (new : List Link) (last : Link) (short : length links ≤ 4294967295) (same_length : length new ≡ length links) where
-  pub IsRing-unlinked : (i : ℕ) → IsUnlinked (next_at links ends) (previous_at links ends) (next_at new last) (previous_at new last) i → (xs : List ℕ) → IsRing links ends xs → 0 < occurs i xs → IsRing new last (without i xs)
+  pub IsRing-unlinked : (i : ℕ)
+      → IsUnlinked (next_at links ends) (previous_at links ends) (next_at new last) (previous_at new last) i
+      → (xs : List ℕ) → IsRing links ends xs → 0 < occurs i xs → IsRing new last (without i xs)
   IsRing-unlinked i w xs h l =
       let none = none-occurs links ends xs short h in
       record {
@@ -38,14 +46,19 @@ module _ (links : List Link) (ends : Link) (new : List Link) (last : Link) (shor
         inside = λ k m. omega (arith, same_length, h.inside k (omega (arith, occurs-without i xs l k, m)));
       }
 
-  pub others-unlinked : (i : ℕ) → IsUnlinked (next_at links ends) (previous_at links ends) (next_at new last) (previous_at new last) i → (xs : List ℕ) (k : ℕ) → IsRing links ends xs → 0 < occurs i xs → (k ≡ no_entry → ⊥) → occurs k xs ≡ 0 → next_at new last k ≡ next_at links ends k
+  pub others-unlinked : (i : ℕ)
+      → IsUnlinked (next_at links ends) (previous_at links ends) (next_at new last) (previous_at new last) i
+      → (xs : List ℕ) (k : ℕ) → IsRing links ends xs → 0 < occurs i xs → (k ≡ no_entry → ⊥) → occurs k xs ≡ 0
+      → next_at new last k ≡ next_at links ends k
   others-unlinked i w xs k h l nk z =
       w.next k (λ q. elim (previous-in_chain (next_at links ends) (previous_at links ends) no_entry i xs h.chain l) [
         | inl e ↦ nk (q ∙ e)
         | inr m ↦ ne-from_occurs k (previous_at links ends i) xs z m (sym q)
       ])
 
-pub neighbours-inside : (links : List Link) (ends : Link) (i : ℕ) → IsInRing links ends i → ((previous_at links ends i ≡ no_entry) ⊎ (previous_at links ends i < length links)) × ((next_at links ends i ≡ no_entry) ⊎ (next_at links ends i < length links))
+pub neighbours-inside : (links : List Link) (ends : Link) (i : ℕ) → IsInRing links ends i
+    → ((previous_at links ends i ≡ no_entry) ⊎ (previous_at links ends i < length links))
+    × ((next_at links ends i ≡ no_entry) ⊎ (next_at links ends i < length links))
 neighbours-inside links ends i w = (
   elim (previous-in_chain (next_at links ends) (previous_at links ends) no_entry i w.0 w.1.chain w.2) [ inl e ↦ inl e | inr m ↦ inr (w.1.inside _ m) ],
   elim (next-in_chain (next_at links ends) (previous_at links ends) no_entry i w.0 w.1.chain w.2) [ inl e ↦ inl e | inr m ↦ inr (w.1.inside _ m) ],
@@ -61,12 +74,15 @@ pub record IsPushed (l0 l1 l2 l3 : List Link) (e0 e2 e3 : Link) (i : ℕ) : Type
   pub previous3 : (k : ℕ) → previous_at l3 e3 k ≡ at_once (next_at l0 e0 no_entry) i (previous_at l2 e2) k
 
 -- What stands first isn't an entry that the ring doesn't hold.
-pub first-apart : (links : List Link) (ends : Link) (i : ℕ) (xs : List ℕ) → RunsThrough (next_at links ends) (previous_at links ends) no_entry xs → occurs i xs ≡ 0 → (i ≡ no_entry → ⊥) → i ≡ next_at links ends no_entry → ⊥
+pub first-apart : (links : List Link) (ends : Link) (i : ℕ) (xs : List ℕ)
+    → RunsThrough (next_at links ends) (previous_at links ends) no_entry xs → occurs i xs ≡ 0 → (i ≡ no_entry → ⊥)
+    → i ≡ next_at links ends no_entry → ⊥
 first-apart links ends i [] h z ni e = ni (e ∙ h.0)
 first-apart links ends i (x ∷ xs) h z ni e = ne-from_occurs i x (x ∷ xs) z (omega (arith, same-self x)) (sym h.0 ∙ sym e)
 
 -- What stands first is an entry, or none.
-pub first-inside : (links : List Link) (ends : Link) (xs : List ℕ) → IsRing links ends xs → (next_at links ends no_entry ≡ no_entry) ⊎ (next_at links ends no_entry < length links)
+pub first-inside : (links : List Link) (ends : Link) (xs : List ℕ) → IsRing links ends xs
+    → (next_at links ends no_entry ≡ no_entry) ⊎ (next_at links ends no_entry < length links)
 first-inside links ends [] h = inl h.chain.0
 first-inside links ends (x ∷ xs) h =
     let e : next_at links ends no_entry ≡ x = h.chain.0 in
@@ -77,7 +93,8 @@ module _ (l0 l1 l2 l3 : List Link) (e0 e2 e3 : Link) (i : ℕ) (w : IsPushed l0 
   others-pushed k nk ki =
       w.next3 k ∙ w.next2 k ∙ at_once-there no_entry i (next_at l1 e0) k nk ∙ w.next1 k ∙ at_once-there i (next_at l0 e0 no_entry) (next_at l0 e0) k ki
 
-  pub IsRing-pushed : length l0 ≤ 4294967295 → length l3 ≡ length l0 → i < length l0 → (xs : List ℕ) → IsRing l0 e0 xs → occurs i xs ≡ 0 → IsRing l3 e3 (i ∷ xs)
+  pub IsRing-pushed : length l0 ≤ 4294967295 → length l3 ≡ length l0 → i < length l0 → (xs : List ℕ) → IsRing l0 e0 xs
+      → occurs i xs ≡ 0 → IsRing l3 e3 (i ∷ xs)
   IsRing-pushed short same_length inside xs h z =
       let none = none-occurs l0 e0 xs short h in
       let f = next_at l0 e0 no_entry in

@@ -13,7 +13,9 @@ pub at_once-there : (x y : ℕ) (f : ℕ → ℕ) (k : ℕ) → (k ≡ x → ⊥
 at_once-there x y f k ne = cond-false (eqb k x) y (f k) (ne_eqb k x ne)
 
 -- A chain stands where its members' links are the same.
-pub RunsThrough-same : (nx pv mx qv : ℕ → ℕ) (b : ℕ) (xs : List ℕ) → mx b ≡ nx b → ((k : ℕ) → 0 < occurs k xs → mx k ≡ nx k) → ((k : ℕ) → 0 < occurs k xs → qv k ≡ pv k) → qv no_entry ≡ pv no_entry → RunsThrough nx pv b xs → RunsThrough mx qv b xs
+pub RunsThrough-same : (nx pv mx qv : ℕ → ℕ) (b : ℕ) (xs : List ℕ) → mx b ≡ nx b
+    → ((k : ℕ) → 0 < occurs k xs → mx k ≡ nx k) → ((k : ℕ) → 0 < occurs k xs → qv k ≡ pv k) → qv no_entry ≡ pv no_entry
+    → RunsThrough nx pv b xs → RunsThrough mx qv b xs
 RunsThrough-same nx pv mx qv b [] eb en ep ez h = (eb ∙ h.0, ez ∙ h.1)
 RunsThrough-same nx pv mx qv b (x ∷ xs) eb en ep ez h =
     let here : 0 < occurs x (x ∷ xs) = omega (arith, same-self x) in (
@@ -23,7 +25,8 @@ RunsThrough-same nx pv mx qv b (x ∷ xs) eb en ep ez h =
     )
 
 -- The links run through the chain forwards.
-pub line-RunsThrough : (nx pv : ℕ → ℕ) (b at : ℕ) (xs : List ℕ) → RunsThrough nx pv b xs → at ≡ nx b → line (length xs) nx at ≡ xs
+pub line-RunsThrough : (nx pv : ℕ → ℕ) (b at : ℕ) (xs : List ℕ) → RunsThrough nx pv b xs → at ≡ nx b
+    → line (length xs) nx at ≡ xs
 line-RunsThrough nx pv b at [] h e = refl
 line-RunsThrough nx pv b at (x ∷ xs) h e =
     let a : at ≡ x = e ∙ h.0 in
@@ -34,7 +37,8 @@ length-line zero nx at = refl
 length-line (suc n) nx at = omega (arith, length-line n nx (nx at))
 
 -- What follows a member is a member, or the end.
-pub next-in_chain : (nx pv : ℕ → ℕ) (b i : ℕ) (xs : List ℕ) → RunsThrough nx pv b xs → 0 < occurs i xs → (nx i ≡ no_entry) ⊎ (0 < occurs (nx i) xs)
+pub next-in_chain : (nx pv : ℕ → ℕ) (b i : ℕ) (xs : List ℕ) → RunsThrough nx pv b xs → 0 < occurs i xs
+    → (nx i ≡ no_entry) ⊎ (0 < occurs (nx i) xs)
 next-in_chain nx pv b i [] h l = absurd (omega arith)
 next-in_chain nx pv b i (x ∷ []) h l =
     elim (cases_eq i x) [ inl e ↦ inl (ap nx e ∙ h.2.0) | inr ne ↦ absurd (omega (arith, same-ne i x ne)) ]
@@ -45,7 +49,8 @@ next-in_chain nx pv b i (x ∷ (y ∷ ys)) h l =
     ]
 
 -- What comes before a member is a member, or what comes before the chain.
-pub previous-in_chain : (nx pv : ℕ → ℕ) (b i : ℕ) (xs : List ℕ) → RunsThrough nx pv b xs → 0 < occurs i xs → (pv i ≡ b) ⊎ (0 < occurs (pv i) xs)
+pub previous-in_chain : (nx pv : ℕ → ℕ) (b i : ℕ) (xs : List ℕ) → RunsThrough nx pv b xs → 0 < occurs i xs
+    → (pv i ≡ b) ⊎ (0 < occurs (pv i) xs)
 previous-in_chain nx pv b i [] h l = absurd (omega arith)
 previous-in_chain nx pv b i (x ∷ xs) h l =
     elim (cases_eq i x) [
@@ -64,7 +69,8 @@ pub record IsUnlinked (nx pv mx qv : ℕ → ℕ) (i : ℕ) : Type 0 where
   pub previous : (k : ℕ) → (k ≡ nx i → ⊥) → qv k ≡ pv k
 
 module _ (nx pv mx qv : ℕ → ℕ) (i : ℕ) (w : IsUnlinked nx pv mx qv i) where
-  rest_after : (b : ℕ) (xs : List ℕ) → pv i ≡ b → occurs b xs ≡ 0 → occurs no_entry xs ≡ 0 → ((k : ℕ) → occurs k xs ≤ 1) → RunsThrough nx pv i xs → RunsThrough mx qv b xs
+  rest_after : (b : ℕ) (xs : List ℕ) → pv i ≡ b → occurs b xs ≡ 0 → occurs no_entry xs ≡ 0 → ((k : ℕ) → occurs k xs ≤ 1)
+      → RunsThrough nx pv i xs → RunsThrough mx qv b xs
   rest_after b [] e zb none once h =
       (ap mx (sym e) ∙ w.before ∙ h.0, ap qv (sym h.0) ∙ w.after ∙ e)
   rest_after b (y ∷ ys) e zb none once h =
@@ -75,7 +81,8 @@ module _ (nx pv mx qv : ℕ → ℕ) (i : ℕ) (w : IsUnlinked nx pv mx qv i) wh
         RunsThrough-same nx pv mx qv y ys (next y (omega (arith, same-self y))) (λ k l. next k (omega (arith, l))) (λ k l. w.previous k (λ q. ne-from_occurs y k ys zy l (q ∙ h.0))) (w.previous no_entry (λ q. ne-from_occurs no_entry y (y ∷ ys) none (omega (arith, same-self y)) (sym h.0 ∙ sym q))) h.2,
       )
 
-  pub RunsThrough-unlinked : (b : ℕ) (xs : List ℕ) → ((k : ℕ) → occurs k xs ≤ 1) → occurs b xs ≡ 0 → occurs no_entry xs ≡ 0 → 0 < occurs i xs → RunsThrough nx pv b xs → RunsThrough mx qv b (without i xs)
+  pub RunsThrough-unlinked : (b : ℕ) (xs : List ℕ) → ((k : ℕ) → occurs k xs ≤ 1) → occurs b xs ≡ 0
+      → occurs no_entry xs ≡ 0 → 0 < occurs i xs → RunsThrough nx pv b xs → RunsThrough mx qv b (without i xs)
   RunsThrough-unlinked b [] once zb none l h = absurd (omega arith)
   RunsThrough-unlinked b (x ∷ xs) once zb none l h =
       cond_both (eqb i x) xs (x ∷ without i xs) (λ ys. RunsThrough mx qv b ys) (λ t.
@@ -99,7 +106,11 @@ module _ (nx pv mx qv : ℕ → ℕ) (i : ℕ) (w : IsUnlinked nx pv mx qv i) wh
       ))
 
 -- The entry i comes in front.
-pub RunsThrough-pushed : (nx pv mx qv : ℕ → ℕ) (i : ℕ) (xs : List ℕ) → ((k : ℕ) → occurs k xs ≤ 1) → occurs i xs ≡ 0 → occurs no_entry xs ≡ 0 → (i ≡ no_entry → ⊥) → mx no_entry ≡ i → mx i ≡ nx no_entry → qv i ≡ no_entry → qv (nx no_entry) ≡ i → ((k : ℕ) → (k ≡ i → ⊥) → (k ≡ no_entry → ⊥) → mx k ≡ nx k) → ((k : ℕ) → (k ≡ i → ⊥) → (k ≡ nx no_entry → ⊥) → qv k ≡ pv k) → RunsThrough nx pv no_entry xs → RunsThrough mx qv no_entry (i ∷ xs)
+pub RunsThrough-pushed : (nx pv mx qv : ℕ → ℕ) (i : ℕ) (xs : List ℕ) → ((k : ℕ) → occurs k xs ≤ 1) → occurs i xs ≡ 0
+    → occurs no_entry xs ≡ 0 → (i ≡ no_entry → ⊥) → mx no_entry ≡ i → mx i ≡ nx no_entry → qv i ≡ no_entry
+    → qv (nx no_entry) ≡ i → ((k : ℕ) → (k ≡ i → ⊥) → (k ≡ no_entry → ⊥) → mx k ≡ nx k)
+    → ((k : ℕ) → (k ≡ i → ⊥) → (k ≡ nx no_entry → ⊥) → qv k ≡ pv k) → RunsThrough nx pv no_entry xs
+    → RunsThrough mx qv no_entry (i ∷ xs)
 RunsThrough-pushed nx pv mx qv i [] once zi none ni first mi qi qf next previous h =
     (first, qi, (mi ∙ h.0, ap qv (sym h.0) ∙ qf))
 RunsThrough-pushed nx pv mx qv i (y ∷ ys) once zi none ni first mi qi qf next previous h =
@@ -115,13 +126,15 @@ RunsThrough-pushed nx pv mx qv i (y ∷ ys) once zi none ni first mi qi qf next 
     )
 
 -- A line stands where its members' links are the same.
-pub RunsForward-same : (nx mx : ℕ → ℕ) (at : ℕ) (xs : List ℕ) → ((k : ℕ) → 0 < occurs k xs → mx k ≡ nx k) → RunsForward nx at xs → RunsForward mx at xs
+pub RunsForward-same : (nx mx : ℕ → ℕ) (at : ℕ) (xs : List ℕ) → ((k : ℕ) → 0 < occurs k xs → mx k ≡ nx k)
+    → RunsForward nx at xs → RunsForward mx at xs
 RunsForward-same nx mx at [] en h = h
 RunsForward-same nx mx at (x ∷ xs) en h =
     let step : nx x ≡ mx x = sym (en x (omega (arith, same-self x))) in
     (h.0, RunsForward-same nx mx (mx x) xs (λ k l. en k (omega (arith, l))) (rw (← step) h.1))
 
 -- The last of a chain comes before the end.
-pub last-RunsThrough : (nx pv : ℕ → ℕ) (b x : ℕ) (xs : List ℕ) → RunsThrough nx pv b (x ∷ xs) → oldest_of (x ∷ xs) ≡ Some (pv no_entry)
+pub last-RunsThrough : (nx pv : ℕ → ℕ) (b x : ℕ) (xs : List ℕ) → RunsThrough nx pv b (x ∷ xs)
+    → oldest_of (x ∷ xs) ≡ Some (pv no_entry)
 last-RunsThrough nx pv b x [] h = ap (λ (v : ℕ). Some v) (sym h.2.1)
 last-RunsThrough nx pv b x (y ∷ ys) h = last-RunsThrough nx pv x y ys h.2

@@ -29,7 +29,8 @@ use Rattle.atlas_cache.proofs.RoomLemmas.Paging.{on_page}
 use Rattle.atlas_cache.proofs.TrimLemmas.{changed-last}
 
 -- A list and its last element.
-pub split_last : {X : Type 0} (xs : List X) (n : ℕ) (x : X) → length xs ≡ n + 1 → x ≡ get_or xs n x → xs ≡ take n xs ++ x ∷ []
+pub split_last : {X : Type 0} (xs : List X) (n : ℕ) (x : X) → length xs ≡ n + 1 → x ≡ get_or xs n x
+    → xs ≡ take n xs ++ x ∷ []
 split_last xs n x long is =
     sym (take-length xs) ∙ ap (λ k. take k xs) long ∙ take_more xs n x (omega (arith, long)) ∙ ap (λ y. take n xs ++ y ∷ []) (sym is)
 
@@ -43,7 +44,8 @@ last_there [] x = refl
 last_there (y ∷ xs) x = last_there xs x
 
 -- The pages that are left are pages of the cache.
-pub rooms_left : (o : CacheOptions) (pages : List AtlasValue) (last : AtlasValue) → KeepsRooms (rooms_of o (pages ++ last ∷ []))
+pub rooms_left : (o : CacheOptions) (pages : List AtlasValue) (last : AtlasValue)
+    → KeepsRooms (rooms_of o (pages ++ last ∷ []))
     → KeepsRooms (rooms_of o pages)
 rooms_left o pages last was = record {
   usable = was.usable;
@@ -57,7 +59,8 @@ last_number zero none is some = let none_is : none ≡ true = is in cc
 last_number (suc n) none is some = omega arith
 
 -- The last page goes, and it is idle.
-pub drops_last : (pages left : List AtlasValue) (n page : ℕ) (a : AtlasValue) → length pages ≡ n + 1 → a ≡ get_or pages n a
+pub drops_last : (pages left : List AtlasValue) (n page : ℕ) (a : AtlasValue) → length pages ≡ n + 1
+    → a ≡ get_or pages n a
     → left ≡ take n pages → live_in (state_of a) ≡ [] → page ≡ n → DropsIdle page pages left
 drops_last pages left n page a long is taken idle named =
     let was : pages ≡ left ++ a ∷ [] = rw taken (split_last pages n a long is) in
@@ -92,7 +95,8 @@ nothing_joined last gone idle none (suc page) id = none page id
 
 module _ {K : Type 0} where
   -- Each entry lies on a page.
-  in_use_few : (pages : List AtlasValue) (es : List (Entry K)) → AllByRecursion (λ e. rectangle_on pages e.page e.id ≡ Some e.rectangle) es
+  in_use_few : (pages : List AtlasValue) (es : List (Entry K))
+      → AllByRecursion (λ e. rectangle_on pages e.page e.id ≡ Some e.rectangle) es
       → pages_in_use es ≤ length pages
   in_use_few pages [] live = omega arith
   in_use_few pages (e ∷ es) live =
@@ -114,7 +118,8 @@ module _ {K : Type 0} where
       in_use_many (length rest) g.id es (held.known (length rest) g.id (rectangle_of g.box) (rw (last_there rest last, is, own) refl))
 
   -- Where the last page is in use, so are all.
-  all_used : (n : ℕ) (pages : List AtlasValue) (es : List (Entry K)) → length pages ≡ n → HoldsEntries pages es → IsLastInUse pages
+  all_used : (n : ℕ) (pages : List AtlasValue) (es : List (Entry K)) → length pages ≡ n → HoldsEntries pages es
+      → IsLastInUse pages
       → length pages ≤ pages_in_use es
   all_used zero pages es none held used = omega (arith, none)
   all_used (suc n) pages es long held used = elim (slice_get_cases pages n).1 [
@@ -161,7 +166,8 @@ module _ {K : Type 0} where
           ∙ ap page_sizes (take-append_seam u.pages (last ∷ []));
     }
 
-    pub one_gone : (before now new : List (CacheChange K)) (s t u : CacheState K) → Gone eq before now s t → DropsPage now new t u
+    pub one_gone : (before now new : List (CacheChange K)) (s t u : CacheState K) → Gone eq before now s t
+        → DropsPage now new t u
         → Gone eq before new s u
     one_gone before now new s t u h one =
         let last = one.drops.last in

@@ -28,12 +28,14 @@ module _ {K : Type 0} where
   does-unused (Moved key from to) s t does none = absurd does
   does-unused (PageRemoved page) s t does none = absurd does
 
-  pub led-unused : (asked : Size) (cs : List (CacheChange K)) (s t : CacheState K) → Leads asked cs s t → IsNoneInUse s → IsNoneInUse t
+  pub led-unused : (asked : Size) (cs : List (CacheChange K)) (s t : CacheState K) → Leads asked cs s t → IsNoneInUse s
+      → IsNoneInUse t
   led-unused asked [] s t same none = subst (λ (u : CacheState K). IsNoneInUse u) same none
   led-unused asked (c ∷ cs) s t leads none =
       led-unused asked cs leads.0 t leads.3 (does-unused c s leads.0 leads.2 none)
 
-  none-left : (frame : ℕ) (es : List (Entry K)) → AllByRecursion (λ e. e.frame < frame) es → AllByRecursion (λ e. e.frame ≡ frame) es
+  none-left : (frame : ℕ) (es : List (Entry K)) → AllByRecursion (λ e. e.frame < frame) es
+      → AllByRecursion (λ e. e.frame ≡ frame) es
       → es ≡ []
   none-left frame [] less same = refl
   none-left frame (e ∷ es) less same = let l = less.0 in let s = same.0 in absurd (omega (arith, l, s))
@@ -46,7 +48,8 @@ module _ {K : Type 0} where
       go (Some r) is = let known = held.known page id r is in absurd (omega (arith, known))
 
   -- Where nothing is in use, some page has room in the end.
-  pub has-room : (size : Size) (s : CacheState K) → AreUsable s.options → CanStand s.options size → HoldsEntries s.pages (lying s.entries)
+  pub has-room : (size : Size) (s : CacheState K) → AreUsable s.options → CanStand s.options size
+      → HoldsEntries s.pages (lying s.entries)
       → LargestHasRoom (rooms_of s.options s.pages) → IsNoneInUse s
       → IsExhausted (size_of (bordered s.options size)) s → ⊥
   has-room size s usable stands held room none done =
@@ -57,7 +60,8 @@ module _ {K : Type 0} where
       (idle s.pages (rw empty at held) 0) stands done.none
 
   -- So the changes of a frame that had used nothing don't end without room.
-  pub never-without : (asked size : Size) (made : List (CacheChange K)) (now t v s : CacheState K) → Leads asked made now t
+  pub never-without : (asked size : Size) (made : List (CacheChange K)) (now t v s : CacheState K)
+      → Leads asked made now t
       → IsNoneInUse now → v ≡ t → IsExhausted asked v → s ≡ v → t.options ≡ now.options → CanStand now.options size
       → asked ≡ size_of (bordered now.options size) → AreUsable s.options → HoldsEntries s.pages (lying s.entries)
       → LargestHasRoom (rooms_of s.options s.pages) → ⊥

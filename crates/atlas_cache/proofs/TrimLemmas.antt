@@ -16,7 +16,8 @@ use Rattle.atlas_cache.proofs.PictureLemmas.{same_both, same_shown, taken}
 
 module _ {K : Type 0} where
   -- Where the last was used since, all were.
-  pub used-all : (f now frames : ℕ) (xs : List (Entry K)) (e : Entry K) → FramesFall f (xs ++ e ∷ []) → now < e.frame + frames
+  pub used-all : (f now frames : ℕ) (xs : List (Entry K)) (e : Entry K) → FramesFall f (xs ++ e ∷ [])
+      → now < e.frame + frames
       → AllByRecursion (IsUsedSince frames now) (xs ++ e ∷ [])
   used-all f now frames [] e h since = (since, tt)
   used-all f now frames (x ∷ xs) e h since =
@@ -90,7 +91,8 @@ module _ {K : Type 0} where
             shows = rw (changed-last so_far c (picture_of eq s)) step;
           }
 
-    pub trimmed : (frames : ℕ) (before after : List (CacheChange K)) (s t : CacheState K) → Dropped eq frames before after s t
+    pub trimmed : (frames : ℕ) (before after : List (CacheChange K)) (s t : CacheState K)
+        → Dropped eq frames before after s t
         → AllByRecursion (IsUsedSince frames s.frame) t.entries → Trims frames before after s t
     trimmed frames before after s t h used = record {
       gone = h.gone;
@@ -106,7 +108,8 @@ module _ {K : Type 0} where
       counts = h.counts;
     }
 
-    pub trimmed-told : (frames : ℕ) (before after : List (CacheChange K)) (s t : CacheState K) → Dropped eq frames before after s t
+    pub trimmed-told : (frames : ℕ) (before after : List (CacheChange K)) (s t : CacheState K)
+        → Dropped eq frames before after s t
         → TellsChanges eq before after s t
     trimmed-told frames before after s t h =
         record { made = all_evicted s.options.padding h.gone; listed = h.listed; shows = h.shows }

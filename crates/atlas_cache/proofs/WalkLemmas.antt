@@ -15,7 +15,8 @@ module _ {K : Type 0} where
   first-none [] is = refl
   first-none (x ∷ es) is = absurd (let some : Some x.0 ≡ None = is in cc)
 
-  pub first-some : (n : ℕ) (e : Entry K) (es : List (ℕ × Entry K)) → newest_of (numbers es) ≡ Some n → entry_at n es ≡ Some e
+  pub first-some : (n : ℕ) (e : Entry K) (es : List (ℕ × Entry K)) → newest_of (numbers es) ≡ Some n
+      → entry_at n es ≡ Some e
       → first_entry (entries_of es) ≡ Some e
   first-some n e [] is at = absurd (let none : None ≡ Some n = is in cc)
   first-some n e (x ∷ es) is at = elim (eqb_tells n x.0) [
@@ -59,7 +60,8 @@ module _ {K : Type 0} where
   entries-append (z ∷ xs) x ys = ap (λ es. z.1 ∷ es) (entries-append xs x ys)
 
   -- Where no number stands twice, that of an entry leads to it.
-  pub at-number : (xs : List (ℕ × Entry K)) (m : ℕ) (f : Entry K) (ys : List (ℕ × Entry K)) → IsDistinct eqb (numbers (xs ++ (m, f) ∷ ys))
+  pub at-number : (xs : List (ℕ × Entry K)) (m : ℕ) (f : Entry K) (ys : List (ℕ × Entry K))
+      → IsDistinct eqb (numbers (xs ++ (m, f) ∷ ys))
       → entry_at m (xs ++ (m, f) ∷ ys) ≡ Some f
   at-number [] m f ys apart = elim (eqb_tells m m) [
     | inl same ↦ rw same.0 refl
@@ -88,7 +90,8 @@ module _ {K : Type 0} where
       first = sym (first-none p.older none);
     }
 
-    pub next-some : (m : ℕ) (f : Entry K) → IsDistinct eqb (numbers es) → newest_of (numbers p.older) ≡ Some m → entry_at m es ≡ Some f
+    pub next-some : (m : ℕ) (f : Entry K) → IsDistinct eqb (numbers es) → newest_of (numbers p.older) ≡ Some m
+        → entry_at m es ≡ Some f
         → IsNext e (Some f) (entries_of es)
     next-some m f apart is at = record {
       newer = entries_of p.newer;

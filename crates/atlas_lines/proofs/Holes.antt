@@ -44,11 +44,13 @@ covers_corner b h =
 abbrev pub CoverOnce : List Box → Type 0
 CoverOnce xs = (x y : ℕ) → count_by (covers x y) xs ≤ 1
 
-covered_some : (y : Box) (a b : ℕ) (xs : List Box) → covers a b y ≡ true → 0 < count_by (same_box y) xs → 0 < count_by (covers a b) xs
+covered_some : (y : Box) (a b : ℕ) (xs : List Box) → covers a b y ≡ true → 0 < count_by (same_box y) xs
+    → 0 < count_by (covers a b) xs
 covered_some y a b [] covered some = absurd (omega arith)
 covered_some y a b (x ∷ xs) covered some = by_test (same_box y x) refl (λ more. covered_some y a b xs covered more)
   where
-    by_test : (t : Bool) → same_box y x ≡ t → (0 < count_by (same_box y) xs → 0 < count_by (covers a b) xs) → 0 < count_by (covers a b) (x ∷ xs)
+    by_test : (t : Bool) → same_box y x ≡ t → (0 < count_by (same_box y) xs → 0 < count_by (covers a b) xs)
+        → 0 < count_by (covers a b) (x ∷ xs)
     by_test true e others =
         let one : count_by (covers a b) (x ∷ xs) ≡ 1 + count_by (covers a b) xs =
         count_by-cons (covers a b) x xs ∙ ap (λ t. one_if t + count_by (covers a b) xs) (ap (covers a b) (sym (same_box-true y x e)) ∙ covered) in
@@ -60,7 +62,8 @@ covered_some y a b (x ∷ xs) covered some = by_test (same_box y x) refl (λ mor
         omega (arith, more)
 
 -- Of boxes that share no unit square, two with the same corner are one.
-same_corner : (x y : Box) (xs : List Box) → CoverOnce (x ∷ xs) → IsNonempty x → IsNonempty y → 0 < count_by (same_box y) (x ∷ xs) → y.min.x ≡ x.min.x → y.min.y ≡ x.min.y → x ≡ y
+same_corner : (x y : Box) (xs : List Box) → CoverOnce (x ∷ xs) → IsNonempty x → IsNonempty y
+    → 0 < count_by (same_box y) (x ∷ xs) → y.min.x ≡ x.min.x → y.min.y ≡ x.min.y → x ≡ y
 same_corner x y xs once hx hy some ex ey = by_test (same_box y x) refl
   where
     by_test : (t : Bool) → same_box y x ≡ t → x ≡ y
@@ -116,7 +119,8 @@ count_all : (xs : List Box) → count_by (λ _. true) xs ≡ length xs
 count_all [] = refl
 count_all (x ∷ xs) = count_by-cons (λ (_ : Box). true) x xs ∙ ap (λ n. 1 + n) (count_all xs) ∙ omega arith
 
-one_order : (xs ys : List Box) → AreSameBoxes xs ys → CoverOnce xs → All IsNonempty xs → AreInOrder xs → AreInOrder ys → xs ≡ ys
+one_order : (xs ys : List Box) → AreSameBoxes xs ys → CoverOnce xs → All IsNonempty xs → AreInOrder xs → AreInOrder ys
+    → xs ≡ ys
 one_order [] [] same once nonempty order other = refl
 one_order [] (y ∷ ys) same once nonempty order other = absurd (omega (arith, same (λ _. true), count_all (y ∷ ys)))
 one_order (x ∷ xs) [] same once nonempty order other = absurd (omega (arith, same (λ _. true), count_all (x ∷ xs)))
@@ -165,7 +169,8 @@ free_nonempty : (state : State) → IsSound state → All IsNonempty (free_in st
 free_nonempty state sound k d h =
     (all_after (λ (b : Box). IsNonempty b × IsWithin state.size b) (map (λ (g : Grant). g.box) (live_in state)) (free_in state) (sound_is_tiled state sound).boxes k d h).0
 
-pub same_holes : (state : State) (areas others : List Rectangle) → IsSound state → HoldsHoles state areas → HoldsHoles state others → areas ≡ others
+pub same_holes : (state : State) (areas others : List Rectangle) → IsSound state → HoldsHoles state areas
+    → HoldsHoles state others → areas ≡ others
 same_holes state areas others sound a b =
     let once : CoverOnce a.0 = λ x y. (let same = a.1.free (covers x y) in let few = free_once state sound x y in omega (arith, same)) in
     let nonempty = all_same IsNonempty a.0 (free_in state) a.1.free (free_nonempty state sound) in

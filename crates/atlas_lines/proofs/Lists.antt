@@ -30,7 +30,8 @@ use Rattle.atlas_lines.specs.Machine.{ToolReply, Held, with_atlas, with_session,
 same_allocation : (a : Allocation) → IsExact a.rectangle → a ≡ allocation_of (grant_of a)
 same_allocation a e = λ i. record { id = a.id; rectangle = e i }
 
-pub granted_back : (found : List Allocation) → All (λ (a : Allocation). IsExact a.rectangle) found → found ≡ map allocation_of (map grant_of found)
+pub granted_back : (found : List Allocation) → All (λ (a : Allocation). IsExact a.rectangle) found
+    → found ≡ map allocation_of (map grant_of found)
 granted_back [] exact = refl
 granted_back (a ∷ found) exact =
     let first = same_allocation a (exact 0 a (omega arith)) in
@@ -50,7 +51,8 @@ changes_back (c ∷ found) exact =
     let others = changes_back found (All-tail IsExactChange c found exact) in
     ap (λ (d : Change). d ∷ found) first ∙ ap (λ (ds : List Change). change_of (transfer_of c) ∷ ds) others
 
-pub changes_shown : (changes : List Change) (failures : List Allocation) → All IsExactChange changes → All (λ (a : Allocation). IsExact a.rectangle) failures
+pub changes_shown : (changes : List Change) (failures : List Allocation) → All IsExactChange changes
+    → All (λ (a : Allocation). IsExact a.rectangle) failures
     → ToolReply.ChangeLines changes failures ≡ ToolReply.ChangeLines (map change_of (map transfer_of changes)) (map allocation_of (map grant_of failures))
 changes_shown changes failures exact lost =
     let moved = changes_back changes exact in
@@ -58,7 +60,8 @@ changes_shown changes failures exact lost =
     λ i. ToolReply.ChangeLines (moved i) (left i)
 
 -- The gathered live list is one that may be shown.
-pub live_shown : (state : State) (found : List Allocation) → AreGrants state found → ShowsLive state (ToolReply.LiveLines found)
+pub live_shown : (state : State) (found : List Allocation) → AreGrants state found
+    → ShowsLive state (ToolReply.LiveLines found)
 live_shown state found grants = (map grant_of found, grants.list, granted_back found grants.exact)
 
 areas_back : (found : List Rectangle) → All IsExact found → found ≡ map rectangle_of (map box_of found)
@@ -71,7 +74,8 @@ areas_back (r ∷ found) exact =
 -- ---- the order of the holes
 
 -- Whether the lower left corner of the first comes before that of the second.
-by_corner : (o p : Ordering) (a b x y : ℤ) → MatchOrdering o (a <ℤ b) (a ≡ b) (b <ℤ a) → MatchOrdering p (x <ℤ y) (x ≡ y) (y <ℤ x) → is_lt (ordering_then o p) ≡ false
+by_corner : (o p : Ordering) (a b x y : ℤ) → MatchOrdering o (a <ℤ b) (a ≡ b) (b <ℤ a)
+    → MatchOrdering p (x <ℤ y) (x ≡ y) (y <ℤ x) → is_lt (ordering_then o p) ≡ false
     → (b <ℤ a) ⊎ ((b ≡ a) × (y ≤ℤ x))
 by_corner Less p a b x y m n e = absurd (cc)
 by_corner Equal Less a b x y m n e = absurd (cc)
@@ -89,18 +93,21 @@ corner_key r = (r.min.y, r.min.x)
 abbrev pub corner_cmp : ℤ × ℤ → ℤ × ℤ → Ordering
 corner_cmp a b = ordering_then (int_cmp a.0 b.0) (int_cmp a.1 b.1)
 
-first_by_key : (b c : Box) → is_lt (corner_cmp (corner_key (rectangle_of c)) (corner_key (rectangle_of b))) ≡ false → ComesFirst b c
+first_by_key : (b c : Box) → is_lt (corner_cmp (corner_key (rectangle_of c)) (corner_key (rectangle_of b))) ≡ false
+    → ComesFirst b c
 first_by_key b c e =
     natural_corner c.min.y b.min.y c.min.x b.min.x
     (by_corner (int_cmp (pos c.min.y) (pos b.min.y)) (int_cmp (pos c.min.x) (pos b.min.x)) (pos c.min.y) (pos b.min.y) (pos c.min.x) (pos b.min.x)
     (int_ranks (pos c.min.y) (pos b.min.y)) (int_ranks (pos c.min.x) (pos b.min.x)) e)
 
-exact_order : (r s : Rectangle) → IsExact r → IsExact s → is_lt (corner_cmp (corner_key s) (corner_key r)) ≡ false → ComesFirst (box_of r) (box_of s)
+exact_order : (r s : Rectangle) → IsExact r → IsExact s → is_lt (corner_cmp (corner_key s) (corner_key r)) ≡ false
+    → ComesFirst (box_of r) (box_of s)
 exact_order r s e f h =
     let P : Rectangle → Rectangle → Type 0 = λ x y. is_lt (corner_cmp (corner_key y) (corner_key x)) ≡ false in
     first_by_key (box_of r) (box_of s) (subst (λ y. P (rectangle_of (box_of r)) y) f (subst (λ x. P x s) e h))
 
-in_order : (sorted : List Rectangle) → All IsExact sorted → IsSortedByKey corner_key corner_cmp sorted → AreInOrder (map box_of sorted)
+in_order : (sorted : List Rectangle) → All IsExact sorted → IsSortedByKey corner_key corner_cmp sorted
+    → AreInOrder (map box_of sorted)
 in_order sorted exact order k b h =
     let n : length (map box_of sorted) ≡ length sorted = length-map sorted box_of in
     let d = rectangle_of b in
@@ -113,7 +120,8 @@ in_order sorted exact order k b h =
     (subst (λ x. P x (box_of (get_or sorted (k + 1) d))) (sym first)
     (exact_order (get_or sorted k d) (get_or sorted (k + 1) d) (exact k d low) (exact (k + 1) d high) (order k d (omega arith) high)))
 
-pub holes_listed : (state : State) (found sorted : List Rectangle) → AreFreeAreas state found → IsPermutation found sorted → IsSortedByKey corner_key corner_cmp sorted → HoldsHoles state sorted
+pub holes_listed : (state : State) (found sorted : List Rectangle) → AreFreeAreas state found
+    → IsPermutation found sorted → IsSortedByKey corner_key corner_cmp sorted → HoldsHoles state sorted
 holes_listed state found sorted areas moved order =
     let exact = All-permutation IsExact found sorted moved areas.exact in (
       map box_of sorted,
@@ -125,7 +133,8 @@ holes_listed state found sorted areas moved order =
     )
 
 -- A new atlas in the tool.
-pub made_atlas : (held : Held) (simple : Option SimpleValue) (value : AtlasValue) (made : State) → simple ≡ held.simple → state_of value ≡ made
+pub made_atlas : (held : Held) (simple : Option SimpleValue) (value : AtlasValue) (made : State) → simple ≡ held.simple
+    → state_of value ≡ made
     → tool_state_of (record { stand = Atlas value; simple = simple }) ≡ with_atlas (tool_state_of held) made
 made_atlas held simple value made e f = λ i. record { stand = Atlas (f i); simple = simple_in (e i) }
 

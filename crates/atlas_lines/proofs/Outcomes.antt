@@ -31,7 +31,8 @@ with_end bytes p = record {
   pieces = record { whole = ap (λ t. 10 ∷ t) p.pieces.whole; each = (tt, p.pieces.each); partial = p.pieces.partial };
 }
 
-with_byte : (byte : ℕ) (bytes : List ℕ) (lines : List (List ℕ)) (rest : List ℕ) → byte ≢ 10 → ArePieces bytes lines rest → Parted (byte ∷ bytes)
+with_byte : (byte : ℕ) (bytes : List ℕ) (lines : List (List ℕ)) (rest : List ℕ) → byte ≢ 10 → ArePieces bytes lines rest
+    → Parted (byte ∷ bytes)
 with_byte byte bytes [] rest other p =
     record { lines = []; rest = byte ∷ rest; pieces = record { whole = ap (λ t. byte ∷ t) p.whole; each = tt; partial = (other, p.partial) } }
 with_byte byte bytes (l ∷ ls) rest other p =
@@ -54,7 +55,8 @@ parted (byte ∷ bytes) =
 -- ---- the first lines of an input
 
 -- Whole lines, and then whatever follows.
-lines_then : (input after : List ℕ) (lines : List (List ℕ)) → input ≡ all_ended lines ++ after → AllByRecursion HasNoEnd lines → (p : Parted after)
+lines_then : (input after : List ℕ) (lines : List (List ℕ)) → input ≡ all_ended lines ++ after
+    → AllByRecursion HasNoEnd lines → (p : Parted after)
     → AreLines input (lines ++ (p.lines ++ last_line p.rest))
 lines_then input after lines whole each p = record {
   before = lines ++ p.lines;
@@ -80,7 +82,8 @@ first_owes input bytes later text e o =
 -- ---- the first bad line of an input
 
 -- A bad line with its LF.
-bad_ended : (input bad more : List ℕ) (lines : List (List ℕ)) → input ≡ all_ended lines ++ (bad ++ 10 ∷ more) → AllByRecursion HasNoEnd lines → HasNoEnd bad
+bad_ended : (input bad more : List ℕ) (lines : List (List ℕ)) → input ≡ all_ended lines ++ (bad ++ 10 ∷ more)
+    → AllByRecursion HasNoEnd lines → HasNoEnd bad
     → (others : List (List ℕ)) × AreLines input (lines ++ bad ∷ others)
 bad_ended input bad more lines whole each no_end =
     let p = parted more in
@@ -100,8 +103,10 @@ some_last [] some = absurd (omega arith)
 some_last (b ∷ bs) some = refl
 
 -- A bad line of which at least its beginning is there.
-bad_begun : (input bad after : List ℕ) (lines : List (List ℕ)) → input ≡ all_ended lines ++ (bad ++ after) → AllByRecursion HasNoEnd lines → HasNoEnd bad → 120 < length bad
-    → (before : List (List ℕ)) (rest : List ℕ) → ArePieces after before rest → (line : List ℕ) × (others : List (List ℕ)) × (120 < length line) × AreLines input (lines ++ line ∷ others)
+bad_begun : (input bad after : List ℕ) (lines : List (List ℕ)) → input ≡ all_ended lines ++ (bad ++ after)
+    → AllByRecursion HasNoEnd lines → HasNoEnd bad → 120 < length bad
+    → (before : List (List ℕ)) (rest : List ℕ) → ArePieces after before rest
+    → (line : List ℕ) × (others : List (List ℕ)) × (120 < length line) × AreLines input (lines ++ line ∷ others)
 bad_begun input bad after lines whole each no_end long [] rest p =
     let q : Parted (bad ++ after) = record {
       lines = [];
@@ -126,7 +131,8 @@ bad_begun input bad after lines whole each no_end long (l ∷ ls) rest p =
     } in
     (bad ++ l, ls ++ last_line rest, omega (arith, length-append bad l), lines_then input (bad ++ after) lines whole each q)
 
-bad_found : (input bad after : List ℕ) (lines : List (List ℕ)) → input ≡ all_ended lines ++ (bad ++ after) → AllByRecursion HasNoEnd lines → HasNoEnd bad → IsCertainlyBad bad after
+bad_found : (input bad after : List ℕ) (lines : List (List ℕ)) → input ≡ all_ended lines ++ (bad ++ after)
+    → AllByRecursion HasNoEnd lines → HasNoEnd bad → IsCertainlyBad bad after
     → (line : List ℕ) × (others : List (List ℕ)) × IsBadLine line × AreLines input (lines ++ line ∷ others)
 bad_found input bad after lines whole each no_end (inl long) =
     let p = parted after in
@@ -136,7 +142,8 @@ bad_found input bad after lines whole each no_end (inr is) =
     let f = bad_ended input bad is.1 lines (whole ∙ ap (λ t. all_ended lines ++ (bad ++ t)) is.2) each no_end in
     (bad, f.0, is.0, f.1)
 
-bad_owes : (input : List ℕ) (n : ℕ) (text : List ℕ) → MeetsBadLine place_at_start input n text → OwesToBadLine input n text
+bad_owes : (input : List ℕ) (n : ℕ) (text : List ℕ) → MeetsBadLine place_at_start input n text
+    → OwesToBadLine input n text
 bad_owes input n text m =
     let f = bad_found input m.bad m.after m.lines m.whole m.each m.no_end m.certain in
     record {
@@ -152,7 +159,8 @@ bad_owes input n text m =
 
 -- ---- the ends of a run
 
-pub run_starts : (input output : Option (List ℕ)) (place : Place) → place ≡ place_at_start → HasRun input input output output place 0
+pub run_starts : (input output : Option (List ℕ)) (place : Place) → place ≡ place_at_start
+    → HasRun input input output output place 0
 run_starts input output place e =
     subst (λ p. HasRun input input output output p 0) (sym e)
     (record { bytes = []; text = []; read = Consumes_none input; counted = refl; advances = advance_none place_at_start; written = Appends_none output })
@@ -164,7 +172,8 @@ pub no_room_at_start : (place : Place) → place ≡ place_at_start → place.nu
 no_room_at_start place e = subst (λ (p : Place). p.number + length p.line ≤ 0) (sym e) (omega arith)
 
 -- One more block.
-pub run_goes_on : (i j k o p q : Option (List ℕ)) (old new : Place) (block : List ℕ) (n m : ℕ) → HasRun i j o p old n → Consumes j k block → Continues None old block new p q [] [] → length block + n ≡ m
+pub run_goes_on : (i j k o p q : Option (List ℕ)) (old new : Place) (block : List ℕ) (n m : ℕ) → HasRun i j o p old n
+    → Consumes j k block → Continues None old block new p q [] [] → length block + n ≡ m
     → HasRun i k o q new m
 run_goes_on i j k o p q old new block n m run read step count = record {
   bytes = run.bytes ++ block;
@@ -176,8 +185,10 @@ run_goes_on i j k o p q old new block n m run read step count = record {
 }
 
 -- A write that failed.
-write_ends : (i j o q : Option (List ℕ)) (bytes later text : List ℕ) → Consumes i j bytes → HoldsBytes i (bytes ++ later)
-    → OwesBeginning place_at_start bytes text ⊎ ((number : ℕ) × MeetsBadLine place_at_start bytes number text) → WritesBeginning o q text → EndsAtWrite i j o q
+write_ends : (i j o q : Option (List ℕ)) (bytes later text : List ℕ) → Consumes i j bytes
+    → HoldsBytes i (bytes ++ later)
+    → OwesBeginning place_at_start bytes text ⊎ ((number : ℕ) × MeetsBadLine place_at_start bytes number text)
+    → WritesBeginning o q text → EndsAtWrite i j o q
 write_ends i j o q bytes later text read holds (inl owes) written =
     let all = first_owes (bytes ++ later) bytes later text refl owes in
     let some = first_owes bytes bytes [] text (sym (append-nil bytes)) owes in
@@ -206,7 +217,8 @@ write_ends i j o q bytes later text read holds (inr meets) written = record {
   written = written;
 }
 
-stop_ends : (end : Result ToolEnd ToolFault) (i j o q : Option (List ℕ)) (bytes : List ℕ) → Consumes i j bytes → Stops end place_at_start bytes o q [] → Ends end i j o q
+stop_ends : (end : Result ToolEnd ToolFault) (i j o q : Option (List ℕ)) (bytes : List ℕ) → Consumes i j bytes
+    → Stops end place_at_start bytes o q [] → Ends end i j o q
 stop_ends (Ok (BadLine n)) i j o q bytes read stops =
     let all = Holds_with_rest i j bytes read in
     record {
@@ -224,7 +236,8 @@ stop_ends (Ok Limit) i j o q bytes read stops = absurd stops
 stop_ends (Err Read) i j o q bytes read stops = absurd stops
 
 -- The run ended among the bytes of a block.
-pub run_stops : (end : Result ToolEnd ToolFault) (i j k o p q : Option (List ℕ)) (old : Place) (block : List ℕ) (n : ℕ) → HasRun i j o p old n → Consumes j k block → Stops end old block p q []
+pub run_stops : (end : Result ToolEnd ToolFault) (i j k o p q : Option (List ℕ)) (old : Place) (block : List ℕ) (n : ℕ)
+    → HasRun i j o p old n → Consumes j k block → Stops end old block p q []
     → Ends end i k o q
 run_stops end i j k o p q old block n run read stops =
     stop_ends end i k o q (run.bytes ++ block) (Consumes_twice i j k run.bytes block run.read read)
@@ -232,7 +245,8 @@ run_stops end i j k o p q old block n run read stops =
 
 -- ---- the reader's end
 
-owes_last : (old new : ToolState) (line text : List ℕ) → LineOwes old line text new → OwesText old (last_line line) text new
+owes_last : (old new : ToolState) (line text : List ℕ) → LineOwes old line text new
+    → OwesText old (last_line line) text new
 owes_last old new [] text owed = owed
 owes_last old new (b ∷ bs) text owed = (new, text, [], owed, (refl, refl), sym (append-nil text))
 
@@ -242,10 +256,12 @@ some_bad [] (inr bad) = absurd (bad.0 refl)
 some_bad (b ∷ bs) bad = refl
 
 -- The lines of an input that was read to its end.
-all_lines : (bytes text : List ℕ) (place : Place) → Advances place_at_start bytes text place → HasNoEnd place.line → (a : Advances place_at_start bytes text place) → AreLines bytes (a.lines ++ last_line place.line)
+all_lines : (bytes text : List ℕ) (place : Place) → Advances place_at_start bytes text place → HasNoEnd place.line
+    → (a : Advances place_at_start bytes text place) → AreLines bytes (a.lines ++ last_line place.line)
 all_lines bytes text place x no_end a = record { before = a.lines; rest = place.line; pieces = record { whole = a.whole; each = a.each; partial = no_end }; lines_are = refl }
 
-last_bad : (bytes text : List ℕ) (place : Place) (n : ℕ) → Advances place_at_start bytes text place → HasNoEnd place.line → IsBadLine place.line → n ≡ place.number + 1
+last_bad : (bytes text : List ℕ) (place : Place) (n : ℕ) → Advances place_at_start bytes text place
+    → HasNoEnd place.line → IsBadLine place.line → n ≡ place.number + 1
     → OwesToBadLine bytes n (text ++ bad_line_text n)
 last_bad bytes text place n a no_end bad number = record {
   lines = a.lines;
@@ -258,7 +274,8 @@ last_bad bytes text place n a no_end bad number = record {
   text_is = refl;
 }
 
-end_replied : (i j o p q : Option (List ℕ)) (place new : Place) (n : ℕ) → HasRun i j o p place n → IsAtEnd j → HasNoEnd place.line → RepliesTo place new p q [] [] → EndsAtEnd i j o q
+end_replied : (i j o p q : Option (List ℕ)) (place new : Place) (n : ℕ) → HasRun i j o p place n → IsAtEnd j
+    → HasNoEnd place.line → RepliesTo place new p q [] [] → EndsAtEnd i j o q
 end_replied i j o p q place new n run at_end no_end r = record {
   input = run.bytes;
   lines = run.advances.lines ++ last_line place.line;
@@ -271,7 +288,8 @@ end_replied i j o p q place new n run at_end no_end r = record {
   written = Appends_twice o p q run.text r.text run.written (written_all p q r.text r.gathered);
 }
 
-last_first : (bytes text more : List ℕ) (place : Place) (new : ToolState) (a : Advances place_at_start bytes text place) → HasNoEnd place.line → LineOwes (state_at place) place.line more new
+last_first : (bytes text more : List ℕ) (place : Place) (new : ToolState) (a : Advances place_at_start bytes text place)
+    → HasNoEnd place.line → LineOwes (state_at place) place.line more new
     → OwesFirst bytes (a.lines ++ last_line place.line) [] (text ++ more)
 last_first bytes text more place new a no_end owed = record {
   state = new;
@@ -280,7 +298,8 @@ last_first bytes text more place new a no_end owed = record {
 }
 
 -- What holds of the bytes read holds of the whole input, where nothing is unread.
-begun_at_end : (bytes : List ℕ) (lines others : List (List ℕ)) (text : List ℕ) → OwesFirst bytes lines others text → OwesBegun bytes [] lines text
+begun_at_end : (bytes : List ℕ) (lines others : List (List ℕ)) (text : List ℕ) → OwesFirst bytes lines others text
+    → OwesBegun bytes [] lines text
 begun_at_end bytes lines others text owed =
     let P : List ℕ → Type 0 = λ input. OwesFirst input lines others text in
     record { others = others; others_read = others; owed = subst P (sym (append-nil bytes)) owed; read = owed }
@@ -293,7 +312,8 @@ bad_at_end bytes n text owed =
 holds_at_end : (i j : Option (List ℕ)) (bytes : List ℕ) → Consumes i j bytes → IsAtEnd j → HoldsBytes i (bytes ++ [])
 holds_at_end i j bytes read at_end = subst (HoldsBytes i) (sym (append-nil bytes)) (Holds_at_end i j bytes read at_end)
 
-end_stopped : (end : Result ToolEnd ToolFault) (i j o p q : Option (List ℕ)) (place new : Place) (n : ℕ) → HasRun i j o p place n → IsAtEnd j → HasNoEnd place.line → LineEnds (Some end) place new p q [] []
+end_stopped : (end : Result ToolEnd ToolFault) (i j o p q : Option (List ℕ)) (place new : Place) (n : ℕ)
+    → HasRun i j o p place n → IsAtEnd j → HasNoEnd place.line → LineEnds (Some end) place new p q [] []
     → Ends end i j o q
 end_stopped (Ok (BadLine m)) i j o p q place new n run at_end no_end (inl bad) = record {
   input = run.bytes;
@@ -338,14 +358,17 @@ end_stopped (Err Write) i j o p q place new n run at_end no_end (inr reply) =
       written = WritesBeginning_after o p q run.text reply.1.text run.written reply.1.written;
     }
 
-last_line_ends : (end : Option (Result ToolEnd ToolFault)) (i j o p q : Option (List ℕ)) (place new : Place) (n : ℕ) → HasRun i j o p place n → IsAtEnd j → HasNoEnd place.line → LineEnds end place new p q [] []
+last_line_ends : (end : Option (Result ToolEnd ToolFault)) (i j o p q : Option (List ℕ)) (place new : Place) (n : ℕ)
+    → HasRun i j o p place n → IsAtEnd j → HasNoEnd place.line → LineEnds end place new p q [] []
     → Ends (unwrap_or end (Ok Done)) i j o q
 last_line_ends None i j o p q place new n run at_end no_end r = end_replied i j o p q place new n run at_end no_end r
 last_line_ends (Some end) i j o p q place new n run at_end no_end r = end_stopped end i j o p q place new n run at_end no_end r
 
 -- At the reader's end, where the last line may lack its LF.
-pub input_ends : (result : Result ToolEnd ToolFault) (end : Option (Result ToolEnd ToolFault)) (i j k o p q : Option (List ℕ)) (place new : Place) (n count : ℕ) (buffer : List ℕ)
-    → result ≡ unwrap_or end (Ok Done) → HasRun i j o p place n → count ≡ 0 → Consumes j k (take count buffer) → IsAtEnd k → HasNoEnd place.line → LineEnds end place new p q [] [] → Ends result i k o q
+pub input_ends : (result : Result ToolEnd ToolFault) (end : Option (Result ToolEnd ToolFault))
+    (i j k o p q : Option (List ℕ)) (place new : Place) (n count : ℕ) (buffer : List ℕ)
+    → result ≡ unwrap_or end (Ok Done) → HasRun i j o p place n → count ≡ 0 → Consumes j k (take count buffer)
+    → IsAtEnd k → HasNoEnd place.line → LineEnds end place new p q [] [] → Ends result i k o q
 input_ends result end i j k o p q place new n count buffer is run zero read at_end no_end ends =
     let here : HasRun i k o p place n = record {
       bytes = run.bytes;
@@ -359,24 +382,30 @@ input_ends result end i j k o p q place new n count buffer is run zero read at_e
     subst P (sym is) (last_line_ends end i k o p q place new n here at_end no_end ends)
 
 -- A run that was answered in full or in part isn't one that ended at a read.
-pub end_not_read : (end : Option (Result ToolEnd ToolFault)) (place new : Place) (p q : Option (List ℕ)) (before : List ℕ) → LineEnds end place new p q before [] → is_read_fault (unwrap_or end (Ok Done)) ≡ false
+pub end_not_read : (end : Option (Result ToolEnd ToolFault)) (place new : Place) (p q : Option (List ℕ))
+    (before : List ℕ)
+    → LineEnds end place new p q before [] → is_read_fault (unwrap_or end (Ok Done)) ≡ false
 end_not_read None place new p q before ends = refl
 end_not_read (Some (Ok end)) place new p q before ends = refl
 end_not_read (Some (Err Write)) place new p q before ends = refl
 end_not_read (Some (Err Read)) place new p q before (inl bad) = absurd bad.1
 end_not_read (Some (Err Read)) place new p q before (inr reply) = absurd (let e = reply.0 in cc)
 
-pub end_is_write : (end : Option (Result ToolEnd ToolFault)) → is_write_end end ≡ is_write_fault (unwrap_or end (Ok Done))
+pub end_is_write : (end : Option (Result ToolEnd ToolFault))
+    → is_write_end end ≡ is_write_fault (unwrap_or end (Ok Done))
 end_is_write None = refl
 end_is_write (Some end) = refl
 
-pub stop_not_read : (end : Result ToolEnd ToolFault) (place : Place) (bytes : List ℕ) (p q : Option (List ℕ)) (before : List ℕ) → Stops end place bytes p q before → is_read_fault end ≡ false
+pub stop_not_read : (end : Result ToolEnd ToolFault) (place : Place) (bytes : List ℕ) (p q : Option (List ℕ))
+    (before : List ℕ)
+    → Stops end place bytes p q before → is_read_fault end ≡ false
 stop_not_read (Ok end) place bytes p q before stops = refl
 stop_not_read (Err Write) place bytes p q before stops = refl
 stop_not_read (Err Read) place bytes p q before stops = absurd stops
 
 -- A read that failed.
-pub read_ends : (i j k o p : Option (List ℕ)) (place : Place) (n : ℕ) → HasRun i j o p place n → KeepsOrHides j k → HasNoEnd place.line
+pub read_ends : (i j k o p : Option (List ℕ)) (place : Place) (n : ℕ) → HasRun i j o p place n → KeepsOrHides j k
+    → HasNoEnd place.line
     → length place.line ≤ 120 → EndsAtRead i k o p
 read_ends i j k o p place n run kept no_end short = record {
   bytes = run.bytes;

@@ -17,10 +17,12 @@ use Rattle.atlas_lines.proofs.Outcomes.{parted}
 
 -- ---- lines
 
-shifted : (l : List ℕ) (ls : List (List ℕ)) (rest : List ℕ) → all_ended (l ∷ ls) ++ rest ≡ l ++ 10 ∷ (all_ended ls ++ rest)
+shifted : (l : List ℕ) (ls : List (List ℕ)) (rest : List ℕ)
+    → all_ended (l ∷ ls) ++ rest ≡ l ++ 10 ∷ (all_ended ls ++ rest)
 shifted l ls rest = append_assoc (ended l) (all_ended ls) rest ∙ append_assoc l (10 ∷ []) (all_ended ls ++ rest)
 
-same_pieces : (xs ys : List (List ℕ)) (r s : List ℕ) → AllByRecursion HasNoEnd xs → AllByRecursion HasNoEnd ys → HasNoEnd r → HasNoEnd s → all_ended xs ++ r ≡ all_ended ys ++ s → (xs ≡ ys) × (r ≡ s)
+same_pieces : (xs ys : List (List ℕ)) (r s : List ℕ) → AllByRecursion HasNoEnd xs → AllByRecursion HasNoEnd ys
+    → HasNoEnd r → HasNoEnd s → all_ended xs ++ r ≡ all_ended ys ++ s → (xs ≡ ys) × (r ≡ s)
 same_pieces [] [] r s hx hy hr hs e = (refl, e)
 same_pieces [] (y ∷ ys) r s hx hy hr hs e = absurd (no_first y (all_ended ys ++ s) r hr (e ∙ shifted y ys s))
 same_pieces (x ∷ xs) [] r s hx hy hr hs e = absurd (no_first x (all_ended xs ++ r) s hs (sym e ∙ shifted x xs r))
@@ -29,7 +31,8 @@ same_pieces (x ∷ xs) (y ∷ ys) r s hx hy hr hs e =
     let more = same_pieces xs ys r s hx.1 hy.1 hr hs first.1 in
     (let f = first.0 in let g = more.0 in cc, more.1)
 
-pub same_lines : (input : List ℕ) (lines others : List (List ℕ)) → AreLines input lines → AreLines input others → lines ≡ others
+pub same_lines : (input : List ℕ) (lines others : List (List ℕ)) → AreLines input lines → AreLines input others
+    → lines ≡ others
 same_lines input lines others a b =
     let same = same_pieces a.before b.before a.rest b.rest a.pieces.each b.pieces.each a.pieces.partial b.pieces.partial (sym a.pieces.whole ∙ b.pieces.whole) in
     let f = same.0 in
@@ -59,7 +62,8 @@ same_number y z text a b =
     ]
 
 -- The number at the front and what follows it.
-same_argument : (text : List ℕ) (y z : ℤ) (r s : List ℕ) → BeginsWithNumber text y r → BeginsWithNumber text z s → (y ≡ z) × (r ≡ s)
+same_argument : (text : List ℕ) (y z : ℤ) (r s : List ℕ) → BeginsWithNumber text y r → BeginsWithNumber text z s
+    → (y ≡ z) × (r ≡ s)
 same_argument text y z r s a b =
     let after : a.word ++ r ≡ b.word ++ s = (let e = a.whole in let f = b.whole in cc) in
     let same = one_word (a.word ++ r) a.word r b.word s
@@ -99,11 +103,13 @@ same_numbers a b o p e =
     let options : o ≡ p = same_options o p (same_size o.alignment p.alignment across down) small large in
     cc
 
-two_or_six : (a b : Size) (p : AllocatorOptions) (text : List ℕ) → SpellsSize a text → SpellsNumbers (numbers_of b p) text → ⊥
+two_or_six : (a b : Size) (p : AllocatorOptions) (text : List ℕ) → SpellsSize a text
+    → SpellsNumbers (numbers_of b p) text → ⊥
 unfolding numbers_of
 two_or_six a b p text two six = let e = one_list text (a.width ∷ a.height ∷ []) (numbers_of b p) two six in absurd (cc)
 
-pub one_atlas : (a b : Size) (o p : AllocatorOptions) (text : List ℕ) → SpellsAtlas a o text → SpellsAtlas b p text → Atlas a o ≡ Atlas b p
+pub one_atlas : (a b : Size) (o p : AllocatorOptions) (text : List ℕ) → SpellsAtlas a o text → SpellsAtlas b p text
+    → Atlas a o ≡ Atlas b p
 unfolding numbers_of
 one_atlas a b o p text (inl x) (inl y) = let size = one_size a b text x.0 y.0 in let e = x.1 in let f = y.1 in cc
 one_atlas a b o p text (inl x) (inr y) = absurd (two_or_six a b p text x.0 y)

@@ -14,7 +14,8 @@ use Rattle.atlas_words.proofs.Blocks.{gathered_nothing}
 use Rattle.atlas_lines.specs.Texts.{IsBadLine, LineOwes}
 
 -- A line that isn't empty and that the parser doesn't read is bad.
-pub bad_unread : (line text : List ℕ) (read : Option Command) → text ≡ line → 0 < length line → read ≡ None → ((command : Command) → Spells command text → read ≡ Some command) → IsBadLine line
+pub bad_unread : (line text : List ℕ) (read : Option Command) → text ≡ line → 0 < length line → read ≡ None
+    → ((command : Command) → Spells command text → read ≡ Some command) → IsBadLine line
 bad_unread line text read e some none only =
     inr (
       λ empty. omega (arith, ap length empty),
@@ -22,13 +23,15 @@ bad_unread line text read e some none only =
     )
 
 -- A step from what a place holds.
-pub step_from : (inside place : Place) (command : Command) (reply : ToolReply) (new : ToolState) → inside ≡ place → ToolStep (state_at inside) command reply new → ToolStep (state_at place) command reply new
+pub step_from : (inside place : Place) (command : Command) (reply : ToolReply) (new : ToolState) → inside ≡ place
+    → ToolStep (state_at inside) command reply new → ToolStep (state_at place) command reply new
 step_from inside place command reply new e step =
     let P : Place → Type 0 = λ p. ToolStep (state_at p) command reply new in
     subst P e step
 
 -- What a command's line owes.
-pub owed_by : (old new : ToolState) (line text : List ℕ) (command : Command) (reply : ToolReply) → text ≡ line → 0 < length line
+pub owed_by : (old new : ToolState) (line text : List ℕ) (command : Command) (reply : ToolReply) → text ≡ line
+    → 0 < length line
     → Spells command text → ToolStep old command reply new → LineOwes old line (reply_text reply) new
 owed_by old new [] text command reply e some spells step = absurd (omega arith)
 owed_by old new (b ∷ bs) text command reply e some spells step =
@@ -36,7 +39,9 @@ owed_by old new (b ∷ bs) text command reply e some spells step =
     (command, reply, subst P e spells, step, refl)
 
 -- The reply was given, and the next line begins.
-pub replied : (old middle new : Place) (held : Held) (out_old out_sent out_new : Option (List ℕ)) (before sent after text : List ℕ) → LineOwes (state_at old) old.line text (tool_state_of held)
+pub replied : (old middle new : Place) (held : Held) (out_old out_sent out_new : Option (List ℕ))
+    (before sent after text : List ℕ)
+    → LineOwes (state_at old) old.line text (tool_state_of held)
     → IsGathered out_old out_sent sent (before ++ text) → out_new ≡ out_sent → after ≡ sent → middle ≡ record old { held = held }
     → new ≡ record { held = middle.held; line = []; number = middle.number + 1 } → RepliesTo old new out_old out_new before after
 replied old middle new held out_old out_sent out_new before sent after text owed gathered same waits e f =
@@ -56,7 +61,8 @@ owed_nothing state [] none = (refl, refl)
 owed_nothing state (b ∷ bs) none = absurd (omega arith)
 
 -- An empty line owes nothing.
-pub skipped : (old middle new : Place) (out_old out_new : Option (List ℕ)) (before after : List ℕ) → length old.line ≤ 0 → out_new ≡ out_old → after ≡ before → middle ≡ old
+pub skipped : (old middle new : Place) (out_old out_new : Option (List ℕ)) (before after : List ℕ) → length old.line ≤ 0
+    → out_new ≡ out_old → after ≡ before → middle ≡ old
     → new ≡ record { held = middle.held; line = []; number = middle.number + 1 } → RepliesTo old new out_old out_new before after
 skipped old middle new out_old out_new before after none same waits e f =
     replied old middle new old.held out_old out_old out_new before before after [] (owed_nothing (state_at old) old.line none) (gathered_nothing out_old before) same waits e f

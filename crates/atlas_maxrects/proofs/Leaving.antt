@@ -103,7 +103,8 @@ leaving_far free taken i far near d below apart before =
       ];
     }
 
-near_left : (free : List FreeBox) (taken f g : FreeBox) → Contains free f → IsPart f taken g → IsLeftOver free taken (free_box g)
+near_left : (free : List FreeBox) (taken f g : FreeBox) → Contains free f → IsPart f taken g
+    → IsLeftOver free taken (free_box g)
 near_left free taken f g has part = ((f, has, part.0), part.1)
 
 pub leaving_near : (free : List FreeBox) (taken : FreeBox) (i : ℕ) (far near next : List FreeBox) (d : FreeBox)
@@ -159,8 +160,10 @@ without_kept boxes part i xs d below before =
       every = All-push (Contains boxes) xs f before.every (Contains-get_or boxes i d below);
     }
 
-pub without_dropped : (boxes : List FreeBox) (part : FreeBox) (i : ℕ) (xs : List FreeBox) (d : FreeBox) → i < length boxes
-    → IsInside (free_box (get_or boxes i d)) (free_box part) → AreWithout boxes part i xs → AreWithout boxes part (i + 1) xs
+pub without_dropped : (boxes : List FreeBox) (part : FreeBox) (i : ℕ) (xs : List FreeBox) (d : FreeBox)
+    → i < length boxes
+    → IsInside (free_box (get_or boxes i d)) (free_box part) → AreWithout boxes part i xs
+    → AreWithout boxes part (i + 1) xs
 without_dropped boxes part i xs d below lies before = record {
   kept = λ b is. elim (taken_cases boxes i d b below is) [
     | inl old ↦ before.kept b old

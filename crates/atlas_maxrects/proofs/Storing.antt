@@ -64,7 +64,8 @@ lies_free s free b all (f, has, inside) =
 sides_some : (q : Position) (s : Sides) → IsPositive s → IsNonempty (box_at q s)
 sides_some q s positive = (omega arith, omega arith)
 
-pub best_topmost : (sheet : Sides) (free : List FreeBox) (placed : List Rectangle) (s : Sides) (c : Corner) → IsPositive s
+pub best_topmost : (sheet : Sides) (free : List FreeBox) (placed : List Rectangle) (s : Sides) (c : Corner)
+    → IsPositive s
     → IsStored sheet free placed → IsBestCorner free s (Some c) → IsTopmost (placing sheet placed) s (corner_position c)
 best_topmost sheet free placed s c positive stored best = record {
   free = lies_free (placing sheet placed) free _ stored.every best.0;
@@ -77,7 +78,8 @@ none_topmost sheet free placed s positive stored none q is = none q (stored.comp
 
 -- One more box.
 
-last_placed : (placed : List Rectangle) (r : Rectangle) → map box_of (placed ++ r ∷ []) ≡ map box_of placed ++ box_of r ∷ []
+last_placed : (placed : List Rectangle) (r : Rectangle)
+    → map box_of (placed ++ r ∷ []) ≡ map box_of placed ++ box_of r ∷ []
 last_placed placed r = map-append box_of placed (r ∷ [])
 
 free_more : (sheet : Sides) (placed : List Rectangle) (r : Rectangle) (b : Box) → IsFree (placing sheet placed) b
@@ -108,7 +110,8 @@ left_free sheet free placed t f r same stored (lies, apart) =
     (subst (LieApart (free_box f)) (sym same) apart)
 
 pub stored_more : (sheet : Sides) (free rest : List FreeBox) (placed : List Rectangle) (t : FreeBox) (r : Rectangle)
-    → box_of r ≡ free_box t → IsExact r → IsStored sheet free placed → LiesInOne free (free_box t) → AreLeftOver free t rest
+    → box_of r ≡ free_box t → IsExact r → IsStored sheet free placed → LiesInOne free (free_box t)
+    → AreLeftOver free t rest
     → IsStored sheet rest (placed ++ r ∷ [])
 stored_more sheet free rest placed t r same exact stored lies left =
     let here : IsFree (placing sheet placed) (box_of r) =
@@ -126,7 +129,8 @@ stored_more sheet free rest placed t r same exact stored lies left =
     }
 
 -- No side of a box in the sheet passes 2147483647.
-pub small_box : (sheet : Sides) (free : List FreeBox) (placed : List Rectangle) (t : FreeBox) → IsStored sheet free placed
+pub small_box : (sheet : Sides) (free : List FreeBox) (placed : List Rectangle) (t : FreeBox)
+    → IsStored sheet free placed
     → LiesInOne free (free_box t) → (t.right ≤ 2147483647) × (t.bottom ≤ 2147483647)
 small_box sheet free placed t stored lies =
     let is = lies_free (placing sheet placed) free (free_box t) stored.every lies in
@@ -138,7 +142,8 @@ within_boxes sheet free placed stored = All-map (IsWithin sheet) box_of placed s
 
 -- The call.
 
-moved_best : (now free : List FreeBox) (s t : Sides) (best : Option Corner) → now ≡ free → s ≡ t → IsBestCorner now s best
+moved_best : (now free : List FreeBox) (s t : Sides) (best : Option Corner) → now ≡ free → s ≡ t
+    → IsBestCorner now s best
     → IsBestCorner free t best
 moved_best now free s t best same sides is =
     subst (λ u. IsBestCorner free u best) sides (subst (λ f. IsBestCorner f s best) same is)
@@ -175,7 +180,8 @@ places_some sheet now free placed items v s t c r view stored positive same side
       view_more sheet placed items r v view more,
     )
 
-pub stored_taken : (sheet : Sides) (now later free rest : List FreeBox) (placed : List Rectangle) (t : FreeBox) (b : Box)
+pub stored_taken : (sheet : Sides) (now later free rest : List FreeBox) (placed : List Rectangle) (t : FreeBox)
+    (b : Box)
     (r : Rectangle) → now ≡ free → later ≡ free → IsStored sheet free placed → LiesInOne now b → free_box t ≡ b
     → AreLeftOver later t rest → box_of r ≡ free_box t → IsExact r → IsStored sheet rest (placed ++ r ∷ [])
 stored_taken sheet now later free rest placed t b r same again stored lies at left is exact =

@@ -126,7 +126,8 @@ Answers false dense options sizes sheet places = IsAllPacked dense options sizes
 pub record IsOneSheet (settings : Settings) (sprites : List Sprite) (many : ℕ) (text : List ℕ) : Type 0 where
   pub sheet : Size
   pub places : List (Option Placed)
-  pub answered : Answers settings.fill settings.dense (sheet_options settings) (map (λ sprite. sprite.size) sprites) sheet places
+  pub answered : Answers settings.fill settings.dense
+      (sheet_options settings) (map (λ sprite. sprite.size) sprites) sheet places
   pub left : many ≡ length (left_of sprites places)
   pub told : text ≡ written settings.json sheet (frames_of sprites places) (left_of sprites places)
 
@@ -149,7 +150,8 @@ pub record AreGrouped (o : SheetOptions) (groups : List (Option ℕ)) (sizes she
   pub together : (group : ℕ) → LieTogether group groups places ⊎ NoWayFinds o (members group groups sizes)
 
 -- What the library answers where several sheets are to take all sprites, in groups or not.
-abbrev pub AreSheets : (groups : Option (List (Option ℕ))) → SheetOptions → (sizes sheets : List Size) → List OnPage → Type 0
+abbrev pub AreSheets : (groups : Option (List (Option ℕ))) → SheetOptions → (sizes sheets : List Size) → List OnPage
+    → Type 0
 AreSheets None o sizes sheets places = ArePages WAYS o sizes sheets (map Some places)
 AreSheets (Some groups) o sizes sheets places = AreGrouped o groups sizes sheets places
 
@@ -157,7 +159,8 @@ AreSheets (Some groups) o sizes sheets places = AreGrouped o groups sizes sheets
 pub record AreSeveral (most : ℕ) (settings : Settings) (sprites : List Sprite) (many : ℕ) (text : List ℕ) : Type 0 where
   pub sheets : List Size
   pub places : List OnPage
-  pub answered : AreSheets (groups_of settings.group sprites) (sheet_options settings) (map (λ sprite. sprite.size) sprites) sheets places
+  pub answered : AreSheets
+      (groups_of settings.group sprites) (sheet_options settings) (map (λ sprite. sprite.size) sprites) sheets places
   pub few : length sheets ≤ most
   pub left : many ≡ 0
   pub told : text ≡ pages_text_of sheets (page_frames_of sprites places)
@@ -200,7 +203,8 @@ AreMore (Some several) o sizes =
     (sheets : List Size) × (places : List OnPage) × AreSheets several.groups o sizes sheets places × (several.most < length sheets)
 
 -- What an error says of what the library was asked. The sprites' lines stand after `before` others.
-abbrev pub IsPackFault : (fill : Bool) → (several : Option Several) → (before : ℕ) → SheetOptions → List Size → PackError → Type 0
+abbrev pub IsPackFault : (fill : Bool) → (several : Option Several) → (before : ℕ) → SheetOptions → List Size
+    → PackError → Type 0
 IsPackFault fill several before o sizes error.EmptySheet = IsSheetFault o sizes sheet_error.EmptySheet
 IsPackFault fill several before o sizes error.EmptyRange = IsSheetFault o sizes sheet_error.EmptyRange
 IsPackFault fill several before o sizes error.EmptyAlignment = IsSheetFault o sizes sheet_error.EmptyAlignment

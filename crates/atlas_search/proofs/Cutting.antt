@@ -17,13 +17,15 @@ use Rattle.atlas_search.specs.declared.cut.Orientation.TheVariants as orientatio
 
 pub axis_horizontal : (whole size : Size) (beside below : ℕ)
     → pos 0 ≤ℤ size.width → pos 0 ≤ℤ size.height → size.width ≤ℤ whole.width → size.height ≤ℤ whole.height
-    → beside ≡ cap (natural (whole.width -ℤ size.width) * natural size.height) → below ≡ cap (natural size.width * natural (whole.height -ℤ size.height))
+    → beside ≡ cap (natural (whole.width -ℤ size.width) * natural size.height)
+    → below ≡ cap (natural size.width * natural (whole.height -ℤ size.height))
     → below < beside → Horizontal ≡ cut_axis (sides_of whole) (sides_of size)
 axis_horizontal whole size beside below wide high width height p q r = grind arith
 
 pub axis_vertical : (whole size : Size) (beside below : ℕ)
     → pos 0 ≤ℤ size.width → pos 0 ≤ℤ size.height → size.width ≤ℤ whole.width → size.height ≤ℤ whole.height
-    → beside ≡ cap (natural (whole.width -ℤ size.width) * natural size.height) → below ≡ cap (natural size.width * natural (whole.height -ℤ size.height))
+    → beside ≡ cap (natural (whole.width -ℤ size.width) * natural size.height)
+    → below ≡ cap (natural size.width * natural (whole.height -ℤ size.height))
     → beside ≤ below → Vertical ≡ cut_axis (sides_of whole) (sides_of size)
 axis_vertical whole size beside below wide high width height p q r = grind arith
 

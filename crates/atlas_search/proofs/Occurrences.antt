@@ -37,7 +37,8 @@ pub without-none : (i : ℕ) (xs : List ℕ) → occurs i xs ≡ 0 → without i
 without-none i [] z = refl
 without-none i (x ∷ xs) z = grind (arith, without-none i xs (omega arith))
 
-pub occurs-without : (i : ℕ) (xs : List ℕ) → 0 < occurs i xs → (k : ℕ) → occurs k (without i xs) + same k i ≡ occurs k xs
+pub occurs-without : (i : ℕ) (xs : List ℕ) → 0 < occurs i xs → (k : ℕ)
+    → occurs k (without i xs) + same k i ≡ occurs k xs
 occurs-without i [] l k = absurd (omega arith)
 occurs-without i (x ∷ xs) l k = grind (arith, same-ne, occurs-without i xs)
 
@@ -46,7 +47,8 @@ length-without i [] l = absurd (omega arith)
 length-without i (x ∷ xs) l = grind (arith, same-ne, length-without i xs)
 
 -- Distinct numbers below n are at most n.
-pub length-distinct : (n : ℕ) (xs : List ℕ) → ((k : ℕ) → occurs k xs ≤ 1) → ((k : ℕ) → 0 < occurs k xs → k < n) → length xs ≤ n
+pub length-distinct : (n : ℕ) (xs : List ℕ) → ((k : ℕ) → occurs k xs ≤ 1) → ((k : ℕ) → 0 < occurs k xs → k < n)
+    → length xs ≤ n
 length-distinct zero [] once inside = omega arith
 length-distinct zero (x ∷ xs) once inside = let y : x < 0 = inside x (omega (arith, same-self x)) in absurd (omega arith)
 length-distinct (suc n) xs once inside =

@@ -23,7 +23,8 @@ use Rattle.atlas_sheet.proofs.Flipping.{lie_as_given, lie_on, lie_packable}
 use Rattle.atlas_sheet.proofs.WholeSheets.{found_places}
 
 -- What sprites find as they lie is an arrangement.
-pub arranged : (sheet : Sides) (spacing : Spacing) (turn : Bool) (sprites lying : List Size) (choice : Choice) (order : List (ℕ × Size))
+pub arranged : (sheet : Sides) (spacing : Spacing) (turn : Bool) (sprites lying : List Size) (choice : Choice)
+    (order : List (ℕ × Size))
     (places : List (Option Rectangle)) → IsPositive sheet → IsPositive (sides_of spacing.alignment) → All (IsPackable spacing) sprites
     → AllZip (MayLie turn) sprites lying → IsPermutation (enumerate_from 0 lying) order → length places ≡ length lying
     → FindPlaces spacing (simple_start (inner_sides spacing sheet) (choice_options spacing choice)) (with_places places order)
@@ -36,7 +37,8 @@ arranged sheet spacing turn sprites lying choice order places positive aligned p
 }
 
 -- The same, where the sprites lie as they are given.
-pub arranged_as_given : (sheet : Sides) (spacing : Spacing) (turn : Bool) (sprites : List Size) (choice : Choice) (order : List (ℕ × Size))
+pub arranged_as_given : (sheet : Sides) (spacing : Spacing) (turn : Bool) (sprites : List Size) (choice : Choice)
+    (order : List (ℕ × Size))
     (places : List (Option Rectangle)) → IsPositive sheet → IsPositive (sides_of spacing.alignment) → All (IsPackable spacing) sprites
     → IsPermutation (enumerate_from 0 sprites) order → length places ≡ length sprites
     → FindPlaces spacing (simple_start (inner_sides spacing sheet) (choice_options spacing choice)) (with_places places order)
@@ -48,7 +50,8 @@ module _ {sheet : Sides} {spacing : Spacing} {turn : Bool} {choice : Choice} {ly
     {places : List (Option Rectangle)} where
   -- An arrangement of sprites as others may lie is one of the others.
   pub rebased : (sprites between : List Size) → AllZip (MayLie turn) sprites between
-      → IsArrangement sheet spacing turn between choice lying order places → IsArrangement sheet spacing turn sprites choice lying order places
+      → IsArrangement sheet spacing turn between choice lying order places
+      → IsArrangement sheet spacing turn sprites choice lying order places
   rebased sprites between lies are = record {
     lies = lie_on turn sprites between lying lies are.lies;
     good = are.good;
@@ -83,7 +86,8 @@ module _ {sheet : Sides} {spacing : Spacing} {turn : Bool} {choice : Choice} {ly
   )
 
 -- What a way packs is an arrangement.
-pub packed_arranged : {ways : List Way} {sheet : Sides} {spacing : Spacing} (turn : Bool) {sprites : List Size} {packed : Packed}
+pub packed_arranged : {ways : List Way} {sheet : Sides} {spacing : Spacing} (turn : Bool) {sprites : List Size}
+    {packed : Packed}
     → ArePacked ways sheet spacing sprites packed
     → IsArrangement sheet spacing turn sprites packed.way.choice sprites packed.order (map Some packed.places)
 packed_arranged turn {sprites} are = record {
@@ -94,7 +98,8 @@ packed_arranged turn {sprites} are = record {
 }
 
 -- What holds of the elements at one place of two lists.
-pub zip_at : {A B : Type 0} (R : A → B → Type 0) (xs : List A) (ys : List B) (k : ℕ) (d : A) (e : B) → AllZip R xs ys → k < length xs
+pub zip_at : {A B : Type 0} (R : A → B → Type 0) (xs : List A) (ys : List B) (k : ℕ) (d : A) (e : B) → AllZip R xs ys
+    → k < length xs
     → R (get_or xs k d) (get_or ys k e)
 zip_at R [] ys k d e each inside = absurd (omega arith)
 zip_at R (x ∷ xs) [] k d e each inside = elim each [ ]
@@ -102,7 +107,8 @@ zip_at R (x ∷ xs) (y ∷ ys) zero d e each inside = each.0
 zip_at R (x ∷ xs) (y ∷ ys) (suc k) d e each inside = zip_at R xs ys k d e each.1 (omega arith)
 
 -- What a sheet shows of a sprite.
-placed_good : (sheet : Sides) (spacing : Spacing) (turn : Bool) (sprite lying : Size) (place : Option Rectangle) (p : Option Placed)
+placed_good : (sheet : Sides) (spacing : Spacing) (turn : Bool) (sprite lying : Size) (place : Option Rectangle)
+    (p : Option Placed)
     → placed_area p ≡ place → IfSome p (λ q. (lie q.turned sprite ≡ lying) × (q.turned ≡ true → turn ≡ true))
     → IfSome place (IsPlaceFor sheet spacing lying) → IfSome p (IsPlacedFor sheet spacing turn sprite)
 placed_good sheet spacing turn sprite lying place None is turned good = tt
@@ -125,7 +131,8 @@ pub record IsShownTo (sheet : Sides) (spacing : Spacing) (turn : Bool) (sprites 
 
 module _ {sheet : Sides} {spacing : Spacing} {turn : Bool} {sprites lying : List Size} {choice : Choice} {order : List (ℕ × Size)}
     {places : List (Option Rectangle)} (are : IsArrangement sheet spacing turn sprites choice lying order places) where
-  pub shown_more : (k : ℕ) (placed more : List (Option Placed)) (sprite l : Size) (place : Option Rectangle) (p : Option Placed)
+  pub shown_more : (k : ℕ) (placed more : List (Option Placed)) (sprite l : Size) (place : Option Rectangle)
+      (p : Option Placed)
       → k < length sprites → sprite ≡ get_or sprites k sprite → l ≡ get_or lying k l → place ≡ get_or places k place
       → more ≡ placed ++ p ∷ [] → placed_area p ≡ place
       → (MayLie turn sprite l → IfSome p (λ q. (lie q.turned sprite ≡ l) × (q.turned ≡ true → turn ≡ true)))
@@ -151,7 +158,8 @@ module _ {sheet : Sides} {spacing : Spacing} {turn : Bool} {sprites lying : List
             (all_zipped_more (ShowsPlace sheet spacing turn) (take k sprites) placed sprite p before.each one));
       }
 
-  pub shown_all : (k : ℕ) (placed : List (Option Placed)) → length places ≤ k → IsShownTo sheet spacing turn sprites places k placed
+  pub shown_all : (k : ℕ) (placed : List (Option Placed)) → length places ≤ k
+      → IsShownTo sheet spacing turn sprites places k placed
       → (areas_of placed ≡ places) × AllZip (ShowsPlace sheet spacing turn) sprites placed
   shown_all k placed end shown =
       let long = as_long are in
@@ -159,7 +167,8 @@ module _ {sheet : Sides} {spacing : Spacing} {turn : Bool} {sprites lying : List
       (shown.areas ∙ take_all k places end, subst (λ xs. AllZip (ShowsPlace sheet spacing turn) xs placed) (take_all k sprites past) shown.each)
 
 -- Where each place is there, each is shown.
-pub shown_whole : (placed : List (Option Placed)) (places : List (Option Rectangle)) → areas_of placed ≡ places → All IsSome places → All IsSome placed
+pub shown_whole : (placed : List (Option Placed)) (places : List (Option Rectangle)) → areas_of placed ≡ places
+    → All IsSome places → All IsSome placed
 shown_whole placed places is each = each_shown placed (subst (All IsSome) (sym is) each)
   where
     one : (p : Option Placed) → IsSome (placed_area p) → IsSome p
@@ -177,7 +186,8 @@ all_some [] = All-nil IsSome
 all_some (p ∷ places) = All-cons IsSome (Some p) (map Some places) refl (all_some places)
 
 -- A sheet with no more pixels than one that is no larger than the first.
-pub no_larger : (ways : List Way) (by : Allowed) (spacing : Spacing) (sprites : List Size) (sheet s : Sides) → pixels s ≤ pixels sheet
+pub no_larger : (ways : List Way) (by : Allowed) (spacing : Spacing) (sprites : List Size) (sheet s : Sides)
+    → pixels s ≤ pixels sheet
     → IsNoLarger ways by spacing sprites sheet → IsNoLarger ways by spacing sprites s
 no_larger ways by spacing sprites sheet s le (inl none) = inl none
 no_larger ways by spacing sprites sheet s le (inr first) =

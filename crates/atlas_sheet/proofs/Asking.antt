@@ -19,7 +19,8 @@ use Rattle.atlas_sheet.specs.declared.options.Spacing.{Spacing}
 use Rattle.atlas_sheet.specs.Sheets.{FindsPlace, IsOnGrid}
 
 -- A granted box has room for the sides that were asked for.
-pub granted_room : (old new : SimpleState) (s : Sides) (box : Box) → IsPositive old.options.alignment → SimplyGrants old s box new
+pub granted_room : (old new : SimpleState) (s : Sides) (box : Box) → IsPositive old.options.alignment
+    → SimplyGrants old s box new
     → (box.min.x + s.width ≤ box.max.x) × (box.min.y + s.height ≤ box.max.y)
 granted_room old new s box positive grants =
     let a : box.min.x ≡ grants.picked.min.x = ap (λ b. b.min.x) grants.granted in
@@ -42,11 +43,13 @@ keeps_positive spacing old new sprite found step positive =
     subst (λ (o : Options). IsPositive o.alignment) (sym (keeps_options spacing old new sprite found step)) positive
 
 -- Where a box lies in another, it covers no unit square that the other doesn't.
-pub covers_inside : (small box : Box) (x y : ℕ) → IsInside small box → one_if (covers x y small) ≤ one_if (covers x y box)
+pub covers_inside : (small box : Box) (x y : ℕ) → IsInside small box
+    → one_if (covers x y small) ≤ one_if (covers x y box)
 covers_inside small box x y inside = grind (arith, nat_tests)
 
 -- A part of a box that is held may be held in its place.
-pub shrunk : (s : SimpleState) (box small : Box) (held : List Box) → IsInside small box → IsGuarded s (box ∷ held) → IsGuarded s (small ∷ held)
+pub shrunk : (s : SimpleState) (box small : Box) (held : List Box) → IsInside small box → IsGuarded s (box ∷ held)
+    → IsGuarded s (small ∷ held)
 shrunk s box small held inside guarded = record {
   within =
       let whole = All-head (IsWithin s.size) box held guarded.within in

@@ -33,7 +33,8 @@ none_area (None ∷ placed) none =
 none_area (Some p ∷ placed) none = let off : IsNone (Some p) = All-head IsNone (Some p) placed none in cc
 
 -- No place has more pixels than all together.
-part_area : (places : List (Option Rectangle)) (k : ℕ) (p : Rectangle) → get_or places k None ≡ Some p → place_area (Some p) ≤ used_area places
+part_area : (places : List (Option Rectangle)) (k : ℕ) (p : Rectangle) → get_or places k None ≡ Some p
+    → place_area (Some p) ≤ used_area places
 part_area [] k p is = cc
 part_area (q ∷ places) zero p is =
     let all : used_area (q ∷ places) ≡ place_area q + used_area places = sum_by-cons place_area q places in
@@ -57,7 +58,8 @@ module _ (sheet : Sides) (spacing : Spacing) (choice : Choice) where
   abbrev start : SimpleState
   start = simple_start (inner_sides spacing sheet) (choice_options spacing choice)
 
-  has_box : (s : Size) → IsTrue (has_room sheet spacing s) → Fits (rounded (choice_options spacing choice) (asked_sides spacing.padding s)) (inner_sides spacing sheet)
+  has_box : (s : Size) → IsTrue (has_room sheet spacing s)
+      → Fits (rounded (choice_options spacing choice) (asked_sides spacing.padding s)) (inner_sides spacing sheet)
   has_box s room =
       let parts = and_parts _ _ room in
       subst (λ (a : Sides). Fits (record {
@@ -66,7 +68,8 @@ module _ (sheet : Sides) (spacing : Spacing) (choice : Choice) where
       }) (inner_sides spacing sheet)) (sym (choice_alignment spacing choice))
       (leb-true _ _ parts.0, leb-true _ _ parts.1)
 
-  finds_room : (s : Size) (others : List (Option Rectangle)) (k : ℕ) → IsPackable spacing s → IsTrue (has_room sheet spacing s) → (next : SimpleState)
+  finds_room : (s : Size) (others : List (Option Rectangle)) (k : ℕ) → IsPackable spacing s
+      → IsTrue (has_room sheet spacing s) → (next : SimpleState)
       → FindsPlace spacing start s (get_or others k None) next → 0 < used_area others
   finds_room s others k packs room next found = by_place (get_or others k None) refl found
     where
@@ -76,7 +79,8 @@ module _ (sheet : Sides) (spacing : Spacing) (choice : Choice) where
       high : 0 < (sides_of s).height
       high = packs.positive.1
 
-      by_place : (place : Option Rectangle) → get_or others k None ≡ place → FindsPlace spacing start s place next → 0 < used_area others
+      by_place : (place : Option Rectangle) → get_or others k None ≡ place → FindsPlace spacing start s place next
+          → 0 < used_area others
       by_place None is step =
           absurd (step.0 (record {
             positive = (omega (arith, wide), omega (arith, high));
@@ -105,7 +109,8 @@ numbered_long n [] = refl
 numbered_long n (x ∷ xs) = ap suc (numbered_long (n + 1) xs)
 
 -- A way finds a place for one of some sprites that each have room.
-pub room_found : (sheet : Sides) (spacing : Spacing) (sprites : List Size) (way : Way) (order : List (ℕ × Size)) (others : List (Option Rectangle))
+pub room_found : (sheet : Sides) (spacing : Spacing) (sprites : List Size) (way : Way) (order : List (ℕ × Size))
+    (others : List (Option Rectangle))
     → AreFoundBy sheet spacing sprites way order others → 0 < length sprites → All (IsPackable spacing) sprites
     → All (λ s. IsTrue (has_room sheet spacing s)) sprites → 0 < used_area others
 room_found sheet spacing sprites way order others are some packs room =

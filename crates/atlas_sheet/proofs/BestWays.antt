@@ -12,7 +12,8 @@ use Rattle.atlas_sheet.specs.Fillings.{AreBest, IsNoBetter}
 use Rattle.atlas_sheet.specs.Sheets.{AreFoundBy, ArePlaces, used_area}
 
 -- An element more of which something holds.
-pub all_more : {X : Type 0} (P : X → Type 0) (xs : List X) (k : ℕ) (d : X) → k < length xs → All P (take k xs) → P (get_or xs k d)
+pub all_more : {X : Type 0} (P : X → Type 0) (xs : List X) (k : ℕ) (d : X) → k < length xs → All P (take k xs)
+    → P (get_or xs k d)
     → All P (take (suc k) xs)
 all_more P xs k d inside each here =
     subst (All P) (sym (take-suc xs k d inside)) (All-push P (take k xs) (get_or xs k d) each here)
@@ -26,7 +27,8 @@ pub record IsGoing (sheet : Sides) (spacing : Spacing) (sprites : List Size) (wa
   pub begun : 0 < k → Contains ways way × AreFoundBy sheet spacing sprites way order places
   pub best : All (IsNoBetter sheet spacing sprites most) (take k ways)
 
-pub begin : (sheet : Sides) (spacing : Spacing) (sprites : List Size) (ways : List Way) (best : Way) (order : List (ℕ × Size))
+pub begin : (sheet : Sides) (spacing : Spacing) (sprites : List Size) (ways : List Way) (best : Way)
+    (order : List (ℕ × Size))
     (places : List (Option Rectangle)) → places ≡ [] → IsGoing sheet spacing sprites ways 0 best order places 0
 begin sheet spacing sprites ways best order places is = record {
   area = ap used_area (sym is);
@@ -41,7 +43,8 @@ module _ (sheet : Sides) (spacing : Spacing) (sprites : List Size) (ways : List 
     (are : AreFoundBy sheet spacing sprites (get_or ways k d) asked found)
     (before : IsGoing sheet spacing sprites ways k best order places most) where
   -- A way that finds no fewer pixels.
-  pub better : ArePlaces sheet spacing sprites found → most ≤ area → IsGoing sheet spacing sprites ways (suc k) (get_or ways k d) asked found area
+  pub better : ArePlaces sheet spacing sprites found → most ≤ area
+      → IsGoing sheet spacing sprites ways (suc k) (get_or ways k d) asked found area
   better good le =
       record {
         area = is;
@@ -71,7 +74,8 @@ module _ (sheet : Sides) (spacing : Spacing) (sprites : List Size) (ways : List 
       by_number (suc n) e = omega arith
 
 -- All ways were tried.
-pub all_tried : (sheet : Sides) (spacing : Spacing) (sprites : List Size) (ways : List Way) (k : ℕ) (best : Way) (order : List (ℕ × Size))
+pub all_tried : (sheet : Sides) (spacing : Spacing) (sprites : List Size) (ways : List Way) (k : ℕ) (best : Way)
+    (order : List (ℕ × Size))
     (places : List (Option Rectangle)) (most : ℕ) → length ways ≤ k → 0 < length ways
     → IsGoing sheet spacing sprites ways k best order places most → AreBest ways sheet spacing sprites best order places
 all_tried sheet spacing sprites ways k best order places most end some going =
@@ -84,7 +88,8 @@ all_tried sheet spacing sprites ways k best order places most end some going =
     }
 
 -- What is no better than few pixels is no better than more.
-pub still_best : (sheet : Sides) (spacing : Spacing) (sprites : List Size) (ways : List Way) (less more : ℕ) → less ≤ more
+pub still_best : (sheet : Sides) (spacing : Spacing) (sprites : List Size) (ways : List Way) (less more : ℕ)
+    → less ≤ more
     → All (IsNoBetter sheet spacing sprites less) ways → All (IsNoBetter sheet spacing sprites more) ways
 still_best sheet spacing sprites ways less more le each =
     All-weaker (IsNoBetter sheet spacing sprites less) (IsNoBetter sheet spacing sprites more)

@@ -24,7 +24,8 @@ use Rattle.atlas_sheet.proofs.Arranging.{no_larger}
 use Rattle.atlas_sheet.proofs.Numbering.{shown_order}
 use Rattle.atlas_sheet.proofs.Showing.{counts, inside_each, upright_each}
 
-each_weaker : (o : SheetOptions) (sprites : List Size) (P Q : List Size → Type 0) → ((l : List Size) → P l → Q l) → InEach o sprites P
+each_weaker : (o : SheetOptions) (sprites : List Size) (P Q : List Size → Type 0) → ((l : List Size) → P l → Q l)
+    → InEach o sprites P
     → InEach o sprites Q
 each_weaker o sprites P Q weaker each =
     All-weaker (λ how. (lying : List Size) × AreLaid o how sprites lying × P lying) (λ how. (lying : List Size) × AreLaid o how sprites lying × Q lying)
@@ -41,20 +42,24 @@ may_try (Some b) size_of o sprites s larger none few =
     (λ l is. no_larger WAYS o.allowed (spacing_of o) l (size_of b) s few is) larger
 
 -- What holds of what was found and of the best one holds of the newer.
-pub newer_some : {T : Type 0} (P : T → Type 0) (found best next : Option T) → MatchOption found (next ≡ best) (λ t. next ≡ Some t)
+pub newer_some : {T : Type 0} (P : T → Type 0) (found best next : Option T)
+    → MatchOption found (next ≡ best) (λ t. next ≡ Some t)
     → IfSome found P → IfSome best P → IfSome next P
 newer_some P None best next is p q = subst (λ o. IfSome o P) (sym is) q
 newer_some P (Some t) best next is p q = subst (λ o. IfSome o P) (sym is) p
 
-pub newer_none : {T : Type 0} (P : Type 0) (found best next : Option T) → MatchOption found (next ≡ best) (λ t. next ≡ Some t)
+pub newer_none : {T : Type 0} (P : Type 0) (found best next : Option T)
+    → MatchOption found (next ≡ best) (λ t. next ≡ Some t)
     → IfNone best P → IfNone next P
 newer_none P None best next is q = subst (λ o. IfNone o P) (sym is) q
 newer_none P (Some t) best next is q = subst (λ o. IfNone o P) (sym is) tt
 
 pub whole_sheet : {A : Type 0} (o : SheetOptions) (sprites : List Size) (sheet : Sheet A) (opts : List (Option Placed))
     (now areas : List (Option Rectangle)) (given : List ℕ) → map Some sheet.places.items ≡ opts → areas ≡ areas_of opts → now ≡ areas
-    → sheet.used_area ≡ used_area now → sheet.order.items ≡ given → IsOrder (length sprites) given → IsAllowed o.allowed (sides_of sheet.size)
-    → AreAllPlaced o (sides_of sheet.size) sprites opts → ArePaddedApart (spacing_of o) opts → IsNoLargerThanWays o sprites (sides_of sheet.size)
+    → sheet.used_area ≡ used_area now → sheet.order.items ≡ given → IsOrder (length sprites) given
+    → IsAllowed o.allowed (sides_of sheet.size)
+    → AreAllPlaced o (sides_of sheet.size) sprites opts → ArePaddedApart (spacing_of o) opts
+    → IsNoLargerThanWays o sprites (sides_of sheet.size)
     → IsWholeSheet o sprites sheet
 whole_sheet o sprites sheet opts now areas given somes found same area copied numbers allowed each apart larger = record {
   allowed = allowed;
@@ -96,5 +101,6 @@ module _ {A : Type 0} {o : SheetOptions} {sprites : List Size} {sheet : Sheet A}
       let few = whole.apart x y in
       omega (arith, few, counts (spacing_of o) x y sheet.places.items)
 
-  pub whole_upright : o.turn ≡ false → AllZip (λ sprite p. box_sides (box_of p.area) ≡ sides_of sprite) sprites sheet.places.items
+  pub whole_upright : o.turn ≡ false
+      → AllZip (λ sprite p. box_sides (box_of p.area) ≡ sides_of sprite) sprites sheet.places.items
   whole_upright off = upright_each (sides_of sheet.size) (spacing_of o) o.turn sprites sheet.places.items off whole.each

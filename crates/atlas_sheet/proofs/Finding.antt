@@ -37,7 +37,8 @@ others n (s ∷ xs) none =
     (λ same. let hit : one_if (s.0 == n) ≡ 1 = ap one_if (eq-eqb s.0 n same) in absurd (omega arith))
     (others n xs (omega arith))
 
-places_elsewhere : (places : List (Option Rectangle)) (n : ℕ) (found : Option Rectangle) (xs : List (ℕ × Size)) → All (λ s. s.0 ≢ n) xs
+places_elsewhere : (places : List (Option Rectangle)) (n : ℕ) (found : Option Rectangle) (xs : List (ℕ × Size))
+    → All (λ s. s.0 ≢ n) xs
     → with_places (set places n found) xs ≡ with_places places xs
 places_elsewhere places n found [] other = refl
 places_elsewhere places n found (s ∷ xs) other =
@@ -46,7 +47,8 @@ places_elsewhere places n found (s ∷ xs) other =
     λ i. (s.1, here i) ∷ later i
 
 -- The number of a sprite isn't that of one before it.
-unused : (order : List (ℕ × Size)) (k : ℕ) (s : ℕ × Size) → AreNumberedOnce order → drop k order ≡ s ∷ drop (suc k) order
+unused : (order : List (ℕ × Size)) (k : ℕ) (s : ℕ × Size) → AreNumberedOnce order
+    → drop k order ≡ s ∷ drop (suc k) order
     → All (λ t. t.0 ≢ s.0) (take k order)
 unused order k s once split =
     let p : ℕ × Size → Bool = λ t. t.0 == s.0 in
@@ -69,7 +71,8 @@ module _ (spacing : Spacing) (start now next : SimpleState) (order : List (ℕ �
   here : place_of_sprite (set places s.0 found) s ≡ found
   here = get_or-set_same places s.0 found _ room
 
-  written : with_places (set places s.0 found) (take (suc k) order) ≡ with_places places (take k order) ++ (s.1, found) ∷ []
+  written : with_places
+      (set places s.0 found) (take (suc k) order) ≡ with_places places (take k order) ++ (s.1, found) ∷ []
   written =
       ap (with_places (set places s.0 found)) longer
       ∙ map-append (λ t. (t.1, place_of_sprite (set places s.0 found) t)) (take k order) (s ∷ [])
@@ -82,8 +85,11 @@ module _ (spacing : Spacing) (start now next : SimpleState) (order : List (ℕ �
       (before ((s.1, found) ∷ later) (next, step, asked)))
 
 -- All have asked.
-pub all_found : (spacing : Spacing) (start now : SimpleState) (order : List (ℕ × Size)) (k : ℕ) (places : List (Option Rectangle)) → length order ≤ k
-    → HaveFound spacing start now (with_places places (take k order)) → FindPlaces spacing start (with_places places order)
+pub all_found : (spacing : Spacing) (start now : SimpleState) (order : List (ℕ × Size)) (k : ℕ)
+    (places : List (Option Rectangle))
+    → length order ≤ k
+    → HaveFound spacing start now (with_places places (take k order))
+    → FindPlaces spacing start (with_places places order)
 all_found spacing start now order k places end before =
     subst (λ xs. FindPlaces spacing start (with_places places xs)) (take_all k order end)
     (subst (FindPlaces spacing start) (append-nil (with_places places (take k order))) (before [] tt))

@@ -29,7 +29,8 @@ lie_again turn s l m (inr e) (inl f) = inr (e.0, f ∙ e.1)
 lie_again turn s l m (inr e) (inr f) = inl (f.1 ∙ ap turned_size e.1)
 
 -- What may lie so and then so may lie so at once.
-pub lie_on : (turn : Bool) (sprites lying later : List Size) → AllZip (MayLie turn) sprites lying → AllZip (MayLie turn) lying later
+pub lie_on : (turn : Bool) (sprites lying later : List Size) → AllZip (MayLie turn) sprites lying
+    → AllZip (MayLie turn) lying later
     → AllZip (MayLie turn) sprites later
 lie_on turn [] [] [] a b = tt
 lie_on turn [] [] (m ∷ later) a b = elim b [ ]
@@ -38,7 +39,8 @@ lie_on turn (s ∷ sprites) [] later a b = elim a [ ]
 lie_on turn (s ∷ sprites) (l ∷ lying) [] a b = elim b [ ]
 lie_on turn (s ∷ sprites) (l ∷ lying) (m ∷ later) a b = (lie_again turn s l m a.0 b.0, lie_on turn sprites lying later a.1 b.1)
 
-packable_turned : (spacing : Spacing) (turn : Bool) (s l : Size) → MayLie turn s l → IsPackable spacing s → IsPackable spacing l
+packable_turned : (spacing : Spacing) (turn : Bool) (s l : Size) → MayLie turn s l → IsPackable spacing s
+    → IsPackable spacing l
 packable_turned spacing turn s l (inl e) packs = subst (IsPackable spacing) (sym e) packs
 packable_turned spacing turn s l (inr e) packs =
     subst (IsPackable spacing) (sym e.1) (record { positive = (packs.positive.1, packs.positive.0); wide = packs.high; high = packs.wide })
@@ -78,7 +80,8 @@ past n m [] less = All-nil (λ s. s.0 ≢ n)
 past n m (x ∷ xs) less =
     All-cons (λ s. s.0 ≢ n) (m, x) (enumerate_from (m + 1) xs) (λ e. let same : m ≡ n = e in absurd (omega arith)) (past n (m + 1) xs (omega arith))
 
-renumbered : (n : ℕ) (t : Size) (m j : ℕ) (xs : List Size) → n ≡ m + j → map (put n t) (enumerate_from m xs) ≡ enumerate_from m (set xs j t)
+renumbered : (n : ℕ) (t : Size) (m j : ℕ) (xs : List Size) → n ≡ m + j
+    → map (put n t) (enumerate_from m xs) ≡ enumerate_from m (set xs j t)
 renumbered n t m j [] e = refl
 renumbered n t m zero (x ∷ xs) e =
     let here : n ≡ m = omega arith in
@@ -107,7 +110,8 @@ put_once n t (s ∷ xs) (suc at) few inside is =
     λ i. put_else n t s other i ∷ rest i
 
 -- Each numbered sprite has the sides of the sprite with its number.
-own_sides : (m : ℕ) (xs : List Size) (d : Size) → All (λ s. (m ≤ s.0) × (s.1 ≡ get_or xs (s.0 - m) d)) (enumerate_from m xs)
+own_sides : (m : ℕ) (xs : List Size) (d : Size)
+    → All (λ s. (m ≤ s.0) × (s.1 ≡ get_or xs (s.0 - m) d)) (enumerate_from m xs)
 own_sides m [] d = All-nil (λ s. (m ≤ s.0) × (s.1 ≡ get_or [] (s.0 - m) d))
 own_sides m (x ∷ xs) d =
     let P : ℕ × Size → Type 0 = λ s. (m ≤ s.0) × (s.1 ≡ get_or (x ∷ xs) (s.0 - m) d) in
@@ -118,7 +122,8 @@ own_sides m (x ∷ xs) d =
     (λ s q. let back : suc (s.0 - (m + 1)) ≡ s.0 - m = omega (arith, q.0) in (omega (arith, q.0), q.1 ∙ ap (λ k. get_or (x ∷ xs) k d) back))
     (enumerate_from (m + 1) xs) (own_sides (m + 1) xs d))
 
-set_lies : (xs : List Size) (n : ℕ) (t d : Size) → n < length xs → t ≡ turned_size (get_or xs n d) → AllZip (MayLie true) xs (set xs n t)
+set_lies : (xs : List Size) (n : ℕ) (t d : Size) → n < length xs → t ≡ turned_size (get_or xs n d)
+    → AllZip (MayLie true) xs (set xs n t)
 set_lies [] n t d inside is = absurd (omega arith)
 set_lies (x ∷ xs) zero t d inside is = (inr (refl, is), lie_as_given true xs)
 set_lies (x ∷ xs) (suc n) t d inside is = (inl refl, set_lies xs n t d (omega arith) is)

@@ -39,7 +39,8 @@ pub none_placed : (o : SheetOptions) (sheet : Sides) (sprites : List Size)
 none_placed o sheet [] = tt
 none_placed o sheet (s ∷ sprites) = (tt, none_placed o sheet sprites)
 
-pub none_counted : (spacing : Spacing) (x y n : ℕ) → count_by (covers_place spacing x y) (areas_of (replicate n None)) ≡ 0
+pub none_counted : (spacing : Spacing) (x y n : ℕ)
+    → count_by (covers_place spacing x y) (areas_of (replicate n None)) ≡ 0
 none_counted spacing x y zero = refl
 none_counted spacing x y (suc n) =
     count_by-cons (covers_place spacing x y) None (areas_of (replicate n None))
@@ -96,7 +97,8 @@ AreCounted spacing placed cells =
 abbrev pub upright : Rectangle → Placed
 upright place = record { area = place; turned = false }
 
-pub counted_more : (spacing : Spacing) (old new : Placing) (sprite : Size) (place : Rectangle) (placed : List (Option Placed)) (n : ℕ)
+pub counted_more : (spacing : Spacing) (old new : Placing) (sprite : Size) (place : Rectangle)
+    (placed : List (Option Placed)) (n : ℕ)
     → IsPositive (sides_of spacing.alignment) → n < length placed → TakesCells spacing old sprite place new
     → AreCounted spacing placed old.placed → AreCounted spacing (set placed n (Some (upright place))) new.placed
 counted_more spacing old new sprite place placed n aligned below t before x y =
@@ -129,7 +131,8 @@ pub same_sheet : (spacing : Spacing) (old new : Placing) (sprite : Size) (place 
 same_sheet spacing old new sprite place t = sym (ap (λ (p : Placing). p.sheet) t.taken)
 
 -- The place of a sprite.
-pub placed_for : (sheet : Sides) (spacing : Spacing) (old new : Placing) (sprite : Size) (place : Rectangle) → IsPositive sheet
+pub placed_for : (sheet : Sides) (spacing : Spacing) (old new : Placing) (sprite : Size) (place : Rectangle)
+    → IsPositive sheet
     → IsPackable spacing sprite → IsGridIn old.sheet spacing sheet → TakesCells spacing old sprite place new
     → IsPlaceFor sheet spacing sprite place
 placed_for sheet spacing old new sprite place positive packable grid t =
@@ -160,7 +163,8 @@ placed_for sheet spacing old new sprite place positive packable grid t =
       exact = t.exact;
     }
 
-pub all_more : (o : SheetOptions) (sheet : Sides) (sprites : List Size) (placed : List (Option Placed)) (n : ℕ) (d : Size)
+pub all_more : (o : SheetOptions) (sheet : Sides) (sprites : List Size) (placed : List (Option Placed)) (n : ℕ)
+    (d : Size)
     (place : Rectangle) → AreAllPlaced o sheet sprites placed → n < length sprites
     → IsPlaceFor sheet (spacing_of o) (get_or sprites n d) place
     → AreAllPlaced o sheet sprites (set placed n (Some (upright place)))
@@ -168,7 +172,8 @@ all_more o sheet sprites placed n d place each below is =
     zip_set (λ sprite p. IfSome p (IsPlacedFor sheet (spacing_of o) o.turn sprite)) sprites placed n d (Some (upright place)) each below
     (record { place = is; allowed = λ e. absurd (false≢true e) })
 
-pub counted_apart : (spacing : Spacing) (placed : List (Option Placed)) (cells : List Box) → AreCounted spacing placed cells
+pub counted_apart : (spacing : Spacing) (placed : List (Option Placed)) (cells : List Box)
+    → AreCounted spacing placed cells
     → AreDisjoint cells → ArePaddedApart spacing placed
 counted_apart spacing placed cells counted disjoint x y =
     let few = counted x y in

@@ -20,20 +20,25 @@ use Rattle.atlas_sheet.proofs.GroupRows.{closed_some, picked_long, spread_long, 
 use Rattle.atlas_sheet.proofs.PageFinds.{areas_whole, not_both, page_found, shown_long}
 
 -- Whether the ways find a sheet doesn't hang on the effort.
-pub plain_none : (o : SheetOptions) (sprites : List Size) → NoWayFinds (record o { effort = 0 }) sprites → NoWayFinds o sprites
+pub plain_none : (o : SheetOptions) (sprites : List Size) → NoWayFinds (record o { effort = 0 }) sprites
+    → NoWayFinds o sprites
 plain_none o sprites none =
     All-weaker (λ how. (lying : List Size) × AreLaid (record o { effort = 0 }) how sprites lying × NoneIsFound WAYS o.allowed (spacing_of o) lying)
     (λ how. (lying : List Size) × AreLaid o how sprites lying × NoneIsFound WAYS o.allowed (spacing_of o) lying)
     (λ how l. (l.0, record { sheet = l.1.sheet; greatest = l.1.greatest; lie = l.1.lie }, l.2)) (turnings o.turn) none
 
-pub none_plainly : {T : Type 0} (found : Option T) (o : SheetOptions) (sprites : List Size) → IfNone found (NoWayFinds (record o { effort = 0 }) sprites)
+pub none_plainly : {T : Type 0} (found : Option T) (o : SheetOptions) (sprites : List Size)
+    → IfNone found (NoWayFinds (record o { effort = 0 }) sprites)
     → IfNone found (NoWayFinds o sprites)
 none_plainly None o sprites none = plain_none o sprites none
 none_plainly (Some t) o sprites none = tt
 
-pub are_chosen : {A : Type 0} (o : SheetOptions) (sprites some : List Size) (groups : List (Option ℕ)) (chosen : Chosen A)
-    → some ≡ picked chosen.row.items sprites → length chosen.row.items ≡ length sprites → IsClosed groups chosen.row.items
-    → IsArranged o some chosen.page → IsAllowed o.allowed (sides_of chosen.page.size) → All IsSome chosen.page.places.items
+pub are_chosen : {A : Type 0} (o : SheetOptions) (sprites some : List Size) (groups : List (Option ℕ))
+    (chosen : Chosen A)
+    → some ≡ picked chosen.row.items sprites → length chosen.row.items ≡ length sprites
+    → IsClosed groups chosen.row.items
+    → IsArranged o some chosen.page → IsAllowed o.allowed (sides_of chosen.page.size)
+    → All IsSome chosen.page.places.items
     → AreChosen o sprites groups chosen
 are_chosen o sprites some groups chosen some_is long closed arranged allowed whole = record {
   long = long;
@@ -56,7 +61,8 @@ module _ (o : SheetOptions) (sprites some : List Size) (groups : List (Option �
   pub chosen_closed : IsClosed groups (map is_some placed)
   chosen_closed = subst (IsClosed groups) (sym (ap (map is_some) placed_is ∙ spread_row row found found_long whole)) closed
 
-  pub chosen_page : IsAllowed o.allowed sheet → IsNoLargerThanWays o some sheet → IsGroupPage WAYS o sprites sheet placed
+  pub chosen_page : IsAllowed o.allowed sheet → IsNoLargerThanWays o some sheet
+      → IsGroupPage WAYS o sprites sheet placed
   chosen_page allowed larger =
       let few : 0 < length (picked row row) = closed_some groups row closed in
       let page : IsPage WAYS o some sheet found =

@@ -92,7 +92,8 @@ module _ {o : SheetOptions} {sprites : List Size} {groups : List (Option ℕ)} {
         omega (arith, fewer, same)
 
 -- Before the first sheet.
-pub so_begun : (o : SheetOptions) (sprites : List Size) (groups : List (Option ℕ)) (sizes : List Size) (places : List (Option OnPage)) (left : List Size)
+pub so_begun : (o : SheetOptions) (sprites : List Size) (groups : List (Option ℕ)) (sizes : List Size)
+    (places : List (Option OnPage)) (left : List Size)
     (kept : List (Option ℕ)) → length groups ≡ length sprites → sizes ≡ [] → places ≡ replicate (length sprites) None → left ≡ sprites → kept ≡ groups
     → AreSoFar o sprites groups sizes places left kept
 so_begun o sprites groups sizes places left kept long none bare all same = subst (AreSoFar o sprites groups sizes places left) (sym same) (record {

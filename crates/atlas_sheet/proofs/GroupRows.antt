@@ -48,7 +48,8 @@ module _ {X : Type 0} (row : List Bool) (xs : List X) (k : ℕ) (all more : List
 abbrev pub IsWaitingTo : List (Option ℕ) → List (Option OnPage) → (k : ℕ) → List (Option ℕ) → Type 0
 IsWaitingTo groups places k all = waiting groups places ≡ all ++ waiting (drop k groups) (drop k places)
 
-pub waiting_end : (groups : List (Option ℕ)) (places : List (Option OnPage)) (k : ℕ) (all : List (Option ℕ)) → length places ≤ k
+pub waiting_end : (groups : List (Option ℕ)) (places : List (Option OnPage)) (k : ℕ) (all : List (Option ℕ))
+    → length places ≤ k
     → IsWaitingTo groups places k all → all ≡ waiting groups places
 waiting_end groups places k all end so =
     sym (so ∙ ap (λ ps. all ++ waiting (drop k groups) ps) (drop_of_length-le places end) ∙ append-nil all)
@@ -80,10 +81,12 @@ pub record IsSpreadTo (row : List Bool) (found : List (Option Placed)) (k next :
   pub put : spread row found ≡ all ++ spread (drop k row) (drop next found)
   pub missing : next + length (picked (drop k row) (drop k row)) ≡ length found
 
-pub spread_begin : (row : List Bool) (found : List (Option Placed)) → length found ≡ length (picked row row) → IsSpreadTo row found 0 0 []
+pub spread_begin : (row : List Bool) (found : List (Option Placed)) → length found ≡ length (picked row row)
+    → IsSpreadTo row found 0 0 []
 spread_begin row found long = record { put = refl; missing = omega (arith, long) }
 
-pub spread_end : (row : List Bool) (found : List (Option Placed)) (k next : ℕ) (all : List (Option Placed)) → length row ≤ k
+pub spread_end : (row : List Bool) (found : List (Option Placed)) (k next : ℕ) (all : List (Option Placed))
+    → length row ≤ k
     → IsSpreadTo row found k next all → all ≡ spread row found
 spread_end row found k next all end so =
     sym (so.put ∙ ap (λ r. all ++ spread r (drop next found)) (drop_of_length-le row end) ∙ append-nil all)
@@ -113,7 +116,8 @@ module _ (row : List Bool) (found : List (Option Placed)) (k next : ℕ) (all mo
     pub next_inside : next < length found
     next_inside = omega (arith, now)
 
-    pub spread_found : (f : Option Placed) → f ≡ get_or found next f → more ≡ all ++ f ∷ [] → IsSpreadTo row found (k + 1) (next + 1) more
+    pub spread_found : (f : Option Placed) → f ≡ get_or found next f → more ≡ all ++ f ∷ []
+        → IsSpreadTo row found (k + 1) (next + 1) more
     spread_found f f_at added =
         let there : drop next found ≡ f ∷ drop (next + 1) found =
         drop-cons found next f next_inside ∙ (λ i. sym f_at i ∷ (ap (λ m. drop m found) (sym (add-one next))) i) in
@@ -125,7 +129,8 @@ module _ (row : List Bool) (found : List (Option Placed)) (k next : ℕ) (all mo
         }
 
 -- How many are picked doesn't hang on what stands there.
-pub picked_long : {X : Type 0} (row : List Bool) (xs : List X) → length row ≡ length xs → length (picked row xs) ≡ length (picked row row)
+pub picked_long : {X : Type 0} (row : List Bool) (xs : List X) → length row ≡ length xs
+    → length (picked row xs) ≡ length (picked row row)
 picked_long [] [] long = refl
 picked_long [] (x ∷ xs) long = absurd (omega (arith, long))
 picked_long (b ∷ row) [] long = absurd (omega (arith, long))
@@ -139,7 +144,8 @@ all_picked P (true ∷ row) (x ∷ xs) each = All-cons P x (picked row xs) (All-
 all_picked P (false ∷ row) (x ∷ xs) each = all_picked P row xs (All-tail P x xs each)
 
 -- Of sprites that can be packed those where a row says so.
-pub can_pack_picked : (o : SheetOptions) (row : List Bool) (sprites : List Size) → CanPack o sprites → CanPack o (picked row sprites)
+pub can_pack_picked : (o : SheetOptions) (row : List Bool) (sprites : List Size) → CanPack o sprites
+    → CanPack o (picked row sprites)
 can_pack_picked o row sprites can = record {
   usable = can.usable;
   placing = record {
@@ -158,7 +164,8 @@ spread_long (true ∷ row) (f ∷ found) = ap suc (spread_long row found)
 some_true : (f : Option Placed) (found : List (Option Placed)) → All IsSome (f ∷ found) → is_some f ≡ true
 some_true f found all = All-head IsSome f found all
 
-pub spread_row : (row : List Bool) (found : List (Option Placed)) → length found ≡ length (picked row row) → All IsSome found
+pub spread_row : (row : List Bool) (found : List (Option Placed)) → length found ≡ length (picked row row)
+    → All IsSome found
     → map is_some (spread row found) ≡ row
 spread_row [] found long all = refl
 spread_row (false ∷ row) found long all = ap (λ r. false ∷ r) (spread_row row found long all)
@@ -166,7 +173,8 @@ spread_row (true ∷ row) [] long all = absurd (omega (arith, long))
 spread_row (true ∷ row) (f ∷ found) long all =
     λ i. some_true f found all i ∷ spread_row row found (omega (arith, long)) (All-tail IsSome f found all) i
 
-picked_spread : (row : List Bool) (found : List (Option Placed)) → length found ≡ length (picked row row) → picked row (spread row found) ≡ found
+picked_spread : (row : List Bool) (found : List (Option Placed)) → length found ≡ length (picked row row)
+    → picked row (spread row found) ≡ found
 picked_spread [] [] long = refl
 picked_spread [] (f ∷ found) long = absurd (omega (arith, long))
 picked_spread (false ∷ row) found long = picked_spread row found long
@@ -181,7 +189,8 @@ module _ (row : List Bool) (found : List (Option Placed)) (long : length found �
   spread_sprites sprites = ap (λ r. picked r sprites) (spread_row row found long all)
 
 -- What holds of two lists, place by place.
-zip_at : {X Y : Type 0} (R : X → Y → Type 0) (xs : List X) (ys : List Y) (k : ℕ) (d : X) (e : Y) → AllZip R xs ys → k < length xs
+zip_at : {X Y : Type 0} (R : X → Y → Type 0) (xs : List X) (ys : List Y) (k : ℕ) (d : X) (e : Y) → AllZip R xs ys
+    → k < length xs
     → R (get_or xs k d) (get_or ys k e)
 zip_at R [] ys k d e each inside = absurd (omega (arith, inside))
 zip_at R (x ∷ xs) [] k d e each inside = absurd each
@@ -190,9 +199,11 @@ zip_at R (x ∷ xs) (y ∷ ys) (suc k) d e each inside = zip_at R xs ys k d e ea
 
 -- A row so far says the same of each sprite of a group.
 pub record AreRowsTo (groups : List (Option ℕ)) (row : List Bool) (turned : (ℕ → Bool) → ℕ → Bool) (k : ℕ) (all : List Bool) : Type 0 where
-  pub says : (whether : ℕ → Bool) → AllZip (SaysOf whether) groups row → AllZip (SaysOf (turned whether)) (take k groups) all
+  pub says : (whether : ℕ → Bool) → AllZip (SaysOf whether) groups row
+      → AllZip (SaysOf (turned whether)) (take k groups) all
 
-pub rows_begin : (groups : List (Option ℕ)) (row : List Bool) (turned : (ℕ → Bool) → ℕ → Bool) (all : List Bool) → all ≡ []
+pub rows_begin : (groups : List (Option ℕ)) (row : List Bool) (turned : (ℕ → Bool) → ℕ → Bool) (all : List Bool)
+    → all ≡ []
     → AreRowsTo groups row turned 0 all
 rows_begin groups row turned all none = record {
   says = λ whether same. subst (AllZip (SaysOf (turned whether)) (take 0 groups)) (sym none) tt;
@@ -217,11 +228,13 @@ module _ (groups : List (Option ℕ)) (row : List Bool) (turned : (ℕ → Bool)
 abbrev pub with_one : (group : ℕ) → (ℕ → Bool) → ℕ → Bool
 with_one group whether n = whether n || (n == group)
 
-pub says_with : (group : ℕ) (g : Option ℕ) (b : Bool) (whether : ℕ → Bool) → SaysOf whether g b → SaysOf (with_one group whether) g (b || is_in group g)
+pub says_with : (group : ℕ) (g : Option ℕ) (b : Bool) (whether : ℕ → Bool) → SaysOf whether g b
+    → SaysOf (with_one group whether) g (b || is_in group g)
 says_with group None b whether says = tt
 says_with group (Some n) b whether says = ap (λ c. c || (n == group)) says
 
-pub closed_with : (groups : List (Option ℕ)) (row all : List Bool) (group k : ℕ) → AreRowsTo groups row (with_one group) k all
+pub closed_with : (groups : List (Option ℕ)) (row all : List Bool) (group k : ℕ)
+    → AreRowsTo groups row (with_one group) k all
     → take k groups ≡ groups → IsClosed groups row → IsClosed groups all
 closed_with groups row all group k so taken closed = record {
   whether = with_one group closed.whether;
@@ -235,7 +248,8 @@ closed_with groups row all group k so taken closed = record {
 abbrev pub as_before : (ℕ → Bool) → ℕ → Bool
 as_before whether n = whether n
 
-pub says_before : (g : Option ℕ) (b new : Bool) → IfSome g (λ n. new ≡ b) → (whether : ℕ → Bool) → SaysOf whether g b → SaysOf (as_before whether) g new
+pub says_before : (g : Option ℕ) (b new : Bool) → IfSome g (λ n. new ≡ b) → (whether : ℕ → Bool) → SaysOf whether g b
+    → SaysOf (as_before whether) g new
 says_before None b new is whether says = tt
 says_before (Some n) b new is whether says = is ∙ says
 
@@ -255,7 +269,8 @@ same_in group [] = tt
 same_in group (None ∷ groups) = (tt, same_in group groups)
 same_in group (Some n ∷ groups) = (refl, same_in group groups)
 
-pub closed_in : (group : ℕ) (groups : List (Option ℕ)) → HasMember group groups → IsClosed groups (map (is_in group) groups)
+pub closed_in : (group : ℕ) (groups : List (Option ℕ)) → HasMember group groups
+    → IsClosed groups (map (is_in group) groups)
 closed_in group groups there = record {
   whether = λ n. n == group;
   same = same_in group groups;
@@ -265,7 +280,8 @@ closed_in group groups there = record {
 }
 
 -- A row that says yes of a group that there is picks something.
-none_picked : (whether : ℕ → Bool) (first : ℕ) (groups : List (Option ℕ)) (row : List Bool) → whether first ≡ true → AllZip (SaysOf whether) groups row
+none_picked : (whether : ℕ → Bool) (first : ℕ) (groups : List (Option ℕ)) (row : List Bool) → whether first ≡ true
+    → AllZip (SaysOf whether) groups row
     → length (picked row row) ≡ 0 → All (λ g. g ≢ Some first) groups
 none_picked whether first [] row says same none = All-nil (λ g. g ≢ Some first)
 none_picked whether first (g ∷ groups) [] says same none = absurd same

@@ -25,8 +25,10 @@ use Rattle.atlas_sheet.proofs.GroupRows.{all_picked}
 use Rattle.atlas_sheet.proofs.PageViews.{IsGood, page_good}
 
 -- What each of those with a place keeps to, each keeps to.
-each_back : (P : Size → Option Placed → Type 0) → ((s : Size) → P s None) → (sprites : List Size) (placed : List (Option Placed))
-    → length placed ≡ length sprites → AllZip P (those_placed placed sprites) (those_placed placed placed) → AllZip P sprites placed
+each_back : (P : Size → Option Placed → Type 0) → ((s : Size) → P s None)
+    → (sprites : List Size) (placed : List (Option Placed))
+    → length placed ≡ length sprites → AllZip P (those_placed placed sprites) (those_placed placed placed)
+    → AllZip P sprites placed
 each_back P none [] [] long each = tt
 each_back P none [] (p ∷ placed) long each = absurd (omega (arith, long))
 each_back P none (s ∷ sprites) [] long each = absurd (omega (arith, long))
@@ -52,7 +54,8 @@ covers_back spacing x y (Some p ∷ placed) =
     let rest = covers_back spacing x y placed in
     omega (arith, a, b, rest)
 
-pub group_good : (ways : List Way) (o : SheetOptions) (sprites : List Size) (sheet : Sides) (placed : List (Option Placed))
+pub group_good : (ways : List Way) (o : SheetOptions) (sprites : List Size) (sheet : Sides)
+    (placed : List (Option Placed))
     → IsGroupPage ways o sprites sheet placed → IsGood o sprites sheet placed
 group_good ways o sprites sheet placed (inl page) = page_good ways o sprites sheet placed page
 group_good ways o sprites sheet placed (inr group) = record {
@@ -74,7 +77,8 @@ abbrev pub as_next : (whether : ℕ → Bool) → (page : ℕ) → (page_of : �
 as_next whether page page_of n = next_of (page_of n) (whether n) page
 
 module _ (whether : ℕ → Bool) (page : ℕ) (page_of : ℕ → Option ℕ) where
-  lies_still : (g : Option ℕ) (p : OnPage) → LiesAs page_of g (Some p) → LiesAs (as_next whether page page_of) g (Some p)
+  lies_still : (g : Option ℕ) (p : OnPage) → LiesAs page_of g (Some p)
+      → LiesAs (as_next whether page page_of) g (Some p)
   lies_still None p lies = tt
   lies_still (Some n) p lies = subst (λ q. Some p.page ≡ next_of q (whether n) page) lies refl
 
@@ -85,7 +89,8 @@ module _ (whether : ℕ → Bool) (page : ℕ) (page_of : ℕ → Option ℕ) wh
   lies_next (Some n) (Some f) lies says = λ i. next_of (lies i) (says i) page
 
   -- What is found on a sheet leaves groups together, if it says the same of each sprite of a group.
-  pub together_put : (kept : List (Option ℕ)) (places : List (Option OnPage)) (found : List (Option Placed)) → length found ≡ holes places
+  pub together_put : (kept : List (Option ℕ)) (places : List (Option OnPage)) (found : List (Option Placed))
+      → length found ≡ holes places
       → AllZip (LiesAs page_of) kept places → AllZip (SaysOf whether) (waiting kept places) (map is_some found)
       → AllZip (LiesAs (as_next whether page page_of)) kept (put_on page places found)
   together_put [] [] found long same says = tt
@@ -98,7 +103,8 @@ module _ (whether : ℕ → Bool) (page : ℕ) (page_of : ℕ → Option ℕ) wh
       (lies_next g f same.0 says.0, together_put kept places found (omega (arith, long)) same.1 says.1)
 
 -- Of sprites in no group a row may say anything.
-pub none_says : (whether : ℕ → Bool) (groups : List (Option ℕ)) (row : List Bool) → length row ≡ length groups → All IsNone groups
+pub none_says : (whether : ℕ → Bool) (groups : List (Option ℕ)) (row : List Bool) → length row ≡ length groups
+    → All IsNone groups
     → AllZip (SaysOf whether) groups row
 none_says whether [] [] long none = tt
 none_says whether [] (b ∷ row) long none = absurd (omega (arith, long))
@@ -107,7 +113,8 @@ none_says whether (None ∷ groups) (b ∷ row) long none = (tt, none_says wheth
 none_says whether (Some n ∷ groups) (b ∷ row) long none = absurd (false≢true (sym (All-head IsNone (Some n) groups none)))
 
 -- As many wait as have no place.
-pub waiting_long : (kept : List (Option ℕ)) (places : List (Option OnPage)) → length places ≡ length kept → length (waiting kept places) ≡ holes places
+pub waiting_long : (kept : List (Option ℕ)) (places : List (Option OnPage)) → length places ≡ length kept
+    → length (waiting kept places) ≡ holes places
 waiting_long [] [] long = refl
 waiting_long [] (p ∷ places) long = absurd (omega (arith, long))
 waiting_long (g ∷ kept) [] long = absurd (omega (arith, long))
@@ -116,7 +123,8 @@ waiting_long (g ∷ kept) (Some p ∷ places) long = waiting_long kept places (o
 
 -- A group of which one waits lies nowhere.
 module _ (group : ℕ) (page_of : ℕ → Option ℕ) where
-  none_waits : (q : ℕ) → page_of group ≡ Some q → (kept : List (Option ℕ)) (places : List (Option OnPage)) → AllZip (LiesAs page_of) kept places
+  none_waits : (q : ℕ) → page_of group ≡ Some q → (kept : List (Option ℕ)) (places : List (Option OnPage))
+      → AllZip (LiesAs page_of) kept places
       → All (λ g. g ≢ Some group) (waiting kept places)
   none_waits q at [] [] same = All-nil (λ g. g ≢ Some group)
   none_waits q at [] (p ∷ places) same = absurd same
@@ -143,7 +151,8 @@ module _ (group : ℕ) (page_of : ℕ → Option ℕ) where
       ne_eqb n group (λ e. let here : Some p.page ≡ None = lies ∙ ap page_of e ∙ nowhere in false≢true (sym (ap is_some here)))
 
   -- All its sprites wait.
-  pub members_waiting : page_of group ≡ None → (kept : List (Option ℕ)) (places : List (Option OnPage)) (sprites : List Size)
+  pub members_waiting : page_of group ≡ None
+      → (kept : List (Option ℕ)) (places : List (Option OnPage)) (sprites : List Size)
       → length places ≡ length sprites → AllZip (LiesAs page_of) kept places
       → members group (waiting kept places) (sprites_left sprites places) ≡ members group kept sprites
   members_waiting nowhere [] [] sprites long same = refl
@@ -163,11 +172,13 @@ number_or (Some n) d = n
 
 -- A group that no way packs is kept no longer.
 module _ (group : ℕ) where
-  kept_still : (page_of : ℕ → Option ℕ) (b : Bool) (n : ℕ) (p : Option OnPage) → LiesAs page_of (Some n) p → LiesAs page_of (cond b None (Some n)) p
+  kept_still : (page_of : ℕ → Option ℕ) (b : Bool) (n : ℕ) (p : Option OnPage) → LiesAs page_of (Some n) p
+      → LiesAs page_of (cond b None (Some n)) p
   kept_still page_of true n p lies = tt
   kept_still page_of false n p lies = lies
 
-  pub without_same : (page_of : ℕ → Option ℕ) (kept : List (Option ℕ)) (places : List (Option OnPage)) → AllZip (LiesAs page_of) kept places
+  pub without_same : (page_of : ℕ → Option ℕ) (kept : List (Option ℕ)) (places : List (Option OnPage))
+      → AllZip (LiesAs page_of) kept places
       → AllZip (LiesAs page_of) (without_group group kept) places
   without_same page_of [] [] same = tt
   without_same page_of [] (p ∷ places) same = absurd same
@@ -175,11 +186,13 @@ module _ (group : ℕ) where
   without_same page_of (None ∷ kept) (p ∷ places) same = (tt, without_same page_of kept places same.1)
   without_same page_of (Some n ∷ kept) (p ∷ places) same = (kept_still page_of (n == group) n p same.0, without_same page_of kept places same.1)
 
-  in_other : (other n : ℕ) (b : Bool) → (b ≡ true → n ≡ group) → other ≢ group → is_in other (cond b None (Some n)) ≡ is_in other (Some n)
+  in_other : (other n : ℕ) (b : Bool) → (b ≡ true → n ≡ group) → other ≢ group
+      → is_in other (cond b None (Some n)) ≡ is_in other (Some n)
   in_other other n true is differ = sym (ne_eqb n other (λ e. differ (sym e ∙ is refl)))
   in_other other n false is differ = refl
 
-  pub without_other : (other : ℕ) → other ≢ group → (kept : List (Option ℕ)) → map (is_in other) (without_group group kept) ≡ map (is_in other) kept
+  pub without_other : (other : ℕ) → other ≢ group → (kept : List (Option ℕ))
+      → map (is_in other) (without_group group kept) ≡ map (is_in other) kept
   without_other other differ [] = refl
   without_other other differ (None ∷ kept) = ap (λ r. false ∷ r) (without_other other differ kept)
   without_other other differ (Some n ∷ kept) =
@@ -203,12 +216,14 @@ module _ (group : ℕ) where
       let rest = no_more_kept kept in
       omega (arith, a, b, one, rest)
 
-  fewer_or_none : (kept : List (Option ℕ)) → (count_by is_some (without_group group kept) < count_by is_some kept) ⊎ All (λ g. g ≢ Some group) kept
+  fewer_or_none : (kept : List (Option ℕ))
+      → (count_by is_some (without_group group kept) < count_by is_some kept) ⊎ All (λ g. g ≢ Some group) kept
   fewer_or_none [] = inr (All-nil (λ g. g ≢ Some group))
   fewer_or_none (None ∷ kept) = by_rest (fewer_or_none kept)
     where
       by_rest : (count_by is_some (without_group group kept) < count_by is_some kept) ⊎ All (λ g. g ≢ Some group) kept
-          → (count_by is_some (without_group group (None ∷ kept)) < count_by is_some (None ∷ kept)) ⊎ All (λ g. g ≢ Some group) (None ∷ kept)
+          → (count_by is_some (without_group group (None ∷ kept)) < count_by is_some (None ∷ kept))
+          ⊎ All (λ g. g ≢ Some group) (None ∷ kept)
       by_rest (inl fewer) =
           let a : count_by is_some (None ∷ without_group group kept) ≡ 0 + count_by is_some (without_group group kept) = count_by-cons is_some None (without_group group kept) in
           let b : count_by is_some (None ∷ kept) ≡ 0 + count_by is_some kept = count_by-cons is_some None kept in
@@ -216,8 +231,10 @@ module _ (group : ℕ) where
       by_rest (inr none) = inr (All-cons (λ g. g ≢ Some group) None kept (λ e. false≢true (ap is_some e)) none)
   fewer_or_none (Some n ∷ kept) = by_head (n == group) refl (fewer_or_none kept)
     where
-      by_head : (b : Bool) → (n == group) ≡ b → (count_by is_some (without_group group kept) < count_by is_some kept) ⊎ All (λ g. g ≢ Some group) kept
-          → (count_by is_some (without_group group (Some n ∷ kept)) < count_by is_some (Some n ∷ kept)) ⊎ All (λ g. g ≢ Some group) (Some n ∷ kept)
+      by_head : (b : Bool) → (n == group) ≡ b
+          → (count_by is_some (without_group group kept) < count_by is_some kept) ⊎ All (λ g. g ≢ Some group) kept
+          → (count_by is_some (without_group group (Some n ∷ kept)) < count_by is_some (Some n ∷ kept))
+          ⊎ All (λ g. g ≢ Some group) (Some n ∷ kept)
       by_head true is rest =
           let a : count_by is_some (cond (n == group) None (Some n) ∷ without_group group kept)
           ≡ one_if (is_some (cond (n == group) None (Some n))) + count_by is_some (without_group group kept) =
@@ -245,12 +262,14 @@ module _ (group : ℕ) where
       by_kept (inr none) = absurd (there (all_picked (λ g. g ≢ Some group) (map is_none places) kept none))
 
 -- The group that no way packs, and the others as before.
-pub groups_without : (o : SheetOptions) (sprites : List Size) (groups kept : List (Option ℕ)) (group : ℕ) (places : List (Option OnPage))
+pub groups_without : (o : SheetOptions) (sprites : List Size) (groups kept : List (Option ℕ)) (group : ℕ)
+    (places : List (Option OnPage))
     (left : List Size) (page_of : ℕ → Option ℕ) → left ≡ sprites_left sprites places → length places ≡ length sprites
     → AllZip (LiesAs page_of) kept places → HasMember group (waiting kept places)
     → NoWayFinds o (members group (waiting kept places) left)
     → ((g : ℕ) → NoWayFinds o (members g groups sprites) ⊎ (map (is_in g) kept ≡ map (is_in g) groups))
-    → (g : ℕ) → NoWayFinds o (members g groups sprites) ⊎ (map (is_in g) (without_group group kept) ≡ map (is_in g) groups)
+    → (g : ℕ)
+    → NoWayFinds o (members g groups sprites) ⊎ (map (is_in g) (without_group group kept) ≡ map (is_in g) groups)
 groups_without o sprites groups kept group places left page_of left_is long same there none before g = by_before (before g)
   where
     nowhere : page_of group ≡ None
@@ -282,14 +301,16 @@ module _ (group : ℕ) (page_of : ℕ → Option ℕ) where
   on_page (None ∷ kept) (p ∷ places) same = on_page kept places same.1
   on_page (Some n ∷ kept) (p ∷ places) same = by_head (n == group) (eqb-true n group) (on_page kept places same.1)
     where
-      by_head : (b : Bool) → (b ≡ true → n ≡ group) → All (λ p. p.page ≡ number_or (page_of group) 0) (members group kept places)
+      by_head : (b : Bool) → (b ≡ true → n ≡ group)
+          → All (λ p. p.page ≡ number_or (page_of group) 0) (members group kept places)
           → All (λ p. p.page ≡ number_or (page_of group) 0) (cond b (p ∷ members group kept places) (members group kept places))
       by_head true is rest =
           All-cons (λ p. p.page ≡ number_or (page_of group) 0) p (members group kept places)
           (let here : Some p.page ≡ page_of group = same.0 ∙ ap page_of (is refl) in ap (λ q. number_or q 0) here) rest
       by_head false is rest = rest
 
-pub all_together : (o : SheetOptions) (sprites : List Size) (groups kept : List (Option ℕ)) (places : List OnPage) (page_of : ℕ → Option ℕ)
+pub all_together : (o : SheetOptions) (sprites : List Size) (groups kept : List (Option ℕ)) (places : List OnPage)
+    (page_of : ℕ → Option ℕ)
     → AllZip (LiesAs page_of) kept (map Some places)
     → ((g : ℕ) → NoWayFinds o (members g groups sprites) ⊎ (map (is_in g) kept ≡ map (is_in g) groups))
     → (g : ℕ) → LieTogether g groups places ⊎ NoWayFinds o (members g groups sprites)
@@ -303,7 +324,8 @@ all_together o sprites groups kept places page_of same each g = by_each (each g)
         inl (page, subst (λ row. All (λ p. p.page ≡ page) (picked row places)) e (on_page g page_of kept places same))
 
 -- Before the first sheet.
-pub begun_same : (kept : List (Option ℕ)) (n : ℕ) → length kept ≡ n → AllZip (LiesAs (λ g. None)) kept (replicate n None)
+pub begun_same : (kept : List (Option ℕ)) (n : ℕ) → length kept ≡ n
+    → AllZip (LiesAs (λ g. None)) kept (replicate n None)
 begun_same [] zero long = tt
 begun_same [] (suc n) long = absurd (omega (arith, long))
 begun_same (g ∷ kept) zero long = absurd (omega (arith, long))
@@ -350,19 +372,22 @@ module _ (o : SheetOptions) (sprites : List Size) (groups all : List (Option ℕ
       → (g : ℕ) → LieTogether g groups places ⊎ NoWayFinds o (members g groups sprites)
   together_given places count each g = by_each (each g)
     where
-      by_each : LieTogether g all places ⊎ NoWayFinds o (members g all sprites) → LieTogether g groups places ⊎ NoWayFinds o (members g groups sprites)
+      by_each : LieTogether g all places ⊎ NoWayFinds o (members g all sprites)
+          → LieTogether g groups places ⊎ NoWayFinds o (members g groups sprites)
       by_each (inl lie) =
           inl (lie.0, subst (All (λ p. p.page ≡ lie.0)) (ap (λ gs. members g gs places) all_is ∙ padded_members g n groups places (count ∙ long)) lie.1)
       by_each (inr none) =
           inr (subst (NoWayFinds o) (ap (λ gs. members g gs sprites) all_is ∙ padded_members g n groups sprites long) none)
 
 -- Each sheet is one of those allowed.
-group_allowed : (ways : List Way) (o : SheetOptions) (sprites : List Size) (sheet : Sides) (placed : List (Option Placed))
+group_allowed : (ways : List Way) (o : SheetOptions) (sprites : List Size) (sheet : Sides)
+    (placed : List (Option Placed))
     → IsGroupPage ways o sprites sheet placed → IsAllowed o.allowed sheet
 group_allowed ways o sprites sheet placed (inl page) = page.allowed
 group_allowed ways o sprites sheet placed (inr group) = group.1.allowed
 
-pub pages_allowed : (ways : List Way) (o : SheetOptions) (sprites sizes : List Size) (places : List (Option OnPage)) → AreGroupPages ways o sprites sizes places
+pub pages_allowed : (ways : List Way) (o : SheetOptions) (sprites sizes : List Size) (places : List (Option OnPage))
+    → AreGroupPages ways o sprites sizes places
     → All (λ size. IsAllowed o.allowed (sides_of size)) sizes
 pages_allowed ways o sprites sizes places are =
     All-from_get_or (λ size. IsAllowed o.allowed (sides_of size)) sizes (record { width = pos 0; height = pos 0 })

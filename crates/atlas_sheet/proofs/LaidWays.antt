@@ -21,7 +21,8 @@ use Rattle.atlas_sheet.proofs.Arranging.{no_larger}
 use Rattle.atlas_sheet.proofs.BestWays.{still_best}
 
 -- What is known of each of three is known of the one that was taken.
-pub taken : {S A B C D : Type 0} (G : S → Type 0) (given wide high inner best : S) → ((inner ≡ wide) × A) ⊎ ((inner ≡ high) × B)
+pub taken : {S A B C D : Type 0} (G : S → Type 0) (given wide high inner best : S)
+    → ((inner ≡ wide) × A) ⊎ ((inner ≡ high) × B)
     → ((best ≡ given) × C) ⊎ ((best ≡ inner) × D) → G given → G wide → G high → G best
 taken G given wide high inner best two (inl is) a b c = subst G (sym is.0) a
 taken G given wide high inner best (inl two) (inr is) a b c = subst G (sym is.0) (subst G (sym two.0) b)
@@ -55,7 +56,8 @@ module _ {S : Type 0} (P L : Turning → S → Type 0) where
         (All-weaker (λ how. L how one) (λ how. L how other) as_well hows here.each) there.each;
   }
 
-  pub best_taken : (A B : Type 0) (hows more : List Turning) (one other best : S) → ((best ≡ one) × A) ⊎ ((best ≡ other) × B)
+  pub best_taken : (A B : Type 0) (hows more : List Turning) (one other best : S)
+      → ((best ≡ one) × A) ⊎ ((best ≡ other) × B)
       → (A → (how : Turning) → L how other → L how one) → (B → (how : Turning) → L how one → L how other)
       → IsBestIn hows one → IsBestIn more other → IsBestIn (hows ++ more) best
   best_taken A B hows more one other best (inl is) left right here there =
@@ -73,7 +75,8 @@ module _ {S : Type 0} (o : SheetOptions) (sprites : List Size) (ways : List Way)
   IsNotFuller how a =
       (lying : List Size) × AreLaid o how sprites lying × All (IsNoBetter sheet (spacing_of o) lying (used_area (places a))) ways
 
-  pub as_full : (one other : S) → used_area (places other) ≤ used_area (places one) → (how : Turning) → IsNotFuller how other → IsNotFuller how one
+  pub as_full : (one other : S) → used_area (places other) ≤ used_area (places one) → (how : Turning)
+      → IsNotFuller how other → IsNotFuller how one
   as_full one other le how is =
       (is.0, is.1, still_best sheet (spacing_of o) is.0 ways (used_area (places other)) (used_area (places one)) le is.2)
 
@@ -82,20 +85,25 @@ module _ {S : Type 0} (o : SheetOptions) (sprites : List Size) (ways : List Way)
   filled_best how a lying are found = best_so IsFilledSo IsNotFuller how a (lying, are, found) (lying, are, found.2.best)
 
   pub fuller_best : (hows more : List Turning) (one other best : S)
-      → ((best ≡ one) × (used_area (places other) ≤ used_area (places one))) ⊎ ((best ≡ other) × (used_area (places one) ≤ used_area (places other)))
-      → IsBestIn IsFilledSo IsNotFuller hows one → IsBestIn IsFilledSo IsNotFuller more other → IsBestIn IsFilledSo IsNotFuller (hows ++ more) best
+      → ((best ≡ one) × (used_area (places other) ≤ used_area (places one)))
+      ⊎ ((best ≡ other) × (used_area (places one) ≤ used_area (places other)))
+      → IsBestIn IsFilledSo IsNotFuller hows one → IsBestIn IsFilledSo IsNotFuller more other
+      → IsBestIn IsFilledSo IsNotFuller (hows ++ more) best
   fuller_best hows more one other best is =
       best_taken IsFilledSo IsNotFuller (used_area (places other) ≤ used_area (places one)) (used_area (places one) ≤ used_area (places other))
       hows more one other best is (as_full one other) (as_full other one)
 
   -- The best in all turnings.
   pub fullest : (lying : S → List Size) (given wide high inner best : S)
-      → AreLaid o turning.AsGiven sprites (lying given) → AreLaid o turning.Wide sprites (lying wide) → AreLaid o turning.High sprites (lying high)
+      → AreLaid o turning.AsGiven sprites (lying given) → AreLaid o turning.Wide sprites (lying wide)
+      → AreLaid o turning.High sprites (lying high)
       → IsBestFound ways sheet (spacing_of o) (lying given) (order given) (places given)
       → IsBestFound ways sheet (spacing_of o) (lying wide) (order wide) (places wide)
       → IsBestFound ways sheet (spacing_of o) (lying high) (order high) (places high)
-      → ((inner ≡ wide) × (used_area (places high) ≤ used_area (places wide))) ⊎ ((inner ≡ high) × (used_area (places wide) ≤ used_area (places high)))
-      → ((best ≡ given) × (used_area (places inner) ≤ used_area (places given))) ⊎ ((best ≡ inner) × (used_area (places given) ≤ used_area (places inner)))
+      → ((inner ≡ wide) × (used_area (places high) ≤ used_area (places wide)))
+      ⊎ ((inner ≡ high) × (used_area (places wide) ≤ used_area (places high)))
+      → ((best ≡ given) × (used_area (places inner) ≤ used_area (places given)))
+      ⊎ ((best ≡ inner) × (used_area (places given) ≤ used_area (places inner)))
       → IsBestIn IsFilledSo IsNotFuller (turnings true) best
   fullest lying given wide high inner best laid_given laid_wide laid_high by_given by_wide by_high two all =
       fuller_best (turning.AsGiven ∷ []) (turning.Wide ∷ turning.High ∷ []) given inner best all
@@ -129,7 +137,8 @@ module _ {S : Type 0} (o : SheetOptions) (sprites : List Size) (ways : List Way)
   IsAsSmall best found =
       IfSome found (λ a. IfSome best (λ b. pixels (sides_of (size b)) ≤ pixels (sides_of (size a)))) × (IfNone best (IsNone found))
 
-  as_small : (best found : Option S) → IsAsSmall best found → (how : Turning) → IsNotSmaller how found → IsNotSmaller how best
+  as_small : (best found : Option S) → IsAsSmall best found → (how : Turning) → IsNotSmaller how found
+      → IsNotSmaller how best
   as_small None None is how small = small
   as_small None (Some a) is how small = let off : IsNone (Some a) = is.1 in absurd (false≢true (sym off))
   as_small (Some b) None is how small = (small.0, small.1, inl small.2)
@@ -146,7 +155,8 @@ module _ {S : Type 0} (o : SheetOptions) (sprites : List Size) (ways : List Way)
       best_so IsFoundSo IsNotSmaller how (Some a) (lying a, are, first)
       (lying a, are, inr (sides_of (size a), first.0, first.1, omega arith))
 
-  pub smaller_best : (hows more : List Turning) (one other best : Option S) → (best ≡ one) ⊎ (best ≡ other) → IsAsSmall best one → IsAsSmall best other
+  pub smaller_best : (hows more : List Turning) (one other best : Option S) → (best ≡ one) ⊎ (best ≡ other)
+      → IsAsSmall best one → IsAsSmall best other
       → IsBestIn IsFoundSo IsNotSmaller hows one → IsBestIn IsFoundSo IsNotSmaller more other
       → IsBestIn IsFoundSo IsNotSmaller (hows ++ more) best
   smaller_best hows more one other best (inl is) left right here there =
@@ -160,7 +170,8 @@ module _ {S : Type 0} (o : SheetOptions) (sprites : List Size) (ways : List Way)
 
   -- The best in all turnings.
   pub smallest_found : (given wide high inner best : Option S)
-      → IsBestIn IsFoundSo IsNotSmaller (turning.AsGiven ∷ []) given → IsBestIn IsFoundSo IsNotSmaller (turning.Wide ∷ []) wide
+      → IsBestIn IsFoundSo IsNotSmaller (turning.AsGiven ∷ []) given
+      → IsBestIn IsFoundSo IsNotSmaller (turning.Wide ∷ []) wide
       → IsBestIn IsFoundSo IsNotSmaller (turning.High ∷ []) high
       → (inner ≡ wide) ⊎ (inner ≡ high) → IsAsSmall inner wide → IsAsSmall inner high
       → (best ≡ given) ⊎ (best ≡ inner) → IsAsSmall best given → IsAsSmall best inner
@@ -169,24 +180,28 @@ module _ {S : Type 0} (o : SheetOptions) (sprites : List Size) (ways : List Way)
       smaller_best (turning.AsGiven ∷ []) (turning.Wide ∷ turning.High ∷ []) given inner best all as_given as_inner by_given
       (smaller_best (turning.Wide ∷ []) (turning.High ∷ []) wide high inner two as_wide as_high by_wide by_high)
 
-  pub found_one : (turn : Bool) (found : Option S) → o.turn ≡ turn → IsBestIn IsFoundSo IsNotSmaller (turnings turn) found
+  pub found_one : (turn : Bool) (found : Option S) → o.turn ≡ turn
+      → IsBestIn IsFoundSo IsNotSmaller (turnings turn) found
       → IfSome found (λ a. InOne o sprites (λ lying. IsFirstFound ways o.allowed (spacing_of o) lying (sides_of (size a)) (order a) (places a)))
   found_one turn None is best = tt
   found_one turn (Some a) is best =
       (best.one.0, subst (λ b. Contains (turnings b) best.one.0) (sym is) best.one.1, best.one.2.0, best.one.2.1, best.one.2.2)
 
-  pub found_each : (turn : Bool) (found : Option S) → o.turn ≡ turn → IsBestIn IsFoundSo IsNotSmaller (turnings turn) found
+  pub found_each : (turn : Bool) (found : Option S) → o.turn ≡ turn
+      → IsBestIn IsFoundSo IsNotSmaller (turnings turn) found
       → IfSome found (λ a. InEach o sprites (λ lying. IsNoLarger ways o.allowed (spacing_of o) lying (sides_of (size a))))
   found_each turn None is best = tt
   found_each turn (Some a) is best = subst (λ b. All (λ how. IsNotSmaller how (Some a)) (turnings b)) (sym is) best.each
 
-  pub found_none : (turn : Bool) (found : Option S) → o.turn ≡ turn → IsBestIn IsFoundSo IsNotSmaller (turnings turn) found
+  pub found_none : (turn : Bool) (found : Option S) → o.turn ≡ turn
+      → IsBestIn IsFoundSo IsNotSmaller (turnings turn) found
       → IfNone found (InEach o sprites (λ lying. NoneIsFound ways o.allowed (spacing_of o) lying))
   found_none turn None is best = subst (λ b. All (λ how. IsNotSmaller how None) (turnings b)) (sym is) best.each
   found_none turn (Some a) is best = tt
 
 -- The same of sheets that were found or not.
-pub taken_found : {S : Type 0} (G : S → Type 0) (given wide high inner best : Option S) → (inner ≡ wide) ⊎ (inner ≡ high)
+pub taken_found : {S : Type 0} (G : S → Type 0) (given wide high inner best : Option S)
+    → (inner ≡ wide) ⊎ (inner ≡ high)
     → (best ≡ given) ⊎ (best ≡ inner) → IfSome given G → IfSome wide G → IfSome high G → IfSome best G
 taken_found G given wide high inner best two (inl is) a b c = subst (λ f. IfSome f G) (sym is) a
 taken_found G given wide high inner best (inl two) (inr is) a b c = subst (λ f. IfSome f G) (sym is) (subst (λ f. IfSome f G) (sym two) b)

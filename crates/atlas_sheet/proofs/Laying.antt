@@ -33,7 +33,8 @@ module _ (sheet : Sides) (spacing : Spacing) where
   may_laid how s = lie_again true s (turned_to how s) (fitted sheet spacing (turned_to how s)) (may_turn how s) (may_fit (turned_to how s))
 
   -- Laid sprites may lie so.
-  pub laid_lies : (turn : Bool) (how : Turning) (sprites : List Size) → AllZip (MayLie turn) sprites (laid turn sheet spacing how sprites)
+  pub laid_lies : (turn : Bool) (how : Turning) (sprites : List Size)
+      → AllZip (MayLie turn) sprites (laid turn sheet spacing how sprites)
   laid_lies false how sprites = lie_as_given false sprites
   laid_lies true how [] = tt
   laid_lies true how (s ∷ sprites) = (may_laid how s, laid_lies true how sprites)
@@ -48,7 +49,8 @@ module _ (sheet : Sides) (spacing : Spacing) where
   abbrev pub CanHaveRoom : (turn : Bool) → Size → Type 0
   CanHaveRoom turn s = (lying : Size) × MayLie turn s lying × IsTrue (has_room sheet spacing lying)
 
-  room_as_fitted : (s l : Size) → MayLie true s l → IsTrue (has_room sheet spacing l) → IsTrue (has_room sheet spacing (fitted sheet spacing s))
+  room_as_fitted : (s l : Size) → MayLie true s l → IsTrue (has_room sheet spacing l)
+      → IsTrue (has_room sheet spacing (fitted sheet spacing s))
   room_as_fitted s l may room = by_room (has_room sheet spacing s) refl
     where
       turned : MayLie true s l → has_room sheet spacing s ≡ false → IsTrue (has_room sheet spacing (turned_size s))
@@ -67,7 +69,8 @@ module _ (sheet : Sides) (spacing : Spacing) where
   lie_back s l (inl e) = inl (sym e)
   lie_back s l (inr e) = inr (refl, ap turned_size (sym e.1))
 
-  room_as_laid : (how : Turning) (s : Size) → CanHaveRoom true s → IsTrue (has_room sheet spacing (fitted sheet spacing (turned_to how s)))
+  room_as_laid : (how : Turning) (s : Size) → CanHaveRoom true s
+      → IsTrue (has_room sheet spacing (fitted sheet spacing (turned_to how s)))
   room_as_laid how s room =
       room_as_fitted (turned_to how s) room.0
       (lie_again true (turned_to how s) s room.0 (lie_back s (turned_to how s) (may_turn how s)) room.1) room.2
@@ -95,13 +98,15 @@ greatest_once by s t one other =
     λ i. record { width = w i; height = h i }
 
 module _ (o : SheetOptions) (sprites : List Size) where
-  pub each_weaker : (P Q : List Size → Type 0) → ((lying : List Size) → P lying → Q lying) → InEach o sprites P → InEach o sprites Q
+  pub each_weaker : (P Q : List Size → Type 0) → ((lying : List Size) → P lying → Q lying) → InEach o sprites P
+      → InEach o sprites Q
   each_weaker P Q weaker each =
       All-weaker (λ how. (lying : List Size) × AreLaid o how sprites lying × P lying) (λ how. (lying : List Size) × AreLaid o how sprites lying × Q lying)
       (λ how is. (is.0, is.1, weaker is.0 is.2)) (turnings o.turn) each
 
   -- However sprites are laid, they are laid as they are given once.
-  pub first_laid : (P : List Size → Type 0) → InEach o sprites P → (lying : List Size) × AreLaid o turning.AsGiven sprites lying × P lying
+  pub first_laid : (P : List Size → Type 0) → InEach o sprites P
+      → (lying : List Size) × AreLaid o turning.AsGiven sprites lying × P lying
   first_laid P each = by_turn o.turn each
     where
       L : Turning → Type 0

@@ -2,7 +2,8 @@
 use Rattle.std.proofs.Common.{◌≡◌, true, false, Option, Some, None, IfSome, IfNone, is_some}
 
 -- Two facts about a value make a third.
-pub both : {T : Type 0} (o : Option T) {P Q R : T → Type 0} → IfSome o P → IfSome o Q → ((x : T) → P x → Q x → R x) → IfSome o R
+pub both : {T : Type 0} (o : Option T) {P Q R : T → Type 0} → IfSome o P → IfSome o Q → ((x : T) → P x → Q x → R x)
+    → IfSome o R
 both None p q make = tt
 both (Some x) p q make = make x p q
 

@@ -46,8 +46,10 @@ numbers_sorted sprites k d from below =
 
 -- Sprites that count alike keep their order.
 alike : (key : Key) (sprites : List Size) (order : List (ℕ × Size))
-    → IsStableByKey (reversed_key key) reversed_order (enumerate_from 0 sprites) order → (k : ℕ) (d : ℕ × Size) → k + 1 < length order
-    → counts key (get_or order k d) ≡ counts key (get_or order (k + 1) d) → number (get_or order k d) ≤ number (get_or order (k + 1) d)
+    → IsStableByKey (reversed_key key) reversed_order (enumerate_from 0 sprites) order → (k : ℕ) (d : ℕ × Size)
+    → k + 1 < length order
+    → counts key (get_or order k d) ≡ counts key (get_or order (k + 1) d)
+    → number (get_or order k d) ≤ number (get_or order (k + 1) d)
 alike key sprites order stable k d below same =
     let x = counts key (get_or order k d) in
     let y = counts key (get_or order (k + 1) d) in
@@ -59,8 +61,10 @@ alike key sprites order stable k d below same =
     (IsStrictWeakOrder-flip (λ s t. is_lt (nat_cmp (counts key s) (counts key t))) (ranks_by nat_cmp_total (counts key)))
     (enumerate_from 0 sprites) order (numbers_sorted sprites) stable k d below tie)
 
-pub greatest_first : (key : Key) (sprites : List Size) (numbered order : List (ℕ × Size)) → numbered ≡ enumerate_from 0 sprites
-    → IsSortedByKey (reversed_key key) reversed_order order → IsStableByKey (reversed_key key) reversed_order numbered order
+pub greatest_first : (key : Key) (sprites : List Size) (numbered order : List (ℕ × Size))
+    → numbered ≡ enumerate_from 0 sprites
+    → IsSortedByKey (reversed_key key) reversed_order order
+    → IsStableByKey (reversed_key key) reversed_order numbered order
     → AreGreatestFirst key order
 greatest_first key sprites numbered order same sorted stable k d below = (
   ge_from_not_lt (counts key (get_or order k d)) (counts key (get_or order (k + 1) d)) (sorted k d (omega arith) (omega arith)),

@@ -37,13 +37,15 @@ IsKind ways o left sheet areas =
     × (All IsSome areas → ⊥))
 
 -- A way that is tried first.
-first_way : (P : Way → Type 0) (n : ℕ) (ways : List Way) → 0 < n → 0 < length ways → All P (take n ways) → (way : Way) × P way
+first_way : (P : Way → Type 0) (n : ℕ) (ways : List Way) → 0 < n → 0 < length ways → All P (take n ways)
+    → (way : Way) × P way
 first_way P zero ways some ways_some each = absurd (omega (arith, some))
 first_way P (suc n) [] some ways_some each = absurd (omega (arith, ways_some))
 first_way P (suc n) (way ∷ ways) some ways_some each = (way, All-head P way (take n ways) each)
 
 -- A sheet that none of the ways fills with any pixels is too small for one of the sprites.
-bare_sheet : (ways : List Way) (o : SheetOptions) (left : List Size) (sheet : Sides) → 0 < length ways → IsGreatest o.allowed sheet
+bare_sheet : (ways : List Way) (o : SheetOptions) (left : List Size) (sheet : Sides) → 0 < length ways
+    → IsGreatest o.allowed sheet
     → InEach o left (λ lying. All (IsNoBetter sheet (spacing_of o) lying 0) (take (ways_tried (length left)) ways))
     → All (IsPackable (spacing_of o)) left → 0 < length left
     → All (λ s. (lying : Size) × MayLie o.turn s lying × IsTrue (has_room sheet (spacing_of o) lying)) left → ⊥
@@ -86,7 +88,8 @@ module _ (ways : List Way) (o : SheetOptions) (left : List Size) (sheet : Sides)
   kind_here : TakesAll ways o left sheet placed ⊎ IsFullSheet ways o left sheet placed
   kind_here = by_kind kind
     where
-      by_kind : IsKind ways o left sheet areas → TakesAll ways o left sheet placed ⊎ IsFullSheet ways o left sheet placed
+      by_kind : IsKind ways o left sheet areas
+          → TakesAll ways o left sheet placed ⊎ IsFullSheet ways o left sheet placed
       by_kind (inl all) = inl (shown_whole placed areas are all.0, all.1)
       by_kind (inr full) = inr (
         full.0,
@@ -106,7 +109,8 @@ module _ (ways : List Way) (o : SheetOptions) (left : List Size) (sheet : Sides)
   }
 
   -- Where none has a place one is too large.
-  pub none_found : (sprites : List Size) (places : List (Option OnPage)) → 0 < length ways → left ≡ sprites_left sprites places → 0 < length left
+  pub none_found : (sprites : List Size) (places : List (Option OnPage)) → 0 < length ways
+      → left ≡ sprites_left sprites places → 0 < length left
       → All (IsPackable (spacing_of o)) left → All IsNone placed → OneIsTooLarge o sprites
   none_found sprites places ways_some is some packs none = by_kind kind_here
     where
@@ -127,7 +131,8 @@ module _ (ways : List Way) (o : SheetOptions) (left : List Size) (sheet : Sides)
 
 -- Before the first sheet.
 module _ (sprites left : List Size) (places : List (Option OnPage)) (bare : places ≡ replicate (length sprites) None) where
-  pub begun_with : (rule : List Size → Sides → List (Option Placed) → Type 0) (sizes : List Size) → sizes ≡ [] → ArePagesBy rule sprites sizes places
+  pub begun_with : (rule : List Size → Sides → List (Option Placed) → Type 0) (sizes : List Size) → sizes ≡ []
+      → ArePagesBy rule sprites sizes places
   begun_with rule sizes none =
       subst (λ zs. ArePagesBy rule sprites zs places) (sym none) (subst (ArePagesBy rule sprites []) (sym bare) (begun rule sprites))
 
@@ -157,14 +162,16 @@ module _ (sprites left : List Size) (places : List (Option OnPage)) (long : leng
     pub put_as_long : length put ≡ length sprites
     put_as_long = ap length put_is ∙ put_long n places found ∙ long
 
-    pub fewer_left : (after : List Size) → after ≡ sprites_left sprites put → (All IsNone found → ⊥) → length after < length left
+    pub fewer_left : (after : List Size) → after ≡ sprites_left sprites put → (All IsNone found → ⊥)
+        → length after < length left
     fewer_left after after_is some =
         let less : holes (put_on n places found) < holes places = fewer n places found (count ∙ left_holes) some in
         let now : length after ≡ holes (put_on n places found) = ap length after_is ∙ left_long sprites put put_as_long ∙ ap holes put_is in
         let before : length left ≡ holes places = left_holes in
         omega (arith, less, now, before)
 
-    pub more_pages : (rule : List Size → Sides → List (Option Placed) → Type 0) (sizes more : List Size) (size : Size) → n ≡ length sizes → more ≡ sizes ++ size ∷ []
+    pub more_pages : (rule : List Size → Sides → List (Option Placed) → Type 0) (sizes more : List Size) (size : Size)
+        → n ≡ length sizes → more ≡ sizes ++ size ∷ []
         → ArePagesBy rule sprites sizes places → rule left (sides_of size) found → ArePagesBy rule sprites more put
     more_pages rule sizes more size n_is more_is are page =
         let next : rule (sprites_left sprites places) (sides_of size) found =
@@ -197,11 +204,13 @@ module _ (ways : List Way) (o : SheetOptions) (left given seen : List Size) (giv
   pub count_as_given : length placed ≡ length left
   count_as_given = shown_long (sides_of size) o left order placed shown_here
 
-  pub page_as_given : IsAllowed o.allowed (sides_of found_size) → (All IsNone placed → ⊥) → IsPage ways o left (sides_of size) placed
+  pub page_as_given : IsAllowed o.allowed (sides_of found_size) → (All IsNone placed → ⊥)
+      → IsPage ways o left (sides_of size) placed
   page_as_given allowed some =
       page_found ways o left (sides_of size) order placed areas shown_here are kind_so
       (subst (λ (s : Size). IsAllowed o.allowed (sides_of s)) (sym size_is) allowed) some
 
-  pub none_as_given : (sprites : List Size) (places : List (Option OnPage)) → 0 < length ways → left ≡ sprites_left sprites places → 0 < length left
+  pub none_as_given : (sprites : List Size) (places : List (Option OnPage)) → 0 < length ways
+      → left ≡ sprites_left sprites places → 0 < length left
       → All (IsPackable (spacing_of o)) left → All IsNone placed → OneIsTooLarge o sprites
   none_as_given = none_found ways o left (sides_of size) order placed areas shown_here are kind_so

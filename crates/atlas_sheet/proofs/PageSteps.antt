@@ -30,7 +30,8 @@ same_from j k le (s ∷ sprites) (None ∷ places) (Some f ∷ found) =
     ∙ ap (λ xs. s ∷ xs) (same_from j k le sprites places found)
 
 -- Nor does it add a place on an earlier one.
-same_on : (j k : ℕ) → j < k → (places : List (Option OnPage)) (found : List (Option Placed)) → places_on j (put_on k places found) ≡ places_on j places
+same_on : (j k : ℕ) → j < k → (places : List (Option OnPage)) (found : List (Option Placed))
+    → places_on j (put_on k places found) ≡ places_on j places
 same_on j k less [] found = refl
 same_on j k less (Some p ∷ places) found =
     ap (λ xs. cond (nat_le j p.page) (place_on j (Some p) ∷ xs) xs) (same_on j k less places found)
@@ -52,7 +53,8 @@ left_from k (s ∷ sprites) (Some p ∷ places) before =
     ∙ left_from k sprites places (All-tail (LiesEarlier k) (Some p) places before)
 
 -- What was found on the new sheet is what lies there.
-found_there : (k : ℕ) (places : List (Option OnPage)) (found : List (Option Placed)) → All (LiesEarlier k) places → length found ≡ holes places
+found_there : (k : ℕ) (places : List (Option OnPage)) (found : List (Option Placed)) → All (LiesEarlier k) places
+    → length found ≡ holes places
     → places_on k (put_on k places found) ≡ found
 found_there k [] [] before long = refl
 found_there k [] (f ∷ found) before long = absurd (omega (arith, long))
@@ -85,7 +87,8 @@ put_before k (None ∷ places) (Some f ∷ found) before =
     All-cons (LiesEarlier (k + 1)) (Some (record { page = k; placed = f })) (put_on k places found) (omega arith)
     (put_before k places found (All-tail (LiesEarlier k) None places before))
 
-pub put_long : (k : ℕ) (places : List (Option OnPage)) (found : List (Option Placed)) → length (put_on k places found) ≡ length places
+pub put_long : (k : ℕ) (places : List (Option OnPage)) (found : List (Option Placed))
+    → length (put_on k places found) ≡ length places
 put_long k [] found = refl
 put_long k (Some p ∷ places) found = ap suc (put_long k places found)
 put_long k (None ∷ places) [] = refl
@@ -101,7 +104,8 @@ left_long (s ∷ sprites) [] long = absurd (omega (arith, long))
 left_long (s ∷ sprites) (None ∷ places) long = ap suc (left_long sprites places (omega (arith, long)))
 left_long (s ∷ sprites) (Some p ∷ places) long = left_long sprites places (omega (arith, long))
 
-no_more : (k : ℕ) (places : List (Option OnPage)) (found : List (Option Placed)) → holes (put_on k places found) ≤ holes places
+no_more : (k : ℕ) (places : List (Option OnPage)) (found : List (Option Placed))
+    → holes (put_on k places found) ≤ holes places
 no_more k [] found = omega arith
 no_more k (Some p ∷ places) found = no_more k places found
 no_more k (None ∷ places) [] = omega arith
@@ -128,7 +132,8 @@ all_there (Some p ∷ places) none = All-cons IsSome (Some p) places refl (all_t
 all_there (None ∷ places) none = absurd (omega (arith, none))
 
 -- Each of the sprites that are left is one of the sprites.
-pub all_left : (P : Size → Type 0) (sprites : List Size) (places : List (Option OnPage)) → All P sprites → All P (sprites_left sprites places)
+pub all_left : (P : Size → Type 0) (sprites : List Size) (places : List (Option OnPage)) → All P sprites
+    → All P (sprites_left sprites places)
 all_left P [] places each = All-nil P
 all_left P (s ∷ sprites) [] each = All-nil P
 all_left P (s ∷ sprites) (None ∷ places) each =
@@ -144,7 +149,8 @@ module _ (rule : List Size → Sides → List (Option Placed) → Type 0) (sprit
   more : length (sizes ++ size ∷ []) ≡ n + 1
   more = length-append sizes (size ∷ [])
 
-  old_page : (page : ℕ) → page < n → rule (sprites_from page sprites (put_on n places found)) (page_sides (sizes ++ size ∷ []) page)
+  old_page : (page : ℕ) → page < n
+      → rule (sprites_from page sprites (put_on n places found)) (page_sides (sizes ++ size ∷ []) page)
       (places_on page (put_on n places found))
   old_page page less =
       let a = same_from page n (omega (arith, less)) sprites places found in
@@ -154,7 +160,8 @@ module _ (rule : List Size → Sides → List (Option Placed) → Type 0) (sprit
       (subst (λ ps. rule (sprites_from page sprites places) (page_sides (sizes ++ size ∷ []) page) ps) (sym b)
       (subst (λ z. rule (sprites_from page sprites places) z (places_on page places)) (sym c) (are.pages page less)))
 
-  new_page : (page : ℕ) → page ≡ n → rule (sprites_from page sprites (put_on n places found)) (page_sides (sizes ++ size ∷ []) page)
+  new_page : (page : ℕ) → page ≡ n
+      → rule (sprites_from page sprites (put_on n places found)) (page_sides (sizes ++ size ∷ []) page)
       (places_on page (put_on n places found))
   new_page page is =
       let a : sprites_from n sprites (put_on n places found) ≡ sprites_left sprites places = same_from n n (omega arith) sprites places found ∙ left_from n sprites places are.below in
@@ -179,7 +186,8 @@ module _ (rule : List Size → Sides → List (Option Placed) → Type 0) (sprit
       by_last page less (inr new) = new_page page (omega (arith, less, new, more))
 
 -- At first no sprite has a place.
-pub begun : (rule : List Size → Sides → List (Option Placed) → Type 0) (sprites : List Size) → ArePagesBy rule sprites [] (replicate (length sprites) None)
+pub begun : (rule : List Size → Sides → List (Option Placed) → Type 0) (sprites : List Size)
+    → ArePagesBy rule sprites [] (replicate (length sprites) None)
 begun rule sprites = record {
   long = length-replicate (length sprites) None;
   below = none_yet (length sprites);
@@ -203,7 +211,9 @@ pub put_begin : (page : ℕ) (places : List (Option OnPage)) (found : List (Opti
     → IsPutTo page places found 0 0 []
 put_begin page places found long = record { put = refl; missing = omega (arith, long) }
 
-pub put_end : (page : ℕ) (places : List (Option OnPage)) (found : List (Option Placed)) (k next : ℕ) (all : List (Option OnPage)) → length places ≤ k
+pub put_end : (page : ℕ) (places : List (Option OnPage)) (found : List (Option Placed)) (k next : ℕ)
+    (all : List (Option OnPage))
+    → length places ≤ k
     → IsPutTo page places found k next all → all ≡ put_on page places found
 put_end page places found k next all end so =
     sym (so.put ∙ ap (λ ps. all ++ put_on page ps (drop next found)) (drop_of_length-le places end) ∙ append-nil all)
@@ -262,7 +272,8 @@ left_end sprites places k left end so =
 module _ (sprites : List Size) (places : List (Option OnPage)) (k : ℕ) (left more : List Size) (s : Size) (q : Option OnPage)
     (inside : k < length places) (long : length places ≡ length sprites) (s_at : s ≡ get_or sprites k s) (q_at : q ≡ get_or places k q)
     (so : IsLeftTo sprites places k left) where
-  split : sprites_left (drop k sprites) (drop k places) ≡ sprites_left (s ∷ drop (k + 1) sprites) (q ∷ drop (k + 1) places)
+  split : sprites_left
+      (drop k sprites) (drop k places) ≡ sprites_left (s ∷ drop (k + 1) sprites) (q ∷ drop (k + 1) places)
   split =
       let a : drop k sprites ≡ s ∷ drop (k + 1) sprites =
       drop-cons sprites k s (omega (arith, inside, long)) ∙ (λ i. sym s_at i ∷ (ap (λ m. drop m sprites) (sym (add-one k))) i) in

@@ -38,7 +38,8 @@ module _ (n : ℕ) (R : ℕ → Size → Option Placed → Type 0) (Q : Size →
     (one : (s : Size) (p : OnPage) → p.page < n → R p.page s (Some p.placed) → Q s p) where
   pub each_on : (sprites : List Size) (places : List OnPage) → length (map Some places) ≡ length sprites
       → All (λ p. IfSome p (λ q. q.page < n)) (map Some places)
-      → ((k : ℕ) → k < n → AllZip (R k) (sprites_from k sprites (map Some places)) (places_on k (map Some places))) → AllZip Q sprites places
+      → ((k : ℕ) → k < n → AllZip (R k) (sprites_from k sprites (map Some places)) (places_on k (map Some places)))
+      → AllZip Q sprites places
   each_on [] [] long below shown = tt
   each_on [] (p ∷ places) long below shown = absurd (omega (arith, long))
   each_on (s ∷ sprites) [] long below shown = absurd (omega (arith, long))
@@ -53,7 +54,8 @@ module _ (n : ℕ) (R : ℕ → Size → Option Placed → Type 0) (Q : Size →
             (λ k less. zip_later (R k) (nat_le k p.page) s (sprites_from k sprites (map Some places)) (place_on k (Some p)) (places_on k (map Some places)) (shown k less)),
       )
 
-pub below_all : (n : ℕ) (places : List OnPage) → All (λ p. IfSome p (λ q. q.page < n)) (map Some places) → All (λ q. q.page < n) places
+pub below_all : (n : ℕ) (places : List OnPage) → All (λ p. IfSome p (λ q. q.page < n)) (map Some places)
+    → All (λ q. q.page < n) places
 below_all n [] below = All-nil (λ q. q.page < n)
 below_all n (p ∷ places) below =
     let B : Option OnPage → Type 0 = λ p. IfSome p (λ q. q.page < n) in
@@ -109,7 +111,8 @@ whole_if false c true e on p here next later all = absurd (false≢true (on refl
 whole_if true true true e on p here next later all = absurd (false≢true (sym (on refl).1))
 whole_if true false true e on p here next later all = absurd (false≢true (All-head IsSome None here all))
 
-whole_last : (k : ℕ) (places : List OnPage) → All IsSome (places_on k (map Some places)) → All IsNone (places_on (k + 1) (map Some places))
+whole_last : (k : ℕ) (places : List OnPage) → All IsSome (places_on k (map Some places))
+    → All IsNone (places_on (k + 1) (map Some places))
 whole_last k [] all = All-nil IsNone
 whole_last k (p ∷ places) all =
     whole_if (nat_le k p.page) (p.page == k) (nat_le (k + 1) p.page) (p.page == k + 1)
@@ -123,7 +126,8 @@ pub record IsGood (o : SheetOptions) (sprites : List Size) (sheet : Sides) (plac
   pub apart : ArePaddedApart (spacing_of o) placed
   pub used : All IsNone placed → ⊥
 
-pub page_good : (ways : List Way) (o : SheetOptions) (sprites : List Size) (sheet : Sides) (placed : List (Option Placed))
+pub page_good : (ways : List Way) (o : SheetOptions) (sprites : List Size) (sheet : Sides)
+    (placed : List (Option Placed))
     → IsPage ways o sprites sheet placed → IsGood o sprites sheet placed
 page_good ways o sprites sheet placed page = record {
   each = page.shown.each;
@@ -161,7 +165,8 @@ module _ (ways : List Way) (o : SheetOptions) (sprites sizes : List Size) (place
   pub pages_greatest : AreGreatest o sizes
   pages_greatest k less = by_kind (are.pages k (omega (arith, less))).kind
     where
-      by_kind : TakesAll ways o (sprites_from k sprites (map Some places)) (page_sides sizes k) (places_on k (map Some places))
+      by_kind : TakesAll ways o
+          (sprites_from k sprites (map Some places)) (page_sides sizes k) (places_on k (map Some places))
           ⊎ IsFullSheet ways o (sprites_from k sprites (map Some places)) (page_sides sizes k) (places_on k (map Some places))
           → IsGreatest o.allowed (page_sides sizes k)
       by_kind (inl all) = absurd ((are.pages (k + 1) less).used (whole_last k places all.0))

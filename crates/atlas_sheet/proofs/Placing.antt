@@ -22,7 +22,8 @@ use Rattle.atlas_sheet.proofs.Asking.{AreOnGrid, granted_on_grid, granted_room, 
 use Rattle.atlas_sheet.proofs.Numbering.{order_all}
 
 -- A side of a box that lies within what is left of a sheet.
-pub fits_side : (whole padding sprite end : ℕ) → 0 < whole → 0 < sprite → sprite + padding ≤ end → end ≤ max (whole - padding) 1
+pub fits_side : (whole padding sprite end : ℕ) → 0 < whole → 0 < sprite → sprite + padding ≤ end
+    → end ≤ max (whole - padding) 1
     → end + padding ≤ whole
 fits_side whole padding sprite end sheet positive long within = elim (cases_lt padding whole) [
   | inl less ↦ let e : max (whole - padding) 1 ≡ whole - padding = max-eq_left (omega arith) in omega arith
@@ -35,7 +36,8 @@ module _ (spacing : Spacing) (sheet : Sides) (wide : IsPositive sheet) where
   Good asked = IfSome asked.1 (IsPlaceFor sheet spacing asked.0)
 
   a_place : (old new : SimpleState) (sprite : Size) (place : Rectangle) → IsPositive (sides_of sprite)
-      → IsWithin (inner_sides spacing sheet) (padded spacing.padding place) → (found : FindsPlace spacing old sprite (Some place) new)
+      → IsWithin (inner_sides spacing sheet) (padded spacing.padding place)
+      → (found : FindsPlace spacing old sprite (Some place) new)
       → IsOnGrid (sides_of spacing.alignment) found.0.min → IsPlaceFor sheet spacing sprite place
   a_place old new sprite place positive within found grid =
       let box = found.0 in
@@ -69,7 +71,8 @@ module _ (spacing : Spacing) (sheet : Sides) (wide : IsPositive sheet) where
 
   each_good : (s : SimpleState) (held : List Box) (pairs : List (Size × Option Rectangle)) → IsSimple s
       → s.options.alignment ≡ sides_of spacing.alignment → AreOnGrid s.options.alignment s.free
-      → s.size ≡ inner_sides spacing sheet → IsGuarded s held → All (λ a. IsPositive (sides_of a.0)) pairs → FindPlaces spacing s pairs
+      → s.size ≡ inner_sides spacing sheet → IsGuarded s held → All (λ a. IsPositive (sides_of a.0)) pairs
+      → FindPlaces spacing s pairs
       → All Good pairs
   each_good s held [] simple one grid size guarded positive found = All-nil Good
   each_good s held ((sprite, None) ∷ rest) simple one grid size guarded positive found =
@@ -96,7 +99,8 @@ module _ (spacing : Spacing) (sheet : Sides) (wide : IsPositive sheet) where
   abbrev found_of : List (Size × Option Rectangle) → List (Option Rectangle)
   found_of pairs = map (λ a. a.1) pairs
 
-  good_apart : (s : SimpleState) (held : List Box) (pairs : List (Size × Option Rectangle)) → IsSimple s → IsGuarded s held → FindPlaces spacing s pairs
+  good_apart : (s : SimpleState) (held : List Box) (pairs : List (Size × Option Rectangle)) → IsSimple s
+      → IsGuarded s held → FindPlaces spacing s pairs
       → (x y : ℕ) → count_by (covers_place spacing x y) (found_of pairs) + count_by (covers x y) held ≤ 1
   good_apart s held [] simple guarded found x y =
       let all : count_by (covers x y) (held ++ s.free) ≤ 1 = guarded.disjoint x y in
@@ -128,7 +132,8 @@ module _ (spacing : Spacing) (sheet : Sides) (wide : IsPositive sheet) where
       All-cons (λ s. Good (s.1, place_of_sprite places s)) s order (All-head Good (s.1, place_of_sprite places s) (with_places places order) each)
       (good_with places order (All-tail Good (s.1, place_of_sprite places s) (with_places places order) each))
 
-  found_with : (places : List (Option Rectangle)) (order : List (ℕ × Size)) → found_of (with_places places order) ≡ map (place_of_sprite places) order
+  found_with : (places : List (Option Rectangle)) (order : List (ℕ × Size))
+      → found_of (with_places places order) ≡ map (place_of_sprite places) order
   found_with places [] = refl
   found_with places (s ∷ order) = ap (λ ps. place_of_sprite places s ∷ ps) (found_with places order)
 

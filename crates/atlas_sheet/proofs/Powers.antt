@@ -75,8 +75,10 @@ module _ (ways : List Way) (most : ℕ) (spacing : Spacing) (sprites : List Size
     | inr more ↦ let same : sum ≡ j = omega arith in subst (λ n. NoShapePacks ways most n spacing sprites) same here
   ]
 
-  pub outside_more : (sum half flat less more : ℕ) → flat ≤ half → less ≡ half - flat → more ≡ sum - less → FailsOutside sum half flat
-      → NoWayPacks ways (power_sides more less) spacing sprites → NoWayPacks ways (power_sides less more) spacing sprites
+  pub outside_more : (sum half flat less more : ℕ) → flat ≤ half → less ≡ half - flat → more ≡ sum - less
+      → FailsOutside sum half flat
+      → NoWayPacks ways (power_sides more less) spacing sprites
+      → NoWayPacks ways (power_sides less more) spacing sprites
       → FailsOutside sum half (flat + 1)
   outside_more sum half flat less more inside is rest before fails_wide fails_high wide high together w h a b =
       elim (cases_lt half (wide + flat)) [
@@ -94,16 +96,20 @@ module _ (ways : List Way) (most : ℕ) (spacing : Spacing) (sprites : List Size
       ]
 
   -- The next ones are too long.
-  pub outside_long : (sum half flat less more : ℕ) → less ≡ half - flat → more ≡ sum - less → most < more → FailsOutside sum half flat
+  pub outside_long : (sum half flat less more : ℕ) → less ≡ half - flat → more ≡ sum - less → most < more
+      → FailsOutside sum half flat
       → NoShapePacks ways most sum spacing sprites
   outside_long sum half flat less more is rest long before wide high together w h = before wide high together w h (omega arith) (omega arith)
 
-  pub outside_all : (sum half flat : ℕ) → half < flat → FailsOutside sum half flat → NoShapePacks ways most sum spacing sprites
+  pub outside_all : (sum half flat : ℕ) → half < flat → FailsOutside sum half flat
+      → NoShapePacks ways most sum spacing sprites
   outside_all sum half flat end before wide high together w h = before wide high together w h (omega arith) (omega arith)
 
   -- What a try at a sheet of powers of two says.
-  pub shape_packed : {T : Type 0} (size : T → Size) (packed : T → Packed) (found : Option T) (given : Size) (sum wide high : ℕ)
-      → sides_of given ≡ power_sides wide high → wide + high ≡ sum → wide ≤ most → high ≤ most → IfSome found (λ s. size s ≡ given)
+  pub shape_packed : {T : Type 0} (size : T → Size) (packed : T → Packed) (found : Option T) (given : Size)
+      (sum wide high : ℕ)
+      → sides_of given ≡ power_sides wide high → wide + high ≡ sum → wide ≤ most → high ≤ most
+      → IfSome found (λ s. size s ≡ given)
       → IfSome found (λ s. ArePacked ways (sides_of given) spacing sprites (packed s))
       → IfSome found (λ s. IsPowerPacked ways most sum spacing sprites (sides_of (size s)) (packed s))
   shape_packed size packed None given sum wide high sides together w h is good = tt
@@ -116,13 +122,15 @@ module _ (ways : List Way) (most : ℕ) (spacing : Spacing) (sprites : List Size
     good = subst (λ s. ArePacked ways (sides_of s) spacing sprites (packed sheet)) (sym is) good;
   }
 
-  pub shape_fails : {T : Type 0} (found : Option T) (given : Size) (wide high : ℕ) → sides_of given ≡ power_sides wide high
+  pub shape_fails : {T : Type 0} (found : Option T) (given : Size) (wide high : ℕ)
+      → sides_of given ≡ power_sides wide high
       → is_some found ≡ false → IfNone found (NoWayPacks ways (sides_of given) spacing sprites)
       → NoWayPacks ways (power_sides wide high) spacing sprites
   shape_fails found given wide high sides empty fails = subst (λ s. NoWayPacks ways s spacing sprites) sides (at_none found empty fails)
 
   module _ (greatest : ℤ) (power : 2 ^ most ≤ natural greatest) (next : natural greatest < 2 * 2 ^ most) where
-    pub scan_found : (sum : ℕ) (sheet : Sides) (packed : Packed) → FailsUpTo sum → IsPowerPacked ways most sum spacing sprites sheet packed
+    pub scan_found : (sum : ℕ) (sheet : Sides) (packed : Packed) → FailsUpTo sum
+        → IsPowerPacked ways most sum spacing sprites sheet packed
         → IsLeastFound ways (allowed.Powers greatest) spacing sprites sheet packed
     scan_found sum sheet packed before found =
         let wide = found.wide in
@@ -152,7 +160,8 @@ module _ (ways : List Way) (most : ℕ) (spacing : Spacing) (sprites : List Size
               (before (x + y) (omega arith) x y refl (exponent x most (natural greatest) (omega arith) next) (exponent y most (natural greatest) (omega arith) next));
         }
 
-    pub scan_none : (sum : ℕ) → 2 * most < sum → FailsUpTo sum → NoneIsFound ways (allowed.Powers greatest) spacing sprites
+    pub scan_none : (sum : ℕ) → 2 * most < sum → FailsUpTo sum
+        → NoneIsFound ways (allowed.Powers greatest) spacing sprites
     scan_none sum end before = record {
       sheet = power_sides most most;
       greatest = powers_greatest most greatest power next;

@@ -45,7 +45,8 @@ before_nth (allowed.Heights width greatest) k s row is before =
     (omega arith, (λ i. record { width = a i; height = b i }))
 
 -- No allowed size passes the last one.
-pub last_greatest : (by : Allowed) (s : Sides) → IsRow by → IsUsable by → IsAllowed by s → Fits s (nth_sides by (row_length by - 1))
+pub last_greatest : (by : Allowed) (s : Sides) → IsRow by → IsUsable by → IsAllowed by s
+    → Fits s (nth_sides by (row_length by - 1))
 last_greatest (allowed.One size) s row usable is = (omega arith, omega arith)
 last_greatest (allowed.Squares least greatest) s row usable is = (omega arith, omega arith)
 last_greatest (allowed.Powers greatest) s row usable is = absurd row
@@ -57,7 +58,8 @@ module _ (ways : List Way) (by : Allowed) (spacing : Spacing) (sprites : List Si
   FailsBelow low = 0 < low → NoWayPacks ways (nth_sides by (low - 1)) spacing sprites
 
   -- Found, and none packs just below.
-  pub row_found : IsRow by → IsUsable by → (k : ℕ) (sheet : Sides) (found : Packed) → k < row_length by → sheet ≡ nth_sides by k
+  pub row_found : IsRow by → IsUsable by → (k : ℕ) (sheet : Sides) (found : Packed) → k < row_length by
+      → sheet ≡ nth_sides by k
       → ArePacked ways sheet spacing sprites found → FailsBelow k → IsLeastFound ways by spacing sprites sheet found
   row_found row usable k sheet found inside at packed fails = record {
     allowed = subst (IsAllowed by) (sym at) (nth_allowed by k row usable inside);
@@ -68,7 +70,8 @@ module _ (ways : List Way) (by : Allowed) (spacing : Spacing) (sprites : List Si
   }
 
   -- Nothing found, and none packs at the end.
-  pub row_none : IsRow by → IsUsable by → (low : ℕ) → 0 < row_length by → low ≡ row_length by → FailsBelow low → NoneIsFound ways by spacing sprites
+  pub row_none : IsRow by → IsUsable by → (low : ℕ) → 0 < row_length by → low ≡ row_length by → FailsBelow low
+      → NoneIsFound ways by spacing sprites
   row_none row usable low some end fails = record {
     sheet = nth_sides by (row_length by - 1);
     greatest = record {
@@ -89,8 +92,10 @@ pub record IsSearched {T : Type 0} (sides : T → Sides) (packed : T → Packed)
 
 module _ {T : Type 0} (sides : T → Sides) (packed : T → Packed) (ways : List Way) (by : Allowed) (spacing : Spacing)
     (sprites : List Size) (count low high middle : ℕ) (found : Option T) (from : low ≤ middle) (to : middle < high) where
-  pub went_down : (best : Option T) → IsSearched sides packed ways by spacing sprites count low high best → is_some found ≡ true
-      → IfSome found (λ sheet. sides sheet ≡ nth_sides by middle) → IfSome found (λ sheet. ArePacked ways (sides sheet) spacing sprites (packed sheet))
+  pub went_down : (best : Option T) → IsSearched sides packed ways by spacing sprites count low high best
+      → is_some found ≡ true
+      → IfSome found (λ sheet. sides sheet ≡ nth_sides by middle)
+      → IfSome found (λ sheet. ArePacked ways (sides sheet) spacing sprites (packed sheet))
       → IsSearched sides packed ways by spacing sprites count low middle found
   went_down best before is at good =
       let within : high ≤ count = before.within in
@@ -107,7 +112,8 @@ module _ {T : Type 0} (sides : T → Sides) (packed : T → Packed) (ways : List
       here None e a p inside = cc
       here (Some x) e a p inside = (inside, a, p)
 
-  pub went_up : (best : Option T) → IsSearched sides packed ways by spacing sprites count low high best → NoWayPacks ways (nth_sides by middle) spacing sprites
+  pub went_up : (best : Option T) → IsSearched sides packed ways by spacing sprites count low high best
+      → NoWayPacks ways (nth_sides by middle) spacing sprites
       → IsSearched sides packed ways by spacing sprites count (middle + 1) high best
   went_up best before fails = record {
     order = omega arith;

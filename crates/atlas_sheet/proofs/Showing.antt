@@ -28,14 +28,16 @@ module _ (sheet : Sides) (spacing : Spacing) (turn : Bool) where
       let below = each.0.place.below in
       All-cons (λ p. IsWithin sheet (box_of p.area)) p places (omega (arith, right), omega (arith, below)) (inside_each sprites places each.1)
 
-  upright_one : (sprite : Size) (p : Placed) → turn ≡ false → IsPlacedFor sheet spacing turn sprite p → box_sides (box_of p.area) ≡ sides_of sprite
+  upright_one : (sprite : Size) (p : Placed) → turn ≡ false → IsPlacedFor sheet spacing turn sprite p
+      → box_sides (box_of p.area) ≡ sides_of sprite
   upright_one sprite p off placed = by_turn p.turned refl
     where
       by_turn : (b : Bool) → p.turned ≡ b → box_sides (box_of p.area) ≡ sides_of sprite
       by_turn true is = let on : turn ≡ true = placed.allowed is in cc
       by_turn false is = placed.place.sides ∙ ap (λ b. sides_of (lie b sprite)) is
 
-  pub upright_each : (sprites : List Size) (places : List Placed) → turn ≡ false → AllZip ShowsPlace sprites (map Some places)
+  pub upright_each : (sprites : List Size) (places : List Placed) → turn ≡ false
+      → AllZip ShowsPlace sprites (map Some places)
       → AllZip (λ sprite p. box_sides (box_of p.area) ≡ sides_of sprite) sprites places
   upright_each [] [] off each = tt
   upright_each [] (p ∷ places) off each = elim each [ ]

@@ -21,8 +21,10 @@ half w (suc k, is) more =
     let one : 2 ^ suc k ≡ 2 ^ (k + 1) = ap (λ n. 2 ^ n) (omega arith) in
     (k, omega arith)
 
-at_squares : (least greatest : ℤ) (s t : Sides) → IsAllowed (allowed.Squares least greatest) s → IsUsable (allowed.Squares least greatest)
-    → natural least < s.width → t.width + 1 ≡ s.width → t.height + 1 ≡ s.height → IsAllowed (allowed.Squares least greatest) t × (pixels t < pixels s)
+at_squares : (least greatest : ℤ) (s t : Sides) → IsAllowed (allowed.Squares least greatest) s
+    → IsUsable (allowed.Squares least greatest)
+    → natural least < s.width → t.width + 1 ≡ s.width → t.height + 1 ≡ s.height
+    → IsAllowed (allowed.Squares least greatest) t × (pixels t < pixels s)
 at_squares least greatest s t is usable more w h =
     let shape : s.width ≡ s.height = is.shape in
     let room = is.greatest in
@@ -32,14 +34,18 @@ at_squares least greatest s t is usable more w h =
       fewer_pixels t.width t.height s.width s.height (omega arith) (omega arith) (omega arith),
     )
 
-pub square_down : (by : Allowed) (least greatest : ℤ) (s t : Sides) → by ≡ allowed.Squares least greatest → IsAllowed by s → IsUsable by
-    → (least_sides by).width < s.width → t.width + 1 ≡ s.width → t.height + 1 ≡ s.height → IsAllowed by t × (pixels t < pixels s)
+pub square_down : (by : Allowed) (least greatest : ℤ) (s t : Sides) → by ≡ allowed.Squares least greatest
+    → IsAllowed by s → IsUsable by
+    → (least_sides by).width < s.width → t.width + 1 ≡ s.width → t.height + 1 ≡ s.height
+    → IsAllowed by t × (pixels t < pixels s)
 square_down by least greatest s t e is usable more w h =
     subst (λ b. IsAllowed b t × (pixels t < pixels s)) (sym e)
     (at_squares least greatest s t (subst (λ b. IsAllowed b s) e is) (subst IsUsable e usable) (subst (λ b. (least_sides b).width < s.width) e more) w h)
 
-at_heights : (width greatest : ℤ) (s t : Sides) → IsAllowed (allowed.Heights width greatest) s → IsUsable (allowed.Heights width greatest)
-    → 1 < s.height → t.width ≡ s.width → t.height + 1 ≡ s.height → IsAllowed (allowed.Heights width greatest) t × (pixels t < pixels s)
+at_heights : (width greatest : ℤ) (s t : Sides) → IsAllowed (allowed.Heights width greatest) s
+    → IsUsable (allowed.Heights width greatest)
+    → 1 < s.height → t.width ≡ s.width → t.height + 1 ≡ s.height
+    → IsAllowed (allowed.Heights width greatest) t × (pixels t < pixels s)
 at_heights width greatest s t is usable more w h =
     let least = is.least in
     let room = is.greatest in
@@ -47,7 +53,8 @@ at_heights width greatest s t is usable more w h =
     let less : t.height * t.width < s.height * s.width = fewer_pixels t.height t.width s.height s.width (omega arith) (omega arith) (omega arith) in
     (record { least = (omega arith, omega arith); greatest = (omega arith, omega arith); shape = tt }, omega arith)
 
-pub height_down : (by : Allowed) (width greatest : ℤ) (s t : Sides) → by ≡ allowed.Heights width greatest → IsAllowed by s → IsUsable by
+pub height_down : (by : Allowed) (width greatest : ℤ) (s t : Sides) → by ≡ allowed.Heights width greatest
+    → IsAllowed by s → IsUsable by
     → 1 < s.height → t.width ≡ s.width → t.height + 1 ≡ s.height → IsAllowed by t × (pixels t < pixels s)
 height_down by width greatest s t e is usable more w h =
     subst (λ b. IsAllowed b t × (pixels t < pixels s)) (sym e)

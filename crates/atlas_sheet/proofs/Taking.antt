@@ -33,7 +33,8 @@ module _ (spacing : Spacing) (start now next : SimpleState) (order : List (ℕ �
 
   -- The next one has none.
 
-  pub one_left : (sheet : Sides) (choice : Choice) → start ≡ simple_start (inner_sides spacing sheet) (choice_options spacing choice)
+  pub one_left : (sheet : Sides) (choice : Choice)
+      → start ≡ simple_start (inner_sides spacing sheet) (choice_options spacing choice)
       → FindsPlace spacing now s.1 None next → LeavesOne sheet spacing choice order
   one_left sheet choice begun step =
       let after = set (map Some places) s.0 None in
@@ -53,9 +54,11 @@ module _ (spacing : Spacing) (start now next : SimpleState) (order : List (ℕ �
 
 -- One of the ways packs all.
 pub a_way_packs : (ways : List Way) (sheet : Sides) (spacing : Spacing) (sprites : List Size) (packed : Packed)
-    → Contains ways packed.way → IsPositive sheet → IsPositive (sides_of spacing.alignment) → All (IsPackable spacing) sprites
+    → Contains ways packed.way → IsPositive sheet → IsPositive (sides_of spacing.alignment)
+    → All (IsPackable spacing) sprites
     → IsOrderBy packed.way sprites packed.order → length packed.places ≡ length sprites
-    → AllFindPlaces sheet spacing packed.way.choice packed.order packed.places → ArePacked ways sheet spacing sprites packed
+    → AllFindPlaces sheet spacing packed.way.choice packed.order packed.places
+    → ArePacked ways sheet spacing sprites packed
 a_way_packs ways sheet spacing sprites packed tried positive aligned packable by long found =
     let count : length (map Some packed.places) ≡ length sprites = length-map packed.places Some ∙ long in
     record {
@@ -78,7 +81,8 @@ module _ {T : Type 0} (f : T → Way) (xs : List T) (k : ℕ) (x : T) (inside : 
 
 -- A trial of the next way was added.
 module _ {T : Type 0} (f : T → Way) (xs ys : List T) (x : T) (added : ys ≡ xs ++ x ∷ []) where
-  pub ways_added : (ways : List Way) (k : ℕ) (d : Way) → k < length ways → f x ≡ get_or ways k d → map f xs ≡ take k ways
+  pub ways_added : (ways : List Way) (k : ℕ) (d : Way) → k < length ways → f x ≡ get_or ways k d
+      → map f xs ≡ take k ways
       → map f ys ≡ take (k + 1) ways
   ways_added ways k d inside is before =
       ap (map f) added ∙ map_push f xs x ∙ (λ i. before i ++ is i ∷ []) ∙ sym (take_more ways k d inside)

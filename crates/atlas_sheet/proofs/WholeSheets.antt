@@ -24,11 +24,13 @@ inner_positive spacing sheet =
     let b = le-max_right (sheet.height - spacing.padding) 1 in
     (omega arith, omega arith)
 
-pub choice_valid : (spacing : Spacing) (by : Choice) → IsPositive (sides_of spacing.alignment) → AreValid (choice_options spacing by)
+pub choice_valid : (spacing : Spacing) (by : Choice) → IsPositive (sides_of spacing.alignment)
+    → AreValid (choice_options spacing by)
 choice_valid spacing choice.Roomiest positive = (positive, search rules)
 choice_valid spacing choice.Tightest positive = (positive, search rules)
 
-pub choice_alignment : (spacing : Spacing) (by : Choice) → (choice_options spacing by).alignment ≡ sides_of spacing.alignment
+pub choice_alignment : (spacing : Spacing) (by : Choice)
+    → (choice_options spacing by).alignment ≡ sides_of spacing.alignment
 choice_alignment spacing choice.Roomiest = refl
 choice_alignment spacing choice.Tightest = refl
 
@@ -36,7 +38,8 @@ whole_on_grid : (a : Sides) (size : Sides) → AreOnGrid a (whole_box size ∷ [
 whole_on_grid a size =
     All-cons (λ b. IsOnGrid a b.min) (whole_box size) [] (zero-mod a.width, zero-mod a.height) (All-nil (λ b. IsOnGrid a b.min))
 
-pub found_places : (sheet : Sides) (spacing : Spacing) (by : Choice) (sprites : List Size) (order : List (ℕ × Size)) (places : List (Option Rectangle))
+pub found_places : (sheet : Sides) (spacing : Spacing) (by : Choice) (sprites : List Size) (order : List (ℕ × Size))
+    (places : List (Option Rectangle))
     → IsPositive sheet → IsPositive (sides_of spacing.alignment) → All (IsPackable spacing) sprites
     → IsPermutation (enumerate_from 0 sprites) order → length places ≡ length sprites
     → FindPlaces spacing (simple_start (inner_sides spacing sheet) (choice_options spacing by)) (with_places places order)

@@ -107,7 +107,8 @@ AreGreatest o sizes = (page : ℕ) → page + 1 < length sizes → IsGreatest o.
 pub record OneIsTooLarge (o : SheetOptions) (sprites : List Size) : Type 0 where
   pub sheet : Sides
   pub greatest : IsGreatest o.allowed sheet
-  pub large : All (λ s. (lying : Size) × MayLie o.turn s lying × IsTrue (has_room sheet (spacing_of o) lying)) sprites → ⊥
+  pub large : All (λ s. (lying : Size) × MayLie o.turn s lying × IsTrue (has_room sheet (spacing_of o) lying)) sprites
+      → ⊥
 
 -- How many sprites have no place.
 abbrev pub holes : List (Option OnPage) → ℕ

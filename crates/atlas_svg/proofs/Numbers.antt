@@ -12,7 +12,8 @@ digits_no_space [] h = tt
 digits_no_space (d ∷ ds) h = (λ e. let value : digit_value d ≡ 36 = ap digit_value e in omega (arith, h.0), digits_no_space ds h.1)
 
 -- The word after the first byte is the one that spells the number.
-pub spelled_word : (text after w r rest : List ℕ) (first n : ℕ) → text ≡ first ∷ after → BeginsWithWord after w r → BeginsWithUnsigned text n rest
+pub spelled_word : (text after w r rest : List ℕ) (first n : ℕ) → text ≡ first ∷ after → BeginsWithWord after w r
+    → BeginsWithUnsigned text n rest
     → SpellsUnsigned n w × (r ≡ rest)
 spelled_word text after w r rest first n e begins number =
     let whole : after ≡ number.word ++ rest = (let f = number.whole in cc) in

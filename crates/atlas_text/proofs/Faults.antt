@@ -5,7 +5,8 @@ use Rattle.atlas_text.specs.declared.error.TextError.{TextError}
 use Rattle.atlas_text.specs.declared.error.TextError.TheVariants as error
 use Rattle.atlas_text.specs.Steps.{IsRefusal, IsTextFault, IsTraceFault}
 
-pub fault_of_lines : (known : Option (List ℕ)) (input : List ℕ) (e : TextError) → HoldsBytes known input → IsTraceFault input e
+pub fault_of_lines : (known : Option (List ℕ)) (input : List ℕ) (e : TextError) → HoldsBytes known input
+    → IsTraceFault input e
     → IsTextFault known e
 fault_of_lines known input (error.BadLine n) read fault = (input, read, fault)
 fault_of_lines known input (error.Refused f) read fault = tt

@@ -34,6 +34,7 @@ no_page (p ∷ ps) zero inside none = let some : Some (size_of_page p) ≡ None 
 no_page (p ∷ ps) (suc k) inside none = no_page ps k (omega (arith, inside)) none
 
 -- What was read is all that there was.
-pub read_all : (known : Option (List ℕ)) (before after bytes : List ℕ) → IfSome known (λ xs. after ≡ before ++ xs) → before ≡ [] → bytes ≡ after → HoldsBytes known bytes
+pub read_all : (known : Option (List ℕ)) (before after bytes : List ℕ) → IfSome known (λ xs. after ≡ before ++ xs)
+    → before ≡ [] → bytes ≡ after → HoldsBytes known bytes
 read_all None before after bytes h e f = tt
 read_all (Some xs) before after bytes h e f = sym (f ∙ h ∙ ap (λ (ys : List ℕ). ys ++ xs) e)

@@ -14,7 +14,8 @@ digits_no_space [] h = tt
 digits_no_space (d ∷ ds) h = (λ e. let value : digit_value d ≡ 36 = ap digit_value e in omega (arith, h.0), digits_no_space ds h.1)
 
 -- The word of a line that says a glyph spells its key, and its size follows.
-pub spelled_key : (key : ℕ) (size : Size) (line word rest : List ℕ) → SaysStep (Glyph key size) line → BeginsWithWord line word rest
+pub spelled_key : (key : ℕ) (size : Size) (line word rest : List ℕ) → SaysStep (Glyph key size) line
+    → BeginsWithWord line word rest
     → SpellsUnsigned key word × SpellsSize size rest
 spelled_key key size line word rest says begins =
     let same = one_word line word rest says.0 says.1 begins (record {

@@ -6,7 +6,8 @@ use Rattle.atlas_text.specs.Steps.{BeginsWithSteps, SaysStep}
 
 -- One more line says a step.
 pub one_step_more : (steps more : List Step) (text rest line after : List ℕ) (step : Step) → more ≡ steps ++ step ∷ []
-    → BeginsWithSteps steps text rest → BeginsWithLine rest line after → SaysStep step line → BeginsWithSteps more text after
+    → BeginsWithSteps steps text rest → BeginsWithLine rest line after → SaysStep step line
+    → BeginsWithSteps more text after
 one_step_more [] more text rest line after step e h begins says =
     subst (λ (all : List Step). BeginsWithSteps all text after) (sym e)
     (line, after, subst (λ (t : List ℕ). BeginsWithLine t line after) (sym h) begins, says, refl)

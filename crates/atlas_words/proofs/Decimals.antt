@@ -23,5 +23,6 @@ last_digit n start digits low above within =
     rw (drop-set digits (start - 1) _ (omega arith), e, decimal_digit n low) refl
 
 -- Four parts, added one after another.
-pub four_parts : (t0 t1 t2 t3 t4 a b c d : List ℕ) → t1 ≡ t0 ++ a → t2 ≡ t1 ++ b → t3 ≡ t2 ++ c → t4 ≡ t3 ++ d → t4 ≡ t0 ++ (((a ++ b) ++ c) ++ d)
+pub four_parts : (t0 t1 t2 t3 t4 a b c d : List ℕ) → t1 ≡ t0 ++ a → t2 ≡ t1 ++ b → t3 ≡ t2 ++ c → t4 ≡ t3 ++ d
+    → t4 ≡ t0 ++ (((a ++ b) ++ c) ++ d)
 four_parts t0 t1 t2 t3 t4 a b c d e f g h = rw (h, g, f, e) (simp append_assoc)

@@ -70,17 +70,20 @@ arguments_spaced (Record size) text spells = size_spaced size text spells
 arguments_spaced Replay text spells = subst IsEmptyOrSpaced (sym spells) tt
 
 -- The first word of a line that spells a command is its keyword.
-pub in_parts : (c : Command) (line word rest : List ℕ) → BeginsWithWord line word rest → Spells c line → SpellsInParts c word rest
+pub in_parts : (c : Command) (line word rest : List ℕ) → BeginsWithWord line word rest → Spells c line
+    → SpellsInParts c word rest
 in_parts c line word rest begins spells =
     let same = one_word line word rest (keyword c) spells.0 begins (record { whole = spells.1; no_space = keyword_no_space c; spaced = arguments_spaced c spells.0 spells.2 }) in
     (same.0, subst (SpellsArguments c) (sym same.1) spells.2)
 
 -- Each keyword begins one command alone.
-pub only_simple : (c : Command) (word rest : List ℕ) → word ≡ codes "simple" → SpellsInParts c word rest → (size : Size) × (c ≡ Simple size) × SpellsSize size rest
+pub only_simple : (c : Command) (word rest : List ℕ) → word ≡ codes "simple" → SpellsInParts c word rest
+    → (size : Size) × (c ≡ Simple size) × SpellsSize size rest
 only_simple (Simple size) word rest e parts = (size, refl, parts.1)
 only_simple c word rest e parts = absurd (differ (codes "simple") (keyword c) refl (sym e ∙ parts.0))
 
-pub only_take : (c : Command) (word rest : List ℕ) → word ≡ codes "take" → SpellsInParts c word rest → (size : Size) × (c ≡ Take size) × SpellsSize size rest
+pub only_take : (c : Command) (word rest : List ℕ) → word ≡ codes "take" → SpellsInParts c word rest
+    → (size : Size) × (c ≡ Take size) × SpellsSize size rest
 only_take (Take size) word rest e parts = (size, refl, parts.1)
 only_take c word rest e parts = absurd (differ (codes "take") (keyword c) refl (sym e ∙ parts.0))
 
@@ -89,55 +92,68 @@ pub only_atlas : (c : Command) (word rest : List ℕ) → word ≡ codes "atlas"
 only_atlas (Atlas size options) word rest e parts = (size, options, refl, parts.1)
 only_atlas c word rest e parts = absurd (differ (codes "atlas") (keyword c) refl (sym e ∙ parts.0))
 
-pub only_alloc : (c : Command) (word rest : List ℕ) → word ≡ codes "alloc" → SpellsInParts c word rest → (size : Size) × (c ≡ Alloc size) × SpellsSize size rest
+pub only_alloc : (c : Command) (word rest : List ℕ) → word ≡ codes "alloc" → SpellsInParts c word rest
+    → (size : Size) × (c ≡ Alloc size) × SpellsSize size rest
 only_alloc (Alloc size) word rest e parts = (size, refl, parts.1)
 only_alloc c word rest e parts = absurd (differ (codes "alloc") (keyword c) refl (sym e ∙ parts.0))
 
-pub only_free : (c : Command) (word rest : List ℕ) → word ≡ codes "free" → SpellsInParts c word rest → (id : ℕ) × (c ≡ Free id) × SpellsId id rest
+pub only_free : (c : Command) (word rest : List ℕ) → word ≡ codes "free" → SpellsInParts c word rest
+    → (id : ℕ) × (c ≡ Free id) × SpellsId id rest
 only_free (Free id) word rest e parts = (id, refl, parts.1)
 only_free c word rest e parts = absurd (differ (codes "free") (keyword c) refl (sym e ∙ parts.0))
 
-pub only_grow : (c : Command) (word rest : List ℕ) → word ≡ codes "grow" → SpellsInParts c word rest → (size : Size) × (c ≡ Grow size) × SpellsSize size rest
+pub only_grow : (c : Command) (word rest : List ℕ) → word ≡ codes "grow" → SpellsInParts c word rest
+    → (size : Size) × (c ≡ Grow size) × SpellsSize size rest
 only_grow (Grow size) word rest e parts = (size, refl, parts.1)
 only_grow c word rest e parts = absurd (differ (codes "grow") (keyword c) refl (sym e ∙ parts.0))
 
-pub only_live : (c : Command) (word rest : List ℕ) → word ≡ codes "live" → SpellsInParts c word rest → (c ≡ Live) × (rest ≡ [])
+pub only_live : (c : Command) (word rest : List ℕ) → word ≡ codes "live" → SpellsInParts c word rest
+    → (c ≡ Live) × (rest ≡ [])
 only_live Live word rest e parts = (refl, parts.1)
 only_live c word rest e parts = absurd (differ (codes "live") (keyword c) refl (sym e ∙ parts.0))
 
-pub only_holes : (c : Command) (word rest : List ℕ) → word ≡ codes "holes" → SpellsInParts c word rest → (c ≡ Holes) × (rest ≡ [])
+pub only_holes : (c : Command) (word rest : List ℕ) → word ≡ codes "holes" → SpellsInParts c word rest
+    → (c ≡ Holes) × (rest ≡ [])
 only_holes Holes word rest e parts = (refl, parts.1)
 only_holes c word rest e parts = absurd (differ (codes "holes") (keyword c) refl (sym e ∙ parts.0))
 
-pub only_size : (c : Command) (word rest : List ℕ) → word ≡ codes "size" → SpellsInParts c word rest → (c ≡ AskSize) × (rest ≡ [])
+pub only_size : (c : Command) (word rest : List ℕ) → word ≡ codes "size" → SpellsInParts c word rest
+    → (c ≡ AskSize) × (rest ≡ [])
 only_size AskSize word rest e parts = (refl, parts.1)
 only_size c word rest e parts = absurd (differ (codes "size") (keyword c) refl (sym e ∙ parts.0))
 
-pub only_empty : (c : Command) (word rest : List ℕ) → word ≡ codes "empty" → SpellsInParts c word rest → (c ≡ Empty) × (rest ≡ [])
+pub only_empty : (c : Command) (word rest : List ℕ) → word ≡ codes "empty" → SpellsInParts c word rest
+    → (c ≡ Empty) × (rest ≡ [])
 only_empty Empty word rest e parts = (refl, parts.1)
 only_empty c word rest e parts = absurd (differ (codes "empty") (keyword c) refl (sym e ∙ parts.0))
 
-pub only_resize : (c : Command) (word rest : List ℕ) → word ≡ codes "resize" → SpellsInParts c word rest → (size : Size) × (c ≡ Resize size) × SpellsSize size rest
+pub only_resize : (c : Command) (word rest : List ℕ) → word ≡ codes "resize" → SpellsInParts c word rest
+    → (size : Size) × (c ≡ Resize size) × SpellsSize size rest
 only_resize (Resize size) word rest e parts = (size, refl, parts.1)
 only_resize c word rest e parts = absurd (differ (codes "resize") (keyword c) refl (sym e ∙ parts.0))
 
-pub only_record : (c : Command) (word rest : List ℕ) → word ≡ codes "record" → SpellsInParts c word rest → (size : Size) × (c ≡ Record size) × SpellsSize size rest
+pub only_record : (c : Command) (word rest : List ℕ) → word ≡ codes "record" → SpellsInParts c word rest
+    → (size : Size) × (c ≡ Record size) × SpellsSize size rest
 only_record (Record size) word rest e parts = (size, refl, parts.1)
 only_record c word rest e parts = absurd (differ (codes "record") (keyword c) refl (sym e ∙ parts.0))
 
-pub only_clear : (c : Command) (word rest : List ℕ) → word ≡ codes "clear" → SpellsInParts c word rest → (c ≡ Clear) × (rest ≡ [])
+pub only_clear : (c : Command) (word rest : List ℕ) → word ≡ codes "clear" → SpellsInParts c word rest
+    → (c ≡ Clear) × (rest ≡ [])
 only_clear Clear word rest e parts = (refl, parts.1)
 only_clear c word rest e parts = absurd (differ (codes "clear") (keyword c) refl (sym e ∙ parts.0))
 
-pub only_rearrange : (c : Command) (word rest : List ℕ) → word ≡ codes "rearrange" → SpellsInParts c word rest → (c ≡ Rearrange) × (rest ≡ [])
+pub only_rearrange : (c : Command) (word rest : List ℕ) → word ≡ codes "rearrange" → SpellsInParts c word rest
+    → (c ≡ Rearrange) × (rest ≡ [])
 only_rearrange Rearrange word rest e parts = (refl, parts.1)
 only_rearrange c word rest e parts = absurd (differ (codes "rearrange") (keyword c) refl (sym e ∙ parts.0))
 
-pub only_from_atlas : (c : Command) (word rest : List ℕ) → word ≡ codes "from-atlas" → SpellsInParts c word rest → (c ≡ FromAtlas) × (rest ≡ [])
+pub only_from_atlas : (c : Command) (word rest : List ℕ) → word ≡ codes "from-atlas" → SpellsInParts c word rest
+    → (c ≡ FromAtlas) × (rest ≡ [])
 only_from_atlas FromAtlas word rest e parts = (refl, parts.1)
 only_from_atlas c word rest e parts = absurd (differ (codes "from-atlas") (keyword c) refl (sym e ∙ parts.0))
 
-pub only_replay : (c : Command) (word rest : List ℕ) → word ≡ codes "replay" → SpellsInParts c word rest → (c ≡ Replay) × (rest ≡ [])
+pub only_replay : (c : Command) (word rest : List ℕ) → word ≡ codes "replay" → SpellsInParts c word rest
+    → (c ≡ Replay) × (rest ≡ [])
 only_replay Replay word rest e parts = (refl, parts.1)
 only_replay c word rest e parts = absurd (differ (codes "replay") (keyword c) refl (sym e ∙ parts.0))
 
@@ -172,8 +188,10 @@ ends_alone FromAtlas rest alone spells = spells
 ends_alone Replay rest alone spells = spells
 
 -- No other word begins a command with arguments.
-pub stands_alone : (c : Command) (word rest : List ℕ) → word ≢ codes "simple" → word ≢ codes "take" → word ≢ codes "atlas" → word ≢ codes "alloc" → word ≢ codes "free"
-    → word ≢ codes "grow" → word ≢ codes "resize" → word ≢ codes "record" → SpellsInParts c word rest → SpellsArguments c []
+pub stands_alone : (c : Command) (word rest : List ℕ) → word ≢ codes "simple" → word ≢ codes "take"
+    → word ≢ codes "atlas" → word ≢ codes "alloc" → word ≢ codes "free"
+    → word ≢ codes "grow" → word ≢ codes "resize" → word ≢ codes "record" → SpellsInParts c word rest
+    → SpellsArguments c []
 stands_alone (Simple size) word rest simple take atlas alloc free grow resize recorded parts = absurd (simple parts.0)
 stands_alone (Take size) word rest simple take atlas alloc free grow resize recorded parts = absurd (take parts.0)
 stands_alone (Atlas size options) word rest simple take atlas alloc free grow resize recorded parts = absurd (atlas parts.0)
@@ -192,8 +210,10 @@ stands_alone Replay word rest simple take atlas alloc free grow resize recorded 
 stands_alone (Record size) word rest simple take atlas alloc free grow resize recorded parts = absurd (recorded parts.0)
 
 -- No other word begins a command without arguments.
-pub no_keyword : (c : Command) (word rest : List ℕ) → SpellsArguments c [] → word ≢ codes "live" → word ≢ codes "holes" → word ≢ codes "size" → word ≢ codes "empty"
-    → word ≢ codes "clear" → word ≢ codes "rearrange" → word ≢ codes "from-atlas" → word ≢ codes "replay" → SpellsInParts c word rest → ⊥
+pub no_keyword : (c : Command) (word rest : List ℕ) → SpellsArguments c [] → word ≢ codes "live" → word ≢ codes "holes"
+    → word ≢ codes "size" → word ≢ codes "empty"
+    → word ≢ codes "clear" → word ≢ codes "rearrange" → word ≢ codes "from-atlas" → word ≢ codes "replay"
+    → SpellsInParts c word rest → ⊥
 no_keyword (Simple size) word rest alone live holes ask empty clear rearrange from replayed parts = no_size size alone
 no_keyword (Take size) word rest alone live holes ask empty clear rearrange from replayed parts = no_size size alone
 no_keyword (Atlas size options) word rest alone live holes ask empty clear rearrange from replayed parts = no_atlas size options alone

@@ -13,7 +13,8 @@ ends_here : (rest bytes : List ℕ) (byte : ℕ) → IsEmptyOrSpaced rest → re
 ends_here [] bytes byte spaced e = absurd (cc)
 ends_here (b ∷ bs) bytes byte spaced e = cc
 
-same_word : (w r v s : List ℕ) → HasNoSpace w → IsEmptyOrSpaced r → HasNoSpace v → IsEmptyOrSpaced s → w ++ r ≡ v ++ s → (w ≡ v) × (r ≡ s)
+same_word : (w r v s : List ℕ) → HasNoSpace w → IsEmptyOrSpaced r → HasNoSpace v → IsEmptyOrSpaced s → w ++ r ≡ v ++ s
+    → (w ≡ v) × (r ≡ s)
 same_word [] r [] s hw hr hv hs e = (refl, e)
 same_word [] r (b ∷ v) s hw hr hv hs e = absurd (hv.0 (ends_here r (v ++ s) b hr e))
 same_word (a ∷ w) r [] s hw hr hv hs e = absurd (hw.0 (ends_here s (w ++ r) a hs (sym e)))
@@ -41,7 +42,8 @@ number_no_space z word spells =
     ]
 
 -- The word after the first byte is the one that spells the number.
-pub spelled_word : (text after w r rest : List ℕ) (first : ℕ) (z : ℤ) → text ≡ first ∷ after → BeginsWithWord after w r → BeginsWithNumber text z rest
+pub spelled_word : (text after w r rest : List ℕ) (first : ℕ) (z : ℤ) → text ≡ first ∷ after → BeginsWithWord after w r
+    → BeginsWithNumber text z rest
     → SpellsNumber z w × (r ≡ rest)
 spelled_word text after w r rest first z e begins number =
     let whole : after ≡ number.word ++ rest = (let f = number.whole in cc) in
@@ -54,14 +56,17 @@ pub numbers_spaced : (zs : List ℤ) (text : List ℕ) → SpellsNumbers zs text
 numbers_spaced [] text spells = subst IsEmptyOrSpaced (sym spells) tt
 numbers_spaced (z ∷ zs) text spells = subst IsEmptyOrSpaced (sym spells.2) refl
 
-pub number_begins : (z : ℤ) (zs : List ℤ) (text : List ℕ) (spells : SpellsNumbers (z ∷ zs) text) → BeginsWithNumber text z spells.1
+pub number_begins : (z : ℤ) (zs : List ℤ) (text : List ℕ) (spells : SpellsNumbers (z ∷ zs) text)
+    → BeginsWithNumber text z spells.1
 number_begins z zs text spells = record { word = spells.0; whole = spells.2; spells = spells.3; spaced = numbers_spaced zs spells.1 spells.4 }
 
-pub numbers_from : (z : ℤ) (zs : List ℤ) (text rest : List ℕ) → BeginsWithNumber text z rest → SpellsNumbers zs rest → SpellsNumbers (z ∷ zs) text
+pub numbers_from : (z : ℤ) (zs : List ℤ) (text rest : List ℕ) → BeginsWithNumber text z rest → SpellsNumbers zs rest
+    → SpellsNumbers (z ∷ zs) text
 numbers_from z zs text rest begins spells = (begins.word, rest, begins.whole, begins.spells, spells)
 
 -- Two numbers at the front.
-abbrev pub size_begins : (size : Size) (zs : List ℤ) (text : List ℕ) → SpellsNumbers (size.width ∷ size.height ∷ zs) text
+abbrev pub size_begins : (size : Size) (zs : List ℤ) (text : List ℕ)
+    → SpellsNumbers (size.width ∷ size.height ∷ zs) text
     → (rest : List ℕ) × BeginsWithSize text size rest × SpellsNumbers zs rest
 size_begins size zs text spells = (
   spells.4.1,
@@ -73,7 +78,8 @@ size_begins size zs text spells = (
   spells.4.4,
 )
 
-pub size_from : (size : Size) (zs : List ℤ) (text rest : List ℕ) → BeginsWithSize text size rest → SpellsNumbers zs rest → SpellsNumbers (size.width ∷ size.height ∷ zs) text
+pub size_from : (size : Size) (zs : List ℤ) (text rest : List ℕ) → BeginsWithSize text size rest → SpellsNumbers zs rest
+    → SpellsNumbers (size.width ∷ size.height ∷ zs) text
 size_from size zs text rest begins spells =
     numbers_from size.width (size.height ∷ zs) text begins.middle begins.width (numbers_from size.height zs begins.middle rest begins.height spells)
 
@@ -81,12 +87,14 @@ pub same_size : (a b : Size) → a.width ≡ b.width → a.height ≡ b.height �
 same_size a b e f = λ i. record { width = e i; height = f i }
 
 -- The second number, after the first.
-pub next_begins : (size : Size) (text middle rest : List ℕ) (begins : BeginsWithSize text size rest) → middle ≡ begins.middle → BeginsWithNumber middle size.height rest
+pub next_begins : (size : Size) (text middle rest : List ℕ) (begins : BeginsWithSize text size rest)
+    → middle ≡ begins.middle → BeginsWithNumber middle size.height rest
 next_begins size text middle rest begins e =
     let P : List ℕ → Type 0 = λ t. BeginsWithNumber t size.height rest in
     subst P (sym e) begins.height
 
-pub same_options : (o p : AllocatorOptions) → o.alignment ≡ p.alignment → o.small_size_threshold ≡ p.small_size_threshold → o.large_size_threshold ≡ p.large_size_threshold → o ≡ p
+pub same_options : (o p : AllocatorOptions) → o.alignment ≡ p.alignment
+    → o.small_size_threshold ≡ p.small_size_threshold → o.large_size_threshold ≡ p.large_size_threshold → o ≡ p
 same_options o p e f g = λ i. record { alignment = e i; small_size_threshold = f i; large_size_threshold = g i }
 
 pub same_end : (rest end : List ℕ) → rest ≡ end → end ≡ [] → length rest ≡ 0
@@ -102,17 +110,21 @@ pub options_begin : (o : AllocatorOptions) (text : List ℕ) → SpellsOptions o
     → (rest : List ℕ) × BeginsWithSize text o.alignment rest × SpellsSize (thresholds_of o) rest
 options_begin o text spells = size_begins o.alignment (o.small_size_threshold ∷ o.large_size_threshold ∷ []) text spells
 
-pub options_rest : (o : AllocatorOptions) (rest middle : List ℕ) → rest ≡ middle → SpellsSize (thresholds_of o) middle → SpellsSize (thresholds_of o) rest
+pub options_rest : (o : AllocatorOptions) (rest middle : List ℕ) → rest ≡ middle → SpellsSize (thresholds_of o) middle
+    → SpellsSize (thresholds_of o) rest
 options_rest o rest middle e spells = subst (SpellsSize (thresholds_of o)) (sym e) spells
 
 -- The options that were read, with the thresholds as the code copied them.
-pub options_found : (alignment thresholds : Size) (small large : ℤ) (text rest : List ℕ) → thresholds.width ≡ small → thresholds.height ≡ large → BeginsWithSize text alignment rest
-    → SpellsSize thresholds rest → SpellsOptions (record { alignment = alignment; small_size_threshold = small; large_size_threshold = large }) text
+pub options_found : (alignment thresholds : Size) (small large : ℤ) (text rest : List ℕ) → thresholds.width ≡ small
+    → thresholds.height ≡ large → BeginsWithSize text alignment rest
+    → SpellsSize thresholds rest
+    → SpellsOptions (record { alignment = alignment; small_size_threshold = small; large_size_threshold = large }) text
 options_found alignment thresholds small large text rest e f begins spells =
     let P : ℤ → ℤ → Type 0 = λ y z. SpellsNumbers (y ∷ z ∷ []) rest in
     size_from alignment (small ∷ large ∷ []) text rest begins (subst (λ z. P small z) f (subst (λ y. P y thresholds.height) e spells))
 
-pub same_options_read : (o : AllocatorOptions) (alignment thresholds : Size) (small large : ℤ) → thresholds.width ≡ small → thresholds.height ≡ large → alignment ≡ o.alignment
+pub same_options_read : (o : AllocatorOptions) (alignment thresholds : Size) (small large : ℤ)
+    → thresholds.width ≡ small → thresholds.height ≡ large → alignment ≡ o.alignment
     → Some thresholds ≡ Some (thresholds_of o)
     → Some (record { alignment = alignment; small_size_threshold = small; large_size_threshold = large }) ≡ Some o
 same_options_read o alignment thresholds small large e f g h =
@@ -124,7 +136,8 @@ same_options_read o alignment thresholds small large e f g h =
 abbrev pub EndsAtlas : AllocatorOptions → List ℕ → Type 0
 EndsAtlas o rest = ((rest ≡ []) × (o ≡ DEFAULT_OPTIONS)) ⊎ SpellsOptions o rest
 
-pub atlas_begins : (size : Size) (o : AllocatorOptions) (text : List ℕ) → SpellsAtlas size o text → (rest : List ℕ) × BeginsWithSize text size rest × EndsAtlas o rest
+pub atlas_begins : (size : Size) (o : AllocatorOptions) (text : List ℕ) → SpellsAtlas size o text
+    → (rest : List ℕ) × BeginsWithSize text size rest × EndsAtlas o rest
 atlas_begins size o text (inl two) = let begins = size_begins size [] text two.0 in (begins.0, begins.1, inl (begins.2, two.1))
 atlas_begins size o text (inr six) =
     let begins = size_begins size (o.alignment.width ∷ o.alignment.height ∷ o.small_size_threshold ∷ o.large_size_threshold ∷ []) text six in
@@ -133,10 +146,12 @@ atlas_begins size o text (inr six) =
 some_text : (o : AllocatorOptions) (text : List ℕ) → SpellsOptions o text → 0 < length text
 some_text o text spells = let e = ap length spells.2 in omega arith
 
-pub two_end : (o : AllocatorOptions) (rest middle : List ℕ) → rest ≡ middle → length rest ≡ 0 → EndsAtlas o middle → DEFAULT_OPTIONS ≡ o
+pub two_end : (o : AllocatorOptions) (rest middle : List ℕ) → rest ≡ middle → length rest ≡ 0 → EndsAtlas o middle
+    → DEFAULT_OPTIONS ≡ o
 two_end o rest middle e none (inl two) = sym two.1
 two_end o rest middle e none (inr six) = let some = some_text o middle six in let f = ap length e in absurd (omega arith)
 
-pub six_end : (o : AllocatorOptions) (rest middle : List ℕ) → rest ≡ middle → 0 < length rest → EndsAtlas o middle → SpellsOptions o rest
+pub six_end : (o : AllocatorOptions) (rest middle : List ℕ) → rest ≡ middle → 0 < length rest → EndsAtlas o middle
+    → SpellsOptions o rest
 six_end o rest middle e some (inl two) = let f = ap length (e ∙ two.0) in absurd (omega arith)
 six_end o rest middle e some (inr six) = subst (SpellsOptions o) (sym e) six

@@ -6,7 +6,8 @@ use Rattle.bench_jobs.specs.declared.workload.Job.{Job}
 use Rattle.bench_jobs.specs.Grammar.{SpellsJob, SpellsJobs}
 
 -- A text that spells jobs has a first line that spells the first one.
-pub next_spelled : (all : List Job) (text line rest : List ℕ) → SpellsJobs all text → text ≢ [] → BeginsWithLine text line rest → (job : Job) × (others : List Job) × SpellsJob job line × SpellsJobs others rest
+pub next_spelled : (all : List Job) (text line rest : List ℕ) → SpellsJobs all text → text ≢ []
+    → BeginsWithLine text line rest → (job : Job) × (others : List Job) × SpellsJob job line × SpellsJobs others rest
 next_spelled [] text line rest spells some begins = absurd (some spells)
 next_spelled (job ∷ others) text line rest spells some begins =
     let same = one_first_line text spells.0 spells.1 line rest spells.2 begins in

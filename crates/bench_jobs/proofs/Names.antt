@@ -28,6 +28,7 @@ name_test Sheet16384 = refl
 name_test Cache = refl
 
 -- The first word of a line that begins with a name and a space is that name.
-pub name_first : (w : Workload) (line word rest digits : List ℕ) → BeginsWithWord line word rest → line ≡ name w ++ 32 ∷ digits → (word ≡ name w) × (rest ≡ 32 ∷ digits)
+pub name_first : (w : Workload) (line word rest digits : List ℕ) → BeginsWithWord line word rest
+    → line ≡ name w ++ 32 ∷ digits → (word ≡ name w) × (rest ≡ 32 ∷ digits)
 name_first w line word rest digits begins e =
     one_word line word rest (name w) (32 ∷ digits) begins (record { whole = e; no_space = no_space_by_test (name w) (name_test w); spaced = refl })

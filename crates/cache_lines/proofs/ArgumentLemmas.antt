@@ -14,7 +14,8 @@ digits_no_space [] h = tt
 digits_no_space (d ∷ ds) h = (λ e. let value : digit_value d ≡ 36 = ap digit_value e in omega (arith, h.0), digits_no_space ds h.1)
 
 -- The word after the first byte is the one that spells the number.
-pub spelled_unsigned : (text after w r rest : List ℕ) (first n : ℕ) → text ≡ first ∷ after → BeginsWithWord after w r → BeginsWithUnsigned text n rest
+pub spelled_unsigned : (text after w r rest : List ℕ) (first n : ℕ) → text ≡ first ∷ after → BeginsWithWord after w r
+    → BeginsWithUnsigned text n rest
     → SpellsUnsigned n w × (r ≡ rest)
 spelled_unsigned text after w r rest first n e begins number =
     let whole : after ≡ number.word ++ rest = (let f = number.whole in cc) in
@@ -22,8 +23,10 @@ spelled_unsigned text after w r rest first n e begins number =
     (subst (SpellsUnsigned n) (sym same.0) number.spells, same.1)
 
 -- What was read, with the pages and the padding as the code copied them.
-pub start_found : (page largest counts : Size) (atlas : AllocatorOptions) (pages padding : ℤ) (text after_page after_largest : List ℕ)
-    → counts.width ≡ pages → counts.height ≡ padding → BeginsWithSize text page after_page → BeginsWithSize after_page largest after_largest
+pub start_found : (page largest counts : Size) (atlas : AllocatorOptions) (pages padding : ℤ)
+    (text after_page after_largest : List ℕ)
+    → counts.width ≡ pages → counts.height ≡ padding → BeginsWithSize text page after_page
+    → BeginsWithSize after_page largest after_largest
     → SpellsAtlas counts atlas after_largest
     → SpellsStart (record { page = page; largest_page = largest; pages = pages; padding = padding; atlas = atlas }) text
 start_found page largest counts atlas pages padding text after_page after_largest e f first second others = record {

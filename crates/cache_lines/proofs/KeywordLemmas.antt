@@ -65,7 +65,8 @@ arguments_spaced (call.Asked a) text spells = subst IsEmptyOrSpaced (sym spells)
 arguments_spaced (call.Keyed k n) text spells = number_spaced text [] n spells
 arguments_spaced (call.Sized s n size) text spells = number_spaced text spells.0 n spells.1
 
-pub in_parts : (c : Call) (line word rest : List ℕ) → BeginsWithWord line word rest → SaysCall c line → (word ≡ call_word c) × SpellsCallArguments c rest
+pub in_parts : (c : Call) (line word rest : List ℕ) → BeginsWithWord line word rest → SaysCall c line
+    → (word ≡ call_word c) × SpellsCallArguments c rest
 in_parts c line word rest begins says =
     let same = one_word line word rest (call_word c) says.0 begins (record {
       whole = says.1;
@@ -75,7 +76,8 @@ in_parts c line word rest begins says =
     (same.0, subst (SpellsCallArguments c) (sym same.1) says.2)
 
 -- A line with more than a word that doesn't begin with a number says nothing.
-pub no_number : (c : Call) (word rest : List ℕ) → word ≢ codes "cache" → rest ≢ [] → ((n : ℕ) (more : List ℕ) → BeginsWithUnsigned rest n more → ⊥)
+pub no_number : (c : Call) (word rest : List ℕ) → word ≢ codes "cache" → rest ≢ []
+    → ((n : ℕ) (more : List ℕ) → BeginsWithUnsigned rest n more → ⊥)
     → (word ≡ call_word c) × SpellsCallArguments c rest → ⊥
 no_number (call.Cache start) word rest cache some none parts = cache parts.0
 no_number (call.Asked a) word rest cache some none parts = some parts.1

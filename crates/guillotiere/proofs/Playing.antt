@@ -26,7 +26,8 @@ run-length [] (reply ∷ replies) old new h = absurd h
 run-length (call ∷ calls) [] old new h = absurd h
 run-length (call ∷ calls) (reply ∷ replies) old new (mid, step, run) = ap (λ n. suc n) (run-length calls replies mid new run)
 
-run-more : (calls : List AtlasCall) (replies : List AtlasReply) (old mid new : State) (call : AtlasCall) (reply : AtlasReply)
+run-more : (calls : List AtlasCall) (replies : List AtlasReply) (old mid new : State) (call : AtlasCall)
+    (reply : AtlasReply)
     → Run old calls replies mid → Step mid call reply new
     → Run old (calls ++ call ∷ []) (replies ++ reply ∷ []) new
 run-more [] [] old mid new call reply run step = (new, subst (λ s. Step s call reply new) run step, refl)

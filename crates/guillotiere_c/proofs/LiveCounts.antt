@@ -18,7 +18,8 @@ use Rattle.guillotiere_c.specs.Numbers.{allocation_in, change_in}
 use Rattle.guillotiere_c.specs.Rearrangings.{Arrays, AreBothWritten}
 use Rattle.guillotiere_c.specs.Writing.{IsWritten}
 
-granted_count : (axis : Axis) (o : Position) (across : ℕ) (ms : Members) → length (granted (leaves axis o across ms)) ≤ node_count ms
+granted_count : (axis : Axis) (o : Position) (across : ℕ) (ms : Members)
+    → length (granted (leaves axis o across ms)) ≤ node_count ms
 granted_count axis o across End = omega arith
 granted_count axis o across (Free e rest) = omega (arith, granted_count axis (moved axis o e) across rest)
 granted_count axis o across (Alloc id e rest) = omega (arith, granted_count axis (moved axis o e) across rest)
@@ -46,7 +47,8 @@ pub listed :
     (old new : State) (moves : List Change) (lost : List Allocation) (before after : Arrays) (count : PlainChangeCount)
     → IsRearrangingStep old (record { changes = map transfer_of moves; failures = map grant_of lost }) new
     → used_in old ≤ length before.changes → used_in old ≤ length before.failures
-    → IsWritten change_in moves before.changes after.changes → IsWritten allocation_in lost before.failures after.failures
+    → IsWritten change_in moves before.changes after.changes
+    → IsWritten allocation_in lost before.failures after.failures
     → count.changes ≡ length moves → count.failures ≡ length lost
     → AreBothWritten (record { changes = map transfer_of moves; failures = map grant_of lost }) before after count
 listed old new moves lost before after count step changes_room failures_room changes failures changes_count failures_count =

@@ -38,7 +38,8 @@ pub record IsRemoval (key : ℕ) (found : Option Place) (s t : CacheState ℕ) :
 pub record IsInsert (key : ℕ) (size : Size) (result : Result Inserted CacheError) (f g : Followed) : Type 0 where
   pub known : IfSome (entry_for nat_eq key f.cache.entries) (λ e.
       FindsKnown e size result f.cache g.cache × (g.changes ≡ f.changes))
-  pub blank : IsNewAndEmpty nat_eq key size f.cache → InsertsBlank key size result f.cache g.cache × (g.changes ≡ f.changes)
+  pub blank : IsNewAndEmpty nat_eq key size f.cache
+      → InsertsBlank key size result f.cache g.cache × (g.changes ≡ f.changes)
   pub never : (result ≡ Ok NeverFits) ↔ IsNewAndTooLarge nat_eq key size f.cache
   pub nothing : result ≡ Ok NeverFits → (g.cache ≡ f.cache) × (g.changes ≡ f.changes)
   pub placed : (place : Place) → result ≡ Ok (Placed place) → place_for nat_eq f.cache key ≡ None

@@ -27,7 +27,8 @@ pub record IsFilledSheet (o : SheetOptions) (sprites : List Size) (sheet : Size)
   pub order : List ℕ
   pub greatest : IsGreatest o.allowed (sides_of sheet)
   pub shown : IsShown (sides_of sheet) (spacing_of o) o.turn sprites order placed
-  pub best : InEach o sprites (λ lying. All (IsNoBetter (sides_of sheet) (spacing_of o) lying (used_area (areas_of placed)))
+  pub best : InEach o sprites
+      (λ lying. All (IsNoBetter (sides_of sheet) (spacing_of o) lying (used_area (areas_of placed)))
       (take (ways_tried (length sprites)) WAYS))
   pub plain : o.effort ≡ 0 → InOne o sprites (λ lying. IsBestFound (take (ways_tried (length sprites)) WAYS)
       (sides_of sheet) (spacing_of o) lying order (areas_of placed))

@@ -43,13 +43,15 @@ same_boxes old new gs kept before after =
     map_alike (renamed_grant new.name) (renamed_grant old.name) gs (λ g at. ap (λ n. grant n g.box) (kept g.id (before g at) (after g at)))
 
 -- Nothing changed but perhaps the order and the names of what isn't live.
-still : (old new : Named) → live_in new.state ≡ live_in old.state → KeepsNames old new → named_boxes new ≡ named_boxes old
+still : (old new : Named) → live_in new.state ≡ live_in old.state → KeepsNames old new
+    → named_boxes new ≡ named_boxes old
 still old new same kept =
     ap (map (renamed_grant new.name)) same
     ∙ same_boxes old new (live_in old.state) kept (λ g at. listed_is_live old.state g at)
     (λ g at. listed_is_live new.state g (subst (λ gs. Contains gs g) (sym same) at))
 
-granted_book : (held : List Grant) (old new : Named) (size : Size) (a : Allocation) → IsNamed old → AreSameGrants held (named_boxes old)
+granted_book : (held : List Grant) (old new : Named) (size : Size) (a : Allocation) → IsNamed old
+    → AreSameGrants held (named_boxes old)
     → GrantsUnder old size a new → AreSameGrants (held ++ grant_of a ∷ []) (named_boxes new)
 granted_book held old new size a good same h p =
     let g : Grant = grant h.id (box_of a.rectangle) in
@@ -68,7 +70,8 @@ granted_book held old new size a good same h p =
     let again = ap (count_by p) olds in
     omega (arith, left, one, permuted, head, all, rest, its, before, again)
   where
-    after : IsGrantStep old.state (sides_of size) (grant h.id (box_of a.rectangle)) new.state → (k : Grant) → Contains (live_in old.state) k → IsLive new.state k.id
+    after : IsGrantStep old.state (sides_of size) (grant h.id (box_of a.rectangle)) new.state → (k : Grant)
+        → Contains (live_in old.state) k → IsLive new.state k.id
     after step k at =
         let some : 1 ≤ live_count k.id old.state = live_is_counted old.state k.id (listed_is_live old.state k at) in
         let e = grant_counts old.state new.state (sides_of size) (grant h.id (box_of a.rectangle)) step k.id in
@@ -126,7 +129,8 @@ moved_book old new asked list good h p =
     a ∙ sym b ∙ c ∙ d ∙ sym names ∙ sym mapped ∙ after ∙ sym all
 
 -- One event keeps the book true.
-step_booked : (held : List Grant) (old new : Named) (event : EventValue) → IsNamed old → AreSameGrants held (named_boxes old)
+step_booked : (held : List Grant) (old new : Named) (event : EventValue) → IsNamed old
+    → AreSameGrants held (named_boxes old)
     → Leads old event new → AreSameGrants (booked held event) (named_boxes new)
 step_booked held old new (Allocate size None) good same (step, kept) p = same p ∙ sym (ap (count_by p) (still old new (ap live_in step.1) kept))
 step_booked held old new (Allocate size (Some a)) good same h p = granted_book held old new size a good same h p
@@ -137,7 +141,8 @@ step_booked held old new (Rearrange list) good same h p = moved_book old new atl
 step_booked held old new (ResizeAndRearrange size list) good same h p =
     moved_book old new (atlas.ResizeAndRearrange (sides_of size)) list good h p
 
-lead_booked : (events : List EventValue) (held : List Grant) (old new : Named) → IsNamed old → AreSameGrants held (named_boxes old)
+lead_booked : (events : List EventValue) (held : List Grant) (old new : Named) → IsNamed old
+    → AreSameGrants held (named_boxes old)
     → LeadOn old events new → AreSameGrants (book_from held events) (named_boxes new)
 lead_booked [] held old new good same h p = same p ∙ ap (λ s. count_by p (named_boxes s)) (sym h)
 lead_booked (event ∷ events) held old new good same (mid, first, rest) p =
@@ -150,7 +155,8 @@ lead_named (event ∷ events) old new good (mid, first, rest) =
     lead_named events mid new (events_keep_names old mid event good first) rest
 
 -- A new atlas has no live name.
-fresh_named : (size : Sides) (options : Options) (name : ℕ → ℕ) → IsPositive size → AreValid options → IsNamed (fresh_session size options name)
+fresh_named : (size : Sides) (options : Options) (name : ℕ → ℕ) → IsPositive size → AreValid options
+    → IsNamed (fresh_session size options name)
 fresh_named size options name nonempty valid = record {
   sound = starts_are_sound size options 16777216 nonempty valid (omega arith);
   limit = refl;

@@ -6,12 +6,14 @@ use Rattle.guillotiere.proofs.ListLemmas.Counting.{count_by-cons}
 use Rattle.guillotiere.proofs.TreeLemmas.TreeBasics.{one_if}
 use Rattle.guillotiere.proofs.TreeLemmas.TreeIds.{Contains-first, Contains-later}
 
-pub count_map : {X Y : Type 0} (f : X → Y) (p : Y → Bool) (xs : List X) → count_by p (map f xs) ≡ count_by (λ x. p (f x)) xs
+pub count_map : {X Y : Type 0} (f : X → Y) (p : Y → Bool) (xs : List X)
+    → count_by p (map f xs) ≡ count_by (λ x. p (f x)) xs
 count_map f p [] = refl
 count_map f p (x ∷ xs) =
     count_by-cons p (f x) (map f xs) ∙ ap (λ k. one_if (p (f x)) + k) (count_map f p xs) ∙ sym (count_by-cons (λ y. p (f y)) x xs)
 
-pub count_filter : {X : Type 0} (q p : X → Bool) (xs : List X) → count_by p (filter q xs) ≡ count_by (λ x. q x && p x) xs
+pub count_filter : {X : Type 0} (q p : X → Bool) (xs : List X)
+    → count_by p (filter q xs) ≡ count_by (λ x. q x && p x) xs
 count_filter q p [] = refl
 count_filter q p (x ∷ xs) = by_test (q x) refl (count_filter q p xs) ∙ sym (count_by-cons (λ y. q y && p y) x xs)
   where
@@ -28,7 +30,8 @@ pub count_permuted : {X : Type 0} (p : X → Bool) (xs ys : List X) → IsPermut
 count_permuted p xs ys h = sum_by-IsPermutation (λ x. one_if (p x)) xs ys h
 
 -- Tests that agree on a list's elements count alike.
-pub count_alike : {X : Type 0} (p q : X → Bool) (xs : List X) → ((x : X) → Contains xs x → p x ≡ q x) → count_by p xs ≡ count_by q xs
+pub count_alike : {X : Type 0} (p q : X → Bool) (xs : List X) → ((x : X) → Contains xs x → p x ≡ q x)
+    → count_by p xs ≡ count_by q xs
 count_alike p q [] h = refl
 count_alike p q (x ∷ xs) h =
     count_by-cons p x xs

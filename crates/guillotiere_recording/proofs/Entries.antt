@@ -33,7 +33,8 @@ counted_is_live s id some =
     subst (P (ids s.tree.members)) (eqb-true at.here id at.passes) (subst (λ xs. P xs at.here) (sym at.is) there)
 
 -- An id that has entries: one of them gives its name.
-pub entry_of : (id : ℕ) (ns : List Entry) → 1 ≤ entries_of id ns → (n : Entry) × Contains ns n × (n.id ≡ id) × (name_among ns id ≡ n.name)
+pub entry_of : (id : ℕ) (ns : List Entry) → 1 ≤ entries_of id ns
+    → (n : Entry) × Contains ns n × (n.id ≡ id) × (name_among ns id ≡ n.name)
 entry_of id [] some = absurd (omega arith)
 entry_of id (n ∷ ns) some = by_test (eqb n.id id) refl (count_by-cons (λ (m : Entry). m.id == id) n ns) (entry_of id ns)
   where
@@ -46,7 +47,8 @@ entry_of id (n ∷ ns) some = by_test (eqb n.id id) refl (count_by-cons (λ (m :
         (r.0, Contains-later n ns r.0 r.1, r.2, ap (λ b. cond b n.name (name_among ns id)) is ∙ r.3)
 
 -- An id that has one entry has its name.
-pub name_of : (id : ℕ) (ns : List Entry) (n : Entry) → entries_of id ns ≤ 1 → Contains ns n → n.id ≡ id → name_among ns id ≡ n.name
+pub name_of : (id : ℕ) (ns : List Entry) (n : Entry) → entries_of id ns ≤ 1 → Contains ns n → n.id ≡ id
+    → name_among ns id ≡ n.name
 name_of id ns n few at is =
     let test : n.id == id ≡ true = eq-eqb n.id id is in
     let r = entry_of id ns (count_some (λ (m : Entry). m.id == id) ns n at test) in
@@ -55,7 +57,8 @@ name_of id ns n few at is =
 
 -- An entry more.
 
-pub entries_pushed : (id : ℕ) (ns : List Entry) (n : Entry) → entries_of id (ns ++ n ∷ []) ≡ entries_of id ns + one_if (n.id == id)
+pub entries_pushed : (id : ℕ) (ns : List Entry) (n : Entry)
+    → entries_of id (ns ++ n ∷ []) ≡ entries_of id ns + one_if (n.id == id)
 entries_pushed id ns n =
     let e = count_by-append (λ (m : Entry). m.id == id) ns (n ∷ []) in
     let f = count_by-cons (λ (m : Entry). m.id == id) n [] in

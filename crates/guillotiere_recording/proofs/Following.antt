@@ -28,7 +28,8 @@ use Rattle.guillotiere_recording.proofs.ReplayEnds.{IsFound, keys_counted, how_m
 
 -- One entry more in a map.
 
-pub has_more : (es : List Entry) (i : ℕ) (n : Entry) (names left : Names) → AreRisingNames es → i < length es → n ≡ get_or es i n
+pub has_more : (es : List Entry) (i : ℕ) (n : Entry) (names left : Names) → AreRisingNames es → i < length es
+    → n ≡ get_or es i n
     → HasEntries (take i es) names → Updates nat_cmp names left n.name (Some n.id) → HasEntries (take (i + 1) es) left
 has_more es i n names left rising low is has updates name id = (
   λ found. subst (λ xs. Contains xs (entry_in (name, id))) (sym next) (by_name (cases_eq name n.name) found),
@@ -38,7 +39,8 @@ has_more es i n names left rising low is has updates name id = (
     next : take (i + 1) es ≡ take i es ++ n ∷ []
     next = take_more es i n low ∙ ap (λ e. take i es ++ e ∷ []) (sym is)
 
-    by_name : (name ≡ n.name) ⊎ (name ≡ n.name → ⊥) → get nat_cmp left name ≡ Some id → Contains (take i es ++ n ∷ []) (entry_in (name, id))
+    by_name : (name ≡ n.name) ⊎ (name ≡ n.name → ⊥) → get nat_cmp left name ≡ Some id
+        → Contains (take i es ++ n ∷ []) (entry_in (name, id))
     by_name (inl same) found =
         let one : n.id ≡ id = one_id (get nat_cmp left n.name) n.id id updates.1 (ap (get nat_cmp left) (sym same) ∙ found) in
         let whole : n ≡ entry_in (name, id) = λ j. record { name = sym same j; id = one j } in
@@ -100,7 +102,8 @@ module _ (a : AtlasValue) (names : Names) (s : Named) (h : ShowsNamed a names s)
         let c = counted id in
         omega (arith, alike, mapped, keys, one, few, some, c)
       where
-        told : get nat_cmp names (s.name id) ≡ Some id → (e : ℕ × ℕ) → Contains names.entries e → (e.1 == id) ≡ (e.0 == s.name id)
+        told : get nat_cmp names (s.name id) ≡ Some id → (e : ℕ × ℕ) → Contains names.entries e
+            → (e.1 == id) ≡ (e.0 == s.name id)
         told its e at = by_id (cases_eq e.1 id)
           where
             here : get nat_cmp names e.0 ≡ Some e.1
@@ -134,7 +137,8 @@ module _ (a : AtlasValue) (names : Names) (s : Named) (h : ShowsNamed a names s)
     ids_counted : (id : ℕ) → entries_of id (entries_in names) ≡ live_count id s.state
     ids_counted id = by_count (cases_lt 0 (live_count id s.state))
       where
-        by_count : (0 < live_count id s.state) ⊎ (live_count id s.state ≤ 0) → entries_of id (entries_in names) ≡ live_count id s.state
+        by_count : (0 < live_count id s.state) ⊎ (live_count id s.state ≤ 0)
+            → entries_of id (entries_in names) ≡ live_count id s.state
         by_count (inl some) = live_counted id (omega (arith, some))
         by_count (inr none) = dead_counted id none
 

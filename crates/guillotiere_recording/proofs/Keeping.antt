@@ -34,7 +34,8 @@ use Rattle.guillotiere_recording.proofs.Booking.{sessions_are_named}
 
 -- One event more.
 
-lead_more : (events : List EventValue) (event : EventValue) (old mid new : Named) → LeadOn old events mid → Leads mid event new
+lead_more : (events : List EventValue) (event : EventValue) (old mid new : Named) → LeadOn old events mid
+    → Leads mid event new
     → LeadOn old (events ++ event ∷ []) new
 lead_more [] event old mid new h more = (new, subst (λ s. Leads s event new) h more, refl)
 lead_more (e ∷ events) event old mid new (next, first, rest) more = (next, first, lead_more events event next mid new rest more)
@@ -53,7 +54,8 @@ recorded_more r event mid new h more =
 abbrev pub names_in : EventValue → List ℕ
 names_in event = given_names (event ∷ [])
 
-pub given_more : (events : List EventValue) (event : EventValue) → given_names (events ++ event ∷ []) ≡ given_names events ++ names_in event
+pub given_more : (events : List EventValue) (event : EventValue)
+    → given_names (events ++ event ∷ []) ≡ given_names events ++ names_in event
 given_more [] event = refl
 given_more (Allocate size (Some a) ∷ events) event = ap (λ ns. a.id ∷ ns) (given_more events event)
 given_more (Allocate size None ∷ events) event = given_more events event
@@ -69,14 +71,16 @@ session_named v h =
 -- A new one.
 
 pub new_session : (a : AtlasValue) (ns : List Entry) (r : RecordingValue) (size : Size) (options : AllocatorOptions)
-    → IsPositive (sides_of size) → AreValid (options_of options) → state_of a ≡ started (sides_of size) (options_of options) 16777216
+    → IsPositive (sides_of size) → AreValid (options_of options)
+    → state_of a ≡ started (sides_of size) (options_of options) 16777216
     → ns ≡ [] → r ≡ record { size = size; options = options; events = [] }
     → IsRecordedSession (record { atlas = a; names = ns; given = 0; recording = r })
 new_session a ns r size options nonempty valid state none empty =
     subst (λ ms. IsRecordedSession (record { atlas = a; names = ms; given = 0; recording = r })) (sym none)
     (subst (λ q. IsRecordedSession (record { atlas = a; names = []; given = 0; recording = q })) (sym empty) it)
   where
-    it : IsRecordedSession (record { atlas = a; names = []; given = 0; recording = record { size = size; options = options; events = [] } })
+    it : IsRecordedSession
+        (record { atlas = a; names = []; given = 0; recording = record { size = size; options = options; events = [] } })
     it = record {
       faithful = record {
         leads = record {
@@ -95,7 +99,8 @@ new_session a ns r size options nonempty valid state none empty =
 
 -- The same names after an event that gives none.
 
-pub same_session : (v : SessionValue) (a : AtlasValue) (ns : List Entry) (r : RecordingValue) (event : EventValue) → IsRecordedSession v
+pub same_session : (v : SessionValue) (a : AtlasValue) (ns : List Entry) (r : RecordingValue) (event : EventValue)
+    → IsRecordedSession v
     → ns ≡ v.names → r ≡ with_event event v.recording → names_in event ≡ []
     → Leads (session_of v) event (record { state = state_of a; name = name_among v.names })
     → ((id : ℕ) → live_count id (state_of a) ≡ live_count id (state_of v.atlas))
@@ -104,7 +109,8 @@ same_session v a ns r event h names more none leads counts =
     subst (λ ms. IsRecordedSession (record { atlas = a; names = ms; given = v.given; recording = r })) (sym names)
     (subst (λ q. IsRecordedSession (record { atlas = a; names = v.names; given = v.given; recording = q })) (sym more) it)
   where
-    it : IsRecordedSession (record { atlas = a; names = v.names; given = v.given; recording = with_event event v.recording })
+    it : IsRecordedSession
+        (record { atlas = a; names = v.names; given = v.given; recording = with_event event v.recording })
     it = record {
       faithful = record {
         leads = recorded_more v.recording event (session_of v) (record { state = state_of a; name = name_among v.names }) h.faithful.leads leads;
@@ -116,14 +122,16 @@ same_session v a ns r event h names more none leads counts =
       most = h.most;
     }
 
-pub unroomed_session : (v : SessionValue) (a : AtlasValue) (ns : List Entry) (r : RecordingValue) (size : Size) → IsRecordedSession v
+pub unroomed_session : (v : SessionValue) (a : AtlasValue) (ns : List Entry) (r : RecordingValue) (size : Size)
+    → IsRecordedSession v
     → ns ≡ v.names → r ≡ with_event (Allocate size None) v.recording
     → Step (state_of v.atlas) (atlas.Allocate (sides_of size)) atlas.NoRoom (state_of a)
     → IsRecordedSession (record { atlas = a; names = ns; given = v.given; recording = r })
 unroomed_session v a ns r size h names more step =
     same_session v a ns r (Allocate size None) h names more refl (step, λ id _ _. refl) (λ id. ap (live_count id) step.1)
 
-pub grown_session : (v : SessionValue) (a : AtlasValue) (ns : List Entry) (r : RecordingValue) (size : Size) → IsRecordedSession v
+pub grown_session : (v : SessionValue) (a : AtlasValue) (ns : List Entry) (r : RecordingValue) (size : Size)
+    → IsRecordedSession v
     → ns ≡ v.names → r ≡ with_event (Grow size) v.recording
     → Step (state_of v.atlas) (atlas.Grow (sides_of size)) atlas.Done (state_of a)
     → IsRecordedSession (record { atlas = a; names = ns; given = v.given; recording = r })
@@ -149,7 +157,8 @@ live_below v name h (id, live, is) =
     subst (λ n. n < v.given) (sym r.3 ∙ is) few
 
 pub grants_under : (v : SessionValue) (a : AtlasValue) (size : Size) (g : Allocation) → IsRecordedSession v
-    → Step (state_of v.atlas) (atlas.Allocate (sides_of size)) (atlas.Allocated (grant_of g)) (state_of a) → IsExact g.rectangle
+    → Step (state_of v.atlas) (atlas.Allocate (sides_of size)) (atlas.Allocated (grant_of g)) (state_of a)
+    → IsExact g.rectangle
     → GrantsUnder (session_of v) size (under v.given g)
     (record { state = state_of a; name = name_among (v.names ++ named_entry v.given g ∷ []) })
 grants_under v a size g h step exact = record {
@@ -176,9 +185,11 @@ grants_under v a size g h step exact = record {
         let one = live_at_most_once (state_of a) id sound in
         omega (arith, e, i, c, one)
 
-pub granted_session : (v : SessionValue) (a : AtlasValue) (ns : List Entry) (r : RecordingValue) (size : Size) (g : Allocation)
+pub granted_session : (v : SessionValue) (a : AtlasValue) (ns : List Entry) (r : RecordingValue) (size : Size)
+    (g : Allocation)
     → IsRecordedSession v → v.given < 2 ^ 32
-    → Step (state_of v.atlas) (atlas.Allocate (sides_of size)) (atlas.Allocated (grant_of g)) (state_of a) → IsExact g.rectangle
+    → Step (state_of v.atlas) (atlas.Allocate (sides_of size)) (atlas.Allocated (grant_of g)) (state_of a)
+    → IsExact g.rectangle
     → ns ≡ v.names ++ named_entry v.given g ∷ [] → r ≡ with_event (Allocate size (Some (under v.given g))) v.recording
     → IsRecordedSession (record { atlas = a; names = ns; given = v.given + 1; recording = r })
 granted_session v a ns r size g h room step exact names more =
@@ -208,7 +219,8 @@ granted_session v a ns r size g h room step exact names more =
     names_given =
         given_more v.recording.events event ∙ ap (λ ns. ns ++ v.given ∷ []) h.faithful.given ∙ sym (ap first_names (add-one v.given))
 
-    it : IsRecordedSession (record { atlas = a; names = v.names ++ named_entry v.given g ∷ []; given = v.given + 1; recording = with_event event v.recording })
+    it : IsRecordedSession
+        (record { atlas = a; names = v.names ++ named_entry v.given g ∷ []; given = v.given + 1; recording = with_event event v.recording })
     it = record {
       faithful = record {
         leads = recorded_more v.recording event (session_of v) now h.faithful.leads (grants_under v a size g h step exact);
@@ -234,7 +246,8 @@ freed_counts v a at d h below step id = by_test (eqb (get_or v.names at d).id id
     gone : IsFreeingStep (state_of v.atlas) (get_or v.names at d).id (state_of a)
     gone = freeings_remove_one (state_of v.atlas) (state_of a) (get_or v.names at d).id (session_named v h).sound step
 
-    by_test : (b : Bool) → eqb (get_or v.names at d).id id ≡ b → entries_of id (remove v.names at) ≡ live_count id (state_of a)
+    by_test : (b : Bool) → eqb (get_or v.names at d).id id ≡ b
+        → entries_of id (remove v.names at) ≡ live_count id (state_of a)
     by_test true is =
         let less = entries_removed id v.names at d below in
         let one : one_if (eqb (get_or v.names at d).id id) ≡ 1 = ap one_if is in
@@ -270,7 +283,8 @@ frees_under v a at d h below step = record {
     some : (id : ℕ) → IsLive (state_of a) id → 1 ≤ entries_of id (remove v.names at)
     some id live = subst (λ n. 1 ≤ n) (sym (freed_counts v a at d h below step id)) (live_is_counted (state_of a) id live)
 
-pub freed_session : (v : SessionValue) (a : AtlasValue) (ns : List Entry) (r : RecordingValue) (at : ℕ) (d : Entry) (name : ℕ)
+pub freed_session : (v : SessionValue) (a : AtlasValue) (ns : List Entry) (r : RecordingValue) (at : ℕ) (d : Entry)
+    (name : ℕ)
     → IsRecordedSession v → at < length v.names → (get_or v.names at d).name ≡ name
     → Step (state_of v.atlas) (atlas.Deallocate (get_or v.names at d).id) atlas.Done (state_of a)
     → ns ≡ remove v.names at → r ≡ with_event (Deallocate name) v.recording
@@ -279,7 +293,8 @@ freed_session v a ns r at d name h below is step names more =
     subst (λ ms. IsRecordedSession (record { atlas = a; names = ms; given = v.given; recording = r })) (sym names)
     (subst (λ q. IsRecordedSession (record { atlas = a; names = remove v.names at; given = v.given; recording = q })) (sym more) it)
   where
-    it : IsRecordedSession (record { atlas = a; names = remove v.names at; given = v.given; recording = with_event (Deallocate name) v.recording })
+    it : IsRecordedSession
+        (record { atlas = a; names = remove v.names at; given = v.given; recording = with_event (Deallocate name) v.recording })
     it = record {
       faithful = record {
         leads = recorded_more v.recording (Deallocate name) (session_of v)
@@ -296,7 +311,8 @@ freed_session v a ns r at d name h below is step names more =
 
 -- Live names are those of the entries.
 
-pub entry_is_live : (v : SessionValue) (n : Entry) → IsRecordedSession v → Contains v.names n → IsLiveName (session_of v) n.name
+pub entry_is_live : (v : SessionValue) (n : Entry) → IsRecordedSession v → Contains v.names n
+    → IsLiveName (session_of v) n.name
 entry_is_live v n h at =
     let some : 1 ≤ entries_of n.id v.names = count_some (λ (m : Entry). m.id == n.id) v.names n at (eq-eqb n.id n.id refl) in
     let one = live_at_most_once (state_of v.atlas) n.id (session_named v h).sound in
@@ -323,13 +339,15 @@ freeing_at v a at name id is step =
     subst (λ k. Step (state_of v.atlas) (atlas.Deallocate k) atlas.Done (state_of a)) (sym (ap (λ (n : Entry). n.id) is)) step
 
 pub frees_name : (v : SessionValue) (a : AtlasValue) (at name id : ℕ) → IsRecordedSession v → at < length v.names
-    → get_or v.names at (entry name id) ≡ entry name id → Step (state_of v.atlas) (atlas.Deallocate id) atlas.Done (state_of a)
+    → get_or v.names at (entry name id) ≡ entry name id
+    → Step (state_of v.atlas) (atlas.Deallocate id) atlas.Done (state_of a)
     → FreesUnder (session_of v) name (record { state = state_of a; name = name_among (remove v.names at) })
 frees_name v a at name id h below is step =
     subst (λ n. FreesUnder (session_of v) n (record { state = state_of a; name = name_among (remove v.names at) })) (ap (λ (n : Entry). n.name) is)
     (frees_under v a at (entry name id) h below (freeing_at v a at name id is step))
 
-pub freed_name : (v : SessionValue) (a : AtlasValue) (ns : List Entry) (r : RecordingValue) (at name id : ℕ) → IsRecordedSession v
+pub freed_name : (v : SessionValue) (a : AtlasValue) (ns : List Entry) (r : RecordingValue) (at name id : ℕ)
+    → IsRecordedSession v
     → at < length v.names → get_or v.names at (entry name id) ≡ entry name id
     → Step (state_of v.atlas) (atlas.Deallocate id) atlas.Done (state_of a)
     → ns ≡ remove v.names at → r ≡ with_event (Deallocate name) v.recording
@@ -344,7 +362,8 @@ found_is_live v at name id h below is =
     let some : 1 ≤ entries_of id v.names = count_some (λ (m : Entry). m.id == id) v.names (entry name id) there (eq-eqb id id refl) in
     (entry_is_live v (entry name id) h there, counted_is_live (state_of v.atlas) id (subst (λ k. 1 ≤ k) (h.ids id) some))
 
-pub missing_is_not_live : (v : SessionValue) (name : ℕ) → IsRecordedSession v → All (λ (n : Entry). n.name ≡ name → ⊥) v.names
+pub missing_is_not_live : (v : SessionValue) (name : ℕ) → IsRecordedSession v
+    → All (λ (n : Entry). n.name ≡ name → ⊥) v.names
     → IsLiveName (session_of v) name → ⊥
 missing_is_not_live v name h none live =
     let r = live_has_entry v name h live in
@@ -352,8 +371,10 @@ missing_is_not_live v name h none live =
 
 -- The same of a value that is known by its fields, and of names that are known to be these.
 
-pub led_by_freeing : (v w : SessionValue) (a : AtlasValue) (ns : List Entry) (at name called id : ℕ) → v ≡ w → name ≡ called
-    → ns ≡ remove v.names at → IsRecordedSession v → at < length v.names → get_or v.names at (entry name id) ≡ entry name id
+pub led_by_freeing : (v w : SessionValue) (a : AtlasValue) (ns : List Entry) (at name called id : ℕ) → v ≡ w
+    → name ≡ called
+    → ns ≡ remove v.names at → IsRecordedSession v → at < length v.names
+    → get_or v.names at (entry name id) ≡ entry name id
     → Step (state_of v.atlas) (atlas.Deallocate id) atlas.Done (state_of a)
     → FreesUnder (session_of w) called (record { state = state_of a; name = name_among ns })
 led_by_freeing v w a ns at name called id value names left h below is step =
@@ -364,7 +385,8 @@ led_by_freeing v w a ns at name called id value names left h below is step =
 
 pub led_by_grant : (v w : SessionValue) (a : AtlasValue) (ns : List Entry) (size : Size) (g answer : Allocation) → v ≡ w
     → ns ≡ v.names ++ named_entry v.given g ∷ [] → answer ≡ under v.given g → IsRecordedSession v
-    → Step (state_of v.atlas) (atlas.Allocate (sides_of size)) (atlas.Allocated (grant_of g)) (state_of a) → IsExact g.rectangle
+    → Step (state_of v.atlas) (atlas.Allocate (sides_of size)) (atlas.Allocated (grant_of g)) (state_of a)
+    → IsExact g.rectangle
     → GrantsUnder (session_of w) size answer (record { state = state_of a; name = name_among ns })
 led_by_grant v w a ns size g answer value more said h step exact =
     subst (λ u. GrantsUnder (session_of u) size answer (record { state = state_of a; name = name_among ns })) value

@@ -14,7 +14,8 @@ both a b = record { old = a; new = b }
 abbrev pub entry : ℕ → ℕ → Entry
 entry name id = record { name = name; id = id }
 
-pub failure_named : (x item a : Allocation) (name : ℕ) (f : ℕ → ℕ) → item ≡ x → name ≡ f x.id → a ≡ called name item → a ≡ failure_under f x
+pub failure_named : (x item a : Allocation) (name : ℕ) (f : ℕ → ℕ) → item ≡ x → name ≡ f x.id → a ≡ called name item
+    → a ≡ failure_under f x
 failure_named x item a name f is names said = said ∙ ap (called name) is ∙ ap (λ n. called n x) names
 
 pub change_named : (x item : Change) (a b : Allocation) (name : ℕ) (f : ℕ → ℕ) → item ≡ x → name ≡ f x.old.id
@@ -23,5 +24,6 @@ change_named x item a b name f is names said_a said_b =
     ap₂ both (said_a ∙ ap (λ (c : Change). called name c.old) is ∙ ap (λ n. called n x.old) names)
     (said_b ∙ ap (λ (c : Change). called name c.new) is ∙ ap (λ n. called n x.new) names)
 
-pub entry_named : (x item : Change) (name : ℕ) (f : ℕ → ℕ) → item ≡ x → name ≡ f x.old.id → entry name item.new.id ≡ entry_under f x
+pub entry_named : (x item : Change) (name : ℕ) (f : ℕ → ℕ) → item ≡ x → name ≡ f x.old.id
+    → entry name item.new.id ≡ entry_under f x
 entry_named x item name f is names = ap₂ entry names (ap (λ (c : Change). c.new.id) is)

@@ -48,8 +48,10 @@ module _ (ns ms : List Entry) (h : IsPermutation ns ms) where
       let e = entries_permuted ns ms h (get_or ds k d).id in
       omega (arith, e, some)
 
-  pub changes_alike : {Y : Type 0} (under : (ℕ → ℕ) → Change → Y) → ((f g : ℕ → ℕ) (c : Change) → f c.old.id ≡ g c.old.id → under f c ≡ under g c)
-      → ((id : ℕ) → entries_of id ns ≤ 1) → (cs ds : List Change) → ds ≡ cs → All (λ (c : Change). 1 ≤ entries_of c.old.id ns) cs
+  pub changes_alike : {Y : Type 0} (under : (ℕ → ℕ) → Change → Y)
+      → ((f g : ℕ → ℕ) (c : Change) → f c.old.id ≡ g c.old.id → under f c ≡ under g c)
+      → ((id : ℕ) → entries_of id ns ≤ 1) → (cs ds : List Change) → ds ≡ cs
+      → All (λ (c : Change). 1 ≤ entries_of c.old.id ns) cs
       → map (under (name_among ms)) ds ≡ map (under (name_among ns)) cs
   changes_alike under reads once cs ds is all =
       ap (map (under (name_among ms))) is

@@ -19,12 +19,14 @@ use Rattle.guillotiere_recording.specs.declared.names.LiveName.{LiveName as Entr
 use Rattle.guillotiere_recording.specs.Names.{shown, box_or_none}
 
 -- The rectangle of a live id is that of its box.
-pub area_of : (o : Option Box) (area : Rectangle) → option_map rectangle_of o ≡ Some area → area ≡ rectangle_of (box_or_none o)
+pub area_of : (o : Option Box) (area : Rectangle) → option_map rectangle_of o ≡ Some area
+    → area ≡ rectangle_of (box_or_none o)
 area_of None area is = cc
 area_of (Some b) area is = cc
 
 -- The call at one entry more.
-pub visits-name : {F : Type 0} (g : Mut F (ℕ × (Bor Rectangle × Unit {0})) (Unit {0})) (f at last : F) (s : State) (xs : List Entry) (i : ℕ) (d : Entry)
+pub visits-name : {F : Type 0} (g : Mut F (ℕ × (Bor Rectangle × Unit {0})) (Unit {0})) (f at last : F) (s : State)
+    (xs : List Entry) (i : ℕ) (d : Entry)
     (name : ℕ) (area : Bor Rectangle) → i < length xs → name ≡ (get_or xs i d).name
     → option_map rectangle_of (live_box s (get_or xs i d).id) ≡ Some area.now → Called g f (name, (area, tt)) tt at
     → FoldsTo (CalledAtGrant g) at (map (shown s) (drop (i + 1) xs)) last
@@ -33,7 +35,8 @@ visits-name g f at last s xs i d name area low is its call more =
     subst (λ l. FoldsTo (CalledAtGrant g) f l last) (sym (at_drop_more (λ ys. map (shown s) ys) xs i d low))
     (at, record { shown = area; shows = area_of (live_box s (get_or xs i d).id) area.now its; called = subst (λ n. Called g f (n, (area, tt)) tt at) is call }, more)
 
-pub visits-none : {F : Type 0} (g : Mut F (ℕ × (Bor Rectangle × Unit {0})) (Unit {0})) (f : F) (s : State) (xs : List Entry) (i : ℕ)
+pub visits-none : {F : Type 0} (g : Mut F (ℕ × (Bor Rectangle × Unit {0})) (Unit {0})) (f : F) (s : State)
+    (xs : List Entry) (i : ℕ)
     → drop i xs ≡ [] → FoldsTo (CalledAtGrant g) f (map (shown s) (drop i xs)) f
 visits-none g f s xs i none = subst (λ l. FoldsTo (CalledAtGrant g) f (map (shown s) l) f) (sym none) refl
 
@@ -54,7 +57,8 @@ module _ {F : Type 0} (g : Mut F (ℕ × (Bor Rectangle × Unit {0})) (Unit {0})
 
   -- A callback may be called at an entry,
   pub asks-name : (f : F) (name : ℕ) (area : Bor Rectangle) → name ≡ (get_or xs i d).name
-      → option_map rectangle_of (live_box s (get_or xs i d).id) ≡ Some area.now → All (λ (a : Allocation). IsShownArea a.rectangle) (map (shown s) xs) → From f i → Takes g f (name, (area, tt))
+      → option_map rectangle_of (live_box s (get_or xs i d).id) ≡ Some area.now
+      → All (λ (a : Allocation). IsShownArea a.rectangle) (map (shown s) xs) → From f i → Takes g f (name, (area, tt))
   asks-name f name area is its all h =
       subst (λ n. Takes g f (n, (area, tt))) (sym is)
       (along-first (CalledAtGrant g) _ f (shown s (get_or xs i d)) (map (shown s) (drop (i + 1) xs))

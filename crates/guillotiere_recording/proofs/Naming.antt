@@ -61,7 +61,8 @@ granted_names old new r g name one step unused named kept a b live_a live_b same
     age : (id : ℕ) → IsLive new.state id → (id ≡ g.id) ⊎ IsLive old.state id
     age id live = by_test (eqb g.id id) refl (live_is_counted new.state id live) (grant_counts old.state new.state r g step id)
       where
-        by_test : (b : Bool) → eqb g.id id ≡ b → 1 ≤ live_count id new.state → live_count id new.state ≡ one_if b + live_count id old.state
+        by_test : (b : Bool) → eqb g.id id ≡ b → 1 ≤ live_count id new.state
+            → live_count id new.state ≡ one_if b + live_count id old.state
             → (id ≡ g.id) ⊎ IsLive old.state id
         by_test true is some count = inl (sym (eqb-true g.id id is))
         by_test false is some count = inr (counted_is_live old.state id (omega arith))
@@ -83,7 +84,8 @@ pub freeing_counts : (old new : State) (freed : ℕ) → IsFreeingStep old freed
 freeing_counts old new freed h id =
     ap (count_by (λ g. g.id == id)) h.live ∙ count_filter (λ g. not (g.id == freed)) (λ g. g.id == id) (live_in old)
 
-pub freeing_less : (old new : State) (freed : ℕ) → IsFreeingStep old freed new → (id : ℕ) → live_count id new ≤ live_count id old
+pub freeing_less : (old new : State) (freed : ℕ) → IsFreeingStep old freed new → (id : ℕ)
+    → live_count id new ≤ live_count id old
 freeing_less old new freed h id =
     let e = freeing_counts old new freed h id in
     let few : count_by (λ g. not (g.id == freed) && g.id == id) (live_in old) ≤ live_count id old =
@@ -153,7 +155,8 @@ moved_from old new list h id =
     let c = count_map (λ t. t.old) p list.changes in
     omega (arith, a, b, c)
 
-rearranged_names : (old new : Named) (asked : AtlasCall) (list : ListValue) → IsNamed old → RearrangesUnder old asked list new
+rearranged_names : (old new : Named) (asked : AtlasCall) (list : ListValue) → IsNamed old
+    → RearrangesUnder old asked list new
     → IsOneToOne new.name (ids new.state.tree.members)
 rearranged_names old new asked list good h a b live_a live_b same =
     let step = rearrangings_lose_nothing old.state new.state asked h.answer good.sound h.step in
@@ -175,7 +178,8 @@ rearranged_names old new asked list good h a b live_a live_b same =
         let one = live_at_most_once old.state id good.sound in
         omega (arith, few, one)
 
-    was : IsRearrangingStep old.state h.answer new.state → (t : Transfer) → Contains h.answer.changes t → IsLive old.state t.old.id
+    was : IsRearrangingStep old.state h.answer new.state → (t : Transfer) → Contains h.answer.changes t
+        → IsLive old.state t.old.id
     was step t at =
         let some : 1 ≤ count_by (λ (k : Transfer). k.old.id == t.old.id) h.answer.changes =
         count_some (λ (k : Transfer). k.old.id == t.old.id) h.answer.changes t at (eq-eqb _ _ refl) in
@@ -184,7 +188,8 @@ rearranged_names old new asked list good h a b live_a live_b same =
 
 -- The limit stays.
 rearranged_limit : (old new : Named) (asked : AtlasCall) (list : ListValue) → (n : Sides)
-    → (h : RearrangesUnder old asked list new) → atlas.Rearranges old.state n (atlas.Changed h.answer) new.state → new.state.limit ≡ old.state.limit
+    → (h : RearrangesUnder old asked list new) → atlas.Rearranges old.state n (atlas.Changed h.answer) new.state
+    → new.state.limit ≡ old.state.limit
 rearranged_limit old new asked list n h step = ap (λ (s : State). s.limit) step.5
 
 pub events_keep_names : EventsKeepNames

@@ -34,7 +34,8 @@ pub contains_there : (ns : List Entry) (at : ℕ) (w : Entry) (id : ℕ) → at 
 contains_there ns at w id inside is = (at, inside, get_or_default ns at (entry_with (get_or ns at w).name id) w inside ∙ ap (entry_with (get_or ns at w).name) is)
 
 -- The name that a look-up gives is the one among the entries.
-pub named_so : (ns : List Entry) (name number id : ℕ) → ((k : ℕ) → entries_of k ns ≤ 1) → number ≡ id → Contains ns (entry_with name number)
+pub named_so : (ns : List Entry) (name number id : ℕ) → ((k : ℕ) → entries_of k ns ≤ 1) → number ≡ id
+    → Contains ns (entry_with name number)
     → name ≡ name_among ns id
 named_so ns name number id once same there =
     sym (name_of id ns (entry_with name number) (once id) there same)

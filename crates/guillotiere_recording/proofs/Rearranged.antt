@@ -52,7 +52,8 @@ contains_mapped : {X Y : Type 0} (f : X → Y) (xs : List X) (x : X) → Contain
 contains_mapped f xs x (k, below, is) =
     (k, subst (λ n. k < n) (sym (length-map xs f)) below, get_or-map f xs k x (f x) below ∙ ap f is)
 
-count_weaker_in : {X : Type 0} (p q : X → Bool) (xs : List X) → ((x : X) → Contains xs x → p x ≡ true → q x ≡ true) → count_by p xs ≤ count_by q xs
+count_weaker_in : {X : Type 0} (p q : X → Bool) (xs : List X) → ((x : X) → Contains xs x → p x ≡ true → q x ≡ true)
+    → count_by p xs ≤ count_by q xs
 count_weaker_in p q [] w = omega arith
 count_weaker_in p q (x ∷ xs) w =
     let rest = count_weaker_in p q xs (λ y at is. w y (Contains-later x xs y at) is) in
@@ -65,7 +66,8 @@ count_weaker_in p q (x ∷ xs) w =
     by_test true is = rw (w x (Contains-first x xs) is) (omega arith)
     by_test false is = omega arith
 
-count_two : {X : Type 0} (p : X → Bool) (xs : List X) (i j : ℕ) (d : X) → i < j → j < length xs → p (get_or xs i d) ≡ true
+count_two : {X : Type 0} (p : X → Bool) (xs : List X) (i j : ℕ) (d : X) → i < j → j < length xs
+    → p (get_or xs i d) ≡ true
     → p (get_or xs j d) ≡ true → 2 ≤ count_by p xs
 count_two p [] i j d less below pi pj = absurd (omega arith)
 count_two p (x ∷ xs) zero zero d less below pi pj = absurd (omega arith)
@@ -96,7 +98,8 @@ strictly ns order once i j d less below = by_place (cases_lt (get_or ns i d).nam
 
 -- What was live has entries.
 
-pub all_entered : {A : Type 0} (v : SessionValue) (new : State) (answer : ChangeList A) (asked : AtlasCall) → IsSessionKept v
+pub all_entered : {A : Type 0} (v : SessionValue) (new : State) (answer : ChangeList A) (asked : AtlasCall)
+    → IsSessionKept v
     → Step (state_of v.atlas) asked (atlas.Changed (rearrangement_of answer)) new
     → AreEntered v.names answer.changes.items answer.failures.items
 all_entered v new answer asked h step = record {
@@ -108,7 +111,8 @@ all_entered v new answer asked h step = record {
     moves : IsRearrangingStep (state_of v.atlas) (rearrangement_of answer) new
     moves = rearrangings_lose_nothing (state_of v.atlas) new asked (rearrangement_of answer) h.named.sound step
 
-    changed : (k : ℕ) (d : Change) → k < length answer.changes.items → 1 ≤ entries_of (get_or answer.changes.items k d).old.id v.names
+    changed : (k : ℕ) (d : Change) → k < length answer.changes.items
+        → 1 ≤ entries_of (get_or answer.changes.items k d).old.id v.names
     changed k d below =
         let c : Change = get_or answer.changes.items k d in
         let i = h.ids c.old.id in
@@ -118,7 +122,8 @@ all_entered v new answer asked h step = record {
         (k, below, get_or_default answer.changes.items k c d below) (eq-eqb _ _ refl) in
         omega (arith, i, few, all, some)
 
-    failed : (k : ℕ) (d : Allocation) → k < length answer.failures.items → 1 ≤ entries_of (get_or answer.failures.items k d).id v.names
+    failed : (k : ℕ) (d : Allocation) → k < length answer.failures.items
+        → 1 ≤ entries_of (get_or answer.failures.items k d).id v.names
     failed k d below =
         let x : Allocation = get_or answer.failures.items k d in
         let p : Grant → Bool = λ g. g.id == x.id in
@@ -131,7 +136,9 @@ all_entered v new answer asked h step = record {
         omega (arith, i, a, b, c, some)
 
 -- The new entries are those of what is live now.
-pub entered_anew : {A : Type 0} (v : SessionValue) (new : State) (answer : ChangeList A) (m : Moved A) (asked : AtlasCall) → IsSessionKept v
+pub entered_anew : {A : Type 0} (v : SessionValue) (new : State) (answer : ChangeList A) (m : Moved A)
+    (asked : AtlasCall)
+    → IsSessionKept v
     → Step (state_of v.atlas) asked (atlas.Changed (rearrangement_of answer)) new → IsMoved v.names answer m
     → (id : ℕ) → entries_of id m.names.items ≡ live_count id new
 entered_anew v new answer m asked h step moved id =
@@ -145,7 +152,9 @@ entered_anew v new answer m asked h step moved id =
     let e = count_map transfer_of (λ (t : Transfer). t.new.id == id) answer.changes.items in
     omega (arith, a, b, c, d, e)
 
-pub rearranges_under : {A : Type 0} (v : SessionValue) (a : AtlasValue) (answer : ChangeList A) (m : Moved A) (asked : AtlasCall) → IsSessionKept v
+pub rearranges_under : {A : Type 0} (v : SessionValue) (a : AtlasValue) (answer : ChangeList A) (m : Moved A)
+    (asked : AtlasCall)
+    → IsSessionKept v
     → Step (state_of v.atlas) asked (atlas.Changed (rearrangement_of answer)) (state_of a) → AreExactChanges answer
     → IsMoved v.names answer m → ((id : ℕ) → live_count id (state_of a) ≤ 1)
     → RearrangesUnder (session_of v) asked (list_value_of m.list) (record { state = state_of a; name = name_among m.names.items })
@@ -175,14 +184,17 @@ rearranges_under v a answer m asked h step exact moved few =
         name_of c.new.id m.names.items (entry_under (name_among v.names) c) (omega (arith, e, one)) there refl
 
 -- What is live after a rearranging is live once.
-pub once_after : {A : Type 0} (v : SessionValue) (new : State) (answer : ChangeList A) (asked : AtlasCall) → IsSessionKept v
+pub once_after : {A : Type 0} (v : SessionValue) (new : State) (answer : ChangeList A) (asked : AtlasCall)
+    → IsSessionKept v
     → Step (state_of v.atlas) asked (atlas.Changed (rearrangement_of answer)) new → (id : ℕ) → live_count id new ≤ 1
 once_after v new answer asked h step id =
     live_at_most_once new id
     (steps_keep (state_of v.atlas) new asked (atlas.Changed (rearrangement_of answer)) h.named.sound step)
 
 -- Names stay apart.
-pub names_apart : {A : Type 0} (v : SessionValue) (new : State) (answer : ChangeList A) (m : Moved A) (asked : AtlasCall) → IsSessionKept v
+pub names_apart : {A : Type 0} (v : SessionValue) (new : State) (answer : ChangeList A) (m : Moved A)
+    (asked : AtlasCall)
+    → IsSessionKept v
     → Step (state_of v.atlas) asked (atlas.Changed (rearrangement_of answer)) new → IsMoved v.names answer m
     → (name : ℕ) → count_by (λ (n : Entry). n.name == name) m.names.items ≤ 1
 names_apart v new answer m asked h step moved name =
@@ -217,7 +229,8 @@ names_apart v new answer m asked h step moved name =
         let one = live_at_most_once (state_of v.atlas) s.here.old.id h.named.sound in
         omega (arith, few, all, from, one)
 
-pub rearranged_session : {A : Type 0} (v : SessionValue) (a : AtlasValue) (ns : List Entry) (r : RecordingValue) (answer : ChangeList A) (m : Moved A)
+pub rearranged_session : {A : Type 0} (v : SessionValue) (a : AtlasValue) (ns : List Entry) (r : RecordingValue)
+    (answer : ChangeList A) (m : Moved A)
     (asked : AtlasCall) (event : EventValue) → IsRecordedSession v
     → Step (state_of v.atlas) asked (atlas.Changed (rearrangement_of answer)) (state_of a) → IsMoved v.names answer m
     → ns ≡ m.names.items → r ≡ with_event event v.recording → names_in event ≡ []
@@ -227,13 +240,15 @@ rearranged_session v a ns r answer m asked event h step moved names more none le
     subst (λ ms. IsRecordedSession (record { atlas = a; names = ms; given = v.given; recording = r })) (sym names)
     (subst (λ q. IsRecordedSession (record { atlas = a; names = m.names.items; given = v.given; recording = q })) (sym more) it)
   where
-    low : (k : ℕ) (d : Change) → k < length answer.changes.items → name_among v.names (get_or answer.changes.items k d).old.id < v.given
+    low : (k : ℕ) (d : Change) → k < length answer.changes.items
+        → name_among v.names (get_or answer.changes.items k d).old.id < v.given
     low k d below =
         let e = all_entered v (state_of a) answer asked (kept_of v h) step in
         let n = entry_of (get_or answer.changes.items k d).old.id v.names (e.changed k d below) in
         subst (λ x. x < v.given) (sym n.3) (All-contains (λ (x : Entry). x.name < v.given) v.names n.0 h.below n.1)
 
-    it : IsRecordedSession (record { atlas = a; names = m.names.items; given = v.given; recording = with_event event v.recording })
+    it : IsRecordedSession
+        (record { atlas = a; names = m.names.items; given = v.given; recording = with_event event v.recording })
     it = record {
       faithful = record {
         leads = recorded_more v.recording event (session_of v) (record { state = state_of a; name = name_among m.names.items }) h.faithful.leads leads;

@@ -45,14 +45,16 @@ use Rattle.guillotiere_recording.proofs.Following.{value_of, named_alike, names_
 
 -- What was moved or found no room was live.
 
-live_old : (old new : State) (answer : Rearrangement) → IsRearrangingStep old answer new → (t : Transfer) → Contains answer.changes t
+live_old : (old new : State) (answer : Rearrangement) → IsRearrangingStep old answer new → (t : Transfer)
+    → Contains answer.changes t
     → IsLive old t.old.id
 live_old old new answer moves t at =
     let few = moved_from old new answer moves t.old.id in
     let some = count_some (λ (x : Transfer). x.old.id == t.old.id) answer.changes t at (eq-eqb _ _ refl) in
     counted_is_live old t.old.id (omega (arith, few, some))
 
-live_failed : (old new : State) (answer : Rearrangement) → IsRearrangingStep old answer new → (x : Grant) → Contains answer.failures x
+live_failed : (old new : State) (answer : Rearrangement) → IsRearrangingStep old answer new → (x : Grant)
+    → Contains answer.failures x
     → IsLive old x.id
 live_failed old new answer moves x at =
     let p : Grant → Bool = λ g. g.id == x.id in
@@ -93,7 +95,8 @@ module _ {A : Type 0} (a b : AtlasValue) (names : Names) (asked : AtlasCall) (li
         λ i. record { id = named i; rectangle = its i }
 
     -- The list under names is the one that is shown.
-    said_list : (m : Moved A) → IsMoved (entries_in names) list m → list_value_of m.list ≡ shown_list s.name (rearrangement_of list)
+    said_list : (m : Moved A) → IsMoved (entries_in names) list m
+        → list_value_of m.list ≡ shown_list s.name (rearrangement_of list)
     said_list m is =
         let changes : m.list.changes.items ≡ map (shown_change s.name) (rearrangement_of list).changes =
         is.changes
@@ -123,13 +126,15 @@ module _ {A : Type 0} (a b : AtlasValue) (names : Names) (asked : AtlasCall) (li
       under_moves : IsRearrangingStep s.state under.answer (state_of b)
       under_moves = rearrangings_lose_nothing s.state (state_of b) asked under.answer h.named.sound under_step
 
-      old_named : (t : Transfer) → Contains under.answer.changes t → name_among (entries_in names) t.old.id ≡ s.name t.old.id
+      old_named : (t : Transfer) → Contains under.answer.changes t
+          → name_among (entries_in names) t.old.id ≡ s.name t.old.id
       old_named t at = named_alike a names s h ordered all t.old.id (live_old s.state (state_of b) under.answer under_moves t at)
 
       failed_named : (x : Grant) → Contains under.answer.failures x → name_among (entries_in names) x.id ≡ s.name x.id
       failed_named x at = named_alike a names s h ordered all x.id (live_failed s.state (state_of b) under.answer under_moves x at)
 
-      rearranged_under : RearrangesUnder s asked said (record { state = state_of b; name = name_among followed.moved.names.items })
+      rearranged_under : RearrangesUnder s asked said
+          (record { state = state_of b; name = name_among followed.moved.names.items })
       rearranged_under = record {
         answer = under.answer;
         step = under_step;
@@ -196,7 +201,8 @@ module _ {A : Type 0} (a b : AtlasValue) (names : Names) (asked : AtlasCall) (li
           o.other (said_list o.moved o.is ∙ ap (shown_list s.name) one ∙ sym same);
     }
 
-    pub other_resizing : (size : Size) (said : ListValue) → IsPositive (sides_of size) → IsOtherList (entries_in names) list said
+    pub other_resizing : (size : Size) (said : ListValue) → IsPositive (sides_of size)
+        → IsOtherList (entries_in names) list said
         → asked ≡ atlas.ResizeAndRearrange (sides_of size) → AnswersOtherwise s (ResizeAndRearrange size said)
     other_resizing size said positive o is = record {
       good = λ bad. bad positive;
@@ -212,7 +218,8 @@ module _ {A : Type 0} (a b : AtlasValue) (names : Names) (asked : AtlasCall) (li
     }
 
 -- Why a list that isn't followed stops a replay.
-pub unlike_stops : {A : Type 0} (a : AtlasValue) (names : Names) (list : ChangeList A) (said : ListValue) (event : EventValue) (e : EventFault)
+pub unlike_stops : {A : Type 0} (a : AtlasValue) (names : Names) (list : ChangeList A) (said : ListValue)
+    (event : EventValue) (e : EventFault)
     → ((s : Named) → ShowsNamed a names s → IsOtherList (entries_in names) list said → AnswersOtherwise s event)
     → IsUnlike (entries_in names) list said e → IsStopped a names event e
 unlike_stops a names list said event stop.Memory other unlike = tt

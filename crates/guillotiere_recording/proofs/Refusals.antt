@@ -12,7 +12,8 @@ use Rattle.guillotiere_recording.specs.declared.error.RecordingError.TheVariants
 use Rattle.guillotiere_recording.specs.Errors.{recording_error}
 
 -- A freeing of a live id is not refused.
-pub freeing_succeeds : (s t : State) (id : ℕ) (e : AtlasError) → Step s (atlas.Deallocate id) (atlas.Refused e) t → IsLive s id → ⊥
+pub freeing_succeeds : (s t : State) (id : ℕ) (e : AtlasError) → Step s (atlas.Deallocate id) (atlas.Refused e) t
+    → IsLive s id → ⊥
 freeing_succeeds s t id Memory step live = step
 freeing_succeeds s t id Slots step live = step
 freeing_succeeds s t id NotLive step live = step.0 live
@@ -33,7 +34,8 @@ slots_step (Err k) e s t call from step same is =
     subst (λ u. Step s call (atlas.Refused Slots) u) same (subst (λ x. Step s call (atlas.Refused x) t) its step)
 
 -- Want of memory is no other refusal.
-pub memory_only : {X : Type 0} (r : Result X RecordingError) (e : RecordingError) → e ≡ refusal.Memory → IsErrAnd r (λ k. k ≡ e)
+pub memory_only : {X : Type 0} (r : Result X RecordingError) (e : RecordingError) → e ≡ refusal.Memory
+    → IsErrAnd r (λ k. k ≡ e)
     → r ≡ Err refusal.NotLive → ⊥
 memory_only (Ok x) e memory from is = cc
 memory_only (Err k) e memory from is = cc

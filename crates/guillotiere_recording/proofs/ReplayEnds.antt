@@ -54,7 +54,8 @@ Entries = List (ℕ × ℕ)
 abbrev pub IsFound : Names → ℕ × ℕ → Type 0
 IsFound names e = get nat_cmp names e.0 ≡ Some e.1
 
-pub shown_by : (s : State) (said name id : ℕ) (area : Rectangle) → said ≡ name → option_map rectangle_of (live_box s id) ≡ Some area
+pub shown_by : (s : State) (said name id : ℕ) (area : Rectangle) → said ≡ name
+    → option_map rectangle_of (live_box s id) ≡ Some area
     → record { id = said; rectangle = area } ≡ shown_entry s (name, id)
 shown_by s said name id area same is =
     let shown : area ≡ rectangle_of (box_or_none (live_box s id)) = area_of (live_box s id) area is in
@@ -70,7 +71,8 @@ nothing_found names name id empty is =
     let none : None ≡ Some id = sym (ap (λ (es : Entries). lookup (is_at (nat_cmp name)) es) empty) ∙ is in
     absurd (cc)
 
-pub begins : (r : RecordingValue) (a : AtlasValue) (names : Names) → IsPositive (sides_of r.size) → AreValid (options_of r.options)
+pub begins : (r : RecordingValue) (a : AtlasValue) (names : Names) → IsPositive (sides_of r.size)
+    → AreValid (options_of r.options)
     → state_of a ≡ started (sides_of r.size) (options_of r.options) 16777216 → names.entries ≡ [] → StandsAt r 0 a names
 begins r a names nonempty valid is empty = (
   s,
@@ -88,8 +90,10 @@ begins r a names nonempty valid is empty = (
     led : LeadsTo (first_events 0 r) (fresh_session (sides_of r.size) (options_of r.options) (λ id. id))
     led = record { nonempty = nonempty; valid = valid; name = λ id. id; leads = refl }
 
-pub goes_on : (r : RecordingValue) (i : ℕ) (event : EventValue) (a b : AtlasValue) (names left : Names) → i < length r.events
-    → get_or r.events i event ≡ event → CarriesOut a names event b left → StandsAt r i a names → StandsAt r (i + 1) b left
+pub goes_on : (r : RecordingValue) (i : ℕ) (event : EventValue) (a b : AtlasValue) (names left : Names)
+    → i < length r.events
+    → get_or r.events i event ≡ event → CarriesOut a names event b left → StandsAt r i a names
+    → StandsAt r (i + 1) b left
 goes_on r i event a b names left low here carried (s, led, shows) =
     let t = carried s shows in
     let more : LeadsTo (record r { events = take i r.events ++ event ∷ [] }) t.0 = recorded_more (first_events i r) event s t.0 led t.1 in
@@ -98,7 +102,8 @@ goes_on r i event a b names left low here carried (s, led, shows) =
     (t.0, subst (λ es. LeadsTo (record r { events = es }) t.0) (sym next) more, t.2)
 
 pub stops : (r : RecordingValue) (i : ℕ) (event : EventValue) (fault : EventFault) (a : AtlasValue) (names : Names)
-    → slice_get r.events i ≡ Some event → IsStopped a names event fault → StandsAt r i a names → IsFaultOf r (fault_of fault i)
+    → slice_get r.events i ≡ Some event → IsStopped a names event fault → StandsAt r i a names
+    → IsFaultOf r (fault_of fault i)
 stops r i event stop.Memory a names here stopped stands = tt
 stops r i event stop.Slots a names here stopped (s, led, shows) =
     (i, record { event = event; here = here; at = s; before = led; stops = stopped s shows })
@@ -108,7 +113,8 @@ stops r i event stop.Bad a names here stopped (s, led, shows) =
     record { event = event; here = here; at = s; before = led; stops = stopped s shows }
 
 -- What is shown has a box.
-pub found_has_box : (a : AtlasValue) (names : Names) (s : Named) (name id : ℕ) → ShowsNamed a names s → get nat_cmp names name ≡ Some id
+pub found_has_box : (a : AtlasValue) (names : Names) (s : Named) (name id : ℕ) → ShowsNamed a names s
+    → get nat_cmp names name ≡ Some id
     → IsSome (live_box (state_of a) id)
 found_has_box a names s name id h is =
     let live : IsLive s.state id = ((h.finds name id).0 is).0 in
@@ -158,7 +164,8 @@ keys_counted (e ∷ es) sorted k =
         rest ∙ later ∙ sym (ap (λ b. how_many (cond b (Some e.1) (lookup (is_at (nat_cmp k)) es))) (at_other k e.0 other))
 
 -- Names are counted alike among the entries and among what is live.
-names_counted : (a : AtlasValue) (names : Names) (s : Named) → ShowsNamed a names s → (k : ℕ) (o : Option ℕ) → get nat_cmp names k ≡ o
+names_counted : (a : AtlasValue) (names : Names) (s : Named) → ShowsNamed a names s → (k : ℕ) (o : Option ℕ)
+    → get nat_cmp names k ≡ o
     → count_by (λ x. x == k) (map (λ (g : Grant). s.name g.id) (live_in s.state)) ≡ how_many o
 names_counted a names s h k (Some id) is =
     let has = (h.finds k id).0 is in
@@ -169,7 +176,8 @@ names_counted a names s h k (Some id) is =
     count_alike (λ (g : Grant). s.name g.id == k) (λ (g : Grant). g.id == id) (live_in s.state) (λ g at. told has.0 has.1 g at) in
     omega (arith, some, one, mapped, alike)
   where
-    told : IsLive s.state id → s.name id ≡ k → (g : Grant) → Contains (live_in s.state) g → (s.name g.id == k) ≡ (g.id == id)
+    told : IsLive s.state id → s.name id ≡ k → (g : Grant) → Contains (live_in s.state) g
+        → (s.name g.id == k) ≡ (g.id == id)
     told live named g at = by_id (cases_eq g.id id)
       where
         by_id : (g.id ≡ id) ⊎ (g.id ≡ id → ⊥) → (s.name g.id == k) ≡ (g.id == id)
@@ -198,7 +206,8 @@ boxed s None = None
 boxed s (Some id) = live_box s id
 
 -- What is gathered at the end is the book.
-pub gathered_book : (r : RecordingValue) (a : AtlasValue) (names : Names) (s : Named) (found : List Allocation) → LeadsTo r s
+pub gathered_book : (r : RecordingValue) (a : AtlasValue) (names : Names) (s : Named) (found : List Allocation)
+    → LeadsTo r s
     → ShowsNamed a names s → IsOrdered nat_cmp names → All (IsFound names) names.entries
     → found ≡ map (shown_entry (state_of a)) names.entries → AreBooked r.events found
 gathered_book r a names s found led h ordered all is =
@@ -256,7 +265,8 @@ map_append : {X Y : Type 0} (f : X → Y) (xs ys : List X) → map f (xs ++ ys) 
 map_append f [] ys = refl
 map_append f (x ∷ xs) ys = ap (λ zs. f x ∷ zs) (map_append f xs ys)
 
-pub without_event : {A : Type 0} (size : Size) (options : AllocatorOptions) (items left : List (Event A)) (at : ℕ) (v : RecordingValue)
+pub without_event : {A : Type 0} (size : Size) (options : AllocatorOptions) (items left : List (Event A)) (at : ℕ)
+    (v : RecordingValue)
     → left ≡ remove items at → record { size = size; options = options; events = map event_of items } ≡ v
     → record { size = size; options = options; events = map event_of left } ≡ record v { events = remove v.events at }
 without_event size options items left at v is whole =

@@ -53,7 +53,8 @@ size_after n (Allocate size answer) = n
 size_after n (Deallocate name) = n
 size_after n (Rearrange list) = n
 
-step_size : (old new : Named) (event : EventValue) → Leads old event new → new.state.size ≡ size_after old.state.size event
+step_size : (old new : Named) (event : EventValue) → Leads old event new
+    → new.state.size ≡ size_after old.state.size event
 unfolding size_after
 step_size old new (Allocate size None) h = ap (λ (s : State). s.size) h.0.1
 step_size old new (Allocate size (Some a)) h = ap (λ (s : State). s.size) h.step.1.state
@@ -62,7 +63,8 @@ step_size old new (Grow size) h = ap (λ (s : State). s.size) h.0.2
 step_size old new (Rearrange list) h = let step = h.step in ap (λ (s : State). s.size) step.5
 step_size old new (ResizeAndRearrange size list) h = let step = h.step in ap (λ (s : State). s.size) step.5
 
-same_sizes : (events : List EventValue) (s s' t t' : Named) → t.state.size ≡ s.state.size → LeadOn s events s' → LeadOn t events t'
+same_sizes : (events : List EventValue) (s s' t t' : Named) → t.state.size ≡ s.state.size → LeadOn s events s'
+    → LeadOn t events t'
     → t'.state.size ≡ s'.state.size
 same_sizes [] s s' t t' same h k = ap (λ (n : Named). n.state.size) k ∙ same ∙ sym (ap (λ (n : Named). n.state.size) h)
 same_sizes (event ∷ events) s s' t t' same (mid, h, rest) (mid', k, rest') =
@@ -94,7 +96,8 @@ counted_name s name some =
       eqb-true (s.name at.here.id) name at.passes,
     )
 
-same_names : (r : RecordingValue) (s t : Named) (name : ℕ) → LeadsTo r s → LeadsTo r t → IsLiveName s name → IsLiveName t name
+same_names : (r : RecordingValue) (s t : Named) (name : ℕ) → LeadsTo r s → LeadsTo r t → IsLiveName s name
+    → IsLiveName t name
 same_names r s t name led led' live =
     let a = books_are_true (sides_of r.size) (options_of r.options) r.events s led (has_name name) in
     let b = books_are_true (sides_of r.size) (options_of r.options) r.events t led' (has_name name) in
@@ -103,7 +106,8 @@ same_names r s t name led led' live =
 
 -- An event of the session isn't bad in a replay.
 
-never_bad : (r : RecordingValue) (s s' t : Named) (event : EventValue) → LeadsTo r s → LeadsTo r t → Leads s event s' → IsBad t event → ⊥
+never_bad : (r : RecordingValue) (s s' t : Named) (event : EventValue) → LeadsTo r s → LeadsTo r t → Leads s event s'
+    → IsBad t event → ⊥
 never_bad r s s' t (Allocate size None) led led' h bad = bad
 never_bad r s s' t (Allocate size (Some a)) led led' h bad = h.unused (same_names r t s a.id led' led bad)
 never_bad r s s' t (Deallocate name) led led' h bad = bad (same_names r s t name led led' (h.id, h.live, h.named))
@@ -127,14 +131,16 @@ plain_or_not (e ∷ events) = by_test (is_plain_event e) refl (plain_or_not even
     by_test true is (inl all) = inl (All-cons (λ e. is_plain_event e ≡ true) e events is all)
     by_test true is (inr (k, x, below, at, other)) = inr (k + 1, x, omega arith, rw add-one at, other)
 
-asks : (t : Named) (event : EventValue) (call : AtlasCall) → is_plain_event event ≡ true → IsCall t event call → Asks t event call
+asks : (t : Named) (event : EventValue) (call : AtlasCall) → is_plain_event event ≡ true → IsCall t event call
+    → Asks t event call
 asks t (Allocate size answer) call plain is = is
 asks t (Deallocate name) call plain is = is
 asks t (Grow size) call plain is = is
 asks t (Rearrange list) call plain is = absurd (false≢true plain)
 asks t (ResizeAndRearrange size list) call plain is = absurd (false≢true plain)
 
-said_is_answer : (s s' t : Named) (event : EventValue) (reply : AtlasReply) → Leads s event s' → Says event reply → AnswersEvent t event reply
+said_is_answer : (s s' t : Named) (event : EventValue) (reply : AtlasReply) → Leads s event s' → Says event reply
+    → AnswersEvent t event reply
 said_is_answer s s' t (Allocate size None) reply h says = says
 said_is_answer s s' t (Allocate size (Some a)) reply h (g, is, box) = (g, is, h.exact ∙ ap rectangle_of (sym box))
 said_is_answer s s' t (Deallocate name) reply h says = says
@@ -171,7 +177,8 @@ module _ (r : RecordingValue) (i : ℕ) (event : EventValue) (t : Named) (led' :
     pub good_here : IsBad t event → ⊥
     good_here = never_bad (first_events i r) parts.0 parts.2.0 t event led_here led' parts.2.1
 
-    says_so : All (λ e. is_plain_event e ≡ true) (take i r.events) → is_plain_event event ≡ true → (call : AtlasCall) (reply : AtlasReply) (new : State)
+    says_so : All (λ e. is_plain_event e ≡ true) (take i r.events) → is_plain_event event ≡ true
+        → (call : AtlasCall) (reply : AtlasReply) (new : State)
         → IsCall t event call → Step t.state call reply new → is_out_of_memory reply ≡ false → Says event reply
     says_so all plain call reply new asked step met =
         let size = sides_of r.size in
@@ -189,12 +196,14 @@ module _ (r : RecordingValue) (i : ℕ) (event : EventValue) (t : Named) (led' :
         (twins_answer_alike parts.0 parts.2.0 t (record { state = new; name = t.name }) event call reply good good' twins plain parts.2.1
         (asks t event call plain asked) step met).0
 
-    answers_so : All (λ e. is_plain_event e ≡ true) (take i r.events) → is_plain_event event ≡ true → AnswersOtherwise t event → ⊥
+    answers_so : All (λ e. is_plain_event e ≡ true) (take i r.events) → is_plain_event event ≡ true
+        → AnswersOtherwise t event → ⊥
     answers_so all plain o =
         o.other (said_is_answer parts.0 parts.2.0 t event o.reply parts.2.1
         (says_so all plain o.call o.reply o.new o.asked o.step (met_memory o.reply o.met)))
 
-    has_slots : All (λ e. is_plain_event e ≡ true) (take i r.events) → is_plain_event event ≡ true → LacksSlots t event → ⊥
+    has_slots : All (λ e. is_plain_event e ≡ true) (take i r.events) → is_plain_event event ≡ true → LacksSlots t event
+        → ⊥
     has_slots all plain o =
         not_said event (says_so all plain o.call (Refused refusal.Slots) t.state o.asked o.step refl)
 
@@ -235,7 +244,8 @@ recorded_faults r fault.Slots (last, led) (i, is) = slots_fault r i is.event is.
 recorded_faults r (fault.Differs i) (last, led) is = differs_fault r i is.event is.at is.before last led is.here is.stops
 recorded_faults r (fault.BadEvent i) (last, led) is = good_here r i is.event is.at is.before last led is.here is.stops
 
-pub faults_of_recorded : {X : Type 0} (r : RecordingValue) (result : Result X ReplayFault) → IfErr result (IsFaultOf r) → IsRecorded r
+pub faults_of_recorded : {X : Type 0} (r : RecordingValue) (result : Result X ReplayFault) → IfErr result (IsFaultOf r)
+    → IsRecorded r
     → IfErr result (MayFail r)
 faults_of_recorded r (Ok x) is recorded = tt
 faults_of_recorded r (Err f) is recorded = recorded_faults r f recorded is

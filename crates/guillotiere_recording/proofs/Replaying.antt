@@ -113,7 +113,8 @@ module _ (a b : AtlasValue) (names left : Names) (size : Size) (recorded granted
         let none : one_if (granted.id == id) ≡ 0 = ap one_if (ne_eqb granted.id id (λ is. other (sym is))) in
         counted_is_live s.state id (omega (arith, some, counts, none))
 
-    granted_leads : GrantsUnder s size recorded (record { state = state_of b; name = with_name s.name granted.id recorded.id })
+    granted_leads : GrantsUnder s size recorded
+        (record { state = state_of b; name = with_name s.name granted.id recorded.id })
     granted_leads = record {
       id = granted.id;
       step = subst (λ r. Step s.state (atlas.Allocate (sides_of size)) (atlas.Allocated (grant granted.id (box_of r))) (state_of b)) same
@@ -277,7 +278,8 @@ refused_grant a b names size None refusal.Slots good stepped same = λ s h. reco
       (subst (λ t. Step (state_of a) (atlas.Allocate (sides_of size)) (atlas.Refused refusal.Slots) t) (ap state_of same ∙ sym h.state) stepped);
 }
 
-pub refused_growth : (a b : AtlasValue) (names : Names) (size : Size) (e : AtlasError) → Fits (state_of a).size (sides_of size)
+pub refused_growth : (a b : AtlasValue) (names : Names) (size : Size) (e : AtlasError)
+    → Fits (state_of a).size (sides_of size)
     → Step (state_of a) (atlas.Grow (sides_of size)) (atlas.Refused e) (state_of b) → b ≡ a
     → IsStopped a names (Grow size) (event_fault e)
 refused_growth a b names size refusal.Memory fits stepped same = tt
@@ -291,8 +293,10 @@ refused_growth a b names size refusal.Slots fits stepped same = λ s h. record {
 }
 
 -- A freeing of an id that was found isn't refused.
-pub refused_freeing : (a b : AtlasValue) (names : Names) (name id : ℕ) (e : AtlasError) → get nat_cmp names name ≡ Some id
-    → Step (state_of a) (atlas.Deallocate id) (atlas.Refused e) (state_of b) → IsStopped a names (Deallocate name) (event_fault e)
+pub refused_freeing : (a b : AtlasValue) (names : Names) (name id : ℕ) (e : AtlasError)
+    → get nat_cmp names name ≡ Some id
+    → Step (state_of a) (atlas.Deallocate id) (atlas.Refused e) (state_of b)
+    → IsStopped a names (Deallocate name) (event_fault e)
 refused_freeing a b names name id refusal.Memory its stepped = tt
 refused_freeing a b names name id refusal.Slots its stepped = λ s h. absurd stepped
 refused_freeing a b names name id refusal.NotLive its stepped = λ s h live.
@@ -300,7 +304,8 @@ refused_freeing a b names name id refusal.NotLive its stepped = λ s h live.
 
 -- What a fault says that is another one's.
 
-pub stopped_as : {X : Type 0} (P : EventFault → Type 0) (r : Result X EventFault) (fault : EventFault) → IsErrAnd r (λ k. k ≡ fault)
+pub stopped_as : {X : Type 0} (P : EventFault → Type 0) (r : Result X EventFault) (fault : EventFault)
+    → IsErrAnd r (λ k. k ≡ fault)
     → P fault → IfErr r P
 stopped_as P (Ok x) fault from holds = absurd from
 stopped_as P (Err k) fault from holds = subst P (sym from) holds

@@ -24,7 +24,8 @@ use Rattle.guillotiere_recording.specs.Resuming.{IsResumeFault, AnswersElse}
 use Rattle.guillotiere_recording.specs.Halting.{IsHalted, stop_of}
 use Rattle.guillotiere_recording.specs.Standing.{fault_of}
 
-pub one_more : (r old new : RecordingValue) (i : ℕ) (event : EventValue) → i < length r.events → get_or r.events i event ≡ event
+pub one_more : (r old new : RecordingValue) (i : ℕ) (event : EventValue) → i < length r.events
+    → get_or r.events i event ≡ event
     → old ≡ first_events i r → new ≡ with_event event old → new ≡ first_events (i + 1) r
 one_more r old new i event low here before more =
     let next : take (i + 1) r.events ≡ take i r.events ++ event ∷ [] =
@@ -34,7 +35,8 @@ one_more r old new i event low here before more =
 pub whole : (r last : RecordingValue) (i : ℕ) → length r.events ≤ i → last ≡ first_events i r → last ≡ r
 whole r last i all is = is ∙ ap (λ es. let it : RecordingValue = record r { events = es } in it) (take_all i r.events all)
 
-pub stops : (r : RecordingValue) (i : ℕ) (event : EventValue) (fault : EventFault) (v : SessionValue) → slice_get r.events i ≡ Some event
+pub stops : (r : RecordingValue) (i : ℕ) (event : EventValue) (fault : EventFault) (v : SessionValue)
+    → slice_get r.events i ≡ Some event
     → IsFaithful v → v.recording ≡ first_events i r → IsHalted v event fault → IsResumeFault r (fault_of fault i)
 stops r i event stop.Memory v here faithful before halted = tt
 stops r i event stop.Slots v here faithful before halted =
@@ -45,8 +47,10 @@ stops r i event stop.Bad v here faithful before halted =
     record { event = event; here = here; at = v; faithful = faithful; before = before; stops = halted }
 
 -- A grant of the next name with the recorded rectangle is the recorded one.
-pub same_grant : (size : Size) (answer : Option Allocation) (granted recorded : Allocation) (given : ℕ) (old new : RecordingValue)
-    → answer ≡ Some granted → IfSome answer (λ a. a.id ≡ given) → recorded.id ≡ given → granted.rectangle ≡ recorded.rectangle
+pub same_grant : (size : Size) (answer : Option Allocation) (granted recorded : Allocation) (given : ℕ)
+    (old new : RecordingValue)
+    → answer ≡ Some granted → IfSome answer (λ a. a.id ≡ given) → recorded.id ≡ given
+    → granted.rectangle ≡ recorded.rectangle
     → new ≡ with_event (Allocate size answer) old → new ≡ with_event (Allocate size (Some recorded)) old
 same_grant size answer granted recorded given old new is named asked same more =
     let ids : granted.id ≡ recorded.id = subst (λ (o : Option Allocation). IfSome o (λ a. a.id ≡ given)) is named ∙ sym asked in
@@ -61,7 +65,8 @@ answer_of _ = None
 
 -- A request is answered otherwise than the event says.
 pub answered_else : (v : SessionValue) (size : Size) (answer recorded : Option Allocation) (next : Named)
-    → Leads (session_of v) (Allocate size answer) next → (answer ≡ recorded → ⊥) → AnswersElse v (Allocate size recorded)
+    → Leads (session_of v) (Allocate size answer) next → (answer ≡ recorded → ⊥)
+    → AnswersElse v (Allocate size recorded)
 answered_else v size answer recorded next leads other =
     record {
       other = Allocate size answer;
@@ -91,7 +96,8 @@ some_grant None granted is same = cc
 some_grant (Some a) granted is same = cc
 
 -- A request of the next name that is refused.
-pub refused_grant : {X : Type 0} (r : Result X EventFault) (v : SessionValue) (size : Size) (recorded : Option Allocation) (e : RecordingError)
+pub refused_grant : {X : Type 0} (r : Result X EventFault) (v : SessionValue) (size : Size)
+    (recorded : Option Allocation) (e : RecordingError)
     → IsErrAnd r (λ k. k ≡ stop_of e) → v.given < 2 ^ 32
     → (e ≡ refusal.Names) ⊎ ((e ≡ refusal.Slots) ⊎ (e ≡ refusal.Memory))
     → (e ≡ refusal.Names → v.given ≡ 2 ^ 32)

@@ -73,7 +73,8 @@ box_of_live s g sound at =
     ap (λ (o : Option Grant). box_or_none (option_map (λ (k : Grant). k.box) o)) it
 
 -- Each entry's id has a box.
-pub entries_have_boxes : (v : SessionValue) → IsRecordedSession v → All (λ (n : Entry). IsSome (live_box (state_of v.atlas) n.id)) v.names
+pub entries_have_boxes : (v : SessionValue) → IsRecordedSession v
+    → All (λ (n : Entry). IsSome (live_box (state_of v.atlas) n.id)) v.names
 entries_have_boxes v h k d below =
     let n : Entry = get_or v.names k d in
     let there : Contains v.names n = (k, below, get_or_default v.names k n d below) in
@@ -81,7 +82,8 @@ entries_have_boxes v h k d below =
     let it = find-counted (λ (g : Grant). g.id == n.id) (live_in (state_of v.atlas)) (subst (λ c. 1 ≤ c) (h.ids n.id) some) in
     subst (λ (o : Option Grant). IsSome (option_map (λ (g : Grant). g.box) o)) (sym it.1) refl
 
-pub shown_book : (v : SessionValue) (found : List Allocation) → IsRecordedSession v → found ≡ map (shown (state_of v.atlas)) v.names
+pub shown_book : (v : SessionValue) (found : List Allocation) → IsRecordedSession v
+    → found ≡ map (shown (state_of v.atlas)) v.names
     → AreBooked v.recording.events found
 shown_book v found h is = subst (AreBooked v.recording.events) (sym is) it
   where
@@ -114,7 +116,8 @@ shown_book v found h is = subst (AreBooked v.recording.events) (sym is) it
             count_map (λ (n : Entry). n.id) (λ x. x == k) v.names ∙ h.ids k
             ∙ sym (count_map (λ (g : Grant). g.id) (λ x. x == k) (live_in (state_of v.atlas)))
 
-        boxed : (g : Grant) → Contains (live_in (state_of v.atlas)) g → p (under_name g.id) ≡ p (renamed_grant (name_among v.names) g)
+        boxed : (g : Grant) → Contains (live_in (state_of v.atlas)) g
+            → p (under_name g.id) ≡ p (renamed_grant (name_among v.names) g)
         boxed g there =
             ap (λ b. p (grant (name_among v.names g.id) b)) (box_of_live (state_of v.atlas) g (session_named v h).sound there)
 

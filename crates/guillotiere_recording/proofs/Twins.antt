@@ -72,7 +72,8 @@ names_kept : (old new : Named) → ((id : ℕ) → IsLive new.state id → IsLiv
 names_kept old new was kept id live = kept id (was id live) live
 
 -- And after a grant.
-names_granted : (old new : Named) (b : Box) (r : Sides) (g : Grant) (name : ℕ) → new.state.tree ≡ place old.state.size b r g.id old.state.tree
+names_granted : (old new : Named) (b : Box) (r : Sides) (g : Grant) (name : ℕ)
+    → new.state.tree ≡ place old.state.size b r g.id old.state.tree
     → new.name g.id ≡ name → KeepsNames old new
     → AreNamedAlike (with_name old.name g.id name) new.name (ids new.state.tree.members)
 names_granted old new b r g name is named kept id live =
@@ -88,16 +89,19 @@ names_granted old new b r g name is named kept id live =
 still_same : (old new : State) → new ≡ old → (id : ℕ) → IsLive new id → IsLive old id
 still_same old new is id live = subst (λ s. IsLive s id) is live
 
-still_grown : (old new : State) (r : Sides) → Step old (atlas.Grow r) Done new → (id : ℕ) → IsLive new id → IsLive old id
+still_grown : (old new : State) (r : Sides) → Step old (atlas.Grow r) Done new → (id : ℕ) → IsLive new id
+    → IsLive old id
 still_grown old new r step id live =
     subst (λ xs. Contains xs id) (ids-grown old.size r old.tree.axis old.tree.members) (subst (λ s. IsLive s id) step.2 live)
 
-still_freed : (old new : State) (freed : ℕ) → Step old (atlas.Deallocate freed) Done new → (id : ℕ) → IsLive new id → IsLive old id
+still_freed : (old new : State) (freed : ℕ) → Step old (atlas.Deallocate freed) Done new → (id : ℕ) → IsLive new id
+    → IsLive old id
 still_freed old new freed step id live = ids_released (only freed) old.tree id (subst (λ s. IsLive s id) step.1 live)
 
 -- What a reply is that is the answer to a grant.
 
-granted_too : (f g : ℕ → ℕ) (s s' t' : State) (x : Grant) (reply : AtlasReply) → AnswerAlike f g s s' t' (Allocated x) reply
+granted_too : (f g : ℕ → ℕ) (s s' t' : State) (x : Grant) (reply : AtlasReply)
+    → AnswerAlike f g s s' t' (Allocated x) reply
     → (b : Grant) × (reply ≡ Allocated b) × AnswerAlike f g s s' t' (Allocated x) (Allocated b)
 granted_too f g s s' t' x (Allocated b) h = (b, refl, h)
 granted_too f g s s' t' x NoRoom h = let e : NoRoom ≡ Allocated x = h.0 in absurd (cc)

@@ -31,7 +31,8 @@ numbers_spaced [] text rest h = subst IsEmptyOrSpaced (sym h.0) h.1
 numbers_spaced (z ∷ zs) text rest h = subst IsEmptyOrSpaced (sym h.1.whole) refl
 
 -- The word after the space is the setting's, and its numbers follow.
-pub setting_word : (s : Setting) (text after word tail rest : List ℕ) (first : ℕ) → text ≡ first ∷ after → BeginsWithWord after word tail
+pub setting_word : (s : Setting) (text after word tail rest : List ℕ) (first : ℕ) → text ≡ first ∷ after
+    → BeginsWithWord after word tail
     → BeginsWithSetting s text rest → (word ≡ setting_name s) × BeginsWithNumbers (arguments s) tail rest
 setting_word s text after word tail rest first e parted begins =
     let whole : after ≡ setting_name s ++ begins.after = (let f = begins.whole in cc) in
@@ -91,7 +92,8 @@ some_alone Group e = refl
 small_padding : (n : ℕ) → n < 65536 → padding_of (Some n) ≡ Some (Padding n)
 small_padding n h = ap (λ (b : Bool). cond b (Some (Padding n)) None) (lt-ltb n 65536 h)
 
-some_with_number : (s : Setting) (z : ℤ) → IsSmall s → arguments s ≡ z ∷ [] → setting_with_number (setting_name s) z ≡ Some s
+some_with_number : (s : Setting) (z : ℤ) → IsSmall s → arguments s ≡ z ∷ []
+    → setting_with_number (setting_name s) z ≡ Some s
 some_with_number (Allowed (One size)) z h e = absurd (cc)
 some_with_number (Allowed (Squares least greatest)) z h e = absurd (cc)
 some_with_number (Allowed (Powers greatest)) z h e = let same : greatest ≡ z = cc in ap (λ (n : ℤ). Some (Allowed (Powers n))) (sym same)
@@ -107,7 +109,8 @@ some_with_number Json z h e = absurd (cc)
 some_with_number (Pages n) z h e = let same : pos n ≡ z = cc in subst (λ (y : ℤ). setting_with_number (codes "pages") y ≡ Some (Pages n)) same refl
 some_with_number Group z h e = absurd (cc)
 
-none_with_number : (s : Setting) (z y : ℤ) (zs : List ℤ) → arguments s ≡ z ∷ y ∷ zs → setting_with_number (setting_name s) z ≡ None
+none_with_number : (s : Setting) (z y : ℤ) (zs : List ℤ) → arguments s ≡ z ∷ y ∷ zs
+    → setting_with_number (setting_name s) z ≡ None
 none_with_number (Allowed (One size)) z y zs e = refl
 none_with_number (Allowed (Squares least greatest)) z y zs e = refl
 none_with_number (Allowed (Powers greatest)) z y zs e = absurd (cc)
@@ -123,7 +126,8 @@ none_with_number Json z y zs e = absurd (cc)
 none_with_number (Pages n) z y zs e = absurd (cc)
 none_with_number Group z y zs e = absurd (cc)
 
-some_with_numbers : (s : Setting) (z y : ℤ) → arguments s ≡ z ∷ y ∷ [] → setting_with_numbers (setting_name s) z y ≡ Some s
+some_with_numbers : (s : Setting) (z y : ℤ) → arguments s ≡ z ∷ y ∷ []
+    → setting_with_numbers (setting_name s) z y ≡ Some s
 some_with_numbers (Allowed (One size)) z y e = let a : size.width ≡ z = cc in let b : size.height ≡ y = cc in sym (λ k. Some (Allowed (One (record { width = a k; height = b k }))))
 some_with_numbers (Allowed (Squares least greatest)) z y e = let a : least ≡ z = cc in let b : greatest ≡ y = cc in sym (λ k. Some (Allowed (Squares (a k) (b k))))
 some_with_numbers (Allowed (Powers greatest)) z y e = absurd (cc)
@@ -162,7 +166,8 @@ pub record HasNumbers (s : Setting) (word tail rest : List ℕ) : Type 0 where
 abbrev pub IsSettingChosen : (s : Setting) (word tail rest : List ℕ) → Type 0
 IsSettingChosen s word tail rest = IsLoneSetting s word tail rest ⊎ (HasNumber s word tail rest ⊎ HasNumbers s word tail rest)
 
-chosen_by : (s : Setting) (zs : List ℤ) (tail rest : List ℕ) → arguments s ≡ zs → IsSmall s → BeginsWithNumbers zs tail rest → IsSettingChosen s (setting_name s) tail rest
+chosen_by : (s : Setting) (zs : List ℤ) (tail rest : List ℕ) → arguments s ≡ zs → IsSmall s
+    → BeginsWithNumbers zs tail rest → IsSettingChosen s (setting_name s) tail rest
 chosen_by s [] tail rest e small h = inl (some_alone s e, h.0)
 chosen_by s (z ∷ []) tail rest e small h =
     inr (inl (record {
@@ -187,19 +192,22 @@ chosen_by s (z ∷ y ∷ x ∷ more) tail rest e small h =
     absurd (omega (arith, many, by_count s))
 
 -- What a text begins with is chosen by the word after its space and the numbers after that.
-pub chosen : (s : Setting) (text after word tail rest : List ℕ) (first : ℕ) → text ≡ first ∷ after → BeginsWithWord after word tail
+pub chosen : (s : Setting) (text after word tail rest : List ℕ) (first : ℕ) → text ≡ first ∷ after
+    → BeginsWithWord after word tail
     → BeginsWithSetting s text rest → IsSettingChosen s word tail rest
 chosen s text after word tail rest first e parted begins =
     let parts = setting_word s text after word tail rest first e parted begins in
     subst (λ (w : List ℕ). IsSettingChosen s w tail rest) (sym parts.0) (chosen_by s (arguments s) tail rest refl begins.small parts.1)
 
-pub by_alone : (s found : Setting) (word tail rest : List ℕ) → IsSettingChosen s word tail rest → Some found ≡ setting_alone word → (found ≡ s) × (tail ≡ rest)
+pub by_alone : (s found : Setting) (word tail rest : List ℕ) → IsSettingChosen s word tail rest
+    → Some found ≡ setting_alone word → (found ≡ s) × (tail ≡ rest)
 by_alone s found word tail rest (inl h) e = let is = h.0 in (cc, h.1)
 by_alone s found word tail rest (inr (inl h)) e = let not = h.not_alone in absurd (cc)
 by_alone s found word tail rest (inr (inr h)) e = let not = h.not_alone in absurd (cc)
 
 -- A first number follows where no word is alone.
-pub first_follows : (s : Setting) (word tail rest : List ℕ) → IsSettingChosen s word tail rest → None ≡ setting_alone word
+pub first_follows : (s : Setting) (word tail rest : List ℕ) → IsSettingChosen s word tail rest
+    → None ≡ setting_alone word
     → (z : ℤ) × (r : List ℕ) × BeginsWithNumber tail z r
 first_follows s word tail rest (inl h) e = let is = h.0 in absurd (cc)
 first_follows s word tail rest (inr (inl h)) e = (h.z, rest, h.begins)
@@ -209,7 +217,8 @@ first_follows s word tail rest (inr (inr h)) e = (h.z, h.middle, h.begins)
 abbrev pub IsRead : (tail : List ℕ) → (first : ℤ) → (after : List ℕ) → Type 0
 IsRead tail first after = (z : ℤ) (r : List ℕ) → BeginsWithNumber tail z r → (first ≡ z) × (after ≡ r)
 
-pub by_number : (s found : Setting) (word tail rest after : List ℕ) (first : ℤ) → IsSettingChosen s word tail rest → None ≡ setting_alone word
+pub by_number : (s found : Setting) (word tail rest after : List ℕ) (first : ℤ) → IsSettingChosen s word tail rest
+    → None ≡ setting_alone word
     → IsRead tail first after → Some found ≡ setting_with_number word first → (found ≡ s) × (after ≡ rest)
 by_number s found word tail rest after first (inl h) e read is = let alone = h.0 in absurd (cc)
 by_number s found word tail rest after first (inr (inl h)) e read is =
@@ -222,7 +231,8 @@ by_number s found word tail rest after first (inr (inr h)) e read is =
     absurd (cc)
 
 -- A second number follows where one isn't enough.
-pub second_follows : (s : Setting) (word tail rest after : List ℕ) (first : ℤ) → IsSettingChosen s word tail rest → None ≡ setting_alone word
+pub second_follows : (s : Setting) (word tail rest after : List ℕ) (first : ℤ) → IsSettingChosen s word tail rest
+    → None ≡ setting_alone word
     → IsRead tail first after → None ≡ setting_with_number word first
     → (y : ℤ) × BeginsWithNumber after y rest × (setting_with_numbers word first y ≡ Some s)
 second_follows s word tail rest after first (inl h) e read not = let alone = h.0 in absurd (cc)

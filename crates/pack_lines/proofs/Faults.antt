@@ -8,7 +8,8 @@ use Rattle.pack_lines.specs.Jobs.{IsJobFault, Sets}
 use Rattle.pack_lines.specs.Names.{IsNameFault}
 use Rattle.pack_lines.specs.Sprites.{AreNamed}
 
-pub name_fault : (e : PackError) (text rest : List ℕ) (before : ℕ) (settings : Settings) (sprites : List Sprite) → Sets text before settings rest
+pub name_fault : (e : PackError) (text rest : List ℕ) (before : ℕ) (settings : Settings) (sprites : List Sprite)
+    → Sets text before settings rest
     → AreNamed sprites rest → IsNameFault before sprites e → IsJobFault text e
 name_fault BadSettings text rest before settings sprites set named fault = absurd fault
 name_fault NotTogether text rest before settings sprites set named fault = absurd fault

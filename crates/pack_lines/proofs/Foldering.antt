@@ -44,7 +44,8 @@ module _ {X : Type 0} (p : X → Bool) where
       ∙ ap (λ (n : ℕ). or_else (position_from p 0 (take i xs)) (cond (p (get_or xs i d)) (Some n) None)) same
       ∙ ap (λ (o : Option ℕ). or_else o (cond (p (get_or xs i d)) (Some i) None)) (sym (position_from-zero p (take i xs)))
 
-  kept_by : (b : Bool) (a n : ℕ) (u v : Option ℕ) → (u ≡ Some n → v ≡ Some n) → cond b (Some a) u ≡ Some n → cond b (Some a) v ≡ Some n
+  kept_by : (b : Bool) (a n : ℕ) (u v : Option ℕ) → (u ≡ Some n → v ≡ Some n) → cond b (Some a) u ≡ Some n
+      → cond b (Some a) v ≡ Some n
   kept_by true a n u v h e = e
   kept_by false a n u v h e = h e
 
@@ -58,17 +59,20 @@ module _ {X : Type 0} (p : X → Bool) where
   pub position_kept : (xs : List X) (i n : ℕ) → position p (take i xs) ≡ Some n → position p xs ≡ Some n
   position_kept xs i n e = position_from-zero p xs ∙ from_kept 0 xs i n (sym (position_from-zero p (take i xs)) ∙ e)
 
-  found_by : (b : Bool) (a : ℕ) (u : Option ℕ) → (b ≡ false → (n : ℕ) × (u ≡ Some n)) → (n : ℕ) × (cond b (Some a) u ≡ Some n)
+  found_by : (b : Bool) (a : ℕ) (u : Option ℕ) → (b ≡ false → (n : ℕ) × (u ≡ Some n))
+      → (n : ℕ) × (cond b (Some a) u ≡ Some n)
   found_by true a u h = (a, refl)
   found_by false a u h = h refl
 
-  from_found : (a : ℕ) (xs : List X) (k : ℕ) (d : X) → k < length xs → p (get_or xs k d) ≡ true → (n : ℕ) × (position_from p a xs ≡ Some n)
+  from_found : (a : ℕ) (xs : List X) (k : ℕ) (d : X) → k < length xs → p (get_or xs k d) ≡ true
+      → (n : ℕ) × (position_from p a xs ≡ Some n)
   from_found a [] k d low e = absurd (omega arith)
   from_found a (x ∷ xs) zero d low e = (a, ap (λ (b : Bool). cond b (Some a) (position_from p (a + 1) xs)) e)
   from_found a (x ∷ xs) (suc k) d low e = found_by (p x) a _ (λ no. from_found (a + 1) xs k d (omega arith) e)
 
   -- Where one passes, one is the first.
-  pub position_found : (xs : List X) (k : ℕ) (d : X) → k < length xs → p (get_or xs k d) ≡ true → (n : ℕ) × (position p xs ≡ Some n)
+  pub position_found : (xs : List X) (k : ℕ) (d : X) → k < length xs → p (get_or xs k d) ≡ true
+      → (n : ℕ) × (position p xs ≡ Some n)
   position_found xs k d low e = let found = from_found 0 xs k d low e in (found.0, position_from-zero p xs ∙ found.1)
 
 folder_by_test : (f : List ℕ) (o : Option (List ℕ)) → is_folder f o ≡ true → o ≡ Some f
@@ -80,7 +84,8 @@ test_by_folder f o e = ap (is_folder f) e ∙ (bytes_eq-Decides f f).1 refl
 
 module _ (sprites : List Sprite) where
   -- The first sprite of a folder has it.
-  first_has : (f : List ℕ) (n : ℕ) (d : Sprite) → folder_number sprites (Some f) ≡ Some n → folder_of (get_or sprites n d) ≡ Some f
+  first_has : (f : List ℕ) (n : ℕ) (d : Sprite) → folder_number sprites (Some f) ≡ Some n
+      → folder_of (get_or sprites n d) ≡ Some f
   first_has f n d e = folder_by_test f _ (position-Some (λ s. is_folder f (folder_of s)) sprites n d e).1
 
   has_first : (f : List ℕ) (k : ℕ) (d : Sprite) → k < length sprites → folder_of (get_or sprites k d) ≡ Some f
@@ -92,7 +97,8 @@ module _ (sprites : List Sprite) where
   none_known None k d low e = refl
   none_known (Some f) k d low e = ap is_none (has_first f k d low e).1
 
-  same_known : (o q : Option (List ℕ)) (j k : ℕ) (d : Sprite) → j < length sprites → k < length sprites → folder_of (get_or sprites j d) ≡ o
+  same_known : (o q : Option (List ℕ)) (j k : ℕ) (d : Sprite) → j < length sprites → k < length sprites
+      → folder_of (get_or sprites j d) ≡ o
       → folder_of (get_or sprites k d) ≡ q → folder_number sprites o ≡ folder_number sprites q → o ≡ q
   same_known None None j k d low high a b e = refl
   same_known None (Some g) j k d low high a b e = let first = has_first g k d high b in let is = first.1 in absurd (cc)
@@ -101,7 +107,8 @@ module _ (sprites : List Sprite) where
       let first = has_first f j d low a in
       sym (first_has f first.0 d first.1) ∙ first_has g first.0 d (sym e ∙ first.1)
 
-  group_at : (k : ℕ) (d : Sprite) → k < length sprites → get_or (folder_groups sprites) k None ≡ folder_number sprites (folder_of (get_or sprites k d))
+  group_at : (k : ℕ) (d : Sprite) → k < length sprites
+      → get_or (folder_groups sprites) k None ≡ folder_number sprites (folder_of (get_or sprites k d))
   group_at k d low = get_or-map (λ s. folder_number sprites (folder_of s)) sprites k d None low
 
   -- Numbers by folder.
@@ -115,7 +122,8 @@ module _ (sprites : List Sprite) where
     );
   }
 
-pub are_by_folder : (sprites : List Sprite) (groups : List (Option ℕ)) → groups ≡ folder_groups sprites → AreByFolder sprites groups
+pub are_by_folder : (sprites : List Sprite) (groups : List (Option ℕ)) → groups ≡ folder_groups sprites
+    → AreByFolder sprites groups
 are_by_folder sprites groups e = subst (AreByFolder sprites) (sym e) (by_folder sprites)
 
 or_none : (o : Option ℕ) → or_else o None ≡ o
@@ -155,7 +163,8 @@ module _ (sprites : List Sprite) (i : ℕ) (x : Sprite) (firsts : BTreeMap (Bor 
   known_kept n e q =
       known q ∙ by_first n q (bytes_eq folder.now q.now) e refl ∙ sym (next q.now)
 
-  pub number_known : (n : ℕ) → get by_bytes firsts folder ≡ Some n → (d : Sprite) → Some n ≡ folder_number sprites (folder_of (get_or sprites i d))
+  pub number_known : (n : ℕ) → get by_bytes firsts folder ≡ Some n → (d : Sprite)
+      → Some n ≡ folder_number sprites (folder_of (get_or sprites i d))
   number_known n e d =
       sym (ap (folder_number sprites) (here d) ∙ position_kept (lies_in_folder folder.now) sprites i n (sym (known folder) ∙ e))
 
@@ -169,13 +178,15 @@ module _ (sprites : List Sprite) (i : ℕ) (x : Sprite) (firsts : BTreeMap (Bor 
       sym (ap (λ (o : Option ℕ). or_else o (Some i)) none)
 
   -- This one is the first.
-  pub known_new : (new : BTreeMap (Bor (List ℕ)) ℕ) → get by_bytes firsts folder ≡ None → Updates by_bytes firsts new folder (Some i)
+  pub known_new : (new : BTreeMap (Bor (List ℕ)) ℕ) → get by_bytes firsts folder ≡ None
+      → Updates by_bytes firsts new folder (Some i)
       → AreFirst new (take (i + 1) sprites)
   known_new new e updates q =
       updates.0 q ∙ ap (λ (b : Bool). cond b (Some i) (get by_bytes firsts q)) (is_eq-slice_cmp folder.now q.now)
       ∙ ap (λ (o : Option ℕ). cond (bytes_eq folder.now q.now) (Some i) o) (known q) ∙ by_new q (bytes_eq folder.now q.now) e refl ∙ sym (next q.now)
 
-  pub number_new : get by_bytes firsts folder ≡ None → (d : Sprite) → Some i ≡ folder_number sprites (folder_of (get_or sprites i d))
+  pub number_new : get by_bytes firsts folder ≡ None → (d : Sprite)
+      → Some i ≡ folder_number sprites (folder_of (get_or sprites i d))
   number_new e d =
       let test : bytes_eq folder.now folder.now ≡ true = (bytes_eq-Decides folder.now folder.now).1 refl in
       let first : position (lies_in_folder folder.now) (take (i + 1) sprites) ≡ Some i =
@@ -184,8 +195,10 @@ module _ (sprites : List Sprite) (i : ℕ) (x : Sprite) (firsts : BTreeMap (Bor 
       sym (ap (folder_number sprites) (here d) ∙ position_kept (lies_in_folder folder.now) sprites (i + 1) i first)
 
 -- One number more.
-pub groups_more : (sprites : List Sprite) (f : Sprite → Option ℕ) (i : ℕ) (old new : List (Option ℕ)) (g : Option ℕ) → i < length sprites
-    → new ≡ old ++ g ∷ [] → old ≡ map f (take i sprites) → ((d : Sprite) → g ≡ f (get_or sprites i d)) → new ≡ map f (take (i + 1) sprites)
+pub groups_more : (sprites : List Sprite) (f : Sprite → Option ℕ) (i : ℕ) (old new : List (Option ℕ)) (g : Option ℕ)
+    → i < length sprites
+    → new ≡ old ++ g ∷ [] → old ≡ map f (take i sprites) → ((d : Sprite) → g ≡ f (get_or sprites i d))
+    → new ≡ map f (take (i + 1) sprites)
 groups_more [] f i old new g low pushed was is = absurd (omega arith)
 groups_more (x ∷ sprites) f i old new g low pushed was is =
     pushed ∙ ap (λ (gs : List (Option ℕ)). gs ++ g ∷ []) was ∙ ap (λ (h : Option ℕ). map f (take i (x ∷ sprites)) ++ h ∷ []) (is x)

@@ -34,8 +34,10 @@ cond_or false true = refl
 cond_or false false = refl
 
 -- One more name is known.
-pub known_more : (xs : List Sprite) (i : ℕ) (x : Sprite) (key : Bor (List ℕ)) (old new : BTreeSet (Bor (List ℕ))) → i < length xs → get_or xs i x ≡ x
-    → key.now ≡ string_bytes x.name → Updates by_name old new key true → ((q : Bor (List ℕ)) → contains by_name old q ≡ list_any (named q) (take i xs))
+pub known_more : (xs : List Sprite) (i : ℕ) (x : Sprite) (key : Bor (List ℕ)) (old new : BTreeSet (Bor (List ℕ)))
+    → i < length xs → get_or xs i x ≡ x
+    → key.now ≡ string_bytes x.name → Updates by_name old new key true
+    → ((q : Bor (List ℕ)) → contains by_name old q ≡ list_any (named q) (take i xs))
     → (q : Bor (List ℕ)) → contains by_name new q ≡ list_any (named q) (take (i + 1) xs)
 known_more xs i x key old new low at same updates known q =
     updates.0 q ∙ ap (λ (b : List ℕ). cond (is_eq (slice_cmp nat_cmp b q.now)) true (contains by_name old q)) same ∙ ap (λ (b : Bool). cond (named q x) true b) (known q) ∙ cond_or (named q x) (list_any (named q) (take i xs))
@@ -48,7 +50,8 @@ HaveNamesApart xs i = (j k : ℕ) (d : Sprite) → j < k → k < i → string_by
 same_or_below : (k i : ℕ) → k < i + 1 → (k ≡ i) ⊎ (k < i)
 same_or_below k i h = grind arith
 
-pub apart_more : (xs : List Sprite) (i : ℕ) (x : Sprite) (key : Bor (List ℕ)) → i < length xs → get_or xs i x ≡ x → key.now ≡ string_bytes x.name
+pub apart_more : (xs : List Sprite) (i : ℕ) (x : Sprite) (key : Bor (List ℕ)) → i < length xs → get_or xs i x ≡ x
+    → key.now ≡ string_bytes x.name
     → list_any (named key) (take i xs) ≡ false
     → HaveNamesApart xs i → HaveNamesApart xs (i + 1)
 apart_more xs i x key low at name none apart j k d first last same =
@@ -65,7 +68,8 @@ apart_more xs i x key low at name none apart j k d first last same =
     ]
 
 -- A name that is known stands on an earlier line.
-pub named_again : (xs : List Sprite) (i : ℕ) (x : Sprite) (key : Bor (List ℕ)) → i < length xs → get_or xs i x ≡ x → key.now ≡ string_bytes x.name
+pub named_again : (xs : List Sprite) (i : ℕ) (x : Sprite) (key : Bor (List ℕ)) → i < length xs → get_or xs i x ≡ x
+    → key.now ≡ string_bytes x.name
     → list_any (named key) (take i xs) ≡ true → IsNamedAgain xs i
 named_again xs i x key low at name some =
     let found = Any-from_list_any (named key) (take i xs) some in

@@ -71,22 +71,27 @@ scalar_of (Scalar code) text after rest is h =
     (code, refl, subst (λ (t : List ℕ). BeginsWithScalar code t rest) (tails 117 117 h.0 after text more is) h.2)
 
 -- The first of the pieces that a text spells, where one is known.
-pub next_piece_of : (more : List Piece) (text end : List ℕ) (p : Piece) (after : List ℕ) → SpellsPieces more text end → BeginsWithPiece p text after
-    → (q : Piece) × (others : List Piece) × (middle : List ℕ) × (more ≡ q ∷ others) × BeginsWithPiece q text middle × SpellsPieces others middle end
+pub next_piece_of : (more : List Piece) (text end : List ℕ) (p : Piece) (after : List ℕ) → SpellsPieces more text end
+    → BeginsWithPiece p text after
+    → (q : Piece) × (others : List Piece) × (middle : List ℕ) × (more ≡ q ∷ others) × BeginsWithPiece q text middle
+    × SpellsPieces others middle end
 next_piece_of [] text end p after spells begins = absurd (no_mark p text after end begins spells)
 next_piece_of (q ∷ others) text end p after spells begins = (q, others, spells.0, refl, spells.1, spells.2)
 
 -- Where no piece comes, the quotation mark does.
-pub end_of : (more : List Piece) (text end : List ℕ) → SpellsPieces more text end → ((p : Piece) (rest : List ℕ) → BeginsWithPiece p text rest → ⊥)
+pub end_of : (more : List Piece) (text end : List ℕ) → SpellsPieces more text end
+    → ((p : Piece) (rest : List ℕ) → BeginsWithPiece p text rest → ⊥)
     → (more ≡ []) × (text ≡ 34 ∷ end)
 end_of [] text end spells none = (refl, spells)
 end_of (q ∷ others) text end spells none = absurd (none q spells.0 spells.1)
 
 -- The bytes of one piece more.
-pub joined : (old new bytes more whole : List ℕ) → new ≡ old ++ bytes → whole ≡ old ++ (bytes ++ more) → whole ≡ new ++ more
+pub joined : (old new bytes more whole : List ℕ) → new ≡ old ++ bytes → whole ≡ old ++ (bytes ++ more)
+    → whole ≡ new ++ more
 joined old new bytes more whole e f = f ∙ sym (append_assoc old bytes more) ∙ ap (λ (xs : List ℕ). xs ++ more) (sym e)
 
-pub parted : (old new whole : List ℕ) (more others : List Piece) (p q : Piece) → new ≡ old ++ piece_bytes p → p ≡ q → more ≡ q ∷ others
+pub parted : (old new whole : List ℕ) (more others : List Piece) (p q : Piece) → new ≡ old ++ piece_bytes p → p ≡ q
+    → more ≡ q ∷ others
     → whole ≡ old ++ flat_map piece_bytes more → whole ≡ new ++ flat_map piece_bytes others
 parted old new whole more others p q e f g h =
     joined old new (piece_bytes q) (flat_map piece_bytes others) whole (e ∙ ap (λ (r : Piece). old ++ piece_bytes r) f)

@@ -6,7 +6,8 @@ use Rattle.pack_lines.specs.Settings.{BeginsWithNumbers, BeginsWithSetting, Spel
 
 -- The first of the settings that a text spells.
 pub next_spelled : (all : List Setting) (text : List ℕ) → SpellsSettings all text → text ≢ []
-    → (s : Setting) × (others : List Setting) × (rest : List ℕ) × (all ≡ s ∷ others) × BeginsWithSetting s text rest × SpellsSettings others rest
+    → (s : Setting) × (others : List Setting) × (rest : List ℕ) × (all ≡ s ∷ others) × BeginsWithSetting s text rest
+    × SpellsSettings others rest
 next_spelled [] text spells some = absurd (some spells)
 next_spelled (s ∷ others) text spells some = (s, others, spells.0, refl, spells.1, spells.2)
 
@@ -15,7 +16,8 @@ pub none_spelled : (all : List Setting) (text : List ℕ) → SpellsSettings all
 none_spelled [] text spells none = refl
 none_spelled (s ∷ others) text spells none = let whole = spells.1.whole in absurd (cc)
 
-pub changed_more : (whole old new : Settings) (more others : List Setting) (s setting : Setting) → whole ≡ changed_by old more → more ≡ s ∷ others
+pub changed_more : (whole old new : Settings) (more others : List Setting) (s setting : Setting)
+    → whole ≡ changed_by old more → more ≡ s ∷ others
     → setting ≡ s → new ≡ with_setting old setting → whole ≡ changed_by new others
 changed_more whole old new more others s setting a b c d =
     a ∙ ap (changed_by old) b ∙ ap (λ (n : Settings). changed_by n others) (ap (with_setting old) (sym c) ∙ sym d)

@@ -55,7 +55,8 @@ reads_quoted name rest = inr (record {
   ends = (map Byte name, bytes_spelled name rest, same_bytes name);
 })
 
-reads_plain : (name rest : List ℕ) → IsName name → IsEmptyOrSpaced rest → needs_quotes name ≡ false → BeginsWithSpelling name (name ++ rest) rest
+reads_plain : (name rest : List ℕ) → IsName name → IsEmptyOrSpaced rest → needs_quotes name ≡ false
+    → BeginsWithSpelling name (name ++ rest) rest
 reads_plain [] rest is spaced e = absurd (is.some refl)
 reads_plain (byte ∷ name) rest is spaced e =
     inl (record {
@@ -72,6 +73,7 @@ pub reads_again : (name text : List ℕ) → text ≡ spelled name → IsReadAga
 reads_again name text e rest is spaced =
     subst (λ (t : List ℕ). BeginsWithSpelling name (t ++ rest) rest) (sym e) (by_need name rest _ refl is spaced)
 
-pub known_again : {V E : Type 0} (name : List ℕ) (items : V → List ℕ) (r : Result V E) → IfOk r (λ v. items v ≡ spelled name) → IfOk r (λ v. IsReadAgain name (items v))
+pub known_again : {V E : Type 0} (name : List ℕ) (items : V → List ℕ) (r : Result V E)
+    → IfOk r (λ v. items v ≡ spelled name) → IfOk r (λ v. IsReadAgain name (items v))
 known_again name items (Ok v) e = reads_again name (items v) e
 known_again name items (Err f) e = tt

@@ -32,12 +32,14 @@ module _ {M : Type 1} {𝓤 : Ura M} (𝓛 : Logic 𝓤) (at_mem : Memory → SP
 module _ {M : Type 1} {𝓤 : Ura M} (𝓛 : Logic 𝓤) (at_mem : Memory → SProp 𝓤) (run : Routine → Fun 𝓤) (κ : Lft) (q : Share) (c : ℕ × ℕ) where
   open 𝓛 use {H, A}
 
-  pub Count-goes : ent 𝓤 (sep 𝓤 (sem 𝓛 (hidden_shr Counts κ (record { value = tt }) c.0 c.1)) (A.lft κ q)) ((Count 𝓛 at_mem run).pre (at_count 𝓛 at_mem run κ q c))
+  pub Count-goes : ent 𝓤
+      (sep 𝓤 (sem 𝓛 (hidden_shr Counts κ (record { value = tt }) c.0 c.1)) (A.lft κ q)) ((Count 𝓛 at_mem run).pre (at_count 𝓛 at_mem run κ q c))
   Count-goes =
       qed 𝓛 (‵ (hidden_shr Counts κ (record { value = tt }) c.0 c.1) ∷ ‵ (flft κ q) ∷ []) ∵ feq_i ! (List Val) (vptr c.0 c.1 ∷ []) (vptr c.0 c.1 ∷ []) refl $ fjoin ! $
       nothing ! $ move ! (1 ∷ []) $ fjoin ! $ nothing ! $ move ! (2 ∷ []) $ join ! $ join ! $ nothing ! $ move ! (1 ∷ []) $ done !
 
-  pub Count-gives : (v : Val) → ent 𝓤 ((Count 𝓛 at_mem run).post (at_count 𝓛 at_mem run κ q c) v) (H.⇛ (guard 𝓤 (v ≡ vunit) (A.lft κ q)))
+  pub Count-gives : (v : Val)
+      → ent 𝓤 ((Count 𝓛 at_mem run).post (at_count 𝓛 at_mem run κ q c) v) (H.⇛ (guard 𝓤 (v ≡ vunit) (A.lft κ q)))
   Count-gives v =
       qed 𝓛 (types.Kit.raw ((Count 𝓛 at_mem run).post (at_count 𝓛 at_mem run κ q c) v) ∷ []) ∵ updating ! $
       use1 𝓛 (later (some (λ (r : Unit {0}). ((‵ (flft κ q) ⊛ ‵ ftrue) ⊛ ‵ (unit.own_val r (v ∷ []))) ⊛ some (λ (ws : Unit {0} × Unit {0}). ‵ (fsep ftrue ftrue) ⊛ ‵ ftrue)))) (id⊢ 𝓤 _) $ await ! tt $ pick ! (λ r.

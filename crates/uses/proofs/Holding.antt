@@ -23,7 +23,8 @@ granted_live old new r g gs does all = IsPermutation-trans (live_in new) (g ∷ 
     (IsPermutation-sym (g ∷ live_in old) (live_in new) does.live) (IsPermutation-cons g (live_in old) gs all)
 
 -- Its boxes share no unit square.
-pub live_apart : (s : State) (gs : List Grant) → IsSound s → IsPermutation (live_in s) gs → AreDisjoint (map (λ g. g.box) gs)
+pub live_apart : (s : State) (gs : List Grant) → IsSound s → IsPermutation (live_in s) gs
+    → AreDisjoint (map (λ g. g.box) gs)
 live_apart s gs sound all x y =
     let boxes = IsPermutation-map (λ (g : Grant). g.box) (live_in s) gs all in
     omega (arith, (live_are_guarded s sound).1.apart x y, count_by-permutation (covers x y) _ _ boxes)

@@ -10,7 +10,8 @@ use Rattle.guillotiere_recording.specs.Replays.{HasRearranging, MayFail}
 use Rattle.guillotiere_recording.specs.Twins.{is_plain_event}
 use Rattle.uses.specs.Replaying.{ArePlain}
 
-pub plain_more : (old new : RecordingValue) (e : EventValue) → new ≡ with_event e old → is_plain_event e ≡ true → ArePlain old.events
+pub plain_more : (old new : RecordingValue) (e : EventValue) → new ≡ with_event e old → is_plain_event e ≡ true
+    → ArePlain old.events
     → ArePlain new.events
 plain_more old new e is plain before =
     subst (λ (r : RecordingValue). ArePlain r.events) (sym is)

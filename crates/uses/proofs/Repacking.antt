@@ -68,11 +68,13 @@ moved_or_lost cs (h ∷ hs) = by_found (find (names h.grant.id) cs) (moved_or_lo
         (IsPermutation-sym (moves ++ picture_of h ∷ lost) (picture_of h ∷ (moves ++ lost)) (IsPermutation-middle moves (picture_of h) lost))
 
 -- What is kept is picture_of where it was moved to.
-kept_shown : (cs : List Change) (hs : List Held) → map picture_of (filter_map (kept_by cs) hs) ≡ map after_move (filter_map (move_by cs) hs)
+kept_shown : (cs : List Change) (hs : List Held)
+    → map picture_of (filter_map (kept_by cs) hs) ≡ map after_move (filter_map (move_by cs) hs)
 kept_shown cs [] = refl
 kept_shown cs (h ∷ hs) = by_found (find (names h.grant.id) cs) (kept_shown cs hs)
   where
-    by_found : (o : Option Change) → map picture_of (filter_map (kept_by cs) hs) ≡ map after_move (filter_map (move_by cs) hs)
+    by_found : (o : Option Change)
+        → map picture_of (filter_map (kept_by cs) hs) ≡ map after_move (filter_map (move_by cs) hs)
         → map picture_of (cons_option (option_map (λ (c : Change). record { key = h.key; grant = c.new }) o) (filter_map (kept_by cs) hs))
         ≡ map after_move (cons_option (option_map (λ (c : Change). record { key = h.key; from = h.grant.rectangle; to = c.new.rectangle }) o) (filter_map (move_by cs) hs))
     by_found (Some c) rest = ap (λ ps. record { key = h.key; area = c.new.rectangle } ∷ ps) rest
@@ -105,13 +107,15 @@ kept_counts cs p [] = refl
 kept_counts cs p (h ∷ hs) =
     by_found (find (names h.grant.id) cs) (kept_counts cs p hs) ∙ sym (count_by-cons (tested cs p) (granted h) (map granted hs))
   where
-    by_found : (o : Option Change) → count_by p (map granted (filter_map (kept_by cs) hs)) ≡ count_by (tested cs p) (map granted hs)
+    by_found : (o : Option Change)
+        → count_by p (map granted (filter_map (kept_by cs) hs)) ≡ count_by (tested cs p) (map granted hs)
         → count_by p (map granted (cons_option (option_map (λ (c : Change). record { key = h.key; grant = c.new }) o) (filter_map (kept_by cs) hs)))
         ≡ one_if (passes p o) + count_by (tested cs p) (map granted hs)
     by_found (Some c) rest = count_by-cons p (is_now c) (map granted (filter_map (kept_by cs) hs)) ∙ ap (λ n. one_if (p (is_now c)) + n) rest
     by_found None rest = omega (arith, rest)
 
-changed_counts : (cs : List Change) (p : Grant → Bool) (xs : List Change) → All (λ c. find (names c.old.id) cs ≡ Some c) xs
+changed_counts : (cs : List Change) (p : Grant → Bool) (xs : List Change)
+    → All (λ c. find (names c.old.id) cs ≡ Some c) xs
     → count_by (tested cs p) (map was xs) ≡ count_by p (map is_now xs)
 changed_counts cs p [] each = refl
 changed_counts cs p (x ∷ xs) each =
@@ -137,7 +141,8 @@ lost_counts cs p (f ∷ fs) each =
 
 -- Grants of which no two have one id, some of them changed and the others lost.
 module _ (cs : List Change) (fs : List Allocation) (once : (k : ℕ) → count_by (has k) (map was cs ++ map grant_of fs) ≤ 1) where
-  parts : (k : ℕ) → count_by (has k) (map was cs ++ map grant_of fs) ≡ count_by (names k) cs + count_by (has k) (map grant_of fs)
+  parts : (k : ℕ)
+      → count_by (has k) (map was cs ++ map grant_of fs) ≡ count_by (names k) cs + count_by (has k) (map grant_of fs)
   parts k = count_by-append (has k) (map was cs) (map grant_of fs) ∙ ap (λ n. n + count_by (has k) (map grant_of fs)) (count_by-map was (has k) cs)
 
   changed_found : All (λ c. find (names c.old.id) cs ≡ Some c) cs
@@ -173,7 +178,8 @@ module _ (cs : List Change) (fs : List Allocation) (once : (k : ℕ) → count_b
         omega arith)
 
     -- The change that names the id of what is held is of that grant.
-    same_as_held : (h : Held) (c : Change) → Contains (map was cs ++ map grant_of fs) (granted h) → find (names h.grant.id) cs ≡ Some c
+    same_as_held : (h : Held) (c : Change) → Contains (map was cs ++ map grant_of fs) (granted h)
+        → find (names h.grant.id) cs ≡ Some c
         → was c ≡ granted h
     same_as_held h c at found =
         let named = Contains-find (names h.grant.id) cs c found in
@@ -184,7 +190,8 @@ module _ (cs : List Change) (fs : List Allocation) (once : (k : ℕ) → count_b
     abbrev HasSides : Move → Type 0
     HasSides m = box_sides (box_of m.to) ≡ box_sides (box_of m.from)
 
-    sides_of_moves : All KeepsSides cs → (xs : List Held) → All (λ h. Contains (map was cs ++ map grant_of fs) (granted h)) xs
+    sides_of_moves : All KeepsSides cs → (xs : List Held)
+        → All (λ h. Contains (map was cs ++ map grant_of fs) (granted h)) xs
         → All HasSides (filter_map (move_by cs) xs)
     sides_of_moves keep [] all = All-nil HasSides
     sides_of_moves keep (h ∷ xs) all =
@@ -259,13 +266,15 @@ module _ (old new : State) (hs : List Held) (cs : List Change) (fs : List Alloca
       subst (IsPermutation (map (λ (g : Grant). g.box) (live_in new))) (kept_boxes cs hs)
       (IsPermutation-map (λ (g : Grant). g.box) (live_in new) (map granted kept) kept_live)
 
-  within_moves : (ms : List Move) → All (IsWithin new.size) (map (λ (m : Move). box_of m.to) ms) → All (λ m. IsWithin new.size (box_of m.to)) ms
+  within_moves : (ms : List Move) → All (IsWithin new.size) (map (λ (m : Move). box_of m.to) ms)
+      → All (λ m. IsWithin new.size (box_of m.to)) ms
   within_moves [] all = All-nil (λ m. IsWithin new.size (box_of m.to))
   within_moves (m ∷ ms) all =
       All-cons (λ m. IsWithin new.size (box_of m.to)) m ms (All-head (IsWithin new.size) (box_of m.to) (map (λ (m : Move). box_of m.to) ms) all)
       (within_moves ms (All-tail (IsWithin new.size) (box_of m.to) (map (λ (m : Move). box_of m.to) ms) all))
 
-  moves_repacked : (size : Sides) (v w : Pictures) → v.held ≡ map picture_of hs → w.held ≡ map picture_of kept → state_of w.atlas ≡ new
+  moves_repacked : (size : Sides) (v w : Pictures) → v.held ≡ map picture_of hs → w.held ≡ map picture_of kept
+      → state_of w.atlas ≡ new
       → new.size ≡ size → All KeepsSides cs → IsRepacked size v moves (filter_map (loss_by cs) hs) w
   moves_repacked size v w v_is w_is now resized keep =
       let guarded = (live_are_guarded new sound_new).1 in
@@ -289,7 +298,8 @@ module _ (old new : State) (hs : List Held) (cs : List Change) (fs : List Alloca
           (λ h at. Contains-permutation (map granted xs) (map was cs ++ map grant_of fs) (granted h) moved (Contains-map granted xs h at))
           xs (All-contains_itself xs)
 
-  pub repacked : (size : Sides) (v w : Pictures) (ms : List Move) (ls : List Picture) → v.held ≡ map picture_of hs → w.held ≡ map picture_of kept
+  pub repacked : (size : Sides) (v w : Pictures) (ms : List Move) (ls : List Picture) → v.held ≡ map picture_of hs
+      → w.held ≡ map picture_of kept
       → state_of w.atlas ≡ new → new.size ≡ size → All KeepsSides cs → ms ≡ moves → ls ≡ filter_map (loss_by cs) hs
       → IsRepacked size v ms ls w
   repacked size v w ms ls v_is w_is now resized keep moved lost =
@@ -297,7 +307,8 @@ module _ (old new : State) (hs : List Held) (cs : List Change) (fs : List Alloca
       (subst (λ k. IsRepacked size v moves k w) (sym lost) (moves_repacked size v w v_is w_is now resized keep))
 
 -- The size after a rearranging.
-pub rearranged_size : (old new : State) (n : Sides) (list : Rearrangement) → Step old (ResizeAndRearrange n) (Changed list) new → new.size ≡ n
+pub rearranged_size : (old new : State) (n : Sides) (list : Rearrangement)
+    → Step old (ResizeAndRearrange n) (Changed list) new → new.size ≡ n
 rearranged_size old new n list (positive, order, t, ordered, refits, is) = ap (λ s. s.size) is
 
 -- A look-up among what is picture_of.
@@ -384,7 +395,8 @@ module _ (old : State) (hs : List Held) (at : ℕ) (h : Held) (holds : HoldsGran
         ap (option_map (λ (p : Picture). p.area)) (find-uncounted (has_key key) (map picture_of rest) (omega (arith, counted key, one)))
 
 -- A key that nothing has.
-pub absent_area : (key : ℕ) (hs : List Held) → All (λ h. h.key ≡ key → ⊥) hs → picture_area (map picture_of hs) key ≡ None
+pub absent_area : (key : ℕ) (hs : List Held) → All (λ h. h.key ≡ key → ⊥) hs
+    → picture_area (map picture_of hs) key ≡ None
 absent_area key hs none =
     area_found key hs
     ∙ ap (option_map (λ (h : Held). h.grant.rectangle)) (find-uncounted (λ (h : Held). h.key == key) hs (keys_uncounted (λ h. h.key) key hs none))

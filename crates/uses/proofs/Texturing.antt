@@ -105,7 +105,8 @@ module _ (old new : List AtlasValue) (was is : Keyed) (held : HoldsGlyphs old wa
     }
 
 -- No rectangle moves.
-pub stays : (old new : List AtlasValue) (glyphs : Keyed) → HoldsGlyphs old glyphs → HasSameRectangles old new → HoldsGlyphs new glyphs
+pub stays : (old new : List AtlasValue) (glyphs : Keyed) → HoldsGlyphs old glyphs → HasSameRectangles old new
+    → HoldsGlyphs new glyphs
 stays old new glyphs held same = record {
   live = λ k g is_g. same g.page g.id ∙ held.live k g is_g;
   once = held.once;
@@ -164,6 +165,7 @@ not_shown None none = refl
 not_shown (Some g) none = cc
 
 -- A page that comes last.
-pub last_page : (pages : List AtlasValue) (a s : AtlasValue) → slice_get (pages ++ a ∷ []) (length pages) ≡ Some s → a ≡ s
+pub last_page : (pages : List AtlasValue) (a s : AtlasValue) → slice_get (pages ++ a ∷ []) (length pages) ≡ Some s
+    → a ≡ s
 last_page [] a s is_s = cc
 last_page (p ∷ pages) a s is_s = last_page pages a s is_s

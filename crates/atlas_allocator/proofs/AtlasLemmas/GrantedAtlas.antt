@@ -137,7 +137,8 @@ module _ (v : Stored) (a : IsAtlas v) (request : Sides) where
       abbrev pub after : (used turns : ℕ) → State
       after used turns = state_of (record { stored = record { shelf = u; first = v.first; used = used; size = v.size; limit = v.limit }; turns = turns; capacity = 0 })
 
-      tree-placed : tree_of (nodes u.slots) ≡ place (sides_of v.size) (chosen_box v p) wanted made.id (tree_of (nodes v.shelf.slots))
+      tree-placed : tree_of
+          (nodes u.slots) ≡ place (sides_of v.size) (chosen_box v p) wanted made.id (tree_of (nodes v.shelf.slots))
       tree-placed =
           planned-tree (sides_of v.size) v.shelf a.holding p.at.number wanted placing u to plan h line w.planned
           ∙ ap (λ k. place (sides_of v.size) (chosen_box v p) wanted k (tree_of (nodes v.shelf.slots))) (sym w.names)
@@ -145,7 +146,8 @@ module _ (v : Stored) (a : IsAtlas v) (request : Sides) where
       more : numbers h.tree ≡ numbers a.holding.tree + slots_of plan
       more = planned-used (sides_of v.size) v.shelf a.holding p.at.number wanted placing u to plan h line w.planned
 
-      kept-placed : length u.slots ≡ max (length v.shelf.slots) (tree.node_count (place (sides_of v.size) (chosen_box v p) wanted made.id (tree_of (nodes v.shelf.slots))).members)
+      kept-placed : length u.slots ≡ max
+          (length v.shelf.slots) (tree.node_count (place (sides_of v.size) (chosen_box v p) wanted made.id (tree_of (nodes v.shelf.slots))).members)
       kept-placed = search (rules, unused_list-count, more, need, place_nodes)
 
       pub state-placing : (used turns : ℕ) → after used turns ≡ after_placing now (chosen_box v p) wanted made.id
@@ -173,7 +175,8 @@ module _ (v : Stored) (a : IsAtlas v) (request : Sides) where
         state = state-placing used turns;
       }
 
-      pub atlas-placed : IsAtlas (record { shelf = u; first = v.first; used = v.used + slots_of plan; size = v.size; limit = v.limit })
+      pub atlas-placed : IsAtlas
+          (record { shelf = u; first = v.first; used = v.used + slots_of plan; size = v.size; limit = v.limit })
       atlas-placed = record {
         holding = h;
         holds = w.planned.holds;
@@ -280,7 +283,8 @@ module _ (v : Stored) (a : IsAtlas v) (request : Sides) (size : Size) (sized : C
 
 -- A request has room if a slot was found for it.
 pub found-room : (v : Stored) (a : IsAtlas v) (request : Sides) (size : Size)
-    → CanBeRounded (options_of v.shelf.options) request × (size ≡ size_of (rounded (options_of v.shelf.options) request))
+    → CanBeRounded (options_of v.shelf.options) request
+    × (size ≡ size_of (rounded (options_of v.shelf.options) request))
     → (found : Option Found)
     → (found ≡ None → (free : List Box) → AreFreeBoxes (nodes v.shelf.slots) free → (b : Box) → IsFitting free (sides_of size) b → ⊥)
     → IfSome found (IsChosen v.shelf (sides_of size))

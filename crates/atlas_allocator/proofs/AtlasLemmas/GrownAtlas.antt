@@ -90,7 +90,8 @@ module _ (v : Stored) (a : IsAtlas v) where
       tree-grown : tree_of (nodes u.slots) ≡ grown (sides_of v.size) (sides_of size) (tree_of (nodes v.shelf.slots))
       tree-grown = grind (arith, tree_of-Stands, nodes-below, nonempty-total, tree_of-IsAtlas)
 
-      nodes-grown : numbers h.tree ≡ tree.node_count (grown (sides_of v.size) (sides_of size) (tree_of (nodes v.shelf.slots))).members
+      nodes-grown : numbers h.tree ≡ tree.node_count
+          (grown (sides_of v.size) (sides_of size) (tree_of (nodes v.shelf.slots))).members
       nodes-grown = grind (arith, numbers-erase, tree_of-IsAtlas)
 
       -- With n the members that the growth adds.
@@ -98,7 +99,8 @@ module _ (v : Stored) (a : IsAtlas v) where
         more : numbers h.tree ≡ numbers a.holding.tree + n
         more = nodes-grown ∙ ap (λ t. tree.node_count (grown (sides_of v.size) (sides_of size) t).members) (tree_of-IsAtlas v a) ∙ sym need
 
-        kept-grown : length u.slots ≡ max (length v.shelf.slots) (tree.node_count (grown (sides_of v.size) (sides_of size) (tree_of (nodes v.shelf.slots))).members)
+        kept-grown : length u.slots ≡ max
+            (length v.shelf.slots) (tree.node_count (grown (sides_of v.size) (sides_of size) (tree_of (nodes v.shelf.slots))).members)
         kept-grown = omega (arith, unused_list-count v.shelf a.holding a.holds, unused_list-count u h w.tree.holds, more, w.unused_list, nodes-grown)
 
         abbrev pub after : (link : Link) (used turns : ℕ) → State
@@ -139,7 +141,8 @@ module _ (v : Stored) (a : IsAtlas v) where
       plan-from : IsGrowthOf (sides_of p.from) (sides_of p.to) a.holding p
       plan-from = subst (λ s. IsGrowthOf s (sides_of p.to) a.holding p) (sym from-is) (subst (λ s. IsGrowthOf (sides_of v.size) s a.holding p) (sym to-is) plan-here)
 
-      pub some-plan : (h : Holding) × (first : ℕ) × IsTreeOf v.shelf (sides_of p.from) first h × IsGrowthOf (sides_of p.from) (sides_of p.to) h p
+      pub some-plan : (h : Holding) × (first : ℕ) × IsTreeOf v.shelf (sides_of p.from) first h
+          × IsGrowthOf (sides_of p.from) (sides_of p.to) h p
       some-plan = (a.holding, v.first.number, tree-from, plan-from)
 
       pub fits-from : Fits (sides_of p.from) (sides_of p.to)

@@ -31,7 +31,8 @@ pub refitting-start : (old : State) (order : List Allocation) (changes : List Ch
 refitting-start old order changes none = grind arith
 
 -- The same of equal variables.
-pub refitting-same : (old : State) (order : List Allocation) (now : State) (at failed failed' : ℕ) (changes changes' : List Change)
+pub refitting-same : (old : State) (order : List Allocation) (now : State) (at failed failed' : ℕ)
+    (changes changes' : List Change)
     (boxes boxes' : List Allocation) → failed' ≡ failed → changes' ≡ changes → boxes' ≡ boxes
     → IsRefitting old order now at failed changes boxes → IsRefitting old order now at failed' changes' boxes'
 refitting-same old order now at failed failed' changes changes' boxes boxes' f c b h = grind arith
@@ -72,7 +73,8 @@ module _ (old : State) (order : List Allocation) (now : State) (at failed : ℕ)
         ap (map grant_of) (sym i.left ∙ drop-cons boxes at x below ∙ ap (λ y. y ∷ drop (suc at) boxes) (sym here)
         ∙ ap (λ n. x ∷ drop n boxes) (sym (add-one at)) ∙ ap (λ l. x ∷ l) left_here)
 
-    part_here : IsPartOfRefit old (map grant_of order) (moved_so_far changes (take failed boxes)) now (grant_of x ∷ map grant_of (drop (at + 1) order))
+    part_here : IsPartOfRefit old
+        (map grant_of order) (moved_so_far changes (take failed boxes)) now (grant_of x ∷ map grant_of (drop (at + 1) order))
     part_here = subst (IsPartOfRefit old (map grant_of order) (moved_so_far changes (take failed boxes)) now) left_first i.part
 
     module _ (sides : Sides) (measured : sides ≡ box_sides (box_of x.rectangle)) (new : State) where

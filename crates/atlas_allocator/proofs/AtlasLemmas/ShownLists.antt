@@ -78,9 +78,11 @@ module _ (v : Stored) (a : IsAtlas v) (turns : ℕ) (slots : List Slot) (same : 
   exact = λ i used. Stands-exact (nodes v.shelf.slots) i a.holding.sequence a.holding.tree a.holds.stands used
 
   -- The allocated slots are the live grants.
-  pub grants-IsAtlas : AreGrants (state_of (record { stored = v; turns = turns; capacity = 0 })) (allocated_from 0 (nodes slots))
+  pub grants-IsAtlas : AreGrants
+      (state_of (record { stored = v; turns = turns; capacity = 0 })) (allocated_from 0 (nodes slots))
   grants-IsAtlas = grind (arith, nodes-short, live-IsAtlas, rising-allocated, exact, exact-allocated)
 
   -- The free slots are the free boxes.
-  pub free_areas-IsAtlas : AreFreeAreas (state_of (record { stored = v; turns = turns; capacity = 0 })) (free_areas (nodes slots))
+  pub free_areas-IsAtlas : AreFreeAreas
+      (state_of (record { stored = v; turns = turns; capacity = 0 })) (free_areas (nodes slots))
   free_areas-IsAtlas = grind (arith, free-IsAtlas, exact, exact-free)

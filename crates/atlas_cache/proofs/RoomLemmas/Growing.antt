@@ -99,7 +99,8 @@ pub record Growth (r : RoomsState) (page : ℕ) (old : Size) : Type 0 where
   pub larger : (s : AtlasValue) → slice_get r.pages page ≡ Some s
       → Fits (state_of s).size (grown_sides (sides_of r.options.largest_page) (sides_of old))
 
-pub growth_of : (r : RoomsState) → KeepsRooms r → (page : ℕ) (old : Size) → slice_get (page_sizes r.pages) page ≡ Some old
+pub growth_of : (r : RoomsState) → KeepsRooms r → (page : ℕ) (old : Size)
+    → slice_get (page_sizes r.pages) page ≡ Some old
     → old ≢ r.options.largest_page → Growth r page old
 growth_of r kept page old is smaller =
     let it = page_at r.pages page old is in
@@ -126,7 +127,8 @@ growth_of r kept page old is smaller =
     }
 
 -- That page grows: less is left.
-pub grown_less : (r : RoomsState) (page : ℕ) (old : Size) → Growth r page old → slice_get (page_sizes r.pages) page ≡ Some old
+pub grown_less : (r : RoomsState) (page : ℕ) (old : Size) → Growth r page old
+    → slice_get (page_sizes r.pages) page ≡ Some old
     → growth_left r.options (slice_set (page_sizes r.pages) page (size_of (grown_sides (sides_of r.options.largest_page) (sides_of old))))
     < growth_left r.options (page_sizes r.pages)
 grown_less r page old growth is =
@@ -150,7 +152,8 @@ module _ (o : CacheOptions) (usable : AreUsable o) where
       map-append size_of_page pages (b ∷ [])
       ∙ ap (λ (s : Size). page_sizes pages ++ s ∷ []) (ap (λ (t : State). size_of t.size) new ∙ size_is o.page usable.page)
 
-  pub joined_less : (sizes : List Size) → length sizes < o.pages → growth_left o (sizes ++ o.page ∷ []) < growth_left o sizes
+  pub joined_less : (sizes : List Size) → length sizes < o.pages
+      → growth_left o (sizes ++ o.page ∷ []) < growth_left o sizes
   joined_less sizes less =
       let next : o.pages - length sizes ≡ suc (o.pages - (length sizes + 1)) = omega (arith, less) in
       let one = ap (λ n. n * both_sides o.largest_page) next ∙ suc-mul (o.pages - (length sizes + 1)) (both_sides o.largest_page) in

@@ -94,7 +94,8 @@ module _ (pages : List AtlasValue) (page : ℕ) (a b : AtlasValue) (is : a ≡ g
   pub others_kept : KeepsPages pages (slice_set pages page b) page
   others_kept k other = slice_get-set_other pages page k b other
 
-  pub gives_back : (id : ℕ) → LeavesNoBox (state_of a) (state_of b) id → LeavesNoBoxOn pages (slice_set pages page b) page id
+  pub gives_back : (id : ℕ) → LeavesNoBox (state_of a) (state_of b) id
+      → LeavesNoBoxOn pages (slice_set pages page b) page id
   gives_back id leaves =
       page_leaves pages page a b within id (subst (λ s. LeavesNoBox (state_of s) (state_of b) id) is leaves)
 

@@ -40,7 +40,8 @@ abbrev granted_to : List Grant → ℕ → Option Rectangle
 granted_to gs id = option_map rectangle_of (option_map (λ (g : Grant). g.box) (find (λ g. g.id == id) gs))
 
 -- Of exact rectangles, allocations tell what their grants tell.
-shown_among : (held : List Allocation) → All HasExact held → (id : ℕ) → granted_to (map grant_of held) id ≡ rectangle_among held id
+shown_among : (held : List Allocation) → All HasExact held → (id : ℕ)
+    → granted_to (map grant_of held) id ≡ rectangle_among held id
 shown_among [] exact id = refl
 shown_among (a ∷ held) exact id = by_test (a.id == id) (shown_among held (All-tail HasExact a held exact) id)
   where
@@ -83,7 +84,8 @@ news [] = refl
 news (c ∷ cs) = ap (λ gs. grant_of c.new ∷ gs) (news cs)
 
 -- What holds of each transfer of a list, of each of its changes.
-changes_of : (P : Transfer → Type 0) (changes : List Change) → All P (map transfer_of changes) → All (λ c. P (transfer_of c)) changes
+changes_of : (P : Transfer → Type 0) (changes : List Change) → All P (map transfer_of changes)
+    → All (λ c. P (transfer_of c)) changes
 changes_of P [] all = All-nil (λ c. P (transfer_of c))
 changes_of P (c ∷ rest) all =
     All-cons (λ k. P (transfer_of k)) c rest (All-head P (transfer_of c) (map transfer_of rest) all)
@@ -93,7 +95,8 @@ changes_of P (c ∷ rest) all =
 module _ (s : State) (sound : IsSound s) (order : List Allocation) (names : (id : ℕ) → rectangle_in s id ≡ rectangle_among order id)
     (once : AreOfOwnIds order) where
   live_box_of : (a : Allocation) → Contains order a → (o : Option Grant) → find (λ g. g.id == a.id) (live_in s) ≡ o
-      → option_map rectangle_of (option_map (λ (g : Grant). g.box) o) ≡ Some a.rectangle → IsMovable s.options (grant_of a)
+      → option_map rectangle_of (option_map (λ (g : Grant). g.box) o) ≡ Some a.rectangle
+      → IsMovable s.options (grant_of a)
   live_box_of a at None found is = absurd (let none : None ≡ Some a.rectangle = is in cc)
   live_box_of a at (Some g) found is =
       let there = (Contains-find (λ (h : Grant). h.id == a.id) (live_in s) g found).0 in
@@ -172,7 +175,8 @@ module _ (pages : List AtlasValue) (page : ℕ) (a b : AtlasValue) (is : a ≡ g
   has = slice_get-set_here pages page b within
 
   -- A new atlas of its size, with the options of the cache, is as this one began.
-  pub starts_alike : (o : CacheOptions) (size : Size) (start : State) → KeepsRooms (rooms_of o pages) → size ≡ size_of (state_of a).size
+  pub starts_alike : (o : CacheOptions) (size : Size) (start : State) → KeepsRooms (rooms_of o pages)
+      → size ≡ size_of (state_of a).size
       → start ≡ started (sides_of size) (options_of o.atlas) 16777216
       → start ≡ started (state_of a).size (state_of a).options (state_of a).limit
   starts_alike o size start kept is_size is_start =
@@ -184,10 +188,12 @@ module _ (pages : List AtlasValue) (page : ℕ) (a b : AtlasValue) (is : a ≡ g
   pub sound_there : (o : CacheOptions) → KeepsRooms (rooms_of o pages) → IsSound (state_of a)
   sound_there o kept = (kept.each page a had).sound
 
-  pub named_there : (order : List Allocation) → NamesPage pages page order → (id : ℕ) → rectangle_in (state_of a) id ≡ rectangle_among order id
+  pub named_there : (order : List Allocation) → NamesPage pages page order → (id : ℕ)
+      → rectangle_in (state_of a) id ≡ rectangle_among order id
   named_there order names id = rw had at (names.told id)
 
-  pub page_repacks : {A : Type 0} (list : ChangeList A) → TellsMoves list (rectangle_in (state_of a)) (rectangle_in (state_of b))
+  pub page_repacks : {A : Type 0} (list : ChangeList A)
+      → TellsMoves list (rectangle_in (state_of a)) (rectangle_in (state_of b))
       → RepacksPage pages (slice_set pages page b) page list
   page_repacks list tells = record {
     tells = record {

@@ -44,7 +44,8 @@ both_used m n k old mid new most first second page t is =
     )
 
 -- What is left in reserve.
-pub slots_left : (m n k : ℕ) (old new : List AtlasValue) → n + m ≤ k → UseAtMost m old new → HaveSlots k old → HaveSlots n new
+pub slots_left : (m n k : ℕ) (old new : List AtlasValue) → n + m ≤ k → UseAtMost m old new → HaveSlots k old
+    → HaveSlots n new
 slots_left m n k old new most uses have page t is =
     let was = uses page t is in
     let had = have page was.0 was.1 in

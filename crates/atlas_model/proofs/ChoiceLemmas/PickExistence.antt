@@ -45,7 +45,8 @@ module _ {X : Type 0} where
     pub passes : p it ≡ true
     pub least : (y : X) → Contains xs y → p y ≡ true → KeysAtMost ks it y
 
-  least_or_none : (ks : List (X → ℕ)) (p : X → Bool) (xs : List X) → IsLeast ks p xs ⊎ ((y : X) → Contains xs y → p y ≡ true → ⊥)
+  least_or_none : (ks : List (X → ℕ)) (p : X → Bool) (xs : List X)
+      → IsLeast ks p xs ⊎ ((y : X) → Contains xs y → p y ≡ true → ⊥)
   least_or_none ks p [] = inr (λ y at passes. Contains-none y at)
   least_or_none ks p (x ∷ xs) = by_test (cases_Bool (p x)) (least_or_none ks p xs)
     where
@@ -57,7 +58,8 @@ module _ {X : Type 0} where
         least = λ y at passes. each y passes (Contains-cons_cases x xs y at) before;
       }
         where
-          each : (y : X) → p y ≡ true → (x ≡ y) ⊎ Contains xs y → KeysAtMost ks m.it x ⊎ (p x ≡ false) → KeysAtMost ks m.it y
+          each : (y : X) → p y ≡ true → (x ≡ y) ⊎ Contains xs y → KeysAtMost ks m.it x ⊎ (p x ≡ false)
+              → KeysAtMost ks m.it y
           each y passes (inl e) (inl h) = subst (KeysAtMost ks m.it) e h
           each y passes (inl e) (inr fails) = absurd (true≢false (sym passes ∙ sym (ap p e) ∙ fails))
           each y passes (inr at) h = m.least y at passes
@@ -74,7 +76,8 @@ module _ {X : Type 0} where
           each y passed (inl e) = subst (KeysAtMost ks x) e (itself ks x)
           each y passed (inr at) = rest y at passed
 
-      compared : p x ≡ true → (m : IsLeast ks p xs) → KeysAtMost ks x m.it ⊎ KeysAtMost ks m.it x → IsLeast ks p (x ∷ xs)
+      compared : p x ≡ true → (m : IsLeast ks p xs) → KeysAtMost ks x m.it ⊎ KeysAtMost ks m.it x
+          → IsLeast ks p (x ∷ xs)
       compared passed m (inl h) = here passed (λ y at passes. onward ks x m.it y h (m.least y at passes))
       compared passed m (inr h) = later m (inl h)
 
@@ -194,7 +197,8 @@ least_pick free o r most few m = record {
     equal_side c keys has = unequal_equal r m.it
         (subst (λ k. unequal r m.it ≤ k) (equal_unequal r c has) (first_key (λ b. unequal r b) margin_keys m.it c keys))
 
-    margin : (c : Box) → IsCandidate free o r c → KeysAtMost side_keys m.it c → HasEqualSide r m.it ⊎ HasBetterMargin o r m.it c
+    margin : (c : Box) → IsCandidate free o r c → KeysAtMost side_keys m.it c
+        → HasEqualSide r m.it ⊎ HasBetterMargin o r m.it c
     margin c is keys = by_test (cases_Bool (has_equal_side r m.it))
       where
         by_test : (has_equal_side r m.it ≡ true) ⊎ (has_equal_side r m.it ≡ false)
@@ -310,10 +314,12 @@ fits_none r [] = true
 fits_none r (b ∷ bs) = not (fits r b) && fits_none r bs
 
 -- A request that fits none of the free boxes has no room.
-pub no_room_by_test : (free : List Box) (o : Options) (s : Sides) → fits_none (rounded o s) free ≡ true → HasNoRoom free o s
+pub no_room_by_test : (free : List Box) (o : Options) (s : Sides) → fits_none (rounded o s) free ≡ true
+    → HasNoRoom free o s
 no_room_by_test free o s none room = at_none free none room.box room.fitting.is_free (is_fits (rounded o s) room.box room.fitting.fits)
   where
-    at_none : (bs : List Box) → fits_none (rounded o s) bs ≡ true → (b : Box) → Contains bs b → fits (rounded o s) b ≡ true → ⊥
+    at_none : (bs : List Box) → fits_none (rounded o s) bs ≡ true → (b : Box) → Contains bs b
+        → fits (rounded o s) b ≡ true → ⊥
     at_none [] h b at fit = Contains-none b at
     at_none (c ∷ cs) h b at fit =
         let parts = and_parts (not (fits (rounded o s) c)) (fits_none (rounded o s) cs) h in

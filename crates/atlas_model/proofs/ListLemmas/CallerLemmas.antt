@@ -113,7 +113,8 @@ module _ {X : Type 0} where
       found.1 ∙ ap Some (counted_once p xs found.0 x few found.2 at found.3 is)
 
   -- A search for what is counted once doesn't depend on the order.
-  pub find-permutation : (p : X → Bool) (xs ys : List X) → IsPermutation xs ys → count_by p xs ≤ 1 → find p ys ≡ find p xs
+  pub find-permutation : (p : X → Bool) (xs ys : List X) → IsPermutation xs ys → count_by p xs ≤ 1
+      → find p ys ≡ find p xs
   find-permutation p xs ys h few = by_result (find p xs) refl
     where
       by_result : (o : Option X) → find p xs ≡ o → find p ys ≡ o
@@ -129,7 +130,8 @@ module _ {X : Type 0} where
   find-filter_kept p q w (x ∷ xs) = grind (arith, find-filter_kept p q w xs)
 
   -- A filter that passes nothing that a search looks for leaves nothing to find.
-  pub find-filter_gone : (p q : X → Bool) → ((x : X) → p x ≡ true → q x ≡ false) → (xs : List X) → find p (filter q xs) ≡ None
+  pub find-filter_gone : (p q : X → Bool) → ((x : X) → p x ≡ true → q x ≡ false) → (xs : List X)
+      → find p (filter q xs) ≡ None
   find-filter_gone p q w xs = find-uncounted p (filter q xs) (count_by-filter_gone p q w xs)
 
   module _ {Y : Type 0} (f : X → Y) where

@@ -15,7 +15,8 @@ module _ {X : Type 0} where
   count_by-append p xs ys = sum_by-append (λ k. one_if (p k)) xs ys
 
   -- Where one test is weaker, it counts at least as many.
-  pub count_by-weaker : (p q : X → Bool) → ((x : X) → p x ≡ true → q x ≡ true) → (xs : List X) → count_by p xs ≤ count_by q xs
+  pub count_by-weaker : (p q : X → Bool) → ((x : X) → p x ≡ true → q x ≡ true) → (xs : List X)
+      → count_by p xs ≤ count_by q xs
   count_by-weaker p q w [] = omega arith
   count_by-weaker p q w (x ∷ xs) = grind (arith, one_if, count_by-cons, count_by-weaker p q w xs)
 

@@ -53,11 +53,13 @@ squares_of_cut Horizontal f r x y nonempty fits = search (rules, cells_across, p
 squares_of_cut Vertical f r x y nonempty fits = search (rules, cells_down, parts)
 
 -- What is kept of a part covers no more than the part.
-pub kept_le : (keep : Box → Bool) (a b : Box) (p : Box → Bool) → count_by p (filter keep (a ∷ b ∷ [])) ≤ one_if (p a) + one_if (p b)
+pub kept_le : (keep : Box → Bool) (a b : Box) (p : Box → Bool)
+    → count_by p (filter keep (a ∷ b ∷ [])) ≤ one_if (p a) + one_if (p b)
 kept_le keep a b p = grind arith
 
 -- The free boxes and the granted one cover no unit square more often than the free boxes did.
-pub grant-squares : (old new : SimpleState) (s : Sides) (box : Box) → IsSimple old → SimplyGrants old s box new → (x y : ℕ)
+pub grant-squares : (old new : SimpleState) (s : Sides) (box : Box) → IsSimple old → SimplyGrants old s box new
+    → (x y : ℕ)
     → one_if (covers x y box) + count_by (covers x y) new.free ≤ count_by (covers x y) old.free
 grant-squares old new s box simple grants x y =
     let r = rounded old.options s in
@@ -100,7 +102,8 @@ unfolding misplaced
 not_misplaced size b h = grind (arith, nat_tests)
 
 -- A part that is kept isn't empty and passes no size that its box doesn't.
-pub kept-placed : (o : Options) (size : Sides) (axis : Axis) (f : Box) (r : Sides) → AreValid o → IsNonempty f → IsWithin size f → Fits r (box_sides f)
+pub kept-placed : (o : Options) (size : Sides) (axis : Axis) (f : Box) (r : Sides) → AreValid o → IsNonempty f
+    → IsWithin size f → Fits r (box_sides f)
     → All (λ b. IsNonempty b × IsWithin size b) (filter (is_kept o) (split_along axis f r ∷ leftover_along axis f r ∷ []))
 kept-placed o size axis f r valid nonempty within fits =
     grind (arith, All-cons, All-nil, All-filter, filter_passes, and_parts, leb-true)
@@ -123,7 +126,8 @@ grant-boxes old new s box simple grants =
     subst (λ size. All (P size) new.free) (sym grants.size) here
 
 -- A grant keeps what each simple allocator keeps.
-pub grant-simple : (old new : SimpleState) (s : Sides) (box : Box) → IsSimple old → SimplyGrants old s box new → IsSimple new
+pub grant-simple : (old new : SimpleState) (s : Sides) (box : Box) → IsSimple old → SimplyGrants old s box new
+    → IsSimple new
 grant-simple old new s box simple grants = record {
   nonempty = subst IsPositive (sym grants.size) simple.nonempty;
   valid = subst AreValid (sym grants.options) simple.valid;
@@ -132,7 +136,8 @@ grant-simple old new s box simple grants = record {
 }
 
 -- The boxes held and the granted one are held from then on.
-pub grant-guarded : (old new : SimpleState) (s : Sides) (box : Box) (held : List Box) → IsSimple old → SimplyGrants old s box new
+pub grant-guarded : (old new : SimpleState) (s : Sides) (box : Box) (held : List Box) → IsSimple old
+    → SimplyGrants old s box new
     → IsGuarded old held → IsGuarded new (box ∷ held)
 grant-guarded old new s box held simple grants guarded = record {
   within =
@@ -153,8 +158,10 @@ start-simple size o positive valid = grind (arith, All-cons, All-nil)
 
 -- A request.
 
-pub step-guarded : (old new : SimpleState) (s : Sides) (result : Result (Option Rectangle) AtlasError) (held : List Box) → IsSimple old → SimpleStep old (Allocate s) (simple_answer result) new
-    → IsGuarded old held → IfOk result (λ granted. IfSome granted (λ rectangle. IsGuarded new (box_of rectangle ∷ held)))
+pub step-guarded : (old new : SimpleState) (s : Sides) (result : Result (Option Rectangle) AtlasError) (held : List Box)
+    → IsSimple old → SimpleStep old (Allocate s) (simple_answer result) new
+    → IsGuarded old held
+    → IfOk result (λ granted. IfSome granted (λ rectangle. IsGuarded new (box_of rectangle ∷ held)))
 step-guarded old new s (Ok (Some rectangle)) held simple step guarded = grant-guarded old new s (box_of rectangle) held simple step guarded
 step-guarded old new s (Ok None) held simple step guarded = tt
 step-guarded old new s (Err error) held simple step guarded = tt

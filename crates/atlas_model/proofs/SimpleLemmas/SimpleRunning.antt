@@ -15,14 +15,16 @@ use Rattle.atlas_model.proofs.SimpleLemmas.SimpleSteps.{step-simple, step-held, 
 
 -- Along a run.
 
-simple-along : (calls : List SimpleAtlasCall) (answers : List SimpleAnswer) (old new : SimpleState) → IsSimple old → SimpleRun old calls answers new → IsSimple new
+simple-along : (calls : List SimpleAtlasCall) (answers : List SimpleAnswer) (old new : SimpleState) → IsSimple old
+    → SimpleRun old calls answers new → IsSimple new
 simple-along [] [] old new simple run = subst IsSimple (sym run) simple
 simple-along [] (answer ∷ answers) old new simple run = absurd run
 simple-along (call ∷ calls) [] old new simple run = absurd run
 simple-along (call ∷ calls) (answer ∷ answers) old new simple (mid, step, run) =
     simple-along calls answers mid new (step-simple old mid call answer simple step) run
 
-held-along : (calls : List SimpleAtlasCall) (answers : List SimpleAnswer) (old new : SimpleState) (held : List Box) → IsSimple old → SimpleRun old calls answers new
+held-along : (calls : List SimpleAtlasCall) (answers : List SimpleAnswer) (old new : SimpleState) (held : List Box)
+    → IsSimple old → SimpleRun old calls answers new
     → IsGuarded old held → IsGuarded new (held_along held calls answers)
 held-along [] [] old new held simple run guarded = subst (λ s. IsGuarded s held) (sym run) guarded
 held-along [] (answer ∷ answers) old new held simple run guarded = absurd run
@@ -32,8 +34,11 @@ held-along (call ∷ calls) (answer ∷ answers) old new held simple (mid, step,
 
 -- What is held without a start.
 
-held-step : (old new : SimpleState) (call : SimpleAtlasCall) (answer : SimpleAnswer) (answers : List SimpleAnswer) (held : List Box) → SimpleStep old call answer new
-    → is_start call answer ≡ false → held_after held call answer ++ granted_boxes answers ≡ held ++ granted_boxes (answer ∷ answers)
+held-step : (old new : SimpleState) (call : SimpleAtlasCall) (answer : SimpleAnswer) (answers : List SimpleAnswer)
+    (held : List Box)
+    → SimpleStep old call answer new
+    → is_start call answer ≡ false
+    → held_after held call answer ++ granted_boxes answers ≡ held ++ granted_boxes (answer ∷ answers)
 held-step old new (Allocate r) (Granted box) answers held step plain = append_assoc held (box ∷ []) (granted_boxes answers)
 held-step old new (Allocate r) NoRoom answers held step plain = refl
 held-step old new (Allocate r) (Refused Memory) answers held step plain = refl
@@ -47,7 +52,8 @@ held-step old new (Start source) Done answers held step plain = absurd (false≢
 held-step old new (Start source) (Refused Memory) answers held step plain = refl
 held-step old new call answer answers held step plain = absurd step
 
-granted-along : (calls : List SimpleAtlasCall) (answers : List SimpleAnswer) (old new : SimpleState) (held : List Box) → SimpleRun old calls answers new
+granted-along : (calls : List SimpleAtlasCall) (answers : List SimpleAnswer) (old new : SimpleState) (held : List Box)
+    → SimpleRun old calls answers new
     → has_start calls answers ≡ false → held_along held calls answers ≡ held ++ granted_boxes answers
 granted-along [] [] old new held run plain = sym (append-nil held)
 granted-along [] (answer ∷ answers) old new held run plain = absurd run

@@ -20,16 +20,20 @@ use Rattle.atlas_model.proofs.SimpleLemmas.SimpleGrants.{one_if, squares_of_cut,
 
 -- A unit square lies inside a size, or no box within the size covers it.
 
-covered : (size : Sides) (x y : ℕ) (b : Box) → IsWithin size b → covers x y b ≡ true → (x < size.width) × (y < size.height)
+covered : (size : Sides) (x y : ℕ) (b : Box) → IsWithin size b → covers x y b ≡ true
+    → (x < size.width) × (y < size.height)
 covered size x y b within h = grind (arith, nat_tests)
 
-outside : (size : Sides) (x y : ℕ) → ((x < size.width) × (y < size.height) → ⊥) → (b : Box) → IsWithin size b → covers x y b ≡ false
+outside : (size : Sides) (x y : ℕ) → ((x < size.width) × (y < size.height) → ⊥) → (b : Box) → IsWithin size b
+    → covers x y b ≡ false
 outside size x y out b within = grind (arith, covered)
 
-none-outside : (size : Sides) (x y : ℕ) → ((x < size.width) × (y < size.height) → ⊥) → (boxes : List Box) → All (λ b. IsWithin size b) boxes → count_by (covers x y) boxes ≡ 0
+none-outside : (size : Sides) (x y : ℕ) → ((x < size.width) × (y < size.height) → ⊥) → (boxes : List Box)
+    → All (λ b. IsWithin size b) boxes → count_by (covers x y) boxes ≡ 0
 none-outside size x y out boxes within = grind (arith, count-none, All-weaker, outside)
 
-within-all : (size : Sides) (boxes : List Box) → All (λ b. IsNonempty b × IsWithin size b) boxes → All (λ b. IsWithin size b) boxes
+within-all : (size : Sides) (boxes : List Box) → All (λ b. IsNonempty b × IsWithin size b) boxes
+    → All (λ b. IsWithin size b) boxes
 within-all size boxes h = All-weaker (λ b. IsNonempty b × IsWithin size b) (λ b. IsWithin size b) (λ b w. w.1) boxes h
 
 -- Boxes within a size cover each unit square at most so often as inside it.
@@ -64,7 +68,8 @@ at-most-one true = omega arith
 at-most-one false = omega arith
 
 -- Boxes held within the old size stay apart from what is added.
-grown-apart : (old : SimpleState) (n : Sides) (held : List Box) → IsSimple old → Fits old.size n → All (λ b. IsWithin old.size b) held
+grown-apart : (old : SimpleState) (n : Sides) (held : List Box) → IsSimple old → Fits old.size n
+    → All (λ b. IsWithin old.size b) held
     → (x y : ℕ) → count_by (covers x y) held + count_by (covers x y) old.free ≤ 1
     → count_by (covers x y) held + (count_by (covers x y) (added_by old n) + count_by (covers x y) old.free) ≤ 1
 grown-apart old n held simple fits within x y apart = by_test (covers x y (whole_box old.size)) refl
@@ -103,7 +108,8 @@ grow-boxes old new n simple fits grows =
     let here : All (P n) new.free = All-weaker (λ b. bad b ≡ false) (P n) (well_placed n) new.free (none-count bad new.free after) in
     subst (λ size. All (P size) new.free) (sym grows.size) here
 
-pub grow-simple : (old new : SimpleState) (n : Sides) → IsSimple old → Fits old.size n → SimplyGrows old n new → IsSimple new
+pub grow-simple : (old new : SimpleState) (n : Sides) → IsSimple old → Fits old.size n → SimplyGrows old n new
+    → IsSimple new
 grow-simple old new n simple fits grows = record {
   nonempty = subst IsPositive (sym grows.size) (whole-positive old.size n simple.nonempty fits);
   valid = subst AreValid (sym grows.options) simple.valid;
@@ -113,7 +119,8 @@ grow-simple old new n simple fits grows = record {
       omega (arith, apart, grown-count old new n (covers x y) grows);
 }
 
-pub grow-guarded : (old new : SimpleState) (n : Sides) (held : List Box) → IsSimple old → Fits old.size n → SimplyGrows old n new → IsGuarded old held → IsGuarded new held
+pub grow-guarded : (old new : SimpleState) (n : Sides) (held : List Box) → IsSimple old → Fits old.size n
+    → SimplyGrows old n new → IsGuarded old held → IsGuarded new held
 grow-guarded old new n held simple fits grows guarded = record {
   within =
       let wider : (b : Box) → IsWithin old.size b → IsWithin n b = λ b h. (omega (arith, h, fits), omega (arith, h, fits)) in
@@ -127,11 +134,13 @@ grow-guarded old new n held simple fits grows guarded = record {
 
 -- A start from an atlas.
 
-mapped-all : (P : Box → Type 0) (gs : List Grant) (free : List Box) → All P (map (λ (g : Grant). g.box) gs ++ free) → All P (map (λ (g : Grant). g.box) gs)
+mapped-all : (P : Box → Type 0) (gs : List Grant) (free : List Box) → All P (map (λ (g : Grant). g.box) gs ++ free)
+    → All P (map (λ (g : Grant). g.box) gs)
 mapped-all P [] free h = All-nil P
 mapped-all P (g ∷ gs) free h = search (rules, All-cons, All-head, mapped-all P gs free, All-tail)
 
-free-all : (P : Box → Type 0) (gs : List Grant) (free : List Box) → All P (map (λ (g : Grant). g.box) gs ++ free) → All P free
+free-all : (P : Box → Type 0) (gs : List Grant) (free : List Box) → All P (map (λ (g : Grant). g.box) gs ++ free)
+    → All P free
 free-all P [] free h = h
 free-all P (g ∷ gs) free h = free-all P gs free (All-tail P g.box (map (λ (k : Grant). k.box) gs ++ free) h)
 
@@ -169,7 +178,8 @@ starts-guarded source new starts = record {
 
 -- Each step.
 
-pub step-simple : (old new : SimpleState) (call : SimpleAtlasCall) (answer : SimpleAnswer) → IsSimple old → SimpleStep old call answer new → IsSimple new
+pub step-simple : (old new : SimpleState) (call : SimpleAtlasCall) (answer : SimpleAnswer) → IsSimple old
+    → SimpleStep old call answer new → IsSimple new
 step-simple old new (Allocate r) (Granted box) simple step = grant-simple old new r box simple step
 step-simple old new (Allocate r) NoRoom simple step = subst IsSimple (sym step.1) simple
 step-simple old new (Allocate r) (Refused Memory) simple step = subst IsSimple (sym step.1) simple
@@ -188,7 +198,8 @@ pub none-guarded : (s : SimpleState) → IsSimple s → IsGuarded s []
 none-guarded s simple = record { within = All-nil (λ b. IsWithin s.size b); disjoint = simple.disjoint }
 
 -- The order of what is held has no meaning.
-last-guarded : (s : SimpleState) (box : Box) (held : List Box) → IsGuarded s (box ∷ held) → IsGuarded s (held ++ box ∷ [])
+last-guarded : (s : SimpleState) (box : Box) (held : List Box) → IsGuarded s (box ∷ held)
+    → IsGuarded s (held ++ box ∷ [])
 last-guarded s box held guarded = record {
   within =
       let P : Box → Type 0 = λ b. IsWithin s.size b in
@@ -198,7 +209,8 @@ last-guarded s box held guarded = record {
       omega (arith, guarded.disjoint x y, sum_by-append g (box ∷ held) s.free, sum_by-cons g box held, sum_by-append g (held ++ box ∷ []) s.free, sum_by-append g held (box ∷ []), sum_by-cons g box []);
 }
 
-pub step-held : (old new : SimpleState) (call : SimpleAtlasCall) (answer : SimpleAnswer) (held : List Box) → IsSimple old → SimpleStep old call answer new
+pub step-held : (old new : SimpleState) (call : SimpleAtlasCall) (answer : SimpleAnswer) (held : List Box)
+    → IsSimple old → SimpleStep old call answer new
     → IsGuarded old held → IsGuarded new (held_after held call answer)
 step-held old new (Allocate r) (Granted box) held simple step guarded = last-guarded new box held (grant-guarded old new r box held simple step guarded)
 step-held old new (Allocate r) NoRoom held simple step guarded = subst (λ s. IsGuarded s held) (sym step.1) guarded

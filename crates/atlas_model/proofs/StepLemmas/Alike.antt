@@ -55,7 +55,8 @@ ids-marked s (Seq e inner rest) k at =
       | inr h ↦ Contains-append_right (ids inner) (ids rest) k (ids-marked s rest k h)
     ]
 
-pub ids_released : (s : ℕ → Bool) (t : Tree) (k : ℕ) → Contains (ids (release s t).members) k → Contains (ids t.members) k
+pub ids_released : (s : ℕ → Bool) (t : Tree) (k : ℕ) → Contains (ids (release s t).members) k
+    → Contains (ids t.members) k
 ids_released s t k at = ids-marked s t.members k (subst (λ xs. Contains xs k) (ids-nf (mark s t.members)) at)
 
 -- An id is the new one, or one of a list.
@@ -75,7 +76,8 @@ ids-placed_at b r id axis o across (Free e rest) k at =
     after : Members
     after = placed b r id axis (moved axis o e) across rest
 
-    by_place : (Contains (ids after) k → IsNewOr id (ids rest) k) → (id ≡ k) ⊎ Contains (ids after) k → IsNewOr id (ids rest) k
+    by_place : (Contains (ids after) k → IsNewOr id (ids rest) k) → (id ≡ k) ⊎ Contains (ids after) k
+        → IsNewOr id (ids rest) k
     by_place more (inl same) = inl same
     by_place more (inr h) = more h
 
@@ -101,7 +103,8 @@ ids-placed_at b r id axis o across (Seq e inner rest) k at =
           (ids-placed_at b r id axis (moved axis o e) across rest k h)
     ]
 
-pub ids_placed : (size : Sides) (b : Box) (r : Sides) (id : ℕ) (t : Tree) (k : ℕ) → Contains (ids (place size b r id t).members) k
+pub ids_placed : (size : Sides) (b : Box) (r : Sides) (id : ℕ) (t : Tree) (k : ℕ)
+    → Contains (ids (place size b r id t).members) k
     → (id ≡ k) ⊎ Contains (ids t.members) k
 ids_placed size b r id t k at = ids-placed_at b r id t.axis origin (side (other t.axis) size) t.members k at
 
@@ -130,10 +133,12 @@ one_to_one_placed f size b r id name t absent new one x y at_x at_y same =
 
 -- What two states that are alike have in common.
 
-nodes_same : (f g : ℕ → ℕ) (v u : Tree) → renamed_tree g u ≡ renamed_tree f v → node_count u.members ≡ node_count v.members
+nodes_same : (f g : ℕ → ℕ) (v u : Tree) → renamed_tree g u ≡ renamed_tree f v
+    → node_count u.members ≡ node_count v.members
 nodes_same f g v u same = grind (arith, nodes-renamed)
 
-names_same : (f g : ℕ → ℕ) (v u : Tree) (name : ℕ) → renamed_tree g u ≡ renamed_tree f v → IsNewName f v name → IsNewName g u name
+names_same : (f g : ℕ → ℕ) (v u : Tree) (name : ℕ) → renamed_tree g u ≡ renamed_tree f v → IsNewName f v name
+    → IsNewName g u name
 names_same f g v u name same new at = new (subst (λ (k : Tree). Contains (ids k.members) name) same at)
 
 module _ (f g : ℕ → ℕ) (s t : State) (a : AreAlike f g s t) where
@@ -167,7 +172,8 @@ module _ (f g : ℕ → ℕ) (s t : State) (a : AreAlike f g s t) where
       (subst₂ (λ free o. IsPick free o (rounded o r) c) free_same a.options k.pick))
 
   -- The states in which both trees are others.
-  alike_after : (i j : ℕ → ℕ) (n : Sides) (v u : Tree) → renamed_tree j u ≡ renamed_tree i v → IsOneToOne i (ids v.members)
+  alike_after : (i j : ℕ → ℕ) (n : Sides) (v u : Tree) → renamed_tree j u ≡ renamed_tree i v
+      → IsOneToOne i (ids v.members)
       → IsOneToOne j (ids u.members)
       → AreAlike i j (record s { tree = v; size = n; kept = max s.kept (node_count v.members) })
       (record t { tree = u; size = n; kept = max t.kept (node_count u.members) })
@@ -279,10 +285,12 @@ module _ (f g : ℕ → ℕ) (s t : State) (a : AreAlike f g s t) (sound : IsSou
   no_room r b none x = none (subst (λ (X : Type 0). X) (sym (room_same f g s t a r)) (has_room s r b x))
 
   -- One limit can't be both passed and not passed.
-  passed : (r : Sides) (b c : Box) → Takes s r b → Takes t r c → nodes_with s r b ≤ s.limit → t.limit < nodes_with t r c → ⊥
+  passed : (r : Sides) (b c : Box) → Takes s r b → Takes t r c → nodes_with s r b ≤ s.limit → t.limit < nodes_with t r c
+      → ⊥
   passed r b c x y few many = grind (arith, taken_same, nodes_with_same)
 
-  unpassed : (r : Sides) (b c : Box) → Takes s r b → Takes t r c → s.limit < nodes_with s r b → nodes_with t r c ≤ t.limit → ⊥
+  unpassed : (r : Sides) (b c : Box) → Takes s r b → Takes t r c → s.limit < nodes_with s r b
+      → nodes_with t r c ≤ t.limit → ⊥
   unpassed r b c x y many few = grind (arith, taken_same, nodes_with_same)
 
   allocated_alike : (r : Sides) (reply answer : AtlasReply) → Came s r reply s' → Came t r answer t'
@@ -297,7 +305,8 @@ module _ (f g : ℕ → ℕ) (s t : State) (a : AreAlike f g s t) (sound : IsSou
   allocated_alike r reply answer (inr (inr x)) (inr (inl y)) = absurd (unpassed r x.0 y.1 x.2 y.3.takes x.3 y.3.room)
   allocated_alike r reply answer (inr (inr x)) (inr (inr y)) = grind arith
 
-  deallocated_alike : (id twin : ℕ) (reply answer : AtlasReply) → IsLive s id ↔ IsLive t twin → (IsLive s id → g twin ≡ f id)
+  deallocated_alike : (id twin : ℕ) (reply answer : AtlasReply) → IsLive s id ↔ IsLive t twin
+      → (IsLive s id → g twin ≡ f id)
       → Freed s id reply s' → Freed t twin answer t' → AnswerAlike f g s s' t' reply answer
   deallocated_alike id twin reply answer both same (inl x) (inl y) = grind (arith, freed_alike)
   deallocated_alike id twin reply answer both same (inl x) (inr y) = absurd (y.1 (both.0 x.1))
@@ -316,7 +325,8 @@ module _ (f g : ℕ → ℕ) (s t : State) (a : AreAlike f g s t) (sound : IsSou
   growths_alike n reply answer (inr (inr x)) (inr (inl y)) = grind (arith, nodes_grown_same)
   growths_alike n reply answer (inr (inr x)) (inr (inr y)) = grind arith
 
-by_call : (f g : ℕ → ℕ) (s t s' t' : State) (call twin : AtlasCall) (reply answer : AtlasReply) → IsSound s → AreAlike f g s t
+by_call : (f g : ℕ → ℕ) (s t s' t' : State) (call twin : AtlasCall) (reply answer : AtlasReply) → IsSound s
+    → AreAlike f g s t
     → AreSameCalls f g s t call twin → Step s call reply s' → Step t twin answer t'
     → is_out_of_memory reply ≡ false → is_out_of_memory answer ≡ false → AnswerAlike f g s s' t' reply answer
 by_call f g s t s' t' (Allocate r) (Allocate q) reply answer sound a same h k met met' =

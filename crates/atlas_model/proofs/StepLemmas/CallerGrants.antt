@@ -97,8 +97,10 @@ pub no_room_answer : (old new : State) (request : Size) → Step old (Allocate (
     → IsAnswer old request (Ok None)
 no_room_answer old new request step = step.0
 
-pub refused_answer : (old new : State) (request : Size) (result : Result (Option Allocation) AtlasError) (error : AtlasError)
-    → result ≡ Err error → Step old (Allocate (sides_of request)) (allocate_reply result) new → IsAnswer old request result
+pub refused_answer : (old new : State) (request : Size) (result : Result (Option Allocation) AtlasError)
+    (error : AtlasError)
+    → result ≡ Err error → Step old (Allocate (sides_of request)) (allocate_reply result) new
+    → IsAnswer old request result
 refused_answer old new request (Ok o) error is step = cc
 refused_answer old new request (Err Memory) error is step = (inl refl, takes_room old (sides_of request) step.0 step.1)
 refused_answer old new request (Err Slots) error is step = (inr refl, takes_room old (sides_of request) step.0 step.1)

@@ -24,7 +24,8 @@ same_keeps : (old new : State) → IsSound old → new ≡ old → KeepsLive old
 same_keeps old new sound same = grind arith
 
 -- A freeing of a list leaves its ids without a box.
-pub batch_leaves : (old new : State) (ids : List ℕ) → IsSound old → new ≡ after_freeing old (is_among ids) → LeavesNoBoxes old new ids
+pub batch_leaves : (old new : State) (ids : List ℕ) → IsSound old → new ≡ after_freeing old (is_among ids)
+    → LeavesNoBoxes old new ids
 batch_leaves old new ids sound is = record {
   sound = subst IsSound (sym is) (freeing_sound old (is_among ids) sound);
   gone = λ id among.

@@ -23,7 +23,8 @@ use Rattle.atlas_model.proofs.StepLemmas.LiveBoxes.{is_for}
 use Rattle.atlas_model.proofs.StepLemmas.LyingApart.{covered_within, covered_inside, covered_once, covered_few, count_boxes, box_owner}
 
 -- Boxes that are disjoint from each other and from the free boxes are disjoint from each other.
-guarded : (s : State) (held : List Box) → All (IsWithin s.size) held → AreDisjoint (held ++ free_in s) → AreGuarded s held
+guarded : (s : State) (held : List Box) → All (IsWithin s.size) held → AreDisjoint (held ++ free_in s)
+    → AreGuarded s held
 guarded s held within disjoint = record {
   within = within;
   apart = λ x y. omega (arith, disjoint x y, count_by-append (covers x y) held (free_in s));
@@ -44,7 +45,8 @@ live_are_guarded s sound = (
 module _ (old new : State) (sound_old : IsSound old) (sound_new : IsSound new) where
   -- A grant joins what is guarded.
   module _ (same : new.size ≡ old.size) (r : Sides) (g : Grant) (step : IsGrantStep old r g new) (held : List Box) (were : AreGuarded old held) where
-    once : (x y n : ℕ) → count_by (covers x y) (boxes_in new) ≡ n → count_by (covers x y) ((g.box ∷ held) ++ free_in new) ≤ 1
+    once : (x y n : ℕ) → count_by (covers x y) (boxes_in new) ≡ n
+        → count_by (covers x y) ((g.box ∷ held) ++ free_in new) ≤ 1
     once x y n e =
         let p : Grant → Bool = λ (k : Grant). covers x y k.box in
         let one : count_by (covers x y) (g.box ∷ held ++ free_in new) ≡ one_if (p g) + count_by (covers x y) (held ++ free_in new) =
@@ -89,7 +91,8 @@ module _ (old new : State) (sound_old : IsSound old) (sound_new : IsSound new) w
   module _ (same : new.size ≡ old.size) (id : ℕ) (b : Box) (step : IsFreeingStep old id new) (is : live_box old id ≡ Some b)
       (held : List Box) (were : AreGuarded old (b ∷ held)) where
     -- Of the freed id there is this box alone.
-    freed_few : (x y : ℕ) → count_by (λ (k : Grant). covers x y k.box) (filter (is_for id) (live_in old)) ≤ one_if (covers x y b)
+    freed_few : (x y : ℕ)
+        → count_by (λ (k : Grant). covers x y k.box) (filter (is_for id) (live_in old)) ≤ one_if (covers x y b)
     freed_few x y = by_count (count_by (λ (k : Grant). covers x y k.box) (filter (is_for id) (live_in old))) refl
       where
         by_count : (n : ℕ) → count_by (λ (k : Grant). covers x y k.box) (filter (is_for id) (live_in old)) ≡ n
@@ -107,7 +110,8 @@ module _ (old new : State) (sound_old : IsSound old) (sound_new : IsSound new) w
             let few : length (filter (is_for id) (live_in old)) ≡ live_count id old = length-filter (is_for id) (live_in old) in
             omega (arith, step.one)
 
-    freed_once : (x y n : ℕ) → count_by (covers x y) (boxes_in new) ≡ n → count_by (covers x y) (held ++ free_in new) ≤ 1
+    freed_once : (x y n : ℕ) → count_by (covers x y) (boxes_in new) ≡ n
+        → count_by (covers x y) (held ++ free_in new) ≤ 1
     freed_once x y n e =
         let p : Grant → Bool = λ (k : Grant). covers x y k.box in
         let one : count_by (covers x y) (b ∷ held ++ free_in old) ≡ one_if (covers x y b) + count_by (covers x y) (held ++ free_in old) =

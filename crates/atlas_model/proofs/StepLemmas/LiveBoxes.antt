@@ -103,10 +103,12 @@ freed_other id k differ g is = grind arith
 pub freed_box : (old new : State) (id : ℕ) → IsFreeingStep old id new → live_box new id ≡ None
 freed_box old new id step = grind (arith, find-filter_gone, freed_itself)
 
-pub freed_others : (old new : State) (id : ℕ) → IsFreeingStep old id new → (k : ℕ) → (k ≡ id → ⊥) → live_box new k ≡ live_box old k
+pub freed_others : (old new : State) (id : ℕ) → IsFreeingStep old id new → (k : ℕ) → (k ≡ id → ⊥)
+    → live_box new k ≡ live_box old k
 freed_others old new id step k differ = grind (arith, find-filter_kept, freed_other)
 
-pub freed_count : (old new : State) (id : ℕ) → IsFreeingStep old id new → length (live_in new) + 1 ≡ length (live_in old)
+pub freed_count : (old new : State) (id : ℕ) → IsFreeingStep old id new
+    → length (live_in new) + 1 ≡ length (live_in old)
 freed_count old new id step =
     let both : length (filter (λ g. not (g.id == id)) (live_in old)) + length (filter (is_for id) (live_in old)) ≡ length (live_in old) =
     length-filter_both (λ (g : Grant). not (g.id == id)) (is_for id) (λ g. twice (g.id == id)) (live_in old) in

@@ -20,15 +20,18 @@ use Rattle.atlas_model.proofs.StepLemmas.LiveBoxes.{sound_is_tiled, is_for, live
 use Rattle.atlas_model.proofs.ListLemmas.CallerLemmas.{Contains-find, Contains-map, count_by-map, find-counted}
 
 -- A unit square of a box that lies within sides lies within them.
-pub covered_within : (s : Sides) (b : Box) (x y : ℕ) → IsWithin s b → covers x y b ≡ true → (x < s.width) × (y < s.height)
+pub covered_within : (s : Sides) (b : Box) (x y : ℕ) → IsWithin s b → covers x y b ≡ true
+    → (x < s.width) × (y < s.height)
 covered_within s b x y within is = grind arith
 
 -- A covered square lies in the atlas.
-pub covered_inside : (s : State) → IsSound s → (x y : ℕ) → 1 ≤ count_by (covers x y) (boxes_in s) → (x < s.size.width) × (y < s.size.height)
+pub covered_inside : (s : State) → IsSound s → (x y : ℕ) → 1 ≤ count_by (covers x y) (boxes_in s)
+    → (x < s.size.width) × (y < s.size.height)
 covered_inside s sound x y some = grind (arith, find-counted, All-contains, sound_is_tiled, covered_within)
 
 -- A square of the atlas lies in one box.
-pub covered_once : (s : State) → IsSound s → (x y : ℕ) → (x < s.size.width) × (y < s.size.height) → count_by (covers x y) (boxes_in s) ≡ 1
+pub covered_once : (s : State) → IsSound s → (x y : ℕ) → (x < s.size.width) × (y < s.size.height)
+    → count_by (covers x y) (boxes_in s) ≡ 1
 covered_once s sound x y inside = (sound_is_tiled s sound).squares x y inside.0 inside.1
 
 -- No unit square lies in more than one box.
@@ -63,7 +66,8 @@ live_lie_within s id b sound is =
     (Contains-append_left (map (λ (k : Grant). k.box) (live_in s)) (free_in s) at.0.box (Contains-map (λ (k : Grant). k.box) (live_in s) at.0 at.1)) in
     subst (λ k. IsNonempty k × IsWithin s.size k) at.3 place
 
-pub share_nothing : (s : State) (i j : ℕ) (b c : Box) → IsSound s → (i ≡ j → ⊥) → live_box s i ≡ Some b → live_box s j ≡ Some c → ShareNothing b c
+pub share_nothing : (s : State) (i j : ℕ) (b c : Box) → IsSound s → (i ≡ j → ⊥) → live_box s i ≡ Some b
+    → live_box s j ≡ Some c → ShareNothing b c
 share_nothing s i j b c sound differ is is' x y = by_tests (covers x y b) (covers x y c) refl refl
   where
     by_tests : (p q : Bool) → covers x y b ≡ p → covers x y c ≡ q → (p && q) ≡ false
@@ -122,7 +126,8 @@ live_share_nothing s i j b c sound differ is is' =
     (nothing, lie_apart b c (live_lie_within s i b sound is).0 (live_lie_within s j c sound is').0 nothing)
 
 -- The rectangle of a live box.
-rectangle_box : (s : State) (id : ℕ) (r : Rectangle) → rectangle_in s id ≡ Some r → (b : Box) × (live_box s id ≡ Some b) × (rectangle_of b ≡ r)
+rectangle_box : (s : State) (id : ℕ) (r : Rectangle) → rectangle_in s id ≡ Some r
+    → (b : Box) × (live_box s id ≡ Some b) × (rectangle_of b ≡ r)
 rectangle_box s id r is = grind arith
 
 whole_order : (m n : ℕ) → m ≤ n → pos m ≤ℤ pos n
@@ -145,7 +150,8 @@ pub shown_within : (s : State) → IsSound s → (id : ℕ) (o : Option Rectangl
     → IfSome o (λ r. IsWithin s.size (box_of r))
 shown_within s sound id o is = subst (λ k. IfSome k (λ r. IsWithin s.size (box_of r))) (sym is) (weaker (rectangle_in s id) (all_lie_within s sound id))
   where
-    weaker : (k : Option Rectangle) → IfSome k (λ r. IsNonempty (box_of r) × IsWithin s.size (box_of r)) → IfSome k (λ r. IsWithin s.size (box_of r))
+    weaker : (k : Option Rectangle) → IfSome k (λ r. IsNonempty (box_of r) × IsWithin s.size (box_of r))
+        → IfSome k (λ r. IsWithin s.size (box_of r))
     weaker None h = tt
     weaker (Some r) h = h.1
 

@@ -82,7 +82,8 @@ ordered (g ∷ gs) differ =
       all.2,
     )
 
-pub refit_order : (size : Sides) (t : Tree) → IsWellFormed size t → (order : List Grant) × IsRefitOrder (live size t) order
+pub refit_order : (size : Sides) (t : Tree) → IsWellFormed size t
+    → (order : List Grant) × IsRefitOrder (live size t) order
 refit_order size t well =
     let all = ordered (live size t) (all_differ (live size t)
     (λ id. subst (λ n. n ≤ 1) (sym (count_live (λ k. k % 2 ^ 24 == id % 2 ^ 24) size t)) (well.apart id))) in

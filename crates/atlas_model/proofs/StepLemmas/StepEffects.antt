@@ -72,7 +72,8 @@ live_one s id sound at =
     let one : slot_count id (ids s.tree.members) ≤ 1 = sound.well_formed.apart id in
     omega arith
 
-pub freeing_step : (old : State) (id : ℕ) → IsSound old → IsLive old id → IsFreeingStep old id (after_freeing old (only id))
+pub freeing_step : (old : State) (id : ℕ) → IsSound old → IsLive old id
+    → IsFreeingStep old id (after_freeing old (only id))
 freeing_step old id sound at = record {
   one = live_one old id sound at;
   live = live_release old.size (only id) old.tree;

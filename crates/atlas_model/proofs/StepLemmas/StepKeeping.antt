@@ -38,10 +38,12 @@ fresh_normal n = (refl, tt)
 pub limit_positive : (s : State) → IsSound s → 1 ≤ s.limit
 limit_positive s sound = grind (arith, nodes_positive)
 
-pub started_sound : (s : State) (n : Sides) (o : Options) → IsSound s → IsPositive n → AreValid o → IsSound (started n o s.limit)
+pub started_sound : (s : State) (n : Sides) (o : Options) → IsSound s → IsPositive n → AreValid o
+    → IsSound (started n o s.limit)
 started_sound s n o sound pos valid = grind (arith, fresh_well_formed, fresh_normal, All-nil, limit_positive)
 
-pub placing_sound : (s : State) (f : Box) (r : Sides) (g : Grant) (new : State) → IsSound s → Grants s r f g new → IsSound new
+pub placing_sound : (s : State) (f : Box) (r : Sides) (g : Grant) (new : State) → IsSound s → Grants s r f g new
+    → IsSound new
 placing_sound s f r g new sound h =
     let fitting = h.takes.pick.best.candidate.fitting in
     let pos : IsPositive (rounded s.options r) = rounded_positive s.options r sound.valid h.takes.positive in
@@ -70,7 +72,8 @@ freeing_sound s set sound =
       limited = omega (arith, few, sound.counted, sound.limited);
     }
 
-pub growth_sound : (s : State) (n : Sides) → IsSound s → Fits s.size n → nodes_grown s n ≤ s.limit → IsSound (after_growth s n)
+pub growth_sound : (s : State) (n : Sides) → IsSound s → Fits s.size n → nodes_grown s n ≤ s.limit
+    → IsSound (after_growth s n)
 growth_sound s n sound fit room =
     let kept : IsWellFormed n (grown s.size n s.tree) × IsNormal (grown s.size n s.tree).members =
     grown_kept s.size n s.tree sound.well_formed sound.normal fit in
@@ -91,7 +94,8 @@ sides_positive b h = (omega (arith, h.0), omega (arith, h.1))
 pub live_movable : (s : State) → IsSound s → All (IsMovable s.options) (live_in s)
 live_movable s sound k d below = grind (arith, sides_positive, live_in_place)
 
-pub step_refitted : (old new : State) (n : Sides) (list : Rearrangement) → IsSound old → (h : Rearranges old n (Changed list) new)
+pub step_refitted : (old new : State) (n : Sides) (list : Rearrangement) → IsSound old
+    → (h : Rearranges old n (Changed list) new)
     → IsRefitted n old.options old.limit (fresh n) h.1 list h.2
 step_refitted old new n list sound h =
     search (rules, refitted, All-permutation, live_movable, fresh_well_formed, fresh_normal, All-nil, limit_positive)

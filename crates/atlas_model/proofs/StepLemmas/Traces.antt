@@ -24,7 +24,8 @@ use Rattle.atlas_model.proofs.TreeLemmas.TreeKept.{release_well_formed}
 
 -- Sets of ids freed one after another.
 
-freed_again : (s : ℕ → Bool) (id : ℕ) (t : Tree) → s id ≡ true → release (but_id s id) (release (only id) t) ≡ release s t
+freed_again : (s : ℕ → Bool) (id : ℕ) (t : Tree) → s id ≡ true
+    → release (but_id s id) (release (only id) t) ≡ release s t
 freed_again s id t h = grind (arith, release-release, release-like, eqb-true)
 
 freed_too : (s : ℕ → Bool) (id : ℕ) (t : Tree) → release s (release (only id) t) ≡ release (only id) (release s t)
@@ -81,7 +82,8 @@ record IsWithout (before : Sides) (s : State) (k : Since) : Type 0 where
   pub fits : Fits before s.size
   pub tree : IsAsWithout before s.size (release k.held s.tree) k.tree
 
-granted_without : (before : Sides) (old new : State) (k : Since) (r : Sides) (f : Box) (g : Grant) → Grants old r f g new
+granted_without : (before : Sides) (old new : State) (k : Since) (r : Sides) (f : Box) (g : Grant)
+    → Grants old r f g new
     → IsWithout before old k
     → IsWithout before new (record k { held = and_id k.held g.id })
 granted_without before old new k r f g h w =
@@ -108,7 +110,8 @@ freed_without before old k id w = by_test (k.held id) refl
       tree = as_freed before old.size old.tree k.tree k.held id w.tree;
     }
 
-grown_without : (before : Sides) (old : State) (k : Since) (n : Sides) → IsSound old → Fits old.size n → IsWithout before old k
+grown_without : (before : Sides) (old : State) (k : Since) (n : Sides) → IsSound old → Fits old.size n
+    → IsWithout before old k
     → IsWithout before (after_growth old n) (record k { size = n; tree = grown k.size n k.tree })
 grown_without before old k n sound fit w = record {
   size = refl;
@@ -120,7 +123,8 @@ grown_without before old k n sound fit w = record {
 
 -- A refused call gathers nothing.
 
-unchanged_since : (k : Since) (call : AtlasCall) (reply : AtlasReply) → is_refusal reply ≡ true → since_call k call reply ≡ k
+unchanged_since : (k : Since) (call : AtlasCall) (reply : AtlasReply) → is_refusal reply ≡ true
+    → since_call k call reply ≡ k
 unchanged_since k (Allocate r) (Allocated g) h = absurd (false≢true h)
 unchanged_since k (Deallocate id) Done h = absurd (false≢true h)
 unchanged_since k (Grow n) Done h = absurd (false≢true h)

@@ -20,7 +20,8 @@ use Rattle.atlas_model.proofs.TreeLemmas.TreeCounts.{place_nodes, place_most, gr
 
 -- Members of a refit: at most four for each box that is placed.
 
-refit_most : (size : Sides) (o : Options) (limit : ℕ) → AreValid o → (order : List Grant) (t : Tree) (list : Rearrangement)
+refit_most : (size : Sides) (o : Options) (limit : ℕ) → AreValid o
+    → (order : List Grant) (t : Tree) (list : Rearrangement)
     (new : Tree) → All (IsMovable o) order → IsWellFormed size t → Refits size o limit t order list new
     → node_count new.members ≤ node_count t.members + 4 * length list.changes
 refit_most size o limit valid [] t list new movable well h = grind arith
@@ -79,7 +80,8 @@ members_added old new call reply sound =
 
 -- One call more.
 
-pub in_all-more : (count : AtlasCall → AtlasReply → ℕ) (calls : List AtlasCall) (replies : List AtlasReply) (call : AtlasCall)
+pub in_all-more : (count : AtlasCall → AtlasReply → ℕ) (calls : List AtlasCall) (replies : List AtlasReply)
+    (call : AtlasCall)
     (reply : AtlasReply) → length calls ≡ length replies
     → in_all count (calls ++ call ∷ []) (replies ++ reply ∷ []) ≡ in_all count calls replies + count call reply
 in_all-more count [] [] call reply same = omega arith

@@ -79,7 +79,8 @@ passes_five = grind (arith, first_fits, second_fits)
 pub passes_six : RefitPasses (sides 10 10) default_options 6 (fresh (sides 10 10)) three_in_order
 passes_six = grind (arith, first_fits, second_fits)
 
-pub three_step : Step (three_within 7) Rearrange (Changed three_moved) (after_refit (three_within 7) (sides 10 10) moved_tree)
+pub three_step : Step
+    (three_within 7) Rearrange (Changed three_moved) (after_refit (three_within 7) (sides 10 10) moved_tree)
 three_step = ((omega arith, omega arith), three_in_order, moved_tree, three_ordered, refit_of_three, refl)
 
 pub three_refused : Step (three_within 4) Rearrange (Refused Slots) (three_within 4)

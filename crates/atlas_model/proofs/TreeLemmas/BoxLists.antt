@@ -37,11 +37,13 @@ pub squares_in_one : (size : Sides) (t : Tree) → IsWellFormed size t → (x y 
 squares_in_one size t well x y in_x in_y =
     sums_of_leaves (λ b. cond (covers x y b) 1 0) (tree_leaves size t) ∙ squares_once size t well x y in_x in_y
 
-pub areas_of_boxes : (size : Sides) (t : Tree) → IsWellFormed size t → sum_by area (all_boxes size t) ≡ size.width * size.height
+pub areas_of_boxes : (size : Sides) (t : Tree) → IsWellFormed size t
+    → sum_by area (all_boxes size t) ≡ size.width * size.height
 areas_of_boxes size t well = sums_of_leaves area (tree_leaves size t) ∙ areas_add_up size t well
 
 -- What holds of each leaf's box holds of those lists.
-granted_all : (P : Box → Type 0) (ls : List Leaf) → All (λ (l : Leaf). P l.box) ls → All (λ (g : Grant). P g.box) (granted ls)
+granted_all : (P : Box → Type 0) (ls : List Leaf) → All (λ (l : Leaf). P l.box) ls
+    → All (λ (g : Grant). P g.box) (granted ls)
 granted_all P [] h = All-nil (λ (g : Grant). P g.box)
 granted_all P (l ∷ ls) h =
     grind (arith, All-head, granted_all P ls (All-tail (λ (k : Leaf). P k.box) l ls h), All-tail, All-cons)
@@ -51,7 +53,8 @@ ungranted_all P [] h = All-nil P
 ungranted_all P (l ∷ ls) h =
     grind (arith, All-head, ungranted_all P ls (All-tail (λ (k : Leaf). P k.box) l ls h), All-tail, All-cons)
 
-mapped_all : (P : Box → Type 0) (gs : List Grant) → All (λ (g : Grant). P g.box) gs → All P (map (λ (g : Grant). g.box) gs)
+mapped_all : (P : Box → Type 0) (gs : List Grant) → All (λ (g : Grant). P g.box) gs
+    → All P (map (λ (g : Grant). g.box) gs)
 mapped_all P [] h = All-nil P
 mapped_all P (g ∷ gs) h = All-cons P _ _ (All-head (λ (k : Grant). P k.box) g gs h)
     (mapped_all P gs (All-tail (λ (k : Grant). P k.box) g gs h))
@@ -78,13 +81,15 @@ free_once size t well x y in_x in_y =
     = sum_by-append (λ b. cond (covers x y b) 1 0) (map (λ (g : Grant). g.box) (live size t)) (free_boxes size t) in
     omega arith
 
-count_mapped : (p : ℕ → Bool) (gs : List Grant) → count_by (λ (g : Grant). p g.id) gs ≡ count_by p (map (λ (g : Grant). g.id) gs)
+count_mapped : (p : ℕ → Bool) (gs : List Grant)
+    → count_by (λ (g : Grant). p g.id) gs ≡ count_by p (map (λ (g : Grant). g.id) gs)
 count_mapped p [] = refl
 count_mapped p (g ∷ gs) = count_by-cons (λ (k : Grant). p k.id) g gs ∙ ap (λ k. cond (p g.id) 1 0 + k) (count_mapped p gs)
     ∙ sym (count_by-cons p g.id (map (λ (k : Grant). k.id) gs))
 
 -- How often a live id passes a test.
-pub count_live : (p : ℕ → Bool) (size : Sides) (t : Tree) → count_by (λ g. p g.id) (live size t) ≡ count_by p (ids t.members)
+pub count_live : (p : ℕ → Bool) (size : Sides) (t : Tree)
+    → count_by (λ g. p g.id) (live size t) ≡ count_by p (ids t.members)
 count_live p size t = count_mapped p (live size t) ∙ ap (count_by p) (ids-live size t)
 
 same_slot : (id k : ℕ) → (k == id) ≡ true → (k % 2 ^ 24 == id % 2 ^ 24) ≡ true

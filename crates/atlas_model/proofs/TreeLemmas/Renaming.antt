@@ -32,7 +32,8 @@ renamed-agreeing f g (Seq e inner rest) same =
     ap₂ (Seq e) (renamed-agreeing f g inner (λ k at. same k (Contains-append_left (ids inner) (ids rest) k at)))
     (renamed-agreeing f g rest (λ k at. same k (Contains-append_right (ids inner) (ids rest) k at)))
 
-pub agreeing_renamed : (f g : ℕ → ℕ) (t : Tree) → AreNamedAlike f g (ids t.members) → renamed_tree g t ≡ renamed_tree f t
+pub agreeing_renamed : (f g : ℕ → ℕ) (t : Tree) → AreNamedAlike f g (ids t.members)
+    → renamed_tree g t ≡ renamed_tree f t
 agreeing_renamed f g t same = ap (λ m. record { axis = t.axis; members = m }) (renamed-agreeing f g t.members same)
 
 pub ids-renamed : (f : ℕ → ℕ) (m : Members) → ids (renamed f m) ≡ map f (ids m)

@@ -27,7 +27,8 @@ moved-twice Horizontal o a b = let e : o.x + a + b ≡ o.x + (a + b) = omega ari
 moved-twice Vertical o a b = let e : o.y + a + b ≡ o.y + (a + b) = omega arith in λ i. record { x = o.x; y = e i }
 
 -- A member spans the same box, whichever axis it is measured along.
-pub turned : (axis : Axis) (o : Position) (e across : ℕ) → box_at o (sized (other axis) across e) ≡ box_at o (sized axis e across)
+pub turned : (axis : Axis) (o : Position) (e across : ℕ)
+    → box_at o (sized (other axis) across e) ≡ box_at o (sized axis e across)
 turned Horizontal o e across = refl
 turned Vertical o e across = refl
 

@@ -48,7 +48,8 @@ needed-most f r axis o across (Seq e inner rest) =
     needed-most f r axis (moved axis o e) across rest in
     omega arith
 
-pub place_most : (size : Sides) (t : Tree) (f : Box) (r : Sides) → IsWellFormed size t → IsPositive r → Fits r (box_sides f)
+pub place_most : (size : Sides) (t : Tree) (f : Box) (r : Sides) → IsWellFormed size t → IsPositive r
+    → Fits r (box_sides f)
     → place_need size f r t ≤ 4
 place_most size t f r well pos fit =
     let all : place_need size f r t ≤ 4 * hits f (free_boxes size t) =
@@ -61,7 +62,8 @@ place_most size t f r well pos fit =
 one_longer : {a b : ℕ} (k : ℕ) → (a ≤ b) × (b ≤ a + 1) → (1 + k + a ≤ 1 + k + b) × (1 + k + b ≤ 1 + k + a + 1)
 one_longer k h = (omega (arith, h.0), omega (arith, h.1))
 
-nodes-lengthened : (d : ℕ) (m : Members) → (node_count m ≤ node_count (lengthened d m)) × (node_count (lengthened d m) ≤ node_count m + 1)
+nodes-lengthened : (d : ℕ) (m : Members)
+    → (node_count m ≤ node_count (lengthened d m)) × (node_count (lengthened d m) ≤ node_count m + 1)
 nodes-lengthened d (Free e (Free k rest)) = one_longer 0 (nodes-lengthened d (Free k rest))
 nodes-lengthened d (Free e (Alloc id k rest)) = one_longer 0 (nodes-lengthened d (Alloc id k rest))
 nodes-lengthened d (Free e (Seq k inner rest)) = one_longer 0 (nodes-lengthened d (Seq k inner rest))
@@ -74,15 +76,18 @@ nodes-lengthened_to : (a b : ℕ) (m : Members)
 nodes-lengthened_to a b m = grind (arith, nodes-lengthened)
 
 nodes-widened : (u n : ℕ) (axis : Axis) (m : Members)
-    → (node_count m ≤ node_count (widened u n axis m).members) × (node_count (widened u n axis m).members ≤ node_count m + 2)
+    → (node_count m ≤ node_count (widened u n axis m).members)
+    × (node_count (widened u n axis m).members ≤ node_count m + 2)
 nodes-widened u n axis m = grind arith
 
 nodes-grown : (old new : Sides) (axis : Axis) (m : Members)
-    → (node_count m ≤ node_count (grown_members old new axis m).members) × (node_count (grown_members old new axis m).members ≤ node_count m + 3)
+    → (node_count m ≤ node_count (grown_members old new axis m).members)
+    × (node_count (grown_members old new axis m).members ≤ node_count m + 3)
 nodes-grown old new axis (Free e End) = (omega arith, omega arith)
 nodes-grown old new axis m = search (rules, nodes-widened, nodes-lengthened_to)
 
-pub grow_nodes : (old new : Sides) (t : Tree) → node_count (grown old new t).members ≡ node_count t.members + grow_need old new t
+pub grow_nodes : (old new : Sides) (t : Tree)
+    → node_count (grown old new t).members ≡ node_count t.members + grow_need old new t
 grow_nodes old new t = grind (arith, nodes-grown)
 
 -- A growth adds at most three members.

@@ -13,7 +13,8 @@ lengthened-free_before : (d e : ℕ) (m : Members) → free_before e (lengthened
 lengthened-free_before d e (Free e' End) = ap (λ k. Free k End) (omega arith)
 lengthened-free_before d e m = refl
 
-free_longer : (s : ℕ → Bool) (d e : ℕ) (rest : Members) → nf (mark s (lengthened d rest)) ≡ lengthened d (nf (mark s rest))
+free_longer : (s : ℕ → Bool) (d e : ℕ) (rest : Members)
+    → nf (mark s (lengthened d rest)) ≡ lengthened d (nf (mark s rest))
     → free_before e (nf (mark s (lengthened d rest))) ≡ lengthened d (free_before e (nf (mark s rest)))
 free_longer s d e rest h = ap (free_before e) h ∙ lengthened-free_before d e (nf (mark s rest))
 
@@ -60,7 +61,8 @@ pub grown-other : (old new : Sides) (axis : Axis) (m : Members) → is_one_free 
 grown-other old new axis (Free e End) h = absurd (true≢false h)
 grown-other old new axis m h = refl
 
-lengthened_to-other : (a b : ℕ) (m : Members) → 0 < total m → is_one_free m ≡ false → is_one_free (lengthened_to a b m) ≡ false
+lengthened_to-other : (a b : ℕ) (m : Members) → 0 < total m → is_one_free m ≡ false
+    → is_one_free (lengthened_to a b m) ≡ false
 lengthened_to-other a b m pos h = grind arith
 
 release-widened : (s : ℕ → Bool) (u n : ℕ) (axis : Axis) (m : Members) → is_one_free (nf (mark s m)) ≡ false
@@ -82,7 +84,8 @@ one_free m h = absurd (false≢true h)
 free_to : (a b : ℕ) → a ≤ b → lengthened_to a b (Free a End) ≡ Free b End
 free_to a b h = grind arith
 
-widened-free : (old new : Sides) (axis : Axis) (m : Members) (s : ℕ → Bool) → side (other axis) old ≤ side (other axis) new
+widened-free : (old new : Sides) (axis : Axis) (m : Members) (s : ℕ → Bool)
+    → side (other axis) old ≤ side (other axis) new
     → nf (mark s m) ≡ Free (side axis new) End
     → IsOneFree new (release s (widened (side (other axis) old) (side (other axis) new) axis m))
 widened-free old new axis m s wide is = grind arith

@@ -25,7 +25,8 @@ one_free End h pos = absurd (omega arith)
 one_free (Free e End) h pos = ap (λ k. Free k End) (omega arith)
 one_free m h pos = absurd (false≢true h)
 
-pub no_ids : (size : Sides) (t : Tree) → IsWellFormed size t → IsNormal t.members → ids t.members ≡ [] → IsOneFree size t
+pub no_ids : (size : Sides) (t : Tree) → IsWellFormed size t → IsNormal t.members → ids t.members ≡ []
+    → IsOneFree size t
 no_ids size t well normal none = grind (arith, one_free, idle, side_positive)
 
 pub nothing_live : (size : Sides) (t : Tree) → IsWellFormed size t → IsNormal t.members → live size t ≡ []

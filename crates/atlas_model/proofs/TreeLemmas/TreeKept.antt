@@ -21,7 +21,8 @@ normal-free_before : (e : ℕ) (m : Members) → IsNormal m → IsNormal (free_b
 normal-free_before e (Free k rest) n = n
 normal-free_before e m n = (refl, n)
 
-normal-seq_before : (e : ℕ) (inner m : Members) → 0 < total inner → IsNormal inner → IsNormal m → IsNormal (seq_before e inner m)
+normal-seq_before : (e : ℕ) (inner m : Members) → 0 < total inner → IsNormal inner → IsNormal m
+    → IsNormal (seq_before e inner m)
 normal-seq_before e End m pos n k = absurd (omega arith)
 normal-seq_before e (Free j End) m pos n k = normal-free_before e m k
 normal-seq_before e inner m pos n k = (refl, n, k)
@@ -86,7 +87,8 @@ ids-mark p s (Alloc id e rest) = by_test (s id) (ids-mark p s rest)
         (let weak : one_if (p id) + count_by p (ids (mark s rest)) ≤ one_if (p id) + count_by p (ids rest) = omega arith in weak)
 ids-mark p s (Seq e inner rest) = grind (arith, ids-mark p s inner, ids-mark p s rest, sum_by-append, one_if)
 
-pub release_well_formed : (size : Sides) (s : ℕ → Bool) (t : Tree) → IsWellFormed size t → IsWellFormed size (release s t)
+pub release_well_formed : (size : Sides) (s : ℕ → Bool) (t : Tree) → IsWellFormed size t
+    → IsWellFormed size (release s t)
 release_well_formed size s t well = record {
   nonempty = well.nonempty;
   along = total-nf (mark s t.members) ∙ total-mark s t.members ∙ well.along;

@@ -45,7 +45,8 @@ live-mark s axis o across (Seq e inner rest) =
     ∙ ap (filter (λ p. not (s p.id))) (sym (live_among-seq axis o across e inner rest))
 
 -- A freeing takes away the boxes of its ids.
-pub live_release : (size : Sides) (s : ℕ → Bool) (t : Tree) → live size (release s t) ≡ filter (λ p. not (s p.id)) (live size t)
+pub live_release : (size : Sides) (s : ℕ → Bool) (t : Tree)
+    → live size (release s t) ≡ filter (λ p. not (s p.id)) (live size t)
 live_release size s t = grind (arith, live-nf, live-mark)
 
 -- Growth

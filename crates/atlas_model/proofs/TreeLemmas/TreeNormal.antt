@@ -10,7 +10,8 @@ pub free_before-twice : (a b : ℕ) (m : Members) → free_before a (free_before
 free_before-twice a b (Free e rest) = ap (λ k. Free k rest) (omega arith)
 free_before-twice a b m = refl
 
-nf-mark-free_before : (s : ℕ → Bool) (e : ℕ) (m : Members) → nf (mark s (free_before e m)) ≡ free_before e (nf (mark s m))
+nf-mark-free_before : (s : ℕ → Bool) (e : ℕ) (m : Members)
+    → nf (mark s (free_before e m)) ≡ free_before e (nf (mark s m))
 nf-mark-free_before s e (Free e' rest) = sym (free_before-twice e e' (nf (mark s rest)))
 nf-mark-free_before s e m = refl
 

@@ -218,7 +218,8 @@ hits_few f h (l ∷ ls) =
     (sym (sum_by-cons (λ (l : Leaf). one_if (covers f.min.x f.min.y l.box)) l ls))
     (by_owner l.owner l.box (hits_few f h ls))
   where
-    by_owner : (w : Option ℕ) (b : Box) → hits f (ungranted ls) ≤ count_by (λ (l : Leaf). covers f.min.x f.min.y l.box) ls
+    by_owner : (w : Option ℕ) (b : Box)
+        → hits f (ungranted ls) ≤ count_by (λ (l : Leaf). covers f.min.x f.min.y l.box) ls
         → hits f (ungranted (record { owner = w; box = b } ∷ ls))
         ≤ one_if (covers f.min.x f.min.y b) + count_by (λ (l : Leaf). covers f.min.x f.min.y l.box) ls
     by_owner None b k =
@@ -237,7 +238,8 @@ min_inside size t well x y =
     at_most_one true = omega arith
     at_most_one false = omega arith
 
-pub hits_once : (size : Sides) (t : Tree) (f : Box) (r : Sides) → IsWellFormed size t → IsPositive r → Fits r (box_sides f)
+pub hits_once : (size : Sides) (t : Tree) (f : Box) (r : Sides) → IsWellFormed size t → IsPositive r
+    → Fits r (box_sides f)
     → hits f (free_boxes size t) ≤ 1
 hits_once size t f r well pos fit =
     let few : hits f (free_boxes size t) ≤ count_by (λ (l : Leaf). covers f.min.x f.min.y l.box) (tree_leaves size t) =

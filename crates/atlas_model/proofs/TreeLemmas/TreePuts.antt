@@ -27,15 +27,18 @@ cut_says whole r pos fit = grind (arith, eqb-true, eqb-false, no_width, some_wid
 
 -- In place of one free member.
 
-pub sized_back : (axis : Axis) (o : Position) (e across : ℕ) → box_sides (box_at o (sized axis e across)) ≡ sized axis e across
+pub sized_back : (axis : Axis) (o : Position) (e across : ℕ)
+    → box_sides (box_at o (sized axis e across)) ≡ sized axis e across
 sized_back Horizontal o e across = grind arith
 sized_back Vertical o e across = grind arith
 
-pub ids-put : (c : Cut) (axis : Axis) (e across p q id : ℕ) (rest : Members) → ids (put c axis e across p q id rest) ≡ id ∷ ids rest
+pub ids-put : (c : Cut) (axis : Axis) (e across p q id : ℕ) (rest : Members)
+    → ids (put c axis e across p q id rest) ≡ id ∷ ids rest
 ids-put Whole axis e across p q id rest = refl
 ids-put c axis e across p q id rest = grind arith
 
-pub normal-put : (c : Cut) (axis : Axis) (e across p q id : ℕ) (rest : Members) → begins_free rest ≡ false → IsNormal rest
+pub normal-put : (c : Cut) (axis : Axis) (e across p q id : ℕ) (rest : Members) → begins_free rest ≡ false
+    → IsNormal rest
     → IsNormal (put c axis e across p q id rest)
 normal-put Whole axis e across p q id rest apart normal = normal
 normal-put c axis e across p q id rest apart normal = grind arith

@@ -12,7 +12,8 @@ or_false true = refl
 or_false false = refl
 
 -- Ids freed one after another are their set freed at once.
-pub release_one_by_one : (id : ℕ) (rest : List ℕ) (t : Tree) → release_each (id ∷ rest) t ≡ release (is_among (id ∷ rest)) t
+pub release_one_by_one : (id : ℕ) (rest : List ℕ) (t : Tree)
+    → release_each (id ∷ rest) t ≡ release (is_among (id ∷ rest)) t
 release_one_by_one id [] t = release-like (only id) (is_among (id ∷ [])) t (λ k. sym (or_false (only id k)))
 release_one_by_one id (next ∷ rest) t =
     release_one_by_one next rest (release (only id) t) ∙ release-release (is_among (next ∷ rest)) (only id) t

@@ -133,8 +133,10 @@ room-lengthened b d axis o across (Seq e inner rest) h =
     subst (LiesAmong b) (sym (free_among-seq axis o across e inner (lengthened d rest)))
     (either (room_cases b (free_among (other axis) o e inner) (free_among axis (moved axis o e) across rest) (subst (LiesAmong b) (free_among-seq axis o across e inner rest) h)) (room-lengthened b d axis (moved axis o e) across rest))
   where
-    either : LiesAmong b (free_among (other axis) o e inner) ⊎ LiesAmong b (free_among axis (moved axis o e) across rest)
-        → (LiesAmong b (free_among axis (moved axis o e) across rest) → LiesAmong b (free_among axis (moved axis o e) across (lengthened d rest)))
+    either : LiesAmong b (free_among (other axis) o e inner)
+        ⊎ LiesAmong b (free_among axis (moved axis o e) across rest)
+        → (LiesAmong b (free_among axis (moved axis o e) across rest)
+        → LiesAmong b (free_among axis (moved axis o e) across (lengthened d rest)))
         → LiesAmong b (free_among (other axis) o e inner ++ free_among axis (moved axis o e) across (lengthened d rest))
     either (inl k) longer = grind (arith, room_left, free_among)
     either (inr k) longer = grind (arith, room_right, free_among)
@@ -200,7 +202,8 @@ sides_inside : (b f : Box) → IsInside b f → Fits (box_sides b) (box_sides f)
 sides_inside b f h = (omega (arith, h.0, h.2), omega (arith, h.1, h.3))
 
 -- Right after a live box is freed, a free box has room for its sides.
-pub freed_has_room : (size : Sides) (t : Tree) (s : ℕ → Bool) (g : Grant) → IsWellFormed size t → Contains (live size t) g
+pub freed_has_room : (size : Sides) (t : Tree) (s : ℕ → Bool) (g : Grant) → IsWellFormed size t
+    → Contains (live size t) g
     → s g.id ≡ true
     → (f : Box) × Contains (free_boxes size (release s t)) f × IsInside g.box f × Fits (box_sides g.box) (box_sides f)
 freed_has_room size t s g well at chosen = (room.0, room.1, room.2, sides_inside g.box room.0 room.2)
@@ -216,7 +219,8 @@ pub grown_room : (old new : Sides) (t : Tree) → IsWellFormed old t → Fits ol
     → All (LiesInOneOf (free_boxes new (grown old new t))) (free_boxes old t)
 grown_room old new t well fit = search (rules, all_lie, room-grown, among_itself)
 
-pub grown_keeps : (old new : Sides) (t : Tree) → IsWellFormed old t → IsNormal t.members → Fits old new → IsGrown old new t
+pub grown_keeps : (old new : Sides) (t : Tree) → IsWellFormed old t → IsNormal t.members → Fits old new
+    → IsGrown old new t
 grown_keeps old new t well normal fit =
     let kept : IsWellFormed new (grown old new t) × IsNormal (grown old new t).members = grown_kept old new t well normal fit in
     record { well_formed = kept.0; normal = kept.1; live = live_grown old new t fit; free = grown_room old new t well fit }

@@ -101,11 +101,13 @@ first_within limit Horizontal o e t across h = (omega arith, h.1)
 first_within limit Vertical o e t across h = (h.0, omega arith)
 
 rest_within : (limit : Sides) (axis : Axis) (o : Position) (e t across : ℕ)
-    → IsWithin limit (box_at o (sized axis (e + t) across)) → IsWithin limit (box_at (moved axis o e) (sized axis t across))
+    → IsWithin limit (box_at o (sized axis (e + t) across))
+    → IsWithin limit (box_at (moved axis o e) (sized axis t across))
 rest_within limit Horizontal o e t across h = (omega arith, h.1)
 rest_within limit Vertical o e t across h = (h.0, omega arith)
 
-not_empty : (axis : Axis) (o : Position) (e across : ℕ) → 0 < e → 0 < across → IsNonempty (box_at o (sized axis e across))
+not_empty : (axis : Axis) (o : Position) (e across : ℕ) → 0 < e → 0 < across
+    → IsNonempty (box_at o (sized axis e across))
 not_empty Horizontal o e across p q = (omega arith, omega arith)
 not_empty Vertical o e across p q = (omega arith, omega arith)
 

@@ -22,17 +22,20 @@ use Rattle.atlas_search.proofs.SearchLemmas.Besting.{seen-passed}
 use Rattle.atlas_search.proofs.SearchLemmas.Showing.{path-stop, path-same, append-none, shown_items-has, shown_items-in}
 
 -- Nothing was shown.
-pub added-none : (o : Options) (heads : List ListHead) (es : List Item) (end : ℕ) (r : Sides) (s : Best) → HasAdded o heads es end r (λ i j. ⊥) s s
+pub added-none : (o : Options) (heads : List ListHead) (es : List Item) (end : ℕ) (r : Sides) (s : Best)
+    → HasAdded o heads es end r (λ i j. ⊥) s s
 added-none o heads es end r s = grind (arith, append-none)
 
 -- Fewer lists.
-pub added-of : (o : Options) (heads : List ListHead) (es : List Item) (end : ℕ) (r : Sides) (V W : ℕ → ℕ → Type 0) (s t : Best)
+pub added-of : (o : Options) (heads : List ListHead) (es : List Item) (end : ℕ) (r : Sides) (V W : ℕ → ℕ → Type 0)
+    (s t : Best)
     → ((i j : ℕ) → W i j → V i j) → HasAdded o heads es end r V s t → HasAdded o heads es end r W s t
 added-of o heads es end r V W s t to h = grind arith
 
 module _ (o : Options) (heads : List ListHead) (es : List Item) (end : ℕ) (r : Sides) where
   -- Lists are shown after others.
-  pub added-then : (V W : ℕ → ℕ → Type 0) (s t u : Best) → HasAdded o heads es end r V s t → HasAdded o heads es end r W t u
+  pub added-then : (V W : ℕ → ℕ → Type 0) (s t u : Best) → HasAdded o heads es end r V s t
+      → HasAdded o heads es end r W t u
       → HasAdded o heads es end r (λ i j. V i j ⊎ W i j) s u
   added-then V W s t u a b =
       record {
@@ -83,7 +86,8 @@ module _ (o : Options) (heads : List ListHead) (es : List Item) (end : ℕ) (r :
       number-below = list-below place.row place.column lr lc
 
       -- The bands of an entry of the list.
-      pub bands-of_list : (i : ℕ) → list_of o (item_sides (item_at es i)) ≡ number_of place → (row_at i ≡ place.row) × (column_at i ≡ place.column)
+      pub bands-of_list : (i : ℕ) → list_of o (item_sides (item_at es i)) ≡ number_of place
+          → (row_at i ≡ place.row) × (column_at i ≡ place.column)
       bands-of_list i e = grind (arith, band_below)
 
       pub showable : IsShowable es (head_of heads (number_of place)).number
@@ -120,17 +124,22 @@ module _ (o : Options) (heads : List ListHead) (es : List Item) (end : ℕ) (r :
             }
 
         -- The best of the list is known.
-        standing : (s : Spot) → IsSpot es (head_of heads (number_of place)).number (number_of place) xs s → IsLowBut es xs s.at.number s.low → IsStanding o heads es (found_in es s)
+        standing : (s : Spot) → IsSpot es (head_of heads (number_of place)).number (number_of place) xs s
+            → IsLowBut es xs s.at.number s.low → IsStanding o heads es (found_in es s)
         standing s spot low = grind (arith, number-below)
 
         -- Another bound of its list.
-        standing-low : (s : Spot) (low : ℕ) → s.list ≡ number_of place → IsStanding o heads es (found_in es s) → IsLowBut es xs s.at.number low
+        standing-low : (s : Spot) (low : ℕ) → s.list ≡ number_of place → IsStanding o heads es (found_in es s)
+            → IsLowBut es xs s.at.number low
             → IsStanding o heads es (found_in es (record s { low = low }))
         standing-low s low in_list k bound = grind (arith, number-below)
 
         -- The list was shown.
-        pub added-shown : (s t : Best) → ((is_large : Bool) (r : Sides) (shown : List Shown) → HasSeen s is_large r shown → HasSeen t is_large r (shown ++ shown_items es xs))
-            → (IsSameBest s t ⊎ ((IsSpot es (head_of heads (number_of place)).number (number_of place) xs t.spot ⊎ IsSameIn (number_of place) s t) × IsLowBut es xs t.spot.at.number t.spot.low))
+        pub added-shown : (s t : Best)
+            → ((is_large : Bool) (r : Sides) (shown : List Shown) → HasSeen s is_large r shown
+            → HasSeen t is_large r (shown ++ shown_items es xs))
+            → (IsSameBest s t
+            ⊎ ((IsSpot es (head_of heads (number_of place)).number (number_of place) xs t.spot ⊎ IsSameIn (number_of place) s t) × IsLowBut es xs t.spot.at.number t.spot.low))
             → HasAdded o heads es end r (λ i j. (i ≡ place.row) × (j ≡ place.column)) s t
         added-shown s t seen found =
             record {
@@ -148,7 +157,8 @@ module _ (o : Options) (heads : List ListHead) (es : List Item) (end : ℕ) (r :
               ];
             }
 
-      pub added-list : AreBelow end place.row place.column → (s t : Best) → HasShown es (head_of heads (number_of place)).number (number_of place) s t
+      pub added-list : AreBelow end place.row place.column → (s t : Best)
+          → HasShown es (head_of heads (number_of place)).number (number_of place) s t
           → HasAdded o heads es end r (λ i j. (i ≡ place.row) × (j ≡ place.column)) s t
       added-list w s t h =
           added-shown w h.xs (path-same es _ h.xs (a.free_lists (number_of place)) a.short h.path (a.path (number_of place) number-below)) s t h.seen h.found
@@ -159,12 +169,15 @@ module _ (o : Options) (heads : List ListHead) (es : List Item) (end : ℕ) (r :
       added-over w s best_is beyond = added-passed w (a.free_lists (number_of place)) refl s best_is beyond
 
 -- Nothing that is in question was shown.
-pub added-nothing : (o : Options) (heads : List ListHead) (es : List Item) (end : ℕ) (r : Sides) (W : ℕ → ℕ → Type 0) (s : Best)
+pub added-nothing : (o : Options) (heads : List ListHead) (es : List Item) (end : ℕ) (r : Sides) (W : ℕ → ℕ → Type 0)
+    (s : Best)
     → ((i j : ℕ) → W i j → ⊥) → HasAdded o heads es end r W s s
 added-nothing o heads es end r W s never = added-of o heads es end r (λ i j. ⊥) W s s never (added-none o heads es end r s)
 
 -- A list more.
-pub added-next : (o : Options) (heads : List ListHead) (es : List Item) (end : ℕ) (r : Sides) (V U W : ℕ → ℕ → Type 0) (s t u : Best)
-    → ((i j : ℕ) → W i j → V i j ⊎ U i j) → HasAdded o heads es end r V s t → HasAdded o heads es end r U t u → HasAdded o heads es end r W s u
+pub added-next : (o : Options) (heads : List ListHead) (es : List Item) (end : ℕ) (r : Sides) (V U W : ℕ → ℕ → Type 0)
+    (s t u : Best)
+    → ((i j : ℕ) → W i j → V i j ⊎ U i j) → HasAdded o heads es end r V s t → HasAdded o heads es end r U t u
+    → HasAdded o heads es end r W s u
 added-next o heads es end r V U W s t u to a b =
     added-of o heads es end r (λ i j. V i j ⊎ U i j) W s u to (added-then o heads es end r V U s t u a b)

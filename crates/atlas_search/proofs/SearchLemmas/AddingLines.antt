@@ -35,13 +35,16 @@ rest-cases old new k j rest h = elim (cases_eq j k) [ inl e ↦ inr e | inr ne �
 
 module _ (o : Options) (heads : List ListHead) (es : List Item) (end : ℕ) (r : Sides) where
   -- Before the first.
-  pub row-begins : (row : ℕ) (columns : Mask) (s : Best) → HasAdded o heads es end r (λ i j. IsInRow row columns i j × (has columns j ≡ false)) s s
+  pub row-begins : (row : ℕ) (columns : Mask) (s : Best)
+      → HasAdded o heads es end r (λ i j. IsInRow row columns i j × (has columns j ≡ false)) s s
   row-begins row columns s = added-nothing o heads es end r _ s (λ i j w. true≢false (sym w.0.1 ∙ w.1))
 
-  pub column-begins : (column : ℕ) (rows : Mask) (s : Best) → HasAdded o heads es end r (λ i j. IsInColumn column rows i j × (has rows i ≡ false)) s s
+  pub column-begins : (column : ℕ) (rows : Mask) (s : Best)
+      → HasAdded o heads es end r (λ i j. IsInColumn column rows i j × (has rows i ≡ false)) s s
   column-begins column rows s = added-nothing o heads es end r _ s (λ i j w. true≢false (sym w.0.1 ∙ w.1))
 
-  pub rows-begin : (first : ℕ) (rows : Mask) (s : Best) → HasAdded o heads es end r (λ i j. IsBeyond rows first end i j × (has rows i ≡ false)) s s
+  pub rows-begin : (first : ℕ) (rows : Mask) (s : Best)
+      → HasAdded o heads es end r (λ i j. IsBeyond rows first end i j × (has rows i ≡ false)) s s
   rows-begin first rows s = added-nothing o heads es end r _ s (λ i j v. true≢false (sym v.0.0 ∙ v.1))
 
   -- One more.
@@ -61,7 +64,8 @@ module _ (o : Options) (heads : List ListHead) (es : List Item) (end : ℕ) (r :
       added-next o heads es end r _ _ _ s t u (λ i j w.
       elim (rest-cases old new k i rest w.1) [ inl h ↦ inl (w.0, h) | inr e ↦ inr (e, w.0.0) ]) a b
 
-  pub rows-go_on : (row first : ℕ) (rows old new columns : Mask) (s t u : Best) → AreListed o heads es → IsRest old new row
+  pub rows-go_on : (row first : ℕ) (rows old new columns : Mask) (s t u : Best) → AreListed o heads es
+      → IsRest old new row
       → ((j : ℕ) → first ≤ j → j < end → is_used_at heads (52 * row + j) ≡ true → IsMarked columns j)
       → HasAdded o heads es end r (λ i j. IsBeyond rows first end i j × (has old i ≡ false)) s t
       → HasAdded o heads es end r (IsInRow row columns) t u

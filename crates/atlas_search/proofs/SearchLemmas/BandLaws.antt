@@ -22,7 +22,8 @@ abbrev from_16 : ℕ → ℕ
 from_16 n = if nat_lt n 64 then 15 + (n - 16) / 2 else from_64 n
 
 -- One step of the ladder: below the limit `low`, above it `high`.
-step_le : (limit a b : ℕ) (low high : ℕ → ℕ) → a ≤ b → low a ≤ low b → (limit ≤ a → high a ≤ high b) → (a < limit → limit ≤ b → low a ≤ high b)
+step_le : (limit a b : ℕ) (low high : ℕ → ℕ) → a ≤ b → low a ≤ low b → (limit ≤ a → high a ≤ high b)
+    → (a < limit → limit ≤ b → low a ≤ high b)
     → (if nat_lt a limit then low a else high a) ≤ (if nat_lt b limit then low b else high b)
 step_le limit a b low high l lows highs across = grind (arith, ltb-true, ltb-false)
 
@@ -72,7 +73,8 @@ unfolding band_of
 band_below o n = grind (arith, step_of-most, passes-most)
 
 -- Above 256 and both thresholds there is one band.
-pub band_last : (o : Options) (side top : ℤ) → pos 256 <ℤ side → IsTop o top → top ≤ℤ side → band_of o (natural side) ≡ 51
+pub band_last : (o : Options) (side top : ℤ) → pos 256 <ℤ side → IsTop o top → top ≤ℤ side
+    → band_of o (natural side) ≡ 51
 unfolding band_of
 band_last o (pos n) top above is l = grind (arith, ints, step_of-last, passes-true, passes-top)
 band_last o (negsuc n) top above is l = grind (arith, ints)
@@ -82,7 +84,8 @@ abbrev pub IsThreshold : Options → ℤ → Type 0
 IsThreshold o t = (t ≡ o.small_threshold) ⊎ (t ≡ o.large_threshold)
 
 -- The band grows at a threshold of the options.
-band_of-lt : (o : Options) (t : ℤ) (a b : ℕ) → IsThreshold o t → a ≤ b → int_le t (pos a) ≡ false → int_le t (pos b) ≡ true → band_of o a < band_of o b
+band_of-lt : (o : Options) (t : ℤ) (a b : ℕ) → IsThreshold o t → a ≤ b → int_le t (pos a) ≡ false
+    → int_le t (pos b) ≡ true → band_of o a < band_of o b
 unfolding band_of
 band_of-lt o t a b (inl is) l below above = grind (arith, passes-false, passes-true, step_of-le, passes-le)
 band_of-lt o t a b (inr is) l below above = grind (arith, passes-false, passes-true, step_of-le, passes-le)
@@ -96,7 +99,8 @@ border_of-passed o (pos m) n h = grind (arith, band_mono, leb-true)
 border_of-passed o (negsuc m) n h = omega arith
 
 -- And any other side has one.
-border_of-not_passed : (o : Options) (t : ℤ) (n : ℕ) → IsThreshold o t → 0 < n → int_le t (pos n) ≡ false → band_of o n < border_of o t
+border_of-not_passed : (o : Options) (t : ℤ) (n : ℕ) → IsThreshold o t → 0 < n → int_le t (pos n) ≡ false
+    → band_of o n < border_of o t
 border_of-not_passed o (pos m) n is some h =
     let less : n < m = leb-false m n h in
     cond_both (int_le (pos m) (pos 1)) 0 (band_of o m) (λ v. band_of o n < v)
@@ -139,11 +143,13 @@ module _ (o : Options) (s : Sides) where
   reached : (t : ℤ) → reaches t s ≡ true → (border_of o t ≤ row) ⊎ (border_of o t ≤ column)
   reached t h = grind (arith, or_cases, border_of-passed)
 
-  not_reached : (t : ℤ) → IsThreshold o t → IsPositive s → reaches t s ≡ false → (row < border_of o t) × (column < border_of o t)
+  not_reached : (t : ℤ) → IsThreshold o t → IsPositive s → reaches t s ≡ false
+      → (row < border_of o t) × (column < border_of o t)
   not_reached t is positive h = grind (arith, or_parts, border_of-not_passed)
 
   -- The other way round.
-  reaches_from : (t : ℤ) → IsThreshold o t → IsPositive s → (border_of o t ≤ row) ⊎ (border_of o t ≤ column) → reaches t s ≡ true
+  reaches_from : (t : ℤ) → IsThreshold o t → IsPositive s → (border_of o t ≤ row) ⊎ (border_of o t ≤ column)
+      → reaches t s ≡ true
   reaches_from t is positive h = grind (arith, cases_Bool, not_reached)
 
   not_reaches_from : (t : ℤ) → row < border_of o t → column < border_of o t → reaches t s ≡ false
@@ -197,14 +203,16 @@ class_of-most o s = grind arith
 pub same_place : (i j k l : ℕ) → j < 52 → l < 52 → 52 * i + j ≡ 52 * k + l → (i ≡ k) × (j ≡ l)
 same_place i j k l p q e = (omega arith, omega arith)
 
-pub same_bands : (o : Options) (s t : Sides) → list_of o s ≡ list_of o t → (band_of o s.width ≡ band_of o t.width) × (band_of o s.height ≡ band_of o t.height)
+pub same_bands : (o : Options) (s t : Sides) → list_of o s ≡ list_of o t
+    → (band_of o s.width ≡ band_of o t.width) × (band_of o s.height ≡ band_of o t.height)
 same_bands o s t e = grind (arith, same_place, band_below)
 
 pub list_of-most : (o : Options) (s : Sides) → list_of o s < 2704
 list_of-most o s = omega (arith, band_below o s.width, band_below o s.height)
 
 -- Boxes of one list are of one class.
-pub same_class : (o : Options) (s t : Sides) → AreValid o → IsPositive s → IsPositive t → list_of o s ≡ list_of o t → class_of o s ≡ class_of o t
+pub same_class : (o : Options) (s t : Sides) → AreValid o → IsPositive s → IsPositive t → list_of o s ≡ list_of o t
+    → class_of o s ≡ class_of o t
 same_class o s t valid p q e =
     let bands = same_bands o s t e in
     let c = class_of o t in

@@ -26,11 +26,13 @@ pub rank-below : (l : Bool) (m : ℕ) → m < no_rank → rank_of l m < no_rank
 rank-below false m h = h
 rank-below true m h = grind (arith, rank-equal, rank-large)
 
-rank-better : (l : Bool) (m n : ℕ) → m < no_rank → n < no_rank → rank_of l m < rank_of l n → IsBetterMargin l (pos m) (pos n)
+rank-better : (l : Bool) (m n : ℕ) → m < no_rank → n < no_rank → rank_of l m < rank_of l n
+    → IsBetterMargin l (pos m) (pos n)
 rank-better false m n a b h = omega (arith, ints)
 rank-better true m n a b h = grind (arith, rank-equal, rank-large)
 
-better-rank : (l : Bool) (m n : ℕ) → m < no_rank → n < no_rank → IsBetterMargin l (pos m) (pos n) → rank_of l m < rank_of l n
+better-rank : (l : Bool) (m n : ℕ) → m < no_rank → n < no_rank → IsBetterMargin l (pos m) (pos n)
+    → rank_of l m < rank_of l n
 better-rank false m n a b h = omega (arith, ints)
 better-rank true m n a b h = grind (arith, rank-equal, rank-large)
 
@@ -50,18 +52,21 @@ natural-most (negsuc n) h = omega arith
 corner-row : (b : Box) → b.min.x < 4294967296 → corner_of b / 4294967296 ≡ b.min.y
 corner-row b h = omega (arith, h)
 
-pub row-is : (a : Rectangle) (corner : ℕ) → FitsSigned w32 a.min.x → corner ≡ corner_of (box_of a) → corner / 4294967296 ≡ (box_of a).min.y
+pub row-is : (a : Rectangle) (corner : ℕ) → FitsSigned w32 a.min.x → corner ≡ corner_of (box_of a)
+    → corner / 4294967296 ≡ (box_of a).min.y
 row-is a corner f e = let x = natural-most a.min.x f in ap (λ (n : ℕ). n / 4294967296) e ∙ corner-row (box_of a) (omega (arith, x))
 
 corner-before : (b c : Box) → b.min.x < 4294967296 → c.min.x < 4294967296 → corner_of b < corner_of c → IsBefore (rectangle_of b).min (rectangle_of c).min
 corner-before b c hb hc h = grind (arith, ints)
 
-before-corner : (b c : Box) → b.min.x < 4294967296 → c.min.x < 4294967296 → IsBefore (rectangle_of b).min (rectangle_of c).min → corner_of b < corner_of c
+before-corner : (b c : Box) → b.min.x < 4294967296 → c.min.x < 4294967296
+    → IsBefore (rectangle_of b).min (rectangle_of c).min → corner_of b < corner_of c
 before-corner b c hb hc (inl l) = let h : b.min.y < c.min.y = omega (arith, ints, l) in omega (arith, h, hb, hc)
 before-corner b c hb hc (inr e) = let h : b.min.x < c.min.x = omega (arith, ints, e.1) in let s : b.min.y ≡ c.min.y = omega (arith, ints, e.0) in omega (arith, h, s)
 
 -- Below the bar no box is ahead of the best one.
-unbeaten : (s : Best) (b : Box) (corner : ℕ) → b.min.x ≤ 2147483647 → b.min.y ≤ 2147483647 → corner ≡ corner_of b → s.bar < corner / 4294967296
+unbeaten : (s : Best) (b : Box) (corner : ℕ) → b.min.x ≤ 2147483647 → b.min.y ≤ 2147483647 → corner ≡ corner_of b
+    → s.bar < corner / 4294967296
     → (rank : ℕ) → IsAhead rank corner s → ⊥
 unbeaten s b corner hx hy cornered past rank first =
     let barred = s.barred (omega (arith, hx, hy, cornered, past)) in omega (arith, first, past, barred.0, barred.1)
@@ -126,7 +131,8 @@ module _ (s : Best) (is_large : Bool) (r : Sides) (shown : List Shown) (seen : H
         }
 
     -- It is the best one from now on.
-    kept-ahead : (at : ℕ) → IsAhead rank corner s → (rank < no_rank) × IsKeptOf is_large r (shown ++ shown_at b at ∷ []) rank corner at
+    kept-ahead : (at : ℕ) → IsAhead rank corner s
+        → (rank < no_rank) × IsKeptOf is_large r (shown ++ shown_at b at ∷ []) rank corner at
     kept-ahead at first = (
       omega (arith, ranked, rank-below is_large _ below),
       record {
@@ -164,7 +170,8 @@ module _ (s : Best) (is_large : Bool) (r : Sides) (shown : List Shown) (seen : H
     small_margin : least_margin r (box_of a) < no_rank
     small_margin = let most = natural-most a.max.x right in omega (arith, seen.positive.0, most)
 
-    pub past-bar : FitsSigned w32 a.min.y → s.bar < corner / 4294967296 → (at : ℕ) → HasSeen s is_large r (shown ++ shown_at (box_of a) at ∷ [])
+    pub past-bar : FitsSigned w32 a.min.y → s.bar < corner / 4294967296 → (at : ℕ)
+        → HasSeen s is_large r (shown ++ shown_at (box_of a) at ∷ [])
     past-bar top past =
         seen-unbeaten (box_of a) corner (omega (arith, in_sight)) small_margin cornered
         (unbeaten s (box_of a) corner in_sight (natural-most a.min.y top) cornered past)
@@ -177,27 +184,33 @@ module _ (s : Best) (is_large : Bool) (r : Sides) (shown : List Shown) (seen : H
       fits_asked : Fits r (box_sides (box_of a))
       fits_asked = subst (λ (q : Sides). Fits q (box_sides (box_of a))) asked fits
 
-      pub ranked-behind : (at : ℕ) → (IsAhead rank corner s → ⊥) → HasSeen s is_large r (shown ++ shown_at (box_of a) at ∷ [])
+      pub ranked-behind : (at : ℕ) → (IsAhead rank corner s → ⊥)
+          → HasSeen s is_large r (shown ++ shown_at (box_of a) at ∷ [])
       ranked-behind = seen-behind (box_of a) rank corner (omega (arith, in_sight)) small_margin rank_is cornered fits_asked
 
-      pub ranked-ahead : (at : ℕ) → IsAhead rank corner s → (rank < no_rank) × IsKeptOf is_large r (shown ++ shown_at (box_of a) at ∷ []) rank corner at
+      pub ranked-ahead : (at : ℕ) → IsAhead rank corner s
+          → (rank < no_rank) × IsKeptOf is_large r (shown ++ shown_at (box_of a) at ∷ []) rank corner at
       ranked-ahead = kept-ahead (box_of a) rank corner (omega (arith, in_sight)) small_margin rank_is cornered fits_asked
 
 -- The least `min.y` of a list.
 
 -- The box isn't the best.
-pub least-passed : (s : Best) (list least less : ℕ) (own : List Shown) (c : Shown) → IsLeast s list least own → less ≤ least → less ≤ c.box.min.y
+pub least-passed : (s : Best) (list least less : ℕ) (own : List Shown) (c : Shown) → IsLeast s list least own
+    → less ≤ least → less ≤ c.box.min.y
     → IsLeast s list less (own ++ c ∷ [])
 least-passed s list least less own c all lower low d has = grind (arith, Contains-push_cases own c d has, all d)
 
 -- The box is the best from now on.
-pub least-ahead : (s : Best) (corner list least less : ℕ) (own : List Shown) (c : Shown) → IsLeast s list least own → less ≤ least
+pub least-ahead : (s : Best) (corner list least less : ℕ) (own : List Shown) (c : Shown) → IsLeast s list least own
+    → less ≤ least
     → (s.spot.list ≡ list → less ≤ s.corner / 4294967296) → corner / 4294967296 ≡ c.box.min.y
-    → (d : Shown) → Contains (own ++ c ∷ []) d → ((list ≡ list) × (d.at ≡ c.at) × (corner / 4294967296 ≡ d.box.min.y)) ⊎ (less ≤ d.box.min.y)
+    → (d : Shown) → Contains (own ++ c ∷ []) d
+    → ((list ≡ list) × (d.at ≡ c.at) × (corner / 4294967296 ≡ d.box.min.y)) ⊎ (less ≤ d.box.min.y)
 least-ahead s corner list least less own c all lower low row d has = grind (arith, Contains-push_cases own c d has, all d)
 
 -- Boxes that are passed over: those with an equal side lie below the best, which has an equal side too.
-pub seen-passed : (s : Best) (is_large : Bool) (r : Sides) (shown more : List Shown) → HasSeen s is_large r shown → s.rank ≡ 0
+pub seen-passed : (s : Best) (is_large : Bool) (r : Sides) (shown more : List Shown) → HasSeen s is_large r shown
+    → s.rank ≡ 0
     → ((c : Shown) → Contains more c → HasEqualSide r c.box → s.corner / 4294967296 < c.box.min.y)
     → HasSeen s is_large r (shown ++ more)
 seen-passed s is_large r shown more seen zero below =
@@ -214,10 +227,12 @@ seen-passed s is_large r shown more seen zero below =
       ];
     }
   where
-    equal : (l : Bool) (b c : Box) → Fits r (box_sides b) → Fits r (box_sides c) → HasEqualSide r b → IsAsGood l r c b → HasEqualSide r c
+    equal : (l : Bool) (b c : Box) → Fits r (box_sides b) → Fits r (box_sides c) → HasEqualSide r b → IsAsGood l r c b
+        → HasEqualSide r c
     equal l b c fb fc e h = grind (arith, equal_side-margin, margin-equal_side)
 
-    still : (k : IsKeptOf is_large r shown s.rank s.corner s.spot.at.number) → IsBestShown is_large r (shown ++ more) (shown_at k.box s.spot.at.number)
+    still : (k : IsKeptOf is_large r shown s.rank s.corner s.spot.at.number)
+        → IsBestShown is_large r (shown ++ more) (shown_at k.box s.spot.at.number)
     still k =
         let b = k.box in
         let row : s.corner / 4294967296 ≡ b.min.y = ap (λ n. n / 4294967296) k.cornered ∙ corner-row b k.narrow in

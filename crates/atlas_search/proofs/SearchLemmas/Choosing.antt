@@ -11,26 +11,32 @@ use Rattle.atlas_search.specs.Searches.{Shown, IsAsGood, IsBestShown, FitsNone}
 
 -- What a side leaves of a stretch.
 
-pub spare_fits : (from to side : ℤ) → pos 0 ≤ℤ from → from <ℤ to → pos 0 <ℤ side → (pos 0 ≤ℤ ((to -ℤ from) -ℤ side)) ↔ (natural side ≤ natural to - natural from)
+pub spare_fits : (from to side : ℤ) → pos 0 ≤ℤ from → from <ℤ to → pos 0 <ℤ side
+    → (pos 0 ≤ℤ ((to -ℤ from) -ℤ side)) ↔ (natural side ≤ natural to - natural from)
 spare_fits (pos a) (pos b) (pos s) p q r = (λ h. omega (arith, ints), λ h. omega (arith, ints))
 spare_fits from to side p q r = absurd (omega (arith, ints))
 
-pub spare_value : (from to side : ℤ) → pos 0 ≤ℤ from → from <ℤ to → pos 0 <ℤ side → pos 0 ≤ℤ ((to -ℤ from) -ℤ side) → (to -ℤ from) -ℤ side ≡ pos (natural to - natural from - natural side)
+pub spare_value : (from to side : ℤ) → pos 0 ≤ℤ from → from <ℤ to → pos 0 <ℤ side → pos 0 ≤ℤ ((to -ℤ from) -ℤ side)
+    → (to -ℤ from) -ℤ side ≡ pos (natural to - natural from - natural side)
 spare_value (pos a) (pos b) (pos s) p q r h = omega (arith, ints)
 spare_value from to side p q r h = absurd (omega (arith, ints))
 
 -- The smaller of the two differences.
 
-pub margin_fits : {A B : Type 0} (width height : ℤ) → ((pos 0 ≤ℤ width) ↔ A) → ((pos 0 ≤ℤ height) ↔ B) → width ≤ℤ height → (pos 0 ≤ℤ width) ↔ (A × B)
+pub margin_fits : {A B : Type 0} (width height : ℤ) → ((pos 0 ≤ℤ width) ↔ A) → ((pos 0 ≤ℤ height) ↔ B) → width ≤ℤ height
+    → (pos 0 ≤ℤ width) ↔ (A × B)
 margin_fits width height a b h = (λ p. (a.0 p, b.0 (omega (arith, ints))), λ q. a.1 q.0)
 
-pub margin_fits_height : {A B : Type 0} (width height : ℤ) → ((pos 0 ≤ℤ width) ↔ A) → ((pos 0 ≤ℤ height) ↔ B) → height ≤ℤ width → (pos 0 ≤ℤ height) ↔ (A × B)
+pub margin_fits_height : {A B : Type 0} (width height : ℤ) → ((pos 0 ≤ℤ width) ↔ A) → ((pos 0 ≤ℤ height) ↔ B)
+    → height ≤ℤ width → (pos 0 ≤ℤ height) ↔ (A × B)
 margin_fits_height width height a b h = (λ p. (a.0 (omega (arith, ints)), b.0 p), λ q. b.1 q.1)
 
-pub margin_is : (width height : ℤ) (m n : ℕ) → (pos 0 ≤ℤ width → width ≡ pos m) → (pos 0 ≤ℤ height → height ≡ pos n) → width ≤ℤ height → pos 0 ≤ℤ width → width ≡ pos (min m n)
+pub margin_is : (width height : ℤ) (m n : ℕ) → (pos 0 ≤ℤ width → width ≡ pos m) → (pos 0 ≤ℤ height → height ≡ pos n)
+    → width ≤ℤ height → pos 0 ≤ℤ width → width ≡ pos (min m n)
 margin_is width height m n a b h p = grind arith
 
-pub margin_is_height : (width height : ℤ) (m n : ℕ) → (pos 0 ≤ℤ width → width ≡ pos m) → (pos 0 ≤ℤ height → height ≡ pos n) → height ≤ℤ width → pos 0 ≤ℤ height → height ≡ pos (min m n)
+pub margin_is_height : (width height : ℤ) (m n : ℕ) → (pos 0 ≤ℤ width → width ≡ pos m)
+    → (pos 0 ≤ℤ height → height ≡ pos n) → height ≤ℤ width → pos 0 ≤ℤ height → height ≡ pos (min m n)
 margin_is_height width height m n a b h p = grind arith
 
 -- The order of the boxes.
@@ -41,13 +47,15 @@ margin-equal_side r b fits h = grind arith
 pub equal_side-margin : (r : Sides) (b : Box) → Fits r (box_sides b) → least_margin r b ≡ 0 → HasEqualSide r b
 equal_side-margin r b fits e = grind arith
 
-as_good-trans : (is_large : Bool) (r : Sides) (a b c : Box) → IsAsGood is_large r a b → IsAsGood is_large r b c → IsAsGood is_large r a c
+as_good-trans : (is_large : Bool) (r : Sides) (a b c : Box) → IsAsGood is_large r a b → IsAsGood is_large r b c
+    → IsAsGood is_large r a c
 as_good-trans is_large r a b c p q = grind arith
 
 pub equal_side_cases : (r : Sides) (b : Box) → HasEqualSide r b ⊎ (HasEqualSide r b → ⊥)
 equal_side_cases r b = grind arith
 
-as_good-same : (is_large : Bool) (r : Sides) (a b : Box) → (HasEqualSide r b → HasEqualSide r a) → least_margin r a ≡ least_margin r b → IsAsGood is_large r a b
+as_good-same : (is_large : Bool) (r : Sides) (a b : Box) → (HasEqualSide r b → HasEqualSide r a)
+    → least_margin r a ≡ least_margin r b → IsAsGood is_large r a b
 as_good-same is_large r a b h e = grind (arith, equal_side_cases)
 
 comes_first-trans : (a b c : Box) → ComesFirst a b → ComesFirst b c → ComesFirst a c
@@ -60,10 +68,12 @@ comes_first-not_before : (b c : Box) → (IsBefore (rectangle_of b).min (rectang
 comes_first-not_before b c h = grind arith
 
 better_margin-good : (is_large : Bool) (r : Sides) (b c : Box) → Fits r (box_sides b) → Fits r (box_sides c)
-    → IsBetterMargin is_large (pos (least_margin r b)) (pos (least_margin r c)) → IsAsGood is_large r b c × (IsAsGood is_large r c b → ⊥)
+    → IsBetterMargin is_large (pos (least_margin r b)) (pos (least_margin r c))
+    → IsAsGood is_large r b c × (IsAsGood is_large r c b → ⊥)
 better_margin-good is_large r b c fb fc h = grind (arith, equal_side-margin, margin-equal_side)
 
-equal_margin-good : (is_large : Bool) (r : Sides) (b c : Box) → Fits r (box_sides b) → Fits r (box_sides c) → least_margin r b ≡ least_margin r c → IsAsGood is_large r b c
+equal_margin-good : (is_large : Bool) (r : Sides) (b c : Box) → Fits r (box_sides b) → Fits r (box_sides c)
+    → least_margin r b ≡ least_margin r c → IsAsGood is_large r b c
 equal_margin-good is_large r b c fb fc e = as_good-same is_large r b c (λ s. equal_side-margin r b fb (e ∙ margin-equal_side r c fc s)) e
 
 worse_margin-good : (is_large : Bool) (r : Sides) (b c : Box) → Fits r (box_sides b) → Fits r (box_sides c)
@@ -90,7 +100,8 @@ push-each : {P : Shown → Type 0} (shown : List Shown) (c : Shown) → ((d : Sh
     → (d : Shown) → Contains (shown ++ c ∷ []) d → P d
 push-each {P} shown c each last d has = elim (Contains-push_cases shown c d has) [ inl earlier ↦ each d earlier | inr same ↦ subst P same last ]
 
-pub none_more : (r : Sides) (shown : List Shown) (c : Shown) → FitsNone r shown → (Fits r (box_sides c.box) → ⊥) → FitsNone r (shown ++ c ∷ [])
+pub none_more : (r : Sides) (shown : List Shown) (c : Shown) → FitsNone r shown → (Fits r (box_sides c.box) → ⊥)
+    → FitsNone r (shown ++ c ∷ [])
 none_more r shown c none misfit d has fits = grind (arith, Contains-push_cases shown c d has)
 
 pub best_kept : (is_large : Bool) (r : Sides) (shown : List Shown) (f c : Shown) → IsBestShown is_large r shown f
@@ -103,7 +114,8 @@ best_kept is_large r shown f c best worse = record {
   first = push-each shown c best.first (λ fits. (worse fits).1);
 }
 
-pub best_replaced : (is_large : Bool) (r : Sides) (shown : List Shown) (f c : Shown) → IsBestShown is_large r shown f → Fits r (box_sides c.box)
+pub best_replaced : (is_large : Bool) (r : Sides) (shown : List Shown) (f c : Shown) → IsBestShown is_large r shown f
+    → Fits r (box_sides c.box)
     → IsAsGood is_large r c.box f.box × (IsAsGood is_large r f.box c.box → ComesFirst c.box f.box)
     → IsBestShown is_large r (shown ++ c ∷ []) c
 best_replaced is_large r shown f c best fits better = record {
@@ -119,7 +131,8 @@ best_replaced is_large r shown f c best fits better = record {
       (best.first d earlier fits' (as_good-trans is_large r d.box c.box f.box good better.0))) (λ _ _. inr (refl, omega arith));
 }
 
-pub best_only : (is_large : Bool) (r : Sides) (shown : List Shown) (c : Shown) → FitsNone r shown → Fits r (box_sides c.box)
+pub best_only : (is_large : Bool) (r : Sides) (shown : List Shown) (c : Shown) → FitsNone r shown
+    → Fits r (box_sides c.box)
     → IsBestShown is_large r (shown ++ c ∷ []) c
 best_only is_large r shown c none fits = record {
   is_shown = Contains-push shown c;

@@ -17,13 +17,15 @@ use Rattle.atlas_search.proofs.SearchLemmas.TableHeads.{slot-is}
 
 -- A path reads only the links of its own entries.
 pub path-frame : (es es' : List Item) (from : ℕ) (xs : List ℕ) (to : ℕ) → length es ≤ length es'
-    → ((i : ℕ) → 0 < occurs i xs → (item_at es' i).after ≡ (item_at es i).after) → IsPath es from xs to → IsPath es' from xs to
+    → ((i : ℕ) → 0 < occurs i xs → (item_at es' i).after ≡ (item_at es i).after) → IsPath es from xs to
+    → IsPath es' from xs to
 path-frame es es' from [] to l same_after p = p
 path-frame es es' from (x ∷ xs) to l same_after p =
     grind (arith, same-self, path-frame es es' (item_at es x).after xs to l (λ i h. same_after i (omega arith)) p.2)
 
 -- After each entry comes the end of the path or an entry that isn't its first.
-pub path-next : (es : List Item) (from x : ℕ) (xs : List ℕ) (to b : ℕ) → IsPath es from (x ∷ xs) to → 0 < occurs b (x ∷ xs)
+pub path-next : (es : List Item) (from x : ℕ) (xs : List ℕ) (to b : ℕ) → IsPath es from (x ∷ xs) to
+    → 0 < occurs b (x ∷ xs)
     → ((item_at es b).after ≡ to) ⊎ (0 < occurs (item_at es b).after xs)
 path-next es from x [] to b p h = grind (arith, same-ne)
 path-next es from x (y ∷ ys) to b p h =
@@ -48,7 +50,8 @@ path-bypassed es es' x b from (y ∷ ys) to l past once has_b next skip others p
     not_first : x ≡ y → ⊥
     not_first e = grind (arith, path-next es from y ys to b p has_b, same-self x)
 
-    past_b : (zs : List ℕ) → x ≢ y → y ≡ b → ys ≡ zs → IsPath es (item_at es y).after zs to → IsPath es' (item_at es' y).after (without x zs) to
+    past_b : (zs : List ℕ) → x ≢ y → y ≡ b → ys ≡ zs → IsPath es (item_at es y).after zs to
+        → IsPath es' (item_at es' y).after (without x zs) to
     past_b [] ne e _ q = absurd (past (sym q ∙ ap (λ n. (item_at es n).after) e ∙ next))
     past_b (z ∷ zs) ne e is q =
         let zx : z ≡ x = sym q.0 ∙ ap (λ n. (item_at es n).after) e ∙ next in
@@ -74,7 +77,8 @@ path-bypassed es es' x b from (y ∷ ys) to l past once has_b next skip others p
     go later (inr ne) c = subst Goal (sym (without-other x y ys ne)) (p.0, omega (arith, l, p.1), rest later ne c)
 
 -- The path that begins at x begins after it from now on.
-pub path-begun : (es es' : List Item) (x : ℕ) (xs : List ℕ) → length es ≤ length es' → ((i : ℕ) → occurs i xs ≤ 1) → 0 < occurs x xs
+pub path-begun : (es es' : List Item) (x : ℕ) (xs : List ℕ) → length es ≤ length es' → ((i : ℕ) → occurs i xs ≤ 1)
+    → 0 < occurs x xs
     → ((i : ℕ) → i ≢ x → (item_at es' i).after ≡ (item_at es i).after)
     → IsPath es x xs no_slot → IsPath es' (item_at es x).after (without x xs) no_slot
 path-begun es es' x [] l once has_x others p = absurd (omega (arith, has_x))
@@ -117,7 +121,8 @@ module _ (o : Options) (heads heads' : List ListHead) (es es' : List Item) (list
   not_in : (j : ℕ) → j < 2704 → j ≢ k → occurs x (listed.free_lists j) ≡ 0
   not_in j l ne = grind arith
 
-  paths : (j : ℕ) → j < 2704 → (j ≡ k) ⊎ (j ≢ k) → IsPath es' (head_of heads' j).number (without x (listed.free_lists j)) no_slot
+  paths : (j : ℕ) → j < 2704 → (j ≡ k) ⊎ (j ≢ k)
+      → IsPath es' (head_of heads' j).number (without x (listed.free_lists j)) no_slot
   paths j l (inl e) = subst (λ n. IsPath es' (head_of heads' n).number (without x (listed.free_lists n)) no_slot) (sym e) (here (omega arith))
   paths j l (inr ne) = grind (arith, without-none, not_in, path-frame)
 
@@ -187,7 +192,8 @@ module _ (o : Options) (heads heads' : List ListHead) (es es' : List Item) (list
   occurs-added_back j i ne (inl is) = grind (arith, added-here, same-ne)
   occurs-added_back j i ne (inr apart) = ap (occurs i) (added-other j apart)
 
-  own-added : (j i : ℕ) → j < 2704 → 0 < occurs i (added j) → (i ≡ x) ⊎ (i ≢ x) → ((item_at es' i).is_free ≡ true) × (list_at o es' i ≡ j)
+  own-added : (j i : ℕ) → j < 2704 → 0 < occurs i (added j) → (i ≡ x) ⊎ (i ≢ x)
+      → ((item_at es' i).is_free ≡ true) × (list_at o es' i ≡ j)
   own-added j i l h (inl is) = grind (arith, added-other, not_in_lists, x-list)
   own-added j i l h (inr ne) = grind (arith, occurs-added_back, list-same)
 
@@ -204,11 +210,13 @@ module _ (o : Options) (heads heads' : List ListHead) (es es' : List Item) (list
   used_list : (i : ℕ) → (item_at es i).is_free ≡ true → list_at o es i ≡ k → k < 2704 → is_used_at heads k ≡ true
   used_list i f is l = slot-is (head_of heads k) (some (listed.free_lists k) (listed.path k l) (subst (λ n. 0 < occurs i (listed.free_lists n)) is (listed.each i f)))
     where
-      some : (xs : List ℕ) → IsPath es (head_of heads k).number xs no_slot → 0 < occurs i xs → (head_of heads k).number ≢ no_slot
+      some : (xs : List ℕ) → IsPath es (head_of heads k).number xs no_slot → 0 < occurs i xs
+          → (head_of heads k).number ≢ no_slot
       some [] p h z = omega (arith, h)
       some (y ∷ ys) p h z = omega (arith, z, p.0, p.1, listed.short)
 
-  low-added : k < 2704 → (i : ℕ) → (item_at es' i).is_free ≡ true → (i ≡ x) ⊎ (i ≢ x) → low_of heads' (list_at o es' i) ≤ (item_box (item_at es' i)).min.y
+  low-added : k < 2704 → (i : ℕ) → (item_at es' i).is_free ≡ true → (i ≡ x) ⊎ (i ≢ x)
+      → low_of heads' (list_at o es' i) ≤ (item_box (item_at es' i)).min.y
   low-added l i f (inl is) = grind arith
   low-added l i f (inr ne) = grind (arith, used_list)
 

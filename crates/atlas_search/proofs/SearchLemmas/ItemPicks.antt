@@ -23,7 +23,8 @@ use Rattle.atlas_search.proofs.SearchLemmas.Windows.{below-class, class-below, c
 use Rattle.atlas_search.proofs.SearchLemmas.Picking.{pick_of_class}
 
 -- A free entry is one of the list.
-pub free-inside : {E : Type 0} (item : E → Item) (xs : List E) (i : ℕ) → (item_at (map item xs) i).is_free ≡ true → i < length xs
+pub free-inside : {E : Type 0} (item : E → Item) (xs : List E) (i : ℕ) → (item_at (map item xs) i).is_free ≡ true
+    → i < length xs
 free-inside item xs i free =
     elim (cases_lt i (length xs)) [
       | inl l ↦ l
@@ -34,7 +35,8 @@ free-inside item xs i free =
 
 -- What is found with the rectangle that is read of the entry.
 pub found-read : {E : Type 0} (item : E → Item) (xs : List E) (spot : Spot) (x : E) (a : Rectangle) (found : Found)
-    → (item_at (map item xs) spot.at.number).is_free ≡ true → x ≡ get_or xs spot.at.number x → a ≡ (item x).area → found ≡ found_at a spot
+    → (item_at (map item xs) spot.at.number).is_free ≡ true → x ≡ get_or xs spot.at.number x → a ≡ (item x).area
+    → found ≡ found_at a spot
     → found ≡ found_in (map item xs) spot
 found-read item xs spot x a found free read area is =
     let inside = free-inside item xs spot.at.number free in
@@ -42,7 +44,8 @@ found-read item xs spot x a found free read area is =
 
 module _ (o : Options) (es : List Item) (r : Sides) where
   -- No row and no column is left.
-  pub none-from : (least : ℕ) → 52 ≤ least → FitsItemsFrom o es least r → (i : ℕ) → (item_at es i).is_free ≡ true → Fits r (item_sides (item_at es i)) → ⊥
+  pub none-from : (least : ℕ) → 52 ≤ least → FitsItemsFrom o es least r → (i : ℕ) → (item_at es i).is_free ≡ true
+      → Fits r (item_sides (item_at es i)) → ⊥
   none-from least l from i free fits =
       elim (from i free fits) [
         | inl h ↦ omega (arith, h, l, band_below o (item_sides (item_at es i)).width)
@@ -55,12 +58,14 @@ module _ (o : Options) (es : List Item) (r : Sides) where
       let at = all.of_item b fitting.is_free in
       none at.0 at.1 (subst (λ (x : Box). Fits r (box_sides x)) (sym at.2) fitting.fits)
 
-  none-shown : (heads : List ListHead) (end : ℕ) (search : Best) → HasSearched o heads es end r search → search.rank ≡ no_rank
+  none-shown : (heads : List ListHead) (end : ℕ) (search : Best) → HasSearched o heads es end r search
+      → search.rank ≡ no_rank
       → (i : ℕ) → (item_at es i).is_free ≡ true → IsItemBelow o es end i → Fits r (item_sides (item_at es i)) → ⊥
   none-shown heads end search h e i free below fits = grind arith
 
   -- Where none before `end` is fitted, those that are reach it.
-  pub none-found : (heads : List ListHead) (end : ℕ) (search : Best) → HasSearched o heads es end r search → search.rank ≡ no_rank → FitsItemsFrom o es end r
+  pub none-found : (heads : List ListHead) (end : ℕ) (search : Best) → HasSearched o heads es end r search
+      → search.rank ≡ no_rank → FitsItemsFrom o es end r
   none-found heads end search h e i free fits =
       let row = band_of o (item_sides (item_at es i)).width in
       let column = band_of o (item_sides (item_at es i)).height in
@@ -70,12 +75,14 @@ module _ (o : Options) (es : List Item) (r : Sides) where
       ]
 
   -- It still knows of none.
-  pub seen-nothing : (heads : List ListHead) (end : ℕ) (search : Best) → HasSearched o heads es end r search → search.rank ≡ no_rank
+  pub seen-nothing : (heads : List ListHead) (end : ℕ) (search : Best) → HasSearched o heads es end r search
+      → search.rank ≡ no_rank
       → HasSeen search (class_of o r == 2) r []
   seen-nothing heads end best h e =
       record { positive = h.seen.positive; size = h.seen.size; large = h.seen.large; best = inl (e, λ c has fits. omega (arith, has.1)) }
 
-  pub best-found : (heads : List ListHead) (end : ℕ) (search : Best) (spot : Spot) → HasSearched o heads es end r search → spot ≡ search.spot → search.rank ≢ no_rank
+  pub best-found : (heads : List ListHead) (end : ℕ) (search : Best) (spot : Spot) → HasSearched o heads es end r search
+      → spot ≡ search.spot → search.rank ≢ no_rank
       → IsBestBelow o heads es end r (found_in es spot)
   best-found heads end s spot h e ne =
       elim h.seen.best [
@@ -91,8 +98,10 @@ module _ (o : Options) (es : List Item) (r : Sides) where
             })
       ]
 
-  pub pick-of_items : (heads : List ListHead) (a : AreListed o heads es) (least end : ℕ) (found : Found) → IsEndAfter o least end → FitsItemsFrom o es least r
-      → IsBestBelow o heads es end r found → (free : List Box) → AreFreeItems es free → IsPick free o r (box_of found.rectangle)
+  pub pick-of_items : (heads : List ListHead) (a : AreListed o heads es) (least end : ℕ) (found : Found)
+      → IsEndAfter o least end → FitsItemsFrom o es least r
+      → IsBestBelow o heads es end r found → (free : List Box) → AreFreeItems es free
+      → IsPick free o r (box_of found.rectangle)
   pick-of_items heads a least end found is from b free all =
       let class = is.class in
       let fits_at : (c : Box) (i : ℕ) → item_box (item_at es i) ≡ c → Fits r (box_sides c) → Fits r (item_sides (item_at es i)) = (λ c i e h. subst (λ (x : Box). Fits r (box_sides x)) (sym e) h) in

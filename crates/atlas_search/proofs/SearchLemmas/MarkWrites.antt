@@ -12,10 +12,12 @@ pub record IsWritten (old new : Mask) (k : ℕ) (b : Bool) : Type 0 where
   pub this : has new k ≡ b
   pub others : (j : ℕ) → j ≢ k → has new j ≡ has old j
 
-pub set_this : (rows : List Mask) (i j : ℕ) (m : Mask) (b : Bool) → i < length rows → IsWritten (mask_at rows i) m j b → is_marked_at (slice_set rows i m) i j ≡ b
+pub set_this : (rows : List Mask) (i j : ℕ) (m : Mask) (b : Bool) → i < length rows → IsWritten (mask_at rows i) m j b
+    → is_marked_at (slice_set rows i m) i j ≡ b
 set_this rows i j m b l w = ap (λ x. has x j) (get_or-set_same rows i m (record { bits = 0 }) l) ∙ w.this
 
-pub set_others : (rows : List Mask) (i j k l : ℕ) (m : Mask) (b : Bool) → i < length rows → IsWritten (mask_at rows i) m j b → (k ≢ i) ⊎ (l ≢ j)
+pub set_others : (rows : List Mask) (i j k l : ℕ) (m : Mask) (b : Bool) → i < length rows
+    → IsWritten (mask_at rows i) m j b → (k ≢ i) ⊎ (l ≢ j)
     → is_marked_at (slice_set rows i m) k l ≡ is_marked_at rows k l
 set_others rows i j k l m b within w (inl apart) = ap (λ x. has x l) (get_or-set_other rows i k m (record { bits = 0 }) apart)
 set_others rows i j k l m b within w (inr apart) = grind (arith, get_or-set_same, get_or-set_other)
@@ -41,11 +43,13 @@ module _ (rows columns : List Mask) (any : Mask) (are : AreMarks rows columns an
   row_others : (k l : ℕ) → (k ≢ i) ⊎ (l ≢ j) → is_marked_at (slice_set rows i row) k l ≡ is_marked_at rows k l
   row_others k l = set_others rows i j k l row b in_rows in_row
 
-  inside_by : (k l : ℕ) → ((k ≡ i) × (l ≡ j)) ⊎ ((k ≢ i) ⊎ (l ≢ j)) → is_marked_at (slice_set rows i row) k l ≡ true → (k < 52) × (l < 52)
+  inside_by : (k l : ℕ) → ((k ≡ i) × (l ≡ j)) ⊎ ((k ≢ i) ⊎ (l ≢ j)) → is_marked_at (slice_set rows i row) k l ≡ true
+      → (k < 52) × (l < 52)
   inside_by k l (inl e) h = (omega (arith, e.0, row_inside), omega (arith, e.1, column_inside))
   inside_by k l (inr apart) h = are.inside k l (sym (row_others k l apart) ∙ h)
 
-  same_by : (k l : ℕ) → ((k ≡ i) × (l ≡ j)) ⊎ ((k ≢ i) ⊎ (l ≢ j)) → is_marked_at (slice_set columns j column) l k ≡ is_marked_at (slice_set rows i row) k l
+  same_by : (k l : ℕ) → ((k ≡ i) × (l ≡ j)) ⊎ ((k ≢ i) ⊎ (l ≢ j))
+      → is_marked_at (slice_set columns j column) l k ≡ is_marked_at (slice_set rows i row) k l
   same_by k l (inl e) = search (rules, set_this, in_columns, row_this)
   same_by k l (inr apart) = set_others columns j i l k column b in_columns in_column (turned i j k l apart) ∙ are.same k l ∙ sym (row_others k l apart)
 
@@ -55,7 +59,8 @@ module _ (rows columns : List Mask) (any : Mask) (are : AreMarks rows columns an
       → AreMarks (slice_set rows i row) (slice_set columns j column) any'
   written-marks any' each only = grind (arith, length-set, inside_by, cases_place, same_by)
 
-  used_by : (b ≡ true) → (any' : Mask) → IsWritten any any' i true → (k l : ℕ) → ((k ≡ i) × (l ≡ j)) ⊎ ((k ≢ i) ⊎ (l ≢ j))
+  used_by : (b ≡ true) → (any' : Mask) → IsWritten any any' i true → (k l : ℕ)
+      → ((k ≡ i) × (l ≡ j)) ⊎ ((k ≢ i) ⊎ (l ≢ j))
       → is_marked_at (slice_set rows i row) k l ≡ true → IsMarked any' k
   used_by is any' w k l (inl e) h = ap (has any') e.0 ∙ w.this
   used_by is any' w k l (inr apart) h = grind (arith, row_others)
@@ -66,7 +71,8 @@ module _ (rows columns : List Mask) (any : Mask) (are : AreMarks rows columns an
   only_by is any' w k (inr apart) h = grind (arith, row_others)
 
   -- A place is marked.
-  pub marked-marks : b ≡ true → (any' : Mask) → IsWritten any any' i true → AreMarks (slice_set rows i row) (slice_set columns j column) any'
+  pub marked-marks : b ≡ true → (any' : Mask) → IsWritten any any' i true
+      → AreMarks (slice_set rows i row) (slice_set columns j column) any'
   marked-marks is any' w = written-marks any' (λ k l. used_by is any' w k l (cases_place i j k l)) (λ k. only_by is any' w k (cases_eq k i))
 
 -- ---- no mark

@@ -45,7 +45,8 @@ without_this n k within = ap is_one (bit_at_clear_same w64 n k within)
 and_above : (n m j : ℕ) → n < 2 ^ 64 → 64 ≤ j → bit_at (bit_and n m) j ≡ bit_at n j
 and_above n m j fits more = grind (arith, bit_at_above n 64 j fits more, bit_at_and n m j)
 
-pub without_others : (n k j : ℕ) → n < 2 ^ 64 → k < 64 → j ≢ k → has (of_bits (bit_and n (2 ^ 64 - 1 - 1 * 2 ^ k % 2 ^ 64))) j ≡ has (of_bits n) j
+pub without_others : (n k j : ℕ) → n < 2 ^ 64 → k < 64 → j ≢ k
+    → has (of_bits (bit_and n (2 ^ 64 - 1 - 1 * 2 ^ k % 2 ^ 64))) j ≡ has (of_bits n) j
 unfolding has
 without_others n k j fits within apart =
     ap is_one (elim (cases_lt j 64) [ inl l ↦ bit_at_clear_other w64 n k within j l apart | inr g ↦ and_above n (2 ^ 64 - 1 - 1 * 2 ^ k % 2 ^ 64) j fits g ])
@@ -62,11 +63,13 @@ from_high n k j fits g =
     ap (λ x. bit_at x j) (mod-eq_of_lt (omega (arith, shr_split n k, fits)) ∙ sym whole) ∙ bit_at_cat_high (n / 2 ^ k) k 0 j (pow_pos k) g
     ∙ ap (λ x. x % 2) (shr-shr n k (j - k)) ∙ ap (bit_at n) back
 
-pub from_has : (n k j : ℕ) → n < 2 ^ 64 → has (of_bits (n / 2 ^ k * 2 ^ k % 2 ^ 64)) j ≡ (has (of_bits n) j && nat_le k j)
+pub from_has : (n k j : ℕ) → n < 2 ^ 64
+    → has (of_bits (n / 2 ^ k * 2 ^ k % 2 ^ 64)) j ≡ (has (of_bits n) j && nat_le k j)
 unfolding has
 from_has n k j fits = grind (arith, from_low, and_right, lt-leb, from_high, and_true, le-leb)
 
-below_is : (n k j : ℕ) → k < 64 → bit_at (bit_and n (1 * 2 ^ k % 2 ^ 64 - 1)) j ≡ min (bit_at n j) (bit_at (2 ^ k - 1) j)
+below_is : (n k j : ℕ) → k < 64
+    → bit_at (bit_and n (1 * 2 ^ k % 2 ^ 64 - 1)) j ≡ min (bit_at n j) (bit_at (2 ^ k - 1) j)
 below_is n k j within = ap (λ m. bit_at (bit_and n (m - 1)) j) (one_shl k 64 within) ∙ bit_at_and n (2 ^ k - 1) j
 
 min_one : (x : ℕ) → x < 2 → min x 1 ≡ x
@@ -75,7 +78,8 @@ min_one x l = omega arith
 min_zero : (x : ℕ) → min x 0 ≡ 0
 min_zero x = omega arith
 
-pub below_has : (n k j : ℕ) → k < 64 → has (of_bits (bit_and n (1 * 2 ^ k % 2 ^ 64 - 1))) j ≡ (has (of_bits n) j && nat_lt j k)
+pub below_has : (n k j : ℕ) → k < 64
+    → has (of_bits (bit_and n (1 * 2 ^ k % 2 ^ 64 - 1))) j ≡ (has (of_bits n) j && nat_lt j k)
 unfolding has
 below_has n k j within =
     grind (arith, below_is n k, bit_at_ones, bit_at_ones_above, min_one, min_zero, bit_at-lt n, and_true, and_right, lt-ltb, le-ltb)
@@ -103,7 +107,8 @@ unfolding count_trailing_zeros
 others_stay zero n j some fits apart = absurd (omega arith)
 others_stay (suc w) n j some fits apart = grind (arith, others_by, others_stay w (n / 2))
 
-this_by : (n t d : ℕ) → 0 < n → n % 2 ≡ d → (n % 2 ≡ 0 → bit_at (bit_and (n / 2) (n / 2 - 1)) t ≡ 0) → bit_at (bit_and n (n - 1)) (under d t) ≡ 0
+this_by : (n t d : ℕ) → 0 < n → n % 2 ≡ d → (n % 2 ≡ 0 → bit_at (bit_and (n / 2) (n / 2 - 1)) t ≡ 0)
+    → bit_at (bit_and n (n - 1)) (under d t) ≡ 0
 this_by n t zero some e rest = grind (arith, above_lowest)
 this_by n t (suc d) some e rest = grind (arith, lowest_gone)
 
@@ -128,7 +133,8 @@ rest_has n j some fits =
     )
 
 pub first_has : (n : ℕ) → (n ≡ 0 → ⊥) → n < 2 ^ 64
-    → IsMarked (of_bits n) (count_trailing_zeros 64 n) × ((j : ℕ) → IsMarked (of_bits n) j → count_trailing_zeros 64 n ≤ j)
+    → IsMarked (of_bits n) (count_trailing_zeros 64 n)
+    × ((j : ℕ) → IsMarked (of_bits n) j → count_trailing_zeros 64 n ≤ j)
 unfolding has
 first_has n some fits = grind (arith, bit_at-trailing_zeros w64 n (omega arith) fits, both_ways)
 

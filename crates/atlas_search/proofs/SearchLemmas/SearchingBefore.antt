@@ -153,7 +153,8 @@ module _ (o : Options) (heads : List ListHead) (es : List Item) (own : Place) (r
 
   -- All of them.
   added-all : (in_row in_column : Mask) (s t u v : Best) → KeepsBelow columns in_row end → KeepsBelow rows in_column end
-      → HasAdded o heads es end r (IsInRow own.row in_row) s t → HasAdded o heads es end r (IsInColumn own.column in_column) t u
+      → HasAdded o heads es end r (IsInRow own.row in_row) s t
+      → HasAdded o heads es end r (IsInColumn own.column in_column) t u
       → HasAdded o heads es end r IsApart u v
       → HasAdded o heads es end r (λ i j. (own.row ≤ i) × (own.column ≤ j) × AreBelow end i j × ((least ≤ i) ⊎ (least ≤ j))) s v
   added-all in_row in_column s t u v bc br x y z =
@@ -178,7 +179,8 @@ module _ (o : Options) (heads : List ListHead) (es : List Item) (own : Place) (r
   known-begin s h = grind arith
 
   -- A search that knew of none has seen them.
-  pub searched : (in_row in_column : Mask) (s t u v : Best) → own.row < end → own.column < end → KeepsBelow columns in_row end → KeepsBelow rows in_column end
+  pub searched : (in_row in_column : Mask) (s t u v : Best) → own.row < end → own.column < end
+      → KeepsBelow columns in_row end → KeepsBelow rows in_column end
       → HasSeen s (class_of o r == 2) r []
       → (((j : ℕ) → IsMarked in_row j → AreBelow end own.row j) → HasAdded o heads es end r (IsInRow own.row in_row) s t)
       → (((i : ℕ) → IsMarked in_column i → AreBelow end i own.column) → HasAdded o heads es end r (IsInColumn own.column in_column) t u)

@@ -20,15 +20,18 @@ use Rattle.atlas_search.proofs.Occurrences.{same-self, same-ne, length-distinct}
 
 -- Paths
 
-path-push : (es : List Item) (from : ℕ) (xs : List ℕ) (to : ℕ) → IsPath es from xs to → to < length es → IsPath es from (xs ++ to ∷ []) (item_at es to).after
+path-push : (es : List Item) (from : ℕ) (xs : List ℕ) (to : ℕ) → IsPath es from xs to → to < length es
+    → IsPath es from (xs ++ to ∷ []) (item_at es to).after
 path-push es from [] to p h = (p, h, refl)
 path-push es from (x ∷ xs) to p h = (p.0, p.1, path-push es (item_at es x).after xs to p.2 h)
 
-pub path-inside : (es : List Item) (from : ℕ) (xs : List ℕ) (to : ℕ) → IsPath es from xs to → (i : ℕ) → 0 < occurs i xs → i < length es
+pub path-inside : (es : List Item) (from : ℕ) (xs : List ℕ) (to : ℕ) → IsPath es from xs to → (i : ℕ) → 0 < occurs i xs
+    → i < length es
 path-inside es from [] to p i h = absurd (omega arith)
 path-inside es from (x ∷ xs) to p i h = grind (arith, same-ne, path-inside es (item_at es x).after xs to p.2 i)
 
-pub path-stop : (es : List Item) (xs : List ℕ) → length es ≤ no_slot → (from : ℕ) → from ≡ no_slot → IsPath es from xs no_slot → xs ≡ []
+pub path-stop : (es : List Item) (xs : List ℕ) → length es ≤ no_slot → (from : ℕ) → from ≡ no_slot
+    → IsPath es from xs no_slot → xs ≡ []
 path-stop es [] short from e p = refl
 path-stop es (x ∷ xs) short from e p = absurd (omega (arith, e, p.0, p.1))
 
@@ -42,7 +45,8 @@ occurs-push : (i x : ℕ) (xs : List ℕ) → occurs i (xs ++ x ∷ []) ≡ occu
 occurs-push i x [] = omega arith
 occurs-push i x (y ∷ xs) = omega (arith, occurs-push i x xs)
 
-shown-push : (es : List Item) (x : ℕ) (xs : List ℕ) → shown_items es (xs ++ x ∷ []) ≡ shown_items es xs ++ shown_item es x ∷ []
+shown-push : (es : List Item) (x : ℕ) (xs : List ℕ)
+    → shown_items es (xs ++ x ∷ []) ≡ shown_items es xs ++ shown_item es x ∷ []
 shown-push es x [] = refl
 shown-push es x (y ∷ xs) = ap (λ s. shown_item es y ∷ s) (shown-push es x xs)
 
@@ -51,11 +55,13 @@ append-none [] = refl
 append-none (x ∷ xs) = ap (λ s. x ∷ s) (append-none xs)
 
 -- What is read of an entry.
-pub item-read : {E : Type 0} (item : E → Item) (xs : List E) (i : ℕ) (x : E) → i < length xs → x ≡ get_or xs i x → item x ≡ item_at (map item xs) i
+pub item-read : {E : Type 0} (item : E → Item) (xs : List E) (i : ℕ) (x : E) → i < length xs → x ≡ get_or xs i x
+    → item x ≡ item_at (map item xs) i
 item-read item xs i x h e = ap item e ∙ sym (get_or-map item xs i x no_item h)
 
 -- Each of the entries is shown.
-pub shown_items-has : (es : List Item) (xs : List ℕ) (i : ℕ) → 0 < occurs i xs → Contains (shown_items es xs) (shown_item es i)
+pub shown_items-has : (es : List Item) (xs : List ℕ) (i : ℕ) → 0 < occurs i xs
+    → Contains (shown_items es xs) (shown_item es i)
 shown_items-has es [] i l = absurd (omega arith)
 shown_items-has es (x ∷ xs) i l =
     elim (cases_eq i x) [
@@ -64,7 +70,8 @@ shown_items-has es (x ∷ xs) i l =
     ]
 
 -- What is shown of entries is the box of one of them.
-pub shown_items-in : (es : List Item) (xs : List ℕ) (c : Shown) → Contains (shown_items es xs) c → (i : ℕ) × (0 < occurs i xs) × (c ≡ shown_item es i)
+pub shown_items-in : (es : List Item) (xs : List ℕ) (c : Shown) → Contains (shown_items es xs) c
+    → (i : ℕ) × (0 < occurs i xs) × (c ≡ shown_item es i)
 shown_items-in es [] c h = absurd (omega (arith, h.1))
 shown_items-in es (x ∷ xs) c (zero, l, e) = (x, omega (arith, same-self x), sym e)
 shown_items-in es (x ∷ xs) c (suc n, l, e) =
@@ -72,7 +79,8 @@ shown_items-in es (x ∷ xs) c (suc n, l, e) =
     (more.0, omega (arith, more.1), more.2)
 
 -- The entries from one on are determined.
-pub path-same : (es : List Item) (from : ℕ) (xs ys : List ℕ) → length es ≤ no_slot → IsPath es from xs no_slot → IsPath es from ys no_slot → xs ≡ ys
+pub path-same : (es : List Item) (from : ℕ) (xs ys : List ℕ) → length es ≤ no_slot → IsPath es from xs no_slot
+    → IsPath es from ys no_slot → xs ≡ ys
 path-same es from [] ys short p q = sym (path-stop es ys short from p q)
 path-same es from (x ∷ xs) [] short p q = path-stop es (x ∷ xs) short from q p
 path-same es from (x ∷ xs) (y ∷ ys) short p q =
@@ -89,14 +97,16 @@ pub record IsAlong (es : List Item) (head : ℕ) (list : ℕ) (start : Best) (at
   pub once : (i : ℕ) → occurs i done + occurs i rest ≤ 1
   pub exact : (i : ℕ) → 0 < occurs i rest → IsSolid (item_at es i).area
   pub previous : IsPrevious es head done before at
-  pub seen : (is_large : Bool) (r : Sides) (shown : List Shown) → HasSeen start is_large r shown → HasSeen now is_large r (shown ++ shown_items es done)
+  pub seen : (is_large : Bool) (r : Sides) (shown : List Shown) → HasSeen start is_large r shown
+      → HasSeen now is_large r (shown ++ shown_items es done)
   pub least : IsLeast now list low (shown_items es done)
   pub found : IsSameBest start now ⊎ IsSpot es head list done now.spot
 
 abbrev pub KeepsSeen : (before after : Best) → Type 0
 KeepsSeen s t = (is_large : Bool) (r : Sides) (shown : List Shown) → HasSeen s is_large r shown → HasSeen t is_large r shown
 
-pub along-begins : (es : List Item) (head list : ℕ) (start : Best) (low : ℕ) → IsShowable es head → IsAlong es head list start head no_slot start low
+pub along-begins : (es : List Item) (head list : ℕ) (start : Best) (low : ℕ) → IsShowable es head
+    → IsAlong es head list start head no_slot start low
 along-begins es head list start low s =
     record {
       done = [];
@@ -112,16 +122,19 @@ along-begins es head list start low s =
       found = inl (record { rank = refl; spot = refl });
     }
 
-previous-push : (es : List Item) (head : ℕ) (xs : List ℕ) (x before at : ℕ) → IsPrevious es head xs before at → IsPrevious es head (xs ++ x ∷ []) before at
+previous-push : (es : List Item) (head : ℕ) (xs : List ℕ) (x before at : ℕ) → IsPrevious es head xs before at
+    → IsPrevious es head (xs ++ x ∷ []) before at
 previous-push es head xs x before at (inl p) = inl p
 previous-push es head xs x before at (inr p) = inr (omega (arith, p.0, occurs-push before x xs), p.1)
 
-spot-push : (es : List Item) (head : ℕ) (list : ℕ) (xs : List ℕ) (x : ℕ) (f g : Spot) → g ≡ f → IsSpot es head list xs f → IsSpot es head list (xs ++ x ∷ []) g
+spot-push : (es : List Item) (head : ℕ) (list : ℕ) (xs : List ℕ) (x : ℕ) (f g : Spot) → g ≡ f → IsSpot es head list xs f
+    → IsSpot es head list (xs ++ x ∷ []) g
 spot-push es head list xs x f g e s = grind (arith, occurs-push, previous-push)
 
 module _ (es : List Item) (head : ℕ) (list : ℕ) (start now : Best) (low : ℕ) (at before : Link)
     (w : IsAlong es head list start at.number before.number now low) (more : at.number ≢ no_slot) where
-  rest_is : (ys : List ℕ) × (w.rest ≡ at.number ∷ ys) × (at.number < length es) × IsPath es (item_at es at.number).after ys no_slot
+  rest_is : (ys : List ℕ) × (w.rest ≡ at.number ∷ ys) × (at.number < length es)
+      × IsPath es (item_at es at.number).after ys no_slot
   rest_is = path-more es at.number w.rest w.left more
 
   pub along-inside : at.number < length es
@@ -131,8 +144,10 @@ module _ (es : List Item) (head : ℕ) (list : ℕ) (start now : Best) (low : �
   along-exact = w.exact at.number (subst (λ ys. 0 < occurs at.number ys) (sym rest_is.1) (omega (arith, same-self at.number)))
 
   -- The entry is shown, and the search goes on to the next.
-  pub along-goes_on : (next : Best) (next_low : ℕ) (a : Rectangle) (after : ℕ) → a ≡ (item_at es at.number).area → after ≡ (item_at es at.number).after
-      → ((is_large : Bool) (r : Sides) (shown : List Shown) → HasSeen now is_large r shown → HasSeen next is_large r (shown ++ shown_at (box_of a) at.number ∷ []))
+  pub along-goes_on : (next : Best) (next_low : ℕ) (a : Rectangle) (after : ℕ) → a ≡ (item_at es at.number).area
+      → after ≡ (item_at es at.number).after
+      → ((is_large : Bool) (r : Sides) (shown : List Shown) → HasSeen now is_large r shown
+      → HasSeen next is_large r (shown ++ shown_at (box_of a) at.number ∷ []))
       → ((own : List Shown) → IsLeast now list low own → IsLeast next list next_low (own ++ shown_at (box_of a) at.number ∷ []))
       → IsLooked now next (record { at = at; before = before; list = list; low = now.spot.low })
       → IsAlong es head list start after at.number next next_low
@@ -175,7 +190,8 @@ pub entries_from : List Item → (bound at : ℕ) → ℕ
 entries_from es zero at = 0
 entries_from es (suc bound) at = if at == no_slot then 0 else suc (entries_from es bound (item_at es at).after)
 
-entries-path : (es : List Item) (bound at : ℕ) (xs : List ℕ) → length es ≤ no_slot → IsPath es at xs no_slot → length xs ≤ bound
+entries-path : (es : List Item) (bound at : ℕ) (xs : List ℕ) → length es ≤ no_slot → IsPath es at xs no_slot
+    → length xs ≤ bound
     → entries_from es bound at ≡ length xs
 unfolding entries_from
 entries-path es zero at [] short p l = refl
@@ -187,8 +203,10 @@ entries-path es (suc bound) at (x ∷ xs) short p l =
     cond-false (at == no_slot) 0 _ (ne_eqb at no_slot ne) ∙ ap suc (entries-path es bound (item_at es at).after xs short rest (omega (arith, l)))
 
 -- Each step leaves fewer entries.
-pub fewer-left : (es : List Item) (head : ℕ) (list : ℕ) (start now : Best) (low : ℕ) (at before : Link) → IsAlong es head list start at.number before.number now low
-    → at.number ≢ no_slot → entries_from es (length es) (item_at es at.number).after < entries_from es (length es) at.number
+pub fewer-left : (es : List Item) (head : ℕ) (list : ℕ) (start now : Best) (low : ℕ) (at before : Link)
+    → IsAlong es head list start at.number before.number now low
+    → at.number ≢ no_slot
+    → entries_from es (length es) (item_at es at.number).after < entries_from es (length es) at.number
 fewer-left es head list start now low at before w more =
     let r = path-more es at.number w.rest w.left more in
     let few = length-distinct (length es) w.rest (λ k. omega (arith, w.once k)) (λ k h. path-inside es at.number w.rest no_slot w.left k h) in
@@ -198,10 +216,12 @@ fewer-left es head list start now low at before w more =
     omega (arith, here, next, size)
 
 -- The least `min.y` of the others is their bound.
-low-of_least : (es : List Item) (now : Best) (list low : ℕ) (xs : List ℕ) → IsLeast now list low (shown_items es xs) → IsLowBut es xs now.spot.at.number low
+low-of_least : (es : List Item) (now : Best) (list low : ℕ) (xs : List ℕ) → IsLeast now list low (shown_items es xs)
+    → IsLowBut es xs now.spot.at.number low
 low-of_least es now list low xs least i h ne = elim (least (shown_item es i) (shown_items-has es xs i h)) [ inl e ↦ absurd (ne e.1) | inr l ↦ l ]
 
-pub along-ends : (es : List Item) (head list : ℕ) (start now after : Best) (low at before : ℕ) → IsAlong es head list start at before now low
+pub along-ends : (es : List Item) (head list : ℕ) (start now after : Best) (low at before : ℕ)
+    → IsAlong es head list start at before now low
     → at ≡ no_slot → KeepsSeen now after → after.rank ≡ now.rank → (now.spot.list ≢ list → after.spot ≡ now.spot)
     → (now.spot.list ≡ list → after.spot ≡ record now.spot { low = low })
     → HasShown es head list start after

@@ -37,7 +37,8 @@ module _ (heads : List ListHead) (k : ℕ) (e : ListHead) where
   unfolding low_of
   low_of-other j apart = ap (λ h. h.low) (get_or-set_other heads k j e blank_head apart)
 
-  pub head_of-any : k < length heads → e.first ≡ head_of heads k → (j : ℕ) → head_of (slice_set heads k e) j ≡ head_of heads j
+  pub head_of-any : k < length heads → e.first ≡ head_of heads k → (j : ℕ)
+      → head_of (slice_set heads k e) j ≡ head_of heads j
   head_of-any l same j = grind (arith, head_of-same, head_of-other)
 
   pub low_of-any : k < length heads → e.low ≡ low_of heads k → (j : ℕ) → low_of (slice_set heads k e) j ≡ low_of heads j
@@ -109,7 +110,8 @@ module _ (heads : List ListHead) (rows : List Mask) (emptied k : ℕ) (e : ListH
   }
 
   -- It gets its first slot and is marked.
-  pub marked-table : (rows' : List Mask) (i j : ℕ) → j < 52 → 52 * i + j ≡ k → is_slot e.first ≡ true → is_marked_at rows' i j ≡ true
+  pub marked-table : (rows' : List Mask) (i j : ℕ) → j < 52 → 52 * i + j ≡ k → is_slot e.first ≡ true
+      → is_marked_at rows' i j ≡ true
       → ((a b : ℕ) → (a ≢ i) ⊎ (b ≢ j) → is_marked_at rows' a b ≡ is_marked_at rows a b) → IsTable new rows' emptied
   marked-table rows' i j l here some this others = record {
     count = length-set heads k e ∙ is.count;
@@ -151,7 +153,8 @@ module _ (heads : List ListHead) (rows : List Mask) (emptied k : ℕ) (e : ListH
     later-emptied full =
         emptied-table rows (λ i j p q h. is.marked i j p q ∙ or_right _ _ (eq-eqb _ _ h) ∙ sym full) (λ i j p q ne. refl)
 
-    pub unmarked-table : (rows' : List Mask) → is_used_at new emptied ≡ false → is_marked_at rows' (emptied / 52) (emptied % 52) ≡ false
+    pub unmarked-table : (rows' : List Mask) → is_used_at new emptied ≡ false
+        → is_marked_at rows' (emptied / 52) (emptied % 52) ≡ false
         → ((i j : ℕ) → (i ≢ emptied / 52) ⊎ (j ≢ emptied % 52) → is_marked_at rows' i j ≡ is_marked_at rows i j)
         → IsTable new rows' k
     unmarked-table rows' empty this others =
@@ -175,7 +178,8 @@ head_of-blank k =
 pub used-blank : (k : ℕ) → is_used_at (replicate 2704 blank_head) k ≡ false
 used-blank k = ap is_slot (head_of-blank k)
 
-pub blank-table : (rows : List Mask) → ((i j : ℕ) → is_marked_at rows i j ≡ false) → IsTable (replicate 2704 blank_head) rows 2704
+pub blank-table : (rows : List Mask) → ((i j : ℕ) → is_marked_at rows i j ≡ false)
+    → IsTable (replicate 2704 blank_head) rows 2704
 blank-table rows none = record {
   count = length-replicate 2704 blank_head;
   marked = λ i j p q. none i j ∙ sym (or_from _ _ (used-blank (52 * i + j)) (ne_eqb (52 * i + j) 2704 (λ h. omega (arith, h, p, q))));

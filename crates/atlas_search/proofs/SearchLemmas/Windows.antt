@@ -39,8 +39,10 @@ least-reached heads own least columns used rows both each_column each_row later 
 
 -- The own row and column before the first turn.
 pub left-begin : (heads : List ListHead) (own : Place) (least : ℕ) (in_row columns in_column rows : Mask)
-    → ((j : ℕ) → j < 52 → is_used_at heads (52 * own.row + j) ≡ true → IsMarked in_row j) → KeepsFrom in_row columns own.column
-    → ((i : ℕ) → i < 52 → is_used_at heads (52 * i + own.column) ≡ true → IsMarked in_column i) → KeepsFrom in_column rows (own.row + 1)
+    → ((j : ℕ) → j < 52 → is_used_at heads (52 * own.row + j) ≡ true → IsMarked in_row j)
+    → KeepsFrom in_row columns own.column
+    → ((i : ℕ) → i < 52 → is_used_at heads (52 * i + own.column) ≡ true → IsMarked in_column i)
+    → KeepsFrom in_column rows (own.row + 1)
     → AreLeft heads own least columns rows
 left-begin heads own least in_row columns in_column rows used_row right used_column under =
     record {
@@ -49,8 +51,10 @@ left-begin heads own least in_row columns in_column rows used_row right used_col
     }
 
 -- After a turn up to `end`.
-pub left-next : (heads : List ListHead) (own : Place) (first end least : ℕ) (columns rows later_columns later_rows : Mask)
-    → own.row < end → own.column < end → first < end → end ≤ least → KeepsFrom columns later_columns end → KeepsFrom rows later_rows end
+pub left-next : (heads : List ListHead) (own : Place) (first end least : ℕ)
+    (columns rows later_columns later_rows : Mask)
+    → own.row < end → own.column < end → first < end → end ≤ least → KeepsFrom columns later_columns end
+    → KeepsFrom rows later_rows end
     → AreLeft heads own first columns rows → AreLeft heads own least later_columns later_rows
 left-next heads own first end least columns rows later_columns later_rows lr lc begins from fc fr left =
     record {
@@ -72,7 +76,8 @@ module _ (o : Options) (heads : List ListHead) (es : List Item) (r : Sides) (a :
 
   -- Those that reach the first row or column of a class have it or a later one.
   pub class-from : (class least : ℕ) → class < 3 → start_of o class ≤ least → FitsItemsFrom o es least r
-      → (i : ℕ) → (item_at es i).is_free ≡ true → Fits r (item_sides (item_at es i)) → class ≤ class_of o (item_sides (item_at es i))
+      → (i : ℕ) → (item_at es i).is_free ≡ true → Fits r (item_sides (item_at es i))
+      → class ≤ class_of o (item_sides (item_at es i))
   class-from class least few begins from i free fits =
       let within = class-window i free in
       elim (cases_lt (class_of o (item_sides (item_at es i))) class) [
@@ -86,7 +91,8 @@ module _ (o : Options) (heads : List ListHead) (es : List Item) (r : Sides) (a :
       ]
 
   -- And those before the first of the next class have it or a lower one.
-  pub class-below : (class end i : ℕ) → class < 3 → end ≡ start_of o (class + 1) → (item_at es i).is_free ≡ true → IsItemBelow o es end i
+  pub class-below : (class end i : ℕ) → class < 3 → end ≡ start_of o (class + 1) → (item_at es i).is_free ≡ true
+      → IsItemBelow o es end i
       → class_of o (item_sides (item_at es i)) ≤ class
   class-below class end i few ends free below =
       let within = class-window i free in
@@ -97,7 +103,8 @@ module _ (o : Options) (heads : List ListHead) (es : List Item) (r : Sides) (a :
         | inr g ↦ g
       ]
 
-  pub below-class : (class end i : ℕ) → end ≡ start_of o (class + 1) → (item_at es i).is_free ≡ true → class_of o (item_sides (item_at es i)) ≡ class
+  pub below-class : (class end i : ℕ) → end ≡ start_of o (class + 1) → (item_at es i).is_free ≡ true
+      → class_of o (item_sides (item_at es i)) ≡ class
       → IsItemBelow o es end i
   below-class class end i ends free e =
       let within = subst (λ k. IsInWindow o k (band_of o (item_sides (item_at es i)).width) (band_of o (item_sides (item_at es i)).height)) e (class-window i free) in
@@ -112,7 +119,8 @@ module _ (o : Options) (heads : List ListHead) (es : List Item) (r : Sides) (a :
 
     -- Where no list to the right and below is used, and none is left in the own row and column, the request fits no entry.
     pub none-left : (end : ℕ) (columns rows both : Mask) → AreLeft heads own end columns rows → AreNoneApart heads own
-        → ((k : ℕ) → has both k ≡ (has columns k || has rows k)) → ((k : ℕ) → has both k ≡ false) → FitsItemsFrom o es end r
+        → ((k : ℕ) → has both k ≡ (has columns k || has rows k)) → ((k : ℕ) → has both k ≡ false)
+        → FitsItemsFrom o es end r
         → (i : ℕ) → (item_at es i).is_free ≡ true → Fits r (item_sides (item_at es i)) → ⊥
     none-left end columns rows both left apart either empty from i free fits =
         let row = band_of o (item_sides (item_at es i)).width in
@@ -135,7 +143,8 @@ module _ (o : Options) (heads : List ListHead) (es : List Item) (r : Sides) (a :
         ]
 
 -- A size is large where its greater band is one of large sizes.
-pub large-law : (o : Options) (r : Sides) (row column greater large : ℕ) → AreValid o → IsPositive r → row ≡ band_of o r.width → column ≡ band_of o r.height
+pub large-law : (o : Options) (r : Sides) (row column greater large : ℕ) → AreValid o → IsPositive r
+    → row ≡ band_of o r.width → column ≡ band_of o r.height
     → greater ≡ max row column → large ≡ start_of o 2 → nat_le large greater ≡ (class_of o r == 2)
 large-law o r row column greater large valid positive er ec eg el =
     let law = window_law o r 2 valid positive (omega arith) in

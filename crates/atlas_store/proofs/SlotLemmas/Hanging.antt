@@ -103,7 +103,8 @@ module _ (ns ms : List Node) (at : ℕ) (c : Link) (w : IsHung ns ms at c) where
   goes_on : (s : Sequence) (i p : ℕ) (m rest n : Numbered) → at ≡ i → ((k : ℕ) → same k i + tally k rest ≤ tally k m)
       → ((k : ℕ) → tally k m ≤ 1) → tally no_slot m ≡ 0 → outermost m ≤ length ns → outermost rest + 1 ≡ outermost m
       → (node_at ns i).next.number ≡ first_slot rest → Standing ns s i p rest
-      → ((xs : List Node) → ((k : ℕ) → tally k rest ≡ 0 → node_at xs k ≡ node_at ms k) → Standing xs (held_by c.number s) i p rest → Standing xs (held_by c.number s) no_slot 0 n)
+      → ((xs : List Node) → ((k : ℕ) → tally k rest ≡ 0 → node_at xs k ≡ node_at ms k)
+      → Standing xs (held_by c.number s) i p rest → Standing xs (held_by c.number s) no_slot 0 n)
       → IsShorter s n (outermost m)
   goes_on s i p m rest n e le once none few one next h f =
       let z : tally i rest ≡ 0 = omega (arith, le i, once i, same-self i) in (
@@ -127,7 +128,8 @@ module _ (ns ms : List Node) (at : ℕ) (c : Link) (w : IsHung ns ms at c) where
     where
       from : (b p : ℕ) (m : Numbered) → Standing ns s b p m → at ≡ first_slot m → ((k : ℕ) → tally k m ≤ 1)
           → tally no_slot m ≡ 0 → outermost m ≤ length ns
-          → ((xs : List Node) → ((k : ℕ) → tally k m ≡ 0 → node_at xs k ≡ node_at ns k) → Standing xs (held_by c.number s) b p m → Standing xs (held_by c.number s) no_slot 0 n)
+          → ((xs : List Node) → ((k : ℕ) → tally k m ≡ 0 → node_at xs k ≡ node_at ns k)
+          → Standing xs (held_by c.number s) b p m → Standing xs (held_by c.number s) no_slot 0 n)
           → IsShorter s n (outermost m)
       from b p End h e once none few f = absurd (ne e)
       from b p (Free i d rest) h e once none few f =

@@ -40,7 +40,8 @@ pub record IsJoinOf (ns ms : List Node) (i j a : ℕ) : Type 0 where
   pub next : (node_at ns i).next.number ≡ j
   pub next_free : (node_at ns j).kind ≡ kind.Free
   pub after : (node_at ns j).next.number ≡ a
-  pub this : node_at ms i ≡ record (node_at ns i) { next = (node_at ns j).next; area = record (node_at ns i).area { max = (node_at ns j).area.max } }
+  pub this : node_at ms i ≡ record
+      (node_at ns i) { next = (node_at ns j).next; area = record (node_at ns i).area { max = (node_at ns j).area.max } }
   pub apart : j ≡ i → ⊥
   pub gone : (node_at ms j).kind ≡ kind.Unused
   pub given : node_at ms j ≡ record (node_at ns j) { kind = kind.Unused }

@@ -56,7 +56,8 @@ before_wider ns b j k m n e l w (inl (x, y)) = grind arith
 before_wider ns b j k m n e l w (inr (inl y)) = inr (inl y)
 before_wider ns b j k m n e l w (inr (inr (x, y))) = inr (inr (omega (arith, w (node_at ns k).previous.number), y))
 
-inner_wider : (ns : List Node) (b k : ℕ) (m n : Numbered) → ((x : ℕ) → tally x m ≤ tally x n) → IsBackLinked ns no_slot k m
+inner_wider : (ns : List Node) (b k : ℕ) (m n : Numbered) → ((x : ℕ) → tally x m ≤ tally x n)
+    → IsBackLinked ns no_slot k m
     → IsBackLinked ns b k n
 inner_wider ns b k m n w h = grind arith
 

@@ -124,7 +124,8 @@ module _ (o : Options) (ns : List Node) (rs : List Ring) (heads : List ListHead)
   used-not-unused_list i u = elim (cases_lt 0 (occurs i p.unused_list)) [ inl h ↦ (let e = unused_list-use i h in absurd (omega (arith, e.0))) | inr z ↦ omega arith ]
 
 -- A list stays as it was: its slots keep their rings.
-pub IsFiled-kept : (o : Options) (ns : List Node) (rs ts : List Ring) (heads heads' : List ListHead) (k : ℕ) (xs ys : List ℕ) (detached detached' : ℕ → Bool)
+pub IsFiled-kept : (o : Options) (ns : List Node) (rs ts : List Ring) (heads heads' : List ListHead) (k : ℕ)
+    (xs ys : List ℕ) (detached detached' : ℕ → Bool)
     → head_of heads' k ≡ head_of heads k → low_of heads' k ≡ low_of heads k → ys ≡ xs → length rs ≤ length ts
     → ((j : ℕ) → 0 < occurs j xs → ring_at ts j ≡ ring_at rs j)
     → ((j : ℕ) → unless_detached (detached' j) (filed o k (node_at ns j)) ≡ unless_detached (detached j) (filed o k (node_at ns j)))
@@ -224,7 +225,8 @@ module _ (o : Options) (ns : List Node) (rs ts : List Ring) (heads heads' : List
       }
 
 -- Another bound is kept of list m.
-pub AreFiled-sharpened : (o : Options) (ns : List Node) (rs : List Ring) (heads heads' : List ListHead) (unused : Link) (p : Places) (m low : ℕ)
+pub AreFiled-sharpened : (o : Options) (ns : List Node) (rs : List Ring) (heads heads' : List ListHead) (unused : Link)
+    (p : Places) (m low : ℕ)
     → ((k : ℕ) → head_of heads' k ≡ head_of heads k) → ((k : ℕ) → k ≢ m → low_of heads' k ≡ low_of heads k)
     → low_of heads' m ≡ low
     → ((i : ℕ) → (node_at ns i).kind ≡ kind.Free → p.detached i ≡ false → list_for o (node_at ns i) ≡ m → low ≤ node_top (node_at ns i))
@@ -317,7 +319,8 @@ module _ {o : Options} {slots : List Slot} {heads : List ListHead} {i : ℕ} (k 
     pub leaves-next : (count : ℕ) → count ≡ length slots → IsSlot count ring.next.number
     leaves-next count ec = rw (er, ec, ← same_count) leaves.next
 
-pub listed-by : (o : Options) (ns ms : List Node) (rs ts : List Ring) (heads heads' : List ListHead) (i m top : ℕ) (new : Link)
+pub listed-by : (o : Options) (ns ms : List Node) (rs ts : List Ring) (heads heads' : List ListHead) (i m top : ℕ)
+    (new : Link)
     → length rs < 4294967295 → ms ≡ ns → m ≡ list_for o (node_at ns i) → (node_at ns i).kind ≡ kind.Free
     → ChangesList heads heads' m → head_of heads' m ≡ new → top ≡ node_top (node_at ns i) → low_of heads' m ≤ top
     → (is_used_at heads m ≡ true → low_of heads' m ≤ low_of heads m) → IsPutIn rs ts (tag_of m) (head_of heads m) new i

@@ -58,7 +58,8 @@ module _ (v : Stored) (free_lists : ℕ → List ℕ)
       tree_of-Stands (nodes v.shelf.slots) (start_holding free_lists (sides_of v.size)).sequence (start_holding free_lists (sides_of v.size)).tree
       (nodes-below v.shelf.slots (omega (arith, one))) refl holds.stands (omega (arith, same-self 0))
 
-  pub whole_state : state_of (record { stored = v; turns = 0; capacity = 0 }) ≡ started (sides_of v.size) (options_of v.shelf.options) v.limit
+  pub whole_state : state_of
+      (record { stored = v; turns = 0; capacity = 0 }) ≡ started (sides_of v.size) (options_of v.shelf.options) v.limit
   whole_state = grind (arith, whole_tree)
 
   -- Such an atlas keeps what each atlas keeps.

@@ -33,7 +33,8 @@ use Rattle.atlas_store.proofs.SlotLemmas.JoiningWrites.{none-unused}
 use Rattle.atlas_store.proofs.SlotLemmas.SlotBoxes.{slot-exact}
 
 -- What is held once the slots and the unused list changed, and no list of free slots.
-pub held_again : (claimed claimed' : ℕ → ℕ) (v : Shelf) (new : List Slot) (unused : Link) (h : Holding) (tree : Numbered)
+pub held_again : (claimed claimed' : ℕ → ℕ) (v : Shelf) (new : List Slot) (unused : Link) (h : Holding)
+    (tree : Numbered)
     (unused_list : List ℕ) (detached : ℕ → Bool)
     → length new ≤ 16777216 → HoldsWith claimed v h → Stands (nodes new) h.sequence tree
     → AreFiled (options_of v.options) (nodes new) (rings new) v.heads unused
@@ -51,7 +52,8 @@ pub use-kept : (n m : Node) → KeepsUse n m → use_count m.kind ≡ use_count 
 use-kept n m k = ap use_count k.kind
 
 -- One detached slot changes, and stays in use.
-pub filed-one : (o : Options) (ns ms : List Node) (rs ts : List Ring) (heads : List ListHead) (unused : Link) (p : Places) (i : ℕ) (mark : Bool)
+pub filed-one : (o : Options) (ns ms : List Node) (rs ts : List Ring) (heads : List ListHead) (unused : Link)
+    (p : Places) (i : ℕ) (mark : Bool)
     → ts ≡ rs → StaysOrIsOut (node_at ns i) (node_at ms i) (p.detached i) mark
     → use_count (node_at ms i).kind ≡ use_count (node_at ns i).kind
     → ((k : ℕ) → k ≢ i → KeepsUse (node_at ns k) (node_at ms k))
@@ -108,7 +110,8 @@ pub record ChangesTwo (ns ms : List Node) (i j : ℕ) (claimed claimed' : ℕ �
   pub marks : (k : ℕ) → k ≢ i → k ≢ j → detached' k ≡ detached k
   pub others : (k : ℕ) → k ≢ i → k ≢ j → KeepsUse (node_at ns k) (node_at ms k)
 
-pub filed-two : (o : Options) (ns ms : List Node) (rs ts : List Ring) (heads : List ListHead) (unused : Link) (p : Places) (claimed' : ℕ → ℕ) (detached' : ℕ → Bool) (i j : ℕ)
+pub filed-two : (o : Options) (ns ms : List Node) (rs ts : List Ring) (heads : List ListHead) (unused : Link)
+    (p : Places) (claimed' : ℕ → ℕ) (detached' : ℕ → Bool) (i j : ℕ)
     → ts ≡ rs → ChangesTwo ns ms i j p.claimed claimed' p.detached detached'
     → AreFiled o ns rs heads unused p
     → AreFiled o ms ts heads unused (record p { claimed = claimed'; detached = detached' })
@@ -120,7 +123,8 @@ filed-two o ns ms rs ts heads unused p claimed' detached' i j same c filed =
     (AreFiled-moved o ns ms rs heads unused p claimed' detached' moved counts filed)
 
 -- What is claimed may be said in another way.
-pub filed-claimed : (o : Options) (ns : List Node) (rs : List Ring) (heads : List ListHead) (unused : Link) (p : Places) (claimed' : ℕ → ℕ)
+pub filed-claimed : (o : Options) (ns : List Node) (rs : List Ring) (heads : List ListHead) (unused : Link) (p : Places)
+    (claimed' : ℕ → ℕ)
     → ((i : ℕ) → claimed' i ≡ p.claimed i) → AreFiled o ns rs heads unused p
     → AreFiled o ns rs heads unused (record p { claimed = claimed' })
 filed-claimed o ns rs heads unused p claimed' e filed = grind (arith, AreFiled-nodes)
@@ -135,7 +139,8 @@ pub claimed-back : (claimed : ℕ → ℕ) (j m : ℕ) → claimed j ≡ 0 → (
 claimed-back claimed j m none i = grind (arith, with_count-same, with_count-other)
 
 -- A free leaf leaves its list, or enters it: the nodes stay.
-pub listed-holds : (v : Shelf) (old mid new : List Slot) (heads : List ListHead) (h : Holding) (free_lists : ℕ → List ℕ) (detached : ℕ → Bool)
+pub listed-holds : (v : Shelf) (old mid new : List Slot) (heads : List ListHead) (h : Holding) (free_lists : ℕ → List ℕ)
+    (detached : ℕ → Bool)
     → AreSlots v.slots old mid new → nodes mid ≡ nodes old
     → (AreFiled (options_of v.options) (nodes old) (rings old) v.heads v.unused (places_of (λ i. 0) h)
     → AreFiled (options_of v.options) (nodes mid) (rings mid) heads v.unused (record (places_of (λ i. 0) h) { free_lists = free_lists; detached = detached }))
@@ -167,7 +172,8 @@ pub record GivesBack (v : Shelf) (old new : List Slot) (unused : Link) (j : ℕ)
       → AreFiled o (nodes new) (rings new) heads unused (given_back p j)
 
 -- What the lists hold once slot j, which is claimed, is given back.
-given-filed : (v : Shelf) (old new : List Slot) (unused : Link) (j : ℕ) (o : Options) (heads : List ListHead) (p : Places)
+given-filed : (v : Shelf) (old new : List Slot) (unused : Link) (j : ℕ) (o : Options) (heads : List ListHead)
+    (p : Places)
     → GivesBack v old new unused j
     → AreFiled o (nodes old) (rings old) heads v.unused (record p { claimed = with_count (λ i. 0) j 1 })
     → AreFiled o (nodes new) (rings new) heads unused (record p { unused_list = j ∷ p.unused_list; claimed = λ i. 0 })
@@ -177,7 +183,8 @@ given-filed v old new unused j o heads p b filed =
     (b.filed o heads (record p { claimed = with_count (λ i. 0) j 1 }) filed (omega (arith, with_count-same (λ i. 0) j 1)))
 
 -- What is held once slot j was claimed, and was given back.
-given-holds : (v : Shelf) (mid new : List Slot) (unused : Link) (i j : ℕ) (h : Holding) (tree : Numbered) (detached : ℕ → Bool)
+given-holds : (v : Shelf) (mid new : List Slot) (unused : Link) (i j : ℕ) (h : Holding) (tree : Numbered)
+    (detached : ℕ → Bool)
     → length mid ≡ length v.slots → rings mid ≡ rings v.slots → GivesBack v mid new unused j → Holds v h
     → ChangesTwo (nodes v.slots) (nodes mid) i j (λ k. 0) (with_count (λ k. 0) j 1) h.detached detached
     → Stands (nodes mid) h.sequence tree → IsRecut h.sequence.width h.tree tree
@@ -263,9 +270,11 @@ pub length-nodes : (slots : List Slot) → length (nodes slots) ≡ length slots
 length-nodes slots = simp length-map
 
 -- There are not too many slots once one is taken for which there was room.
-pub taken-short : (v : Shelf) (new : List Slot) (capacity i : ℕ) (n : Node) (slot : Slot) (h : Holding) (claimed : ℕ → ℕ)
+pub taken-short : (v : Shelf) (new : List Slot) (capacity i : ℕ) (n : Node) (slot : Slot) (h : Holding)
+    (claimed : ℕ → ℕ)
     → HoldsWith claimed v h
-    → (1 ≤ length h.unused_list) ⊎ ((length v.slots + 1 ≤ length h.unused_list + capacity) × (length v.slots + 1 ≤ length h.unused_list + 16777216))
+    → (1 ≤ length h.unused_list)
+    ⊎ ((length v.slots + 1 ≤ length h.unused_list + capacity) × (length v.slots + 1 ≤ length h.unused_list + 16777216))
     → ((v.unused.number ≡ no_slot → ⊥) → nodes new ≡ set (nodes v.slots) i n)
     → (v.unused.number ≡ no_slot → new ≡ v.slots ++ slot ∷ [])
     → length new ≤ 16777216
@@ -304,7 +313,8 @@ module _ (v : Shelf) (new : List Slot) (at : Link) (p : Plan) (t : Parts) (long 
       (AreFiled-moved (options_of v.options) ns ms (rings v.slots) v.heads v.unused (places_of (λ i. occurs i (taken_by p t)) h)
       (λ i. 0) (marks_of (left_by p t)) placed_moved (λ i _. omega (arith, used_after ns ms at p t placed can i)) holds.filed)
 
-  pub placed-holds : Holds (record v { slots = new }) (after_place p t at.number (node_in v (granted_by p t at.number)).generation h)
+  pub placed-holds : Holds
+      (record v { slots = new }) (after_place p t at.number (node_in v (granted_by p t at.number)).generation h)
   placed-holds =
       let g = (node_in v (granted_by p t at.number)).generation in
       let short : length ns < no_slot = omega (arith, holds.short, length-nodes v.slots) in

@@ -21,7 +21,8 @@ use Rattle.atlas_store.proofs.StoreLemmas.Filing.{unless-le, filed-use, with_mar
 
 -- The lists stay in order where the nodes change: each slot is filed as before, is used or claimed as before, and keeps
 -- its rectangle if it stands in a list.
-pub AreFiled-nodes : (o : Options) (ns ms : List Node) (rs : List Ring) (heads : List ListHead) (unused : Link) (p : Places) (claimed' : ℕ → ℕ) (detached' : ℕ → Bool)
+pub AreFiled-nodes : (o : Options) (ns ms : List Node) (rs : List Ring) (heads : List ListHead) (unused : Link)
+    (p : Places) (claimed' : ℕ → ℕ) (detached' : ℕ → Bool)
     → ((k i : ℕ) → unless_detached (detached' i) (filed o k (node_at ms i)) ≡ unless_detached (p.detached i) (filed o k (node_at ns i)))
     → ((i : ℕ) → i < length rs → claimed' i + use_count (node_at ms i).kind ≡ p.claimed i + use_count (node_at ns i).kind)
     → ((k i : ℕ) → k < 2704 → 0 < occurs i (p.free_lists k) → (node_at ms i).area ≡ (node_at ns i).area)
@@ -47,7 +48,8 @@ filed-same : (o : Options) (k : ℕ) (n m : Node) → m.kind ≡ n.kind → m.ar
 filed-same o k n m e a = grind arith
 
 -- The lists stay in order where the nodes of slots that are out of them change.
-pub AreFiled-moved : (o : Options) (ns ms : List Node) (rs : List Ring) (heads : List ListHead) (unused : Link) (p : Places) (claimed' : ℕ → ℕ) (detached' : ℕ → Bool)
+pub AreFiled-moved : (o : Options) (ns ms : List Node) (rs : List Ring) (heads : List ListHead) (unused : Link)
+    (p : Places) (claimed' : ℕ → ℕ) (detached' : ℕ → Bool)
     → ((i : ℕ) → StaysOrIsOut (node_at ns i) (node_at ms i) (p.detached i) (detached' i))
     → ((i : ℕ) → i < length rs → claimed' i + use_count (node_at ms i).kind ≡ p.claimed i + use_count (node_at ns i).kind)
     → AreFiled o ns rs heads unused p

@@ -139,7 +139,8 @@ module _ (v : Stored) (a : IsAtlas v) (turns : ℕ) where
   pub live_sum-IsAtlas : area_sum (live_areas (nodes v.shelf.slots)) ≡ sum_by (λ (g : Grant). area g.box) (live_in (state_of (record { stored = v; turns = turns; capacity = 0 })))
   live_sum-IsAtlas = live_sum-list 0 (nodes v.shelf.slots) ∙ sum_by-counts grant_area (map grant_of (allocated_from 0 (nodes v.shelf.slots))) (live (sides_of v.size) (tree_of (nodes v.shelf.slots))) (live-IsAtlas v a)
 
-  pub free_sum-IsAtlas : area_sum (free_areas (nodes v.shelf.slots)) ≡ sum_by area (free_in (state_of (record { stored = v; turns = turns; capacity = 0 })))
+  pub free_sum-IsAtlas : area_sum
+      (free_areas (nodes v.shelf.slots)) ≡ sum_by area (free_in (state_of (record { stored = v; turns = turns; capacity = 0 })))
   free_sum-IsAtlas = sym (sum_by-map area box_of (free_areas (nodes v.shelf.slots))) ∙ sum_by-counts area (map box_of (free_areas (nodes v.shelf.slots))) (free_boxes (sides_of v.size) (tree_of (nodes v.shelf.slots))) (free-IsAtlas v a)
 
   pub areas-IsAtlas : sum_by (λ (g : Grant). area g.box) (live_in (state_of (record { stored = v; turns = turns; capacity = 0 }))) + sum_by area (free_in (state_of (record { stored = v; turns = turns; capacity = 0 })))

@@ -110,7 +110,8 @@ module _ (v : Stored) (a : IsAtlas v) (id : ℕ) where
     pub given-few : n ≤ v.used
     given-few = omega (arith, freed.given, a.used)
 
-    pub atlas-IsFreed : IsAtlas (record { shelf = u; first = v.first; used = v.used - n; size = v.size; limit = v.limit })
+    pub atlas-IsFreed : IsAtlas
+        (record { shelf = u; first = v.first; used = v.used - n; size = v.size; limit = v.limit })
     atlas-IsFreed = record {
       holding = h;
       holds = freed.holds;

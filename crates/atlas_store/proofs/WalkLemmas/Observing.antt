@@ -67,7 +67,8 @@ module _ (v : Stored) (a : IsAtlas v) where
   pub nonempty-IsAtlas : HasMember a.holding.tree
   nonempty-IsAtlas = grind arith
 
-  pub tree_of-IsAtlas : tree_of (nodes v.shelf.slots) ≡ record { axis = a.holding.sequence.axis; members = erase a.holding.tree }
+  pub tree_of-IsAtlas : tree_of
+      (nodes v.shelf.slots) ≡ record { axis = a.holding.sequence.axis; members = erase a.holding.tree }
   tree_of-IsAtlas = grind (arith, tree_of-Stands, nodes-below, nonempty-IsAtlas)
 
   -- The live grants are those of the allocated slots.
@@ -95,7 +96,8 @@ module _ (v : Stored) (a : IsAtlas v) where
 
   -- An atlas with nothing live is one free leaf.
   pub none_live-idle : live (sides_of v.size) (tree_of (nodes v.shelf.slots)) ≡ []
-      → ((node_at (nodes v.shelf.slots) v.first.number).kind ≡ kind.Free) × ((node_at (nodes v.shelf.slots) v.first.number).next.number ≡ no_slot)
+      → ((node_at (nodes v.shelf.slots) v.first.number).kind ≡ kind.Free)
+      × ((node_at (nodes v.shelf.slots) v.first.number).next.number ≡ no_slot)
   none_live-idle none =
       let ns = nodes v.shelf.slots in
       let t = tree_of ns in

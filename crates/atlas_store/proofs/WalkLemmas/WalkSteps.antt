@@ -59,7 +59,8 @@ free-pass xs i d b low test is =
     ∙ ap (λ b. cond b ((get_or xs i d).node.area ∷ free_areas (nodes (drop (i + 1) xs))) (free_areas (nodes (drop (i + 1) xs)))) (not_free _ b test is)
 
 -- The call at one allocated slot more.
-pub visits-allocated : {F : Type 0} (g : Mut F (ℕ × (Bor Rectangle × Unit {0})) (Unit {0})) (f f' at last : F) (xs : List Slot) (i : ℕ) (d : Slot) (id : ℕ) (shown : Bor Rectangle)
+pub visits-allocated : {F : Type 0} (g : Mut F (ℕ × (Bor Rectangle × Unit {0})) (Unit {0})) (f f' at last : F)
+    (xs : List Slot) (i : ℕ) (d : Slot) (id : ℕ) (shown : Bor Rectangle)
     → i < length xs → (get_or xs i d).node.kind ≡ kind.Alloc → id ≡ id_of i (get_or xs i d).node.generation
     → shown.now ≡ (get_or xs i d).node.area
     → Called g f (id, (shown, tt)) tt f' → at ≡ f'
@@ -69,21 +70,24 @@ visits-allocated g f f' at last xs i d id shown low is same_id same_area call he
     search (rules, allocated-next)
 
 -- No call at a slot that isn't allocated.
-pub passes-allocated : {F : Type 0} (g : Mut F (ℕ × (Bor Rectangle × Unit {0})) (Unit {0})) (f at last : F) (xs : List Slot) (i : ℕ) (d : Slot) (b : Bool)
+pub passes-allocated : {F : Type 0} (g : Mut F (ℕ × (Bor Rectangle × Unit {0})) (Unit {0})) (f at last : F)
+    (xs : List Slot) (i : ℕ) (d : Slot) (b : Bool)
     → i < length xs → b ≡ sameb the_type (get_or xs i d).node.kind kind.Alloc → b ≡ false → at ≡ f
     → FoldsTo (CalledAtGrant g) at (allocated_from (i + 1) (nodes (drop (i + 1) xs))) last
     → FoldsTo (CalledAtGrant g) f (allocated_from i (nodes (drop i xs))) last
 passes-allocated g f at last xs i d b low test is here more = search (rules, allocated-past)
 
 -- The call at one free slot more.
-pub visits-free : {F : Type 0} (g : Mut F (Bor Rectangle × Unit {0}) (Unit {0})) (f f' at last : F) (xs : List Slot) (i : ℕ) (d : Slot)
+pub visits-free : {F : Type 0} (g : Mut F (Bor Rectangle × Unit {0}) (Unit {0})) (f f' at last : F) (xs : List Slot)
+    (i : ℕ) (d : Slot)
     → i < length xs → (get_or xs i d).node.kind ≡ kind.Free → CalledAt g f (get_or xs i d).node.area tt f' → at ≡ f'
     → FoldsTo (λ p x q. CalledAt g p x tt q) at (free_areas (nodes (drop (i + 1) xs))) last
     → FoldsTo (λ p x q. CalledAt g p x tt q) f (free_areas (nodes (drop i xs))) last
 visits-free g f f' at last xs i d low is call here more = search (rules, free-next)
 
 -- No call at a slot that isn't free.
-pub passes-free : {F : Type 0} (g : Mut F (Bor Rectangle × Unit {0}) (Unit {0})) (f at last : F) (xs : List Slot) (i : ℕ) (d : Slot) (b : Bool)
+pub passes-free : {F : Type 0} (g : Mut F (Bor Rectangle × Unit {0}) (Unit {0})) (f at last : F) (xs : List Slot)
+    (i : ℕ) (d : Slot) (b : Bool)
     → i < length xs → b ≡ sameb the_type (get_or xs i d).node.kind kind.Free → b ≡ false → at ≡ f
     → FoldsTo (λ p x q. CalledAt g p x tt q) at (free_areas (nodes (drop (i + 1) xs))) last
     → FoldsTo (λ p x q. CalledAt g p x tt q) f (free_areas (nodes (drop i xs))) last

@@ -120,7 +120,8 @@ module _ {A : Type 0} {v v1 : Store A} {size : Sides} {last k d n : ℕ} {h : Ho
   one_slot : HasSlotsFor (n + 1) v h
   one_slot = subst (λ j. HasSlotsFor (n + j) v h) (need-busy (shelf_of v) last busy) s.slots
 
-  appended_to : (unused_list : List ℕ) × Holds (shelf_of v1) (with_unused_list unused_list (after_append k d h)) × HasSlotsFor n v1 (with_unused_list unused_list h)
+  appended_to : (unused_list : List ℕ) × Holds (shelf_of v1) (with_unused_list unused_list (after_append k d h))
+      × HasSlotsFor n v1 (with_unused_list unused_list h)
       × (length unused_list ≡ length h.unused_list - 1)
   appended_to = w1.kept d h n (record { holds = s.holds; end = s.end; more = s.more }) one_slot
 
@@ -154,7 +155,8 @@ module _ {A : Type 0} {v v1 : Store A} {size : Sides} {last k d n : ℕ} {h : Ho
 -- The top sequence is put into a new one, and the strip after it is listed.
 module _ {A : Type 0} {v v1 : Store A} {inner size : Sides} {first c k d : ℕ} {h : Holding} (s : IsWidenable v inner size first d h)
     (w1 : IsNested v v1 inner size first c k) where
-  nested : (unused_list : List ℕ) × Holds (shelf_of v1) (with_unused_list unused_list (after_nest c k d h)) × HasSlotsFor 0 v1 (with_unused_list unused_list h)
+  nested : (unused_list : List ℕ) × Holds (shelf_of v1) (with_unused_list unused_list (after_nest c k d h))
+      × HasSlotsFor 0 v1 (with_unused_list unused_list h)
       × (length unused_list ≡ length h.unused_list - 2)
   nested = w1.kept d h 0 s.nests s.slots
 

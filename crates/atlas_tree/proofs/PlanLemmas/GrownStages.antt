@@ -156,7 +156,8 @@ module _ {A : Type 0} {v : Store A} {old new : Sides} {first n : ℕ} {p : Growt
     longer-slots : HasSlotsFor (across_need old new axis + strip_need (shelf_of v) p.last.number) v h
     longer-slots = subst (λ k. HasSlotsFor k v h) need_longer w.slots
 
-    pub longer-ready : IsLengthenable v (sides_of p.middle) p.last.number (side axis new - side axis old) (across_need old new axis) h
+    pub longer-ready : IsLengthenable v
+        (sides_of p.middle) p.last.number (side axis new - side axis old) (across_need old new axis) h
     longer-ready = grind (arith, longer-end, longer-more, longer-slots)
 
     pub longer-midway : {v' : Store A} → IsLonger v v' (sides_of p.middle) p.last.number
@@ -192,7 +193,8 @@ module _ {A : Type 0} {v : Store A} {old new : Sides} {first n : ℕ} {p : Growt
     across_midway : h1.sequence.width ≡ side (other h1.sequence.axis) old
     across_midway = ap (λ s. s.width) m.sequence ∙ w.tree.spans.across ∙ ap (λ s. side (other s.axis) old) (sym m.sequence)
 
-    grown_is : grown_members old new axis (erase h.tree) ≡ widened (side (other axis) old) (side (other axis) new) axis (erase h1.tree)
+    grown_is : grown_members old new axis
+        (erase h.tree) ≡ widened (side (other axis) old) (side (other axis) new) axis (erase h1.tree)
     grown_is = grown-other old new axis (erase h.tree) w.busy ∙ ap (widened (side (other axis) old) (side (other axis) new) axis) (sym m.members)
 
     -- It is as wide as before.

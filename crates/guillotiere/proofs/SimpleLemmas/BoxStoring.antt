@@ -178,7 +178,8 @@ taken-again o heads es unused after used some leads kept = go kept.unused_list k
 
 -- ---- a box is put into an entry
 
-pub put-kept : (o : Options) (heads heads' : List ListHead) (es : List Item) (unused : Link) (used : ℕ) (x k : ℕ) (e : Item)
+pub put-kept : (o : Options) (heads heads' : List ListHead) (es : List Item) (unused : Link) (used : ℕ) (x k : ℕ)
+    (e : Item)
     → (claimed : IsClaimed o (record { entries = es; heads = heads; unused = unused; used = used }) x)
     → e.is_free ≡ true → e.after ≡ (head_of heads k).number → IsSolid e.area → list_of o (item_sides e) ≡ k → k < 2704
     → (head_of heads' k).number ≡ x → ((j : ℕ) → j ≢ k → head_of heads' j ≡ head_of heads j)

@@ -12,7 +12,8 @@ use Rattle.atlas_model.specs.Pixels.{box_of, rectangle_of, sides_of, size_of, op
 use Rattle.atlas_search.specs.Requests.{CanBeRounded}
 use Rattle.atlas_model.specs.Simple.{kept_rest, SimplyGrants}
 
-pub simply_grants : (old new : List Item) (whole : Sides) (options : AllocatorOptions) (s : Sides) (size : Size) (picked granted : Rectangle)
+pub simply_grants : (old new : List Item) (whole : Sides) (options : AllocatorOptions) (s : Sides) (size : Size)
+    (picked granted : Rectangle)
     → CanBeRounded (options_of options) s × (size ≡ size_of (rounded (options_of options) s))
     → IsPick (free_item_boxes old) (options_of options) (sides_of size) (box_of picked)
     → granted ≡ rectangle_of (box_at (box_of picked).min (sides_of size))

@@ -76,7 +76,8 @@ pub next-filed : (P : Rectangle → Type 0) (xs : List Slot) (i : ℕ) (d : Slot
     → i < length xs → (get_or xs i d).node.kind ≡ kind.Free → All P (free_areas (nodes (drop i xs)))
     → AreSameBoxes (map box_of (free_areas (nodes (drop i xs))) ++ old) boxes
     → AreSameBoxes new (box_of (get_or xs i d).node.area ∷ roomy)
-    → All P (free_areas (nodes (drop (i + 1) xs))) × AreSameBoxes (map box_of (free_areas (nodes (drop (i + 1) xs))) ++ new) boxes
+    → All P (free_areas (nodes (drop (i + 1) xs)))
+    × AreSameBoxes (map box_of (free_areas (nodes (drop (i + 1) xs))) ++ new) boxes
 next-filed P xs i d old roomy new boxes same low is all before filed =
     grind (arith, next-all P xs i d low is all, next-boxes xs i d old new boxes low is before)
 

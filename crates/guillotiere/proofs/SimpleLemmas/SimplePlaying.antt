@@ -11,7 +11,8 @@ use Rattle.guillotiere.specs.declared.session.simple.SimpleReply.{SimpleReply}
 use Rattle.atlas_model.proofs.SimpleLemmas.SimpleRunning.{simple_runs_keep_guard}
 
 -- One call more at the end.
-answered-more : (calls : List SimpleAtlasCall) (replies : List SimpleReply) (old mid new : SimpleValue) (call : SimpleAtlasCall) (reply : SimpleReply)
+answered-more : (calls : List SimpleAtlasCall) (replies : List SimpleReply) (old mid new : SimpleValue)
+    (call : SimpleAtlasCall) (reply : SimpleReply)
     → AreSimplyAnswered old calls replies mid → IsSimplyAnswered mid call reply new
     → AreSimplyAnswered old (calls ++ call ∷ []) (replies ++ reply ∷ []) new
 answered-more [] [] old mid new call reply before next = (new, subst (λ v. IsSimplyAnswered v call reply new) before next, refl)
@@ -20,7 +21,8 @@ answered-more (c ∷ calls) [] old mid new call reply before next = absurd befor
 answered-more (c ∷ calls) (b ∷ replies) old mid new call reply (after, first, rest) next = (after, first, answered-more calls replies after mid new call reply rest next)
 
 -- The next call of a list.
-pub answered-taken : {X : Type 0} (f : X → SimpleAtlasCall) (xs : List X) (i : ℕ) (d : X) (replies : List SimpleReply) (old mid new : SimpleValue) (reply : SimpleReply)
+pub answered-taken : {X : Type 0} (f : X → SimpleAtlasCall) (xs : List X) (i : ℕ) (d : X) (replies : List SimpleReply)
+    (old mid new : SimpleValue) (reply : SimpleReply)
     → i < length xs → AreSimplyAnswered old (map f (take i xs)) replies mid
     → IsSimplyAnswered mid (f (get_or xs i d)) reply new
     → AreSimplyAnswered old (map f (take (i + 1) xs)) (replies ++ reply ∷ []) new

@@ -85,7 +85,8 @@ areas-filed s areas sound are =
     let placed = All-weaker (λ b. bad b ≡ false) IsNonempty (λ b h. (well_placed s.size b h).0) (map box_of areas) (none-count bad (map box_of areas) none) in
     boxed-all IsNonempty areas placed are.exact
 
-pub starts-from : (source : State) (areas : List Rectangle) (empty new : List Item) (size : Size) (options : AllocatorOptions)
+pub starts-from : (source : State) (areas : List Rectangle) (empty new : List Item) (size : Size)
+    (options : AllocatorOptions)
     → IsSound source → AreFreeAreas source areas → empty ≡ []
     → AreSameBoxes (free_item_boxes new) (map box_of areas ++ free_item_boxes empty) → size ≡ size_of source.size
     → options_of options ≡ source.options
@@ -93,7 +94,8 @@ pub starts-from : (source : State) (areas : List Rectangle) (empty new : List It
 starts-from source areas empty new size options sound are none boxes same_size same_options =
     grind (arith, sum_by-append)
 
-pub started-stored : (source : State) (areas : List Rectangle) (empty : List Item) (new : BoxShelf) (size : Size) (options : AllocatorOptions)
+pub started-stored : (source : State) (areas : List Rectangle) (empty : List Item) (new : BoxShelf) (size : Size)
+    (options : AllocatorOptions)
     → IsSound source → AreFreeAreas source areas → empty ≡ []
     → AreSameBoxes (free_item_boxes new.entries) (map box_of areas ++ free_item_boxes empty)
     → size ≡ size_of source.size → options_of options ≡ source.options

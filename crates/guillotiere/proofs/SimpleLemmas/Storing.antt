@@ -27,7 +27,8 @@ use Rattle.atlas_store.proofs.StoreLemmas.Sizes.{size_is}
 
 -- After a request.
 
-pub stored-step : (old new : BoxShelf) (size : Size) (options : AllocatorOptions) (s : Sides) (result : Result (Option Rectangle) AtlasError)
+pub stored-step : (old new : BoxShelf) (size : Size) (options : AllocatorOptions) (s : Sides)
+    (result : Result (Option Rectangle) AtlasError)
     → IsStoredState old size options → AreKept (options_of options) new
     → SimpleStep (state_of_items old.entries (sides_of size) options) (Allocate s) (simple_answer result) (state_of_items new.entries (sides_of size) options)
     → IsStoredState new size options
@@ -77,7 +78,8 @@ unboxed o heads bs r listed unsigned has =
 
 -- Whether one free box has the allocator's size.
 
-pub whole-listed : (v : BoxShelf) (bs : List FreeBox) (size : Size) (options : AllocatorOptions) (r : Rectangle) (answer : Bool)
+pub whole-listed : (v : BoxShelf) (bs : List FreeBox) (size : Size) (options : AllocatorOptions) (r : Rectangle)
+    (answer : Bool)
     → v.entries ≡ map stored_item bs
     → IsStoredState v size options → r ≡ whole_rectangle size → (IsTrue answer ↔ Any (λ b. b.area ≡ r) bs)
     → (IsTrue answer ↔ Any (λ b. box_sides b ≡ sides_of size) (free_item_boxes v.entries))

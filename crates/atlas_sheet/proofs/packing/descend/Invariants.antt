@@ -13,7 +13,8 @@ invariant-loop-tries g l = record {
   allowed : IsAllowed l.options.allowed (sides_of l.best.size);
   whole : All IsSome l.best.places.items;
   callable : goal.F-IsAlwaysCallable g l.told;
-  told : (before : List Size) × FoldsTo (λ p size q. goal.F-step g p size tt q) l.fn.told (before ++ l.best.size ∷ []) l.told
+  told : (before : List Size)
+      × FoldsTo (λ p size q. goal.F-step g p size tt q) l.fn.told (before ++ l.best.size ∷ []) l.told
       × AreFalling (before ++ l.best.size ∷ []);
   smaller : pixels (sides_of l.best.size) ≤ pixels (sides_of l.fn.first.size);
 }

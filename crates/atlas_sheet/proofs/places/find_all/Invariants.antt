@@ -9,5 +9,6 @@ abbrev pub invariant-loop-sprite : goal.invariant-loop-sprite
 invariant-loop-sprite g l = record {
   long : length l.places.items ≡ length l.sprites;
   aligned : IsPositive (simple_state_of l.packer).options.alignment;
-  going : HaveFound l.spacing (simple_state_of l.initial.packer) (simple_state_of l.packer) (with_places (map Some l.places.items) (take l.sprite-index l.order));
+  going : HaveFound l.spacing
+      (simple_state_of l.initial.packer) (simple_state_of l.packer) (with_places (map Some l.places.items) (take l.sprite-index l.order));
 }

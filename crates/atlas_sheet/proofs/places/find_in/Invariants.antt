@@ -8,5 +8,6 @@ use Rattle.atlas_sheet.proofs.places.find_in.Given as goal
 abbrev pub invariant-loop-sprite : goal.invariant-loop-sprite
 invariant-loop-sprite g l = record {
   aligned : IsPositive (simple_state_of l.packer).options.alignment;
-  going : HaveFound l.spacing (simple_state_of l.initial.packer) (simple_state_of l.packer) (with_places l.places (take l.sprite-index l.order));
+  going : HaveFound l.spacing
+      (simple_state_of l.initial.packer) (simple_state_of l.packer) (with_places l.places (take l.sprite-index l.order));
 }

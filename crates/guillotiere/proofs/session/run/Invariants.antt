@@ -13,6 +13,8 @@ invariant-loop-call g l =
       longer : vec_len l.fn.replies ≤ length l.replies.items;
       kept : take (vec_len l.fn.replies) l.replies.items ≡ l.fn.replies.items;
       exact : All IsExactReply (drop (vec_len l.fn.replies) l.replies.items);
-      answered : AreAnswered l.fn.atlas (take l.call-index l.calls) (drop (vec_len l.fn.replies) l.replies.items) l.atlas;
-      played : IsPlayed l.fn.atlas (calls_of (take l.call-index l.calls)) (replies_of (drop (vec_len l.fn.replies) l.replies.items)) l.atlas;
+      answered : AreAnswered l.fn.atlas
+          (take l.call-index l.calls) (drop (vec_len l.fn.replies) l.replies.items) l.atlas;
+      played : IsPlayed l.fn.atlas
+          (calls_of (take l.call-index l.calls)) (replies_of (drop (vec_len l.fn.replies) l.replies.items)) l.atlas;
     }

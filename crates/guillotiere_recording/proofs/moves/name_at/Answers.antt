@@ -6,7 +6,8 @@ use Rattle.guillotiere_recording.proofs.moves.name_at.Goals as goal
 
 -- Where the id stands.
 found : (c : goal.After-partition_point-at)
-    → (c.partition_point-at.result < length c.args.by_id.now) × ((d : Entry) → (get_or c.args.by_id.now c.partition_point-at.result d).id ≡ c.args.number)
+    → (c.partition_point-at.result < length c.args.by_id.now)
+    × ((d : Entry) → (get_or c.args.by_id.now c.partition_point-at.result d).id ≡ c.args.number)
 found c =
     let ns = c.args.by_id.now in
     let at = c.partition_point-at.result in

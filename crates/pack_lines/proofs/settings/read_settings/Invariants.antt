@@ -7,9 +7,11 @@ use Rattle.pack_lines.proofs.settings.read_settings.Given as goal
 abbrev pub invariant-loop-rest : goal.invariant-loop-rest
 invariant-loop-rest l = record {
   found : (more : List Setting) → SpellsSettings more l.rest
-      → (all : List Setting) × SpellsSettings all l.text × (changed_by DEFAULT_SETTINGS all ≡ changed_by l.settings more);
+      → (all : List Setting) × SpellsSettings all l.text
+      × (changed_by DEFAULT_SETTINGS all ≡ changed_by l.settings more);
   only : (all : List Setting) → SpellsSettings all l.text
-      → (more : List Setting) × SpellsSettings more l.rest × (changed_by DEFAULT_SETTINGS all ≡ changed_by l.settings more);
+      → (more : List Setting) × SpellsSettings more l.rest
+      × (changed_by DEFAULT_SETTINGS all ≡ changed_by l.settings more);
 }
 
 abbrev pub decreases-loop-rest : goal.decreases-loop-rest

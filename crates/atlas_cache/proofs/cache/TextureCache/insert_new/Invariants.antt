@@ -15,7 +15,8 @@ invariant-loop-place g l =
       others : HasRoomOnlyAmong l.asked l.self.pages l.from l.to;
       full : IsFull l.fn.self → IsFull l.self;
       keeps : (HasNoPageFor l.asked l.fn.self → IsFull l.fn.self) → HasNoPageFor l.asked l.self → IsFull l.self;
-      reserves : (n : ℕ) → (HasNoPageFor l.asked l.fn.self → IsFull l.fn.self) → HasReserves n (room_in l.fn.changes) l.fn.self
+      reserves : (n : ℕ) → (HasNoPageFor l.asked l.fn.self → IsFull l.fn.self)
+          → HasReserves n (room_in l.fn.changes) l.fn.self
           → HasReserves n (room_in l.changes) l.self;
     }
 

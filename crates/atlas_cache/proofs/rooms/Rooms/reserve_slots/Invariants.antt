@@ -10,7 +10,8 @@ invariant-loop-page g l =
     record {
       options : l.self-inside.options ≡ l.fn.self.options;
       same : length l.self-inside.pages.items ≡ l.page-end;
-      ready : (k : ℕ) (s : AtlasValue) → k < l.page → slice_get l.self-inside.pages.items k ≡ Some s → HasReserve l.additional s;
+      ready : (k : ℕ) (s : AtlasValue) → k < l.page → slice_get l.self-inside.pages.items k ≡ Some s
+          → HasReserve l.additional s;
       states : map state_of l.self-inside.pages.items ≡ map state_of l.fn.self.pages;
       slots : UseAtMost 0 l.fn.self.pages l.self-inside.pages.items;
       kept : KeepsRooms (rooms_of l.self-inside.options l.self-inside.pages.items);

@@ -9,5 +9,6 @@ invariant-loop-byte g l = record {
   working : g.W.ToolOutput.has_failed l.output ≡ false;
   no_end : HasNoEnd l.self.line;
   room : l.self.number + length l.self.line ≤ l.fn.self.number + length l.fn.self.line + l.byte-index;
-  advances : (text : List ℕ) × Advances l.fn.self (take l.byte-index l.block) text l.self × IsGathered (g.W.ToolOutput.contents l.fn.output) (g.W.ToolOutput.contents l.output) l.waiting (l.fn.waiting ++ text);
+  advances : (text : List ℕ) × Advances l.fn.self (take l.byte-index l.block) text l.self
+      × IsGathered (g.W.ToolOutput.contents l.fn.output) (g.W.ToolOutput.contents l.output) l.waiting (l.fn.waiting ++ text);
 }

@@ -13,5 +13,6 @@ invariant-loop-call g l =
       longer : vec_len l.fn.replies ≤ length l.replies.items;
       kept : take (vec_len l.fn.replies) l.replies.items ≡ l.fn.replies.items;
       exact : All GrantsExact (drop (vec_len l.fn.replies) l.replies.items);
-      answered : AreSimplyAnswered l.fn.simple (simple_calls_of (state_of l.source) (take l.call-index l.calls)) (drop (vec_len l.fn.replies) l.replies.items) l.simple;
+      answered : AreSimplyAnswered l.fn.simple
+          (simple_calls_of (state_of l.source) (take l.call-index l.calls)) (drop (vec_len l.fn.replies) l.replies.items) l.simple;
     }
