@@ -27,8 +27,6 @@ FALSE = "the facts known there allow values at which this goal is false"
 OPEN = re.compile(r"note: (what antt said of a `search` in the proof that rattle made: )?src/\S+:\d+:\d+:")
 # What a line says that follows from another one.
 FOLLOWS = re.compile(r"was not admitted|is not admitted")
-# Crates in which names alone are no failure yet.
-BY_NAMES = pathlib.Path(__file__).resolve().parent / "by_names"
 ALONE = "REFUSED BY NAMES ALONE: its proof names what the edit took away: change a value and keep the names"
 
 
@@ -40,7 +38,6 @@ class Trial:
         self.crate, self.kit, self.is_proved, self.said = crate, kit, is_proved, {}
         self.work = work or crate.folder / "out/incremental"
         self.edits = [edit for edit in edits_of(crate) if word in edit.name]
-        self.is_listed = crate.name in re.findall(r"^(\w+): ", BY_NAMES.read_text(encoding="utf-8"), re.M)
         # The crates with the most edits would end long after the others.
         self.jobs = 2 if len(self.edits) > 40 else 1
         self.checks, self.seconds = 0, 0.0
@@ -116,14 +113,7 @@ class Trial:
             for edit in left:
                 self.said[edit] = self.try_alone(edit, kept)
             self.prove_without(kept)
-            self.pass_by_names()
         return self
-
-    def pass_by_names(self):
-        """Lets pass what names alone refuse, in a crate of which gate/by_names says so."""
-        for edit, (well, text) in self.said.items():
-            if not well and text.startswith(ALONE) and self.is_listed:
-                self.said[edit] = (True, f"refused, as it must be (by names alone, which gate/by_names lets pass){text[len(ALONE) :]}")
 
     def try_together(self, chosen, kept):
         """Tries edits in one check; in two, of half of them each, where one has an error that the prover doesn't come to."""
@@ -140,8 +130,7 @@ class Trial:
             if told:
                 self.said[edit] = told.verdict()
             else:
-                is_alone = len(chosen) == 1 and not self.is_listed
-                self.said[edit] = self.judged(edit, said) if is_alone else self.try_alone(edit, kept)
+                self.said[edit] = self.judged(edit, said) if len(chosen) == 1 else self.try_alone(edit, kept)
 
     def prove_without(self, kept):
         """Where it isn't known that the crate is proved as it stands: sees that the functions that edits turn are."""
@@ -154,11 +143,10 @@ class Trial:
                 self.said[edit] = (False, "its function isn't proved without it either, so nothing is shown")
 
     def try_alone(self, edit, kept):
-        """Tries one edit by itself, over the functions that it is to be refused by, or over the whole crate where it names none, and in
-        the crates of gate/by_names."""
+        """Tries one edit by itself, over the functions that it is to be refused by, or over the whole crate where it names none."""
         texts = {}
         edit.apply(texts)
-        return self.judged(edit, self.check(texts, [] if self.is_listed else edit.checked(), kept))
+        return self.judged(edit, self.check(texts, edit.checked(), kept))
 
     def judged(self, edit, said):
         """What a check of this edit alone shows, whatever functions it speaks of."""
