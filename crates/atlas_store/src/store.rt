@@ -37,7 +37,7 @@ impl<A: Allocator> Store<A> {
     ghost use Rattle.atlas_store.specs.Store.Holdings.{shelf_of, node_in, turns_in, HasSlotsFor, IsDetachedLeaf};
     ghost use Rattle.atlas_store.specs.Store.Holdings.{IsHeld};
     ghost use Rattle.atlas_store.specs.Store.StoreCalls.{AreSlotsTaken, IsDetached, IsJoined, IsLeafPlaced, IsLifted};
-    ghost use Rattle.atlas_store.specs.Store.StoreCalls.{IsMarkedFree, IsPlaceable, IsSharpened, IsSlotTaken};
+    ghost use Rattle.atlas_store.specs.Store.StoreCalls.{IsMarkedFree, CanCarryOut, IsSharpened, IsSlotTaken};
     ghost use Rattle.atlas_store.specs.Store.StoreCalls.{ListsLeaf, UnlistsLeaf};
 
     /// A copy: the same slots and lists, in new memory of the same allocator. No turn was taken in it yet.
@@ -152,7 +152,7 @@ impl<A: Allocator> Store<A> {
     /// A detached leaf gives way to what a plan says, for which there are slots. What is left free is detached.
     #[inline(always)]
     pub fn place(&mut self, at: Link, plan: Plan) -> Parts
-        requires { (h : Holding) × IsPlaceable self.old at.number plan h }
+        requires { (h : Holding) × CanCarryOut self.old at.number plan h }
         ensures { IsLeafPlaced self.old self.new at.number plan result }
     {
         let parts = self.take_for(plan);

@@ -3,7 +3,7 @@ use Rattle.std.proofs.Common.{ℕ, List, Option}
 use Rattle.atlas_words.specs.Devices.{HoldsBytes}
 use Rattle.atlas_text.specs.declared.error.TextError.{TextError}
 use Rattle.atlas_text.specs.declared.error.TextError.TheVariants as error
-use Rattle.atlas_text.specs.Steps.{IsRefusal, IsTextFault, IsTraceFault}
+use Rattle.atlas_text.specs.Steps.{NamesNoLine, IsTextFault, IsTraceFault}
 
 pub fault_of_lines : (known : Option (List ℕ)) (input : List ℕ) (e : TextError) → HoldsBytes known input
     → IsTraceFault input e
@@ -14,7 +14,7 @@ fault_of_lines known input (error.Options f) read fault = tt
 fault_of_lines known input error.Memory read fault = tt
 fault_of_lines known input (error.Device f) read fault = tt
 
-pub fault_of_refusal : (known : Option (List ℕ)) (e : TextError) → IsRefusal e → IsTextFault known e
+pub fault_of_refusal : (known : Option (List ℕ)) (e : TextError) → NamesNoLine e → IsTextFault known e
 fault_of_refusal known (error.BadLine n) refused = absurd refused
 fault_of_refusal known (error.Refused f) refused = tt
 fault_of_refusal known (error.Options f) refused = tt

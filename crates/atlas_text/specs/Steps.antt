@@ -43,9 +43,9 @@ IsTraceFault text error.Memory = ⊤
 IsTraceFault text e = ⊥
 
 -- An error that says nothing of a trace's lines.
-abbrev pub IsRefusal : TextError → Type 0
-IsRefusal (error.BadLine number) = ⊥
-IsRefusal e = ⊤
+abbrev pub NamesNoLine : TextError → Type 0
+NamesNoLine (error.BadLine number) = ⊥
+NamesNoLine e = ⊤
 
 -- What an error says of what was read.
 abbrev pub IsTextFault : (in_old : Option (List ℕ)) → TextError → Type 0

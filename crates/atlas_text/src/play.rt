@@ -1,6 +1,6 @@
 //! A text's glyphs through a cache.
 ghost use Rattle.std.specs.Prelude.{IfErr};
-ghost use Rattle.atlas_text.specs.Steps.{IsRefusal};
+ghost use Rattle.atlas_text.specs.Steps.{NamesNoLine};
 
 use crate::error::TextError;
 use crate::steps::Step;
@@ -30,7 +30,7 @@ fn draw(
     key: u32,
     size: Size,
 ) -> Result<(), TextError>
-    ensures fault { IfErr result IsRefusal }
+    ensures fault { IfErr result NamesNoLine }
 {
     if cache.get(&key).is_none() {
         changes.clear();
@@ -41,7 +41,7 @@ fn draw(
 
 /// A cache after all steps.
 pub fn play(alloc: Global, steps: &[Step]) -> Result<TextureCache<u32>, TextError>
-    ensures fault { IfErr result IsRefusal }
+    ensures fault { IfErr result NamesNoLine }
 {
     let mut cache = TextureCache::new(alloc, OPTIONS)?;
     let mut changes = Vec::new(alloc);

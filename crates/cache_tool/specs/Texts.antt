@@ -19,27 +19,27 @@ use Rattle.cache_tool.specs.declared.replies.Reply.{Reply}
 use Rattle.cache_tool.specs.declared.replies.Reply.TheVariants as reply
 
 -- The upper left corner, and the first pixel to the right of the lower right one and below it.
-abbrev pub corners_text : Rectangle → List ℕ
-corners_text r =
+abbrev pub rectangle_text : Rectangle → List ℕ
+rectangle_text r =
     signed_decimal r.min.x
     ++ (codes " " ++ (signed_decimal r.min.y
     ++ (codes " " ++ (signed_decimal r.max.x ++ (codes " " ++ signed_decimal r.max.y)))))
 
 -- A width and a height.
-abbrev pub size_text : Size → List ℕ
-size_text size = signed_decimal size.width ++ (codes " " ++ signed_decimal size.height)
+abbrev pub width_and_height_text : Size → List ℕ
+width_and_height_text size = signed_decimal size.width ++ (codes " " ++ signed_decimal size.height)
 
 -- The number, the page, and both rectangles.
 abbrev pub place_text : Place → List ℕ
 place_text p =
     decimal p.number
     ++ (codes " on " ++ (decimal p.page
-    ++ (codes " at " ++ (corners_text p.rectangle ++ (codes " inner " ++ corners_text p.inner)))))
+    ++ (codes " at " ++ (rectangle_text p.rectangle ++ (codes " inner " ++ rectangle_text p.inner)))))
 
 -- A change's line.
 abbrev pub change_text : CacheChange ℕ → List ℕ
-change_text (PageAdded page size) = codes "added " ++ (decimal page ++ (codes " " ++ (size_text size ++ codes "\n")))
-change_text (PageGrown page size) = codes "grown " ++ (decimal page ++ (codes " " ++ (size_text size ++ codes "\n")))
+change_text (PageAdded page size) = codes "added " ++ (decimal page ++ (codes " " ++ (width_and_height_text size ++ codes "\n")))
+change_text (PageGrown page size) = codes "grown " ++ (decimal page ++ (codes " " ++ (width_and_height_text size ++ codes "\n")))
 change_text (Evicted key place) = codes "evicted " ++ (decimal key ++ (codes " " ++ (place_text place ++ codes "\n")))
 change_text (Moved key from to) =
     codes "moved "
@@ -49,14 +49,14 @@ change_text (PageRemoved page) = codes "dropped " ++ (decimal page ++ codes "\n"
 -- The pages of a cache: a new one, the largest, how many, and the padding.
 abbrev pub pages_text : CacheOptions → List ℕ
 pages_text o =
-    size_text o.page
-    ++ (codes " " ++ (size_text o.largest_page
+    width_and_height_text o.page
+    ++ (codes " " ++ (width_and_height_text o.largest_page
     ++ (codes " " ++ (decimal o.pages ++ (codes " " ++ signed_decimal o.padding)))))
 
 -- The alignment and the thresholds.
 abbrev pub atlas_text : AllocatorOptions → List ℕ
 atlas_text o =
-    size_text o.alignment
+    width_and_height_text o.alignment
     ++ (codes " " ++ (signed_decimal o.small_size_threshold ++ (codes " " ++ signed_decimal o.large_size_threshold)))
 
 -- The options in the order of the line that makes a cache.
@@ -69,8 +69,8 @@ inserted_text (inserted.Held place) = codes "held " ++ (place_text place ++ code
 inserted_text inserted.FrameFull = codes "full\n"
 inserted_text inserted.NeverFits = codes "never\n"
 
-abbrev pub counts_text : Counts → List ℕ
-counts_text counts =
+abbrev pub statistics_text : Counts → List ℕ
+statistics_text counts =
     codes "hits "
     ++ (decimal counts.hits
     ++ (codes " misses " ++ (decimal counts.misses ++ (codes " evictions " ++ (decimal counts.evictions ++ codes "\n")))))
@@ -94,22 +94,22 @@ flag_text true = codes "yes\n"
 flag_text false = codes "no\n"
 
 -- A reply's line.
-abbrev pub reply_text : Reply → List ℕ
-reply_text reply.Done = codes "ok\n"
-reply_text reply.Nothing = codes "none\n"
-reply_text (reply.Flag flag) = flag_text flag
-reply_text (reply.Number number) = decimal number ++ codes "\n"
-reply_text (reply.Size size) = size_text size ++ codes "\n"
-reply_text (reply.At place) = place_text place ++ codes "\n"
-reply_text (reply.Keyed key place) = decimal key ++ (codes " " ++ (place_text place ++ codes "\n"))
-reply_text (reply.Inserted inserted) = inserted_text inserted
-reply_text (reply.Options options) = options_text options
-reply_text (reply.Counts counts) = counts_text counts
-reply_text (reply.Refused error) = refused_text error
-reply_text (reply.Unusable error) = unusable_text error
-reply_text reply.NoCache = codes "no cache\n"
-reply_text reply.BadLine = codes "bad line\n"
+abbrev pub cache_reply_text : Reply → List ℕ
+cache_reply_text reply.Done = codes "ok\n"
+cache_reply_text reply.Nothing = codes "none\n"
+cache_reply_text (reply.Flag flag) = flag_text flag
+cache_reply_text (reply.Number number) = decimal number ++ codes "\n"
+cache_reply_text (reply.Size size) = width_and_height_text size ++ codes "\n"
+cache_reply_text (reply.At place) = place_text place ++ codes "\n"
+cache_reply_text (reply.Keyed key place) = decimal key ++ (codes " " ++ (place_text place ++ codes "\n"))
+cache_reply_text (reply.Inserted inserted) = inserted_text inserted
+cache_reply_text (reply.Options options) = options_text options
+cache_reply_text (reply.Counts counts) = statistics_text counts
+cache_reply_text (reply.Refused error) = refused_text error
+cache_reply_text (reply.Unusable error) = unusable_text error
+cache_reply_text reply.NoCache = codes "no cache\n"
+cache_reply_text reply.BadLine = codes "bad line\n"
 
 -- The lines of a call: one for each change, in order, and one for its reply.
 abbrev pub lines_text : List (CacheChange ℕ) → Reply → List ℕ
-lines_text changes reply = flat_map change_text changes ++ reply_text reply
+lines_text changes reply = flat_map change_text changes ++ cache_reply_text reply

@@ -46,11 +46,11 @@ AnswersHeld does r (Some s) None = ⊥
 AnswersHeld does r (Some s) (Some t) = does s t
 
 -- What a line's call does, with the changes that it tells.
-abbrev pub AnswersCall : Call → Reply → List (CacheChange ℕ) → (s t : Option (CacheState ℕ)) → Type 0
-AnswersCall (call.Cache start) r changes s t = AnswersStart start r s t
-AnswersCall (call.Asked asked) r changes s t = AnswersHeld (AnswersAsked asked r [] changes) r s t
-AnswersCall (call.Keyed keyed n) r changes s t = AnswersHeld (AnswersKeyed keyed n r [] changes) r s t
-AnswersCall (call.Sized sized n size) r changes s t = AnswersHeld (AnswersSized sized n size r [] changes) r s t
+abbrev pub AnswersCacheCall : Call → Reply → List (CacheChange ℕ) → (s t : Option (CacheState ℕ)) → Type 0
+AnswersCacheCall (call.Cache start) r changes s t = AnswersStart start r s t
+AnswersCacheCall (call.Asked asked) r changes s t = AnswersHeld (AnswersAsked asked r [] changes) r s t
+AnswersCacheCall (call.Keyed keyed n) r changes s t = AnswersHeld (AnswersKeyed keyed n r [] changes) r s t
+AnswersCacheCall (call.Sized sized n size) r changes s t = AnswersHeld (AnswersSized sized n size r [] changes) r s t
 
 -- A line that is empty, or begins with '#'.
 abbrev pub IsNote : List ℕ → Type 0
@@ -62,7 +62,7 @@ pub record AnswersLine (line text : List ℕ) (s t : Option (CacheState ℕ)) : 
   pub changes : List (CacheChange ℕ)
   pub answer : Reply
   pub whole : text ≡ lines_text changes answer
-  pub does : ((call : Call) × SaysCall call line × AnswersCall call answer changes s t)
+  pub does : ((call : Call) × SaysCall call line × AnswersCacheCall call answer changes s t)
       ⊎ (((call : Call) → SaysCall call line → ⊥) × (answer ≡ reply.BadLine) × (changes ≡ []) × (t ≡ s))
 
 -- What is written of a line: a note as it is, and each other one after '> ', with its replies.

@@ -4,7 +4,7 @@ ghost use Rattle.atlas_cache.specs.Rooms.{page_sizes};
 ghost use Rattle.atlas_cache.specs.Usable.{unusable_by_page};
 ghost use Rattle.cache_tool.specs.Answers.{AnswersArea, AnswersAsked, AnswersInsert, AnswersKeyed, AnswersRepack, AnswersSized};
 ghost use Rattle.cache_tool.specs.Answers.{at_reply, done_reply, keyed_reply, number_reply, size_reply};
-ghost use Rattle.cache_tool.specs.Transcripts.{AnswersCall, AnswersStart, IsMadeBy};
+ghost use Rattle.cache_tool.specs.Transcripts.{AnswersCacheCall, AnswersStart, IsMadeBy};
 
 use crate::replies::Reply;
 use atlas_cache::{CacheChange, CacheError, CacheOptions, Changes, Place, TextureCache};
@@ -199,7 +199,7 @@ impl Session {
 
     /// Carries out a call.
     pub fn answer(&mut self, alloc: Global, call: Call) -> Reply
-        ensures { AnswersCall call result self.new.changes.items self.old.cache self.new.cache }
+        ensures { AnswersCacheCall call result self.new.changes.items self.old.cache self.new.cache }
     {
         self.changes.clear();
         if let Call::Cache(start) = call {

@@ -1,7 +1,7 @@
 //! Replies as lines.
 ghost use Rattle.std.specs.Prelude.{◌≡◌, IfOk, flat_map, string_bytes};
-ghost use Rattle.cache_tool.specs.Texts.{atlas_text, change_text, corners_text, inserted_text, lines_text, options_text};
-ghost use Rattle.cache_tool.specs.Texts.{pages_text, place_text, refused_text, reply_text, size_text, unusable_text};
+ghost use Rattle.cache_tool.specs.Texts.{atlas_text, change_text, rectangle_text, inserted_text, lines_text, options_text};
+ghost use Rattle.cache_tool.specs.Texts.{pages_text, place_text, refused_text, cache_reply_text, width_and_height_text, unusable_text};
 
 use crate::replies::Reply;
 use atlas_cache::{CacheChange, CacheError, CacheOptions, Inserted, OptionsError, Place};
@@ -10,7 +10,7 @@ use std::alloc::{AllocError, Global};
 
 // The corners of a rectangle.
 fn corners(alloc: Global, rectangle: Rectangle) -> Result<String, AllocError>
-    ensures { IfOk result (λ text. string_bytes text ≡ corners_text rectangle) }
+    ensures { IfOk result (λ text. string_bytes text ≡ rectangle_text rectangle) }
 {
     let (min, max) = (rectangle.min, rectangle.max);
     format!(in alloc; "{} {} {} {}", min.x, min.y, max.x, max.y)
@@ -27,7 +27,7 @@ fn place_words(alloc: Global, place: Place) -> Result<String, AllocError>
 }
 
 fn size_words(alloc: Global, size: Size) -> Result<String, AllocError>
-    ensures { IfOk result (λ text. string_bytes text ≡ size_text size) }
+    ensures { IfOk result (λ text. string_bytes text ≡ width_and_height_text size) }
 {
     format!(in alloc; "{} {}", size.width, size.height)
 }
@@ -126,7 +126,7 @@ fn unusable_line(error: OptionsError) -> &'static str
 
 // The line of a reply.
 fn reply_line(alloc: Global, reply: Reply) -> Result<String, AllocError>
-    ensures { IfOk result (λ text. string_bytes text ≡ reply_text reply) }
+    ensures { IfOk result (λ text. string_bytes text ≡ cache_reply_text reply) }
 {
     match reply {
         Reply::Done => String::from_str(alloc, "ok\n"),

@@ -23,7 +23,7 @@ use Rattle.atlas_store.specs.Slots.Placing.{
   across_of,
   CanPlace,
   HasParts,
-  IsPlaced,
+  IsCarriedOut,
   following,
   granted_by,
   left_by,
@@ -116,7 +116,7 @@ granted-in : (ns ms : List Node) (n : Node) (s : Sequence) (p e q : ℕ) (front 
     → Standing ms s no_slot p (Alloc front.number n.generation q (Free back.number (e - q) End))
 granted-in ns ms n s p e q front back less l w = grind (arith, parts-in)
 
-module _ (ns ms : List Node) (at : Link) (p : Plan) (t : Parts) (w : IsPlaced ns ms at p t) where
+module _ (ns ms : List Node) (at : Link) (p : Plan) (t : Parts) (w : IsCarriedOut ns ms at p t) where
   abbrev i : ℕ
   i = at.number
 
@@ -169,7 +169,7 @@ module _ (ns ms : List Node) (at : Link) where
   leaf = node_at ns at.number
 
   -- At the leaf itself.
-  at-leaf : (p : Plan) (t : Parts) (w : IsPlaced ns ms at p t) → CanPlace ns at.number p t
+  at-leaf : (p : Plan) (t : Parts) (w : IsCarriedOut ns ms at p t) → CanPlace ns at.number p t
       → (s : Sequence) (b q e : ℕ) (rest : Numbered) → IsLeafIn leaf s b (first_slot rest) q e
       → IsRest ns ms at p t w s (q + e) rest
       → Standing ms s b q (put_by p t (node_at ns (granted_by p t at.number)).generation s.width at.number e rest)
@@ -249,7 +249,7 @@ module _ (ns ms : List Node) (at : Link) where
   marked_second : (x y : ℕ) → marks_of (x ∷ y ∷ []) y ≡ true
   marked_second x y = grind (arith, cases_eq y x, with_mark-same, with_mark-other)
 
-  pub placed-part : (p : Plan) (t : Parts) → IsPlaced ns ms at p t → (x : ℕ) → 0 < occurs x (taken_by p t)
+  pub placed-part : (p : Plan) (t : Parts) → IsCarriedOut ns ms at p t → (x : ℕ) → 0 < occurs x (taken_by p t)
       → IsPartNode (left_by p t) x
   placed-part plan.Whole t w x = grind arith
   placed-part (plan.StripAlong p) t w x = grind (arith, cases_eq x, same-ne x, marked_first)
@@ -263,11 +263,11 @@ module _ (ns ms : List Node) (at : Link) where
   IsUsedAs n = (use_count n.kind ≡ 1) × (is_free n.kind ≡ false) × (n.generation ≡ (node_at ns at.number).generation)
 
   -- The leaf's own slot is granted, or holds what is.
-  pub placed-leaf : (p : Plan) (t : Parts) → IsPlaced ns ms at p t → IsUsedAs (node_at ms at.number)
+  pub placed-leaf : (p : Plan) (t : Parts) → IsCarriedOut ns ms at p t → IsUsedAs (node_at ms at.number)
   placed-leaf p t w = grind arith
 
   -- What is granted.
-  pub placed-granted : (p : Plan) (t : Parts) → IsPlaced ns ms at p t
+  pub placed-granted : (p : Plan) (t : Parts) → IsCarriedOut ns ms at p t
       → (node_at ms (granted_by p t at.number)).kind ≡ kind.Alloc
   placed-granted p t w = grind arith
 
@@ -275,7 +275,7 @@ module _ (ns ms : List Node) (at : Link) where
   IsFreeAt x = (node_at ms x).kind ≡ kind.Free
 
   -- What is left free.
-  pub placed-left : (p : Plan) (t : Parts) → IsPlaced ns ms at p t → (x : ℕ) → 0 < occurs x (left_by p t) → IsFreeAt x
+  pub placed-left : (p : Plan) (t : Parts) → IsCarriedOut ns ms at p t → (x : ℕ) → 0 < occurs x (left_by p t) → IsFreeAt x
   placed-left p t w x = grind (arith, cases_eq x, same-ne x)
 
 -- What is left free is taken once.
@@ -286,7 +286,7 @@ left-once p t once x = grind (arith, once x)
 following-use : (p : Plan) (t : Parts) (n : Node) → KeepsUse n (following p t n)
 following-use p t n = grind arith
 
-module _ (ns ms : List Node) (at : Link) (p : Plan) (t : Parts) (w : IsPlaced ns ms at p t)
+module _ (ns ms : List Node) (at : Link) (p : Plan) (t : Parts) (w : IsCarriedOut ns ms at p t)
     (can : CanPlace ns at.number p t) where
   abbrev after : ℕ
   after = (node_at ns at.number).next.number

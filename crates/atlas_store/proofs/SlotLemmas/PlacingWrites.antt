@@ -14,7 +14,7 @@ use Rattle.atlas_search.specs.Numbers.{no_slot, occurs, same}
 use Rattle.atlas_store.specs.Slots.Numbered.{Numbered, tally, first_slot, End, Seq}
 use Rattle.atlas_store.specs.Slots.Standing.{Sequence, Standing, IsTree, IsSlot, with_kind, with_previous}
 use Rattle.atlas_store.specs.Slots.Parts.{front_node, inner_node}
-use Rattle.atlas_store.specs.Slots.Placing.{CanPlace, IsCutInto, IsPlaced, taken_by}
+use Rattle.atlas_store.specs.Slots.Placing.{CanPlace, IsCutInto, IsCarriedOut, taken_by}
 use Rattle.atlas_store.proofs.SlotLemmas.Frames.{same-self, used-le}
 use Rattle.atlas_store.proofs.SlotLemmas.Closing.{next-in, first-in}
 use Rattle.atlas_store.proofs.SlotLemmas.Suffixes.{suffix-at}
@@ -69,9 +69,9 @@ kind-others ns ms i k e x ne = rw (e, get_or-set_other ns i x _ blank_node ne) r
 pub can-place : (ns : List Node) (at : ℕ) (p q : Plan) (t : Parts) → p ≡ q → CanPlace ns at p t → CanPlace ns at q t
 can-place ns at p q t e c = subst (λ p. CanPlace ns at p t) e c
 
-pub placed-as : (ns ms : List Node) (at : Link) (p q : Plan) (t : Parts) → p ≡ q → IsPlaced ns ms at q t
-    → IsPlaced ns ms at p t
-placed-as ns ms at p q t e w = subst (λ p. IsPlaced ns ms at p t) (sym e) w
+pub placed-as : (ns ms : List Node) (at : Link) (p q : Plan) (t : Parts) → p ≡ q → IsCarriedOut ns ms at q t
+    → IsCarriedOut ns ms at p t
+placed-as ns ms at p q t e w = subst (λ p. IsCarriedOut ns ms at p t) (sym e) w
 
 pub placed-inside : (slots : List Slot) (at : ℕ) (p q : Plan) (t : Parts) (k m : ℕ) → CanPlace (nodes slots) at p t
     → p ≡ q
@@ -116,7 +116,7 @@ differs x y z e = absurd (omega (arith, z, ap (same x) e, same-self x))
 
 pub whole-by : (ns ms : List Node) (at : Link) (t : Parts) → length ns < no_slot → IsTree ns
     → CanPlace ns at.number plan.Whole t
-    → ms ≡ with_kind ns at.number kind.Alloc → IsPlaced ns ms at plan.Whole t
+    → ms ≡ with_kind ns at.number kind.Alloc → IsCarriedOut ns ms at plan.Whole t
 whole-by ns ms at t short tree can e =
     let f = after ns at plan.Whole t short tree can in
     grind (arith, f, kind-there ns ms at.number kind.Alloc (leaf_inside ns at plan.Whole t short tree can) e, kind-others ns ms at.number kind.Alloc e)
@@ -124,7 +124,7 @@ whole-by ns ms at t short tree can e =
 pub strip_along-by : (ns m1 ms : List Node) (at : Link) (t : Parts) (p : ℕ) → length ns < no_slot → IsTree ns
     → CanPlace ns at.number (plan.StripAlong p) t → length m1 ≡ length ns
     → IsCutInto ns m1 (node_at ns at.number) p at kind.Alloc t.split
-    → ms ≡ with_previous m1 (node_at ns at.number).next.number t.split → IsPlaced ns ms at (plan.StripAlong p) t
+    → ms ≡ with_previous m1 (node_at ns at.number).next.number t.split → IsCarriedOut ns ms at (plan.StripAlong p) t
 strip_along-by ns m1 ms at t p short tree can len cut e =
     let f = after ns at (plan.StripAlong p) t short tree can in
     let fo = following-by m1 ms (node_at ns at.number).next.number t.split (omega (arith, len)) (rw len f.is_slot) e in
@@ -138,7 +138,7 @@ pub corner_along-by : (ns m1 m2 ms : List Node) (at : Link) (t : Parts) (p q : �
     → m2 ≡ with_previous m1 (node_at ns at.number).next.number t.split
     → front ≡ record (front_node (node_at ns at.number) p t.split) { kind = kind.Container }
     → IsCutInto m2 ms (inner_node front at (node_at m2 t.granted.number)) q t.granted kind.Alloc t.leftover
-    → IsPlaced ns ms at (plan.CornerAlong p q) t
+    → IsCarriedOut ns ms at (plan.CornerAlong p q) t
 corner_along-by ns m1 m2 ms at t p q front short tree can len cut e ef last =
     let f = after ns at (plan.CornerAlong p q) t short tree can in
     let fo = following-by m1 m2 (node_at ns at.number).next.number t.split (omega (arith, len)) (rw len f.is_slot) e in
@@ -150,7 +150,7 @@ pub strip_across-by : (ns m1 ms : List Node) (at : Link) (t : Parts) (q : ℕ) �
     → CanPlace ns at.number (plan.StripAcross q) t → m1 ≡ with_kind ns at.number kind.Container
     → IsCutInto m1 ms (inner_node (node_at ns at.number) at (node_at m1 t.granted.number)) q t.granted kind.Alloc
     t.split
-    → IsPlaced ns ms at (plan.StripAcross q) t
+    → IsCarriedOut ns ms at (plan.StripAcross q) t
 strip_across-by ns m1 ms at t q short tree can e last =
     let f = after ns at (plan.StripAcross q) t short tree can in
     let apart = part_leaf ns at (plan.StripAcross q) t short tree can in
@@ -166,7 +166,7 @@ pub corner_across-by : (ns m1 m2 ms : List Node) (at : Link) (t : Parts) (p q : 
     → front ≡ record (front_node (inner_node (node_at ns at.number) at (node_at m1 t.container.number)) q t.split)
     { kind = kind.Container }
     → IsCutInto m2 ms (inner_node front t.container (node_at m2 t.granted.number)) p t.granted kind.Alloc t.leftover
-    → IsPlaced ns ms at (plan.CornerAcross p q) t
+    → IsCarriedOut ns ms at (plan.CornerAcross p q) t
 corner_across-by ns m1 m2 ms at t p q front short tree can e cut ef last =
     let f = after ns at (plan.CornerAcross p q) t short tree can in
     let apart = part_leaf ns at (plan.CornerAcross p q) t short tree can in

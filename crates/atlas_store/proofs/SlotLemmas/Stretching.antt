@@ -18,7 +18,7 @@ use Rattle.atlas_search.specs.Numbers.{no_slot, same}
 use Rattle.atlas_search.specs.Rectangles.{beyond_in}
 use Rattle.atlas_store.specs.Slots.Numbered.{Numbered, weigh, tally, erase, first_slot, edited_in, End, Free, Alloc, Seq}
 use Rattle.atlas_store.specs.Slots.Standing.{Sequence, Standing, Stands, IsLinkedIn, member_box}
-use Rattle.atlas_store.specs.Slots.Growing.{is_last, extended, followed_by, lengthened_by, last_after, last_slot, stretched, appended, stretched_area, Reaches}
+use Rattle.atlas_store.specs.Slots.Growing.{is_last, extended, with_free_after, lengthened_by, last_after, last_slot, stretched, appended, stretched_area, Reaches}
 use Rattle.atlas_store.proofs.SlotLemmas.Frames.{IsWritten, Standing-same, same-self, same-ne, used-le, ne-from_count}
 use Rattle.atlas_store.proofs.SlotLemmas.Reading.{HasMember, nonempty-tally}
 use Rattle.atlas_store.proofs.SlotLemmas.Editing.{edited-keeps}
@@ -72,7 +72,7 @@ weigh-stretched w d =
 
 pub weigh-appended : (w : ℕ → ℕ) (k d : ℕ) (n : Numbered) → weigh w (appended k d n) ≡ weigh w n + w k
 weigh-appended w k d =
-    extended-keeps (followed_by k d) (λ m n. weigh w n ≡ weigh w m + w k) (grind arith) (grind arith)
+    extended-keeps (with_free_after k d) (λ m n. weigh w n ≡ weigh w m + w k) (grind arith) (grind arith)
 
 -- Members whose last is that of slot i, and d before the far corner of a size, stand changed.
 abbrev IsExtendedTo : (ns ms : List Node) (i : ℕ) (size : Sides) (d : ℕ) (s : Sequence) (b p : ℕ)
@@ -177,7 +177,7 @@ module _ (ns ms : List Node) (at fresh : Link) (size : Size) (exact : size ≡ s
   strip_stands s d b a p e v h area far = grind (arith, box-beyond)
 
   at_last : (d : ℕ) (s : Sequence) (b p : ℕ) (m : Numbered) → is_last m ≡ true → ((x : ℕ) → tally x m ≤ 1)
-      → tally k m ≡ 0 → IsExtendedTo ns ms i (sides_of size) d s b p m (followed_by k d m)
+      → tally k m ≡ 0 → IsExtendedTo ns ms i (sides_of size) d s b p m (with_free_after k d m)
   at_last d s b p = grind (arith, strip_stands, Standing-same)
 
   used_appended : (x : ℕ) → use_count (node_at ms x).kind ≡ use_count (node_at ns x).kind + same x k
@@ -188,8 +188,8 @@ module _ (ns ms : List Node) (at fresh : Link) (size : Size) (exact : size ≡ s
   Stands-appended s n d h is far =
       let new : tally k n ≡ 0 = h.numbered k ∙ ap use_count w.unused in
       let some : HasMember n = grind (arith, same-self) in
-      let edit : IsExtension ns ms (followed_by k d) i (sides_of size) d n = grind (arith, h.numbered, used-le, at_last) in
-      Stands-extended ns ms (followed_by k d) i (sides_of size) d n edit s some h is far (λ x.
+      let edit : IsExtension ns ms (with_free_after k d) i (sides_of size) d n = grind (arith, h.numbered, used-le, at_last) in
+      Stands-extended ns ms (with_free_after k d) i (sides_of size) d n edit s some h is far (λ x.
       omega (arith, weigh-appended (same x) k d n, used_appended x, h.numbered x))
 
 -- A used slot is inside.

@@ -4,7 +4,7 @@ use Rattle.atlas_model.specs.Boxes.{Axis, other}
 use Rattle.atlas_model.specs.Trees.{IsCut, total}
 use Rattle.atlas_store.specs.Slots.Numbered.{Numbered, erase, tally}
 use Rattle.atlas_search.specs.Numbers.{no_slot}
-use Rattle.atlas_store.specs.Slots.Growing.{last_slot, followed_by, lengthened_by, stretched, appended}
+use Rattle.atlas_store.specs.Slots.Growing.{last_slot, with_free_after, lengthened_by, stretched, appended}
 use Rattle.atlas_store.proofs.SlotLemmas.Reading.{HasMember}
 use Rattle.atlas_store.proofs.SlotLemmas.Stretching.{extended-keeps, last-later}
 
@@ -25,12 +25,12 @@ cut-stretched d across =
 
 pub total-appended : (k d : ℕ) (n : Numbered) → total (erase (appended k d n)) ≡ total (erase n) + d
 total-appended k d =
-    extended-keeps (followed_by k d) (λ m n. total (erase n) ≡ total (erase m) + d) (grind arith) (grind arith)
+    extended-keeps (with_free_after k d) (λ m n. total (erase n) ≡ total (erase m) + d) (grind arith) (grind arith)
 
 pub cut-appended : (k d across : ℕ) (n : Numbered) → 0 < d → IsCut across (erase n)
     → IsCut across (erase (appended k d n))
 cut-appended k d across =
-    extended-keeps (followed_by k d) (λ m n. 0 < d → IsCut across (erase m) → IsCut across (erase n)) (grind arith)
+    extended-keeps (with_free_after k d) (λ m n. 0 < d → IsCut across (erase m) → IsCut across (erase n)) (grind arith)
     (grind arith)
 
 -- The last member of some is one of them.

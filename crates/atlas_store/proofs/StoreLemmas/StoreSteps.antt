@@ -17,7 +17,7 @@ use Rattle.atlas_search.specs.Numbers.{no_slot, front, occurs}
 use Rattle.atlas_store.specs.Slots.Numbered.{Numbered, joined, lifted}
 use Rattle.atlas_store.specs.Slots.Standing.{Sequence, Stands}
 use Rattle.atlas_store.specs.Slots.SlotCalls.{IsLeafFreed, IsNextJoined, IsChildLifted}
-use Rattle.atlas_store.specs.Slots.Placing.{granted_by, left_by, marks_of, planned, taken_by, CanPlace, IsPlaced}
+use Rattle.atlas_store.specs.Slots.Placing.{granted_by, left_by, marks_of, planned, taken_by, CanPlace, IsCarriedOut}
 use Rattle.atlas_store.proofs.SlotLemmas.Frames.{Standing-same, same-ne}
 use Rattle.atlas_store.specs.Slots.Lists.{AreFiled, Places, Line, is_free}
 use Rattle.std.proofs.lemmas.List.{length-map, length_push}
@@ -283,7 +283,7 @@ taken-short v new capacity i n slot h claimed holds room again fresh =
 
 -- A plan is carried out in a detached leaf, the only one, in slots that are claimed.
 module _ (v : Shelf) (new : List Slot) (at : Link) (p : Plan) (t : Parts) (long : length new ≡ length v.slots)
-    (placed : IsPlaced (nodes v.slots) (nodes new) at p t) (same : rings new ≡ rings v.slots)
+    (placed : IsCarriedOut (nodes v.slots) (nodes new) at p t) (same : rings new ≡ rings v.slots)
     (can : CanPlace (nodes v.slots) at.number p t) (h : Holding)
     (holds : HoldsWith (λ i. occurs i (taken_by p t)) v h) (detached : h.detached at.number ≡ true)
     (only : IsDetachedOnly (at.number ∷ []) h) where

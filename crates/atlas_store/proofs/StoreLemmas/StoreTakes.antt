@@ -13,7 +13,7 @@ use Rattle.atlas_store.specs.Slots.Links.{with_count, tail_of}
 use Rattle.atlas_search.specs.Numbers.{occurs, same}
 use Rattle.atlas_store.specs.Stored.{Holding, Holds, HoldsWith}
 use Rattle.atlas_store.specs.Store.Holdings.{shelf_of, node_in, HasSlotsFor, KeepsRoom, with_unused_list}
-use Rattle.atlas_store.specs.Store.StoreCalls.{AreSlotsTaken, IsPlaceable, IsSlotTaken, IsUnusedSlot, TakesSlots}
+use Rattle.atlas_store.specs.Store.StoreCalls.{AreSlotsTaken, CanCarryOut, IsSlotTaken, IsUnusedSlot, TakesSlots}
 use Rattle.atlas_store.proofs.SlotLemmas.Frames.{same-self, same-ne}
 use Rattle.atlas_store.proofs.StoreLemmas.Filing.{with_count-same, with_count-other}
 use Rattle.atlas_store.proofs.StoreLemmas.StoreSteps.{holds-claimed, length-nodes, length-rings}
@@ -155,7 +155,7 @@ taken-number (plan.CornerAcross p q) t = refl
 -- A plan can be carried out in the slots that were taken for it.
 module _ {A : Type 0} {old mid : Store A} (at : ℕ) (p : Plan) (t : Parts)
     (taken : AreSlotsTaken old mid (taken_by p t)) (h : Holding)
-    (ready : IsPlaceable old at p h) where
+    (ready : CanCarryOut old at p h) where
   pub held-taken : (unused_list : List ℕ) × HoldsWith (λ i. occurs i (taken_by p t)) (shelf_of mid)
       (with_unused_list unused_list h)
       × HasSlotsFor 0 mid (with_unused_list unused_list h)

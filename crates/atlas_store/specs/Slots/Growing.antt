@@ -37,11 +37,11 @@ abbrev pub lengthened_by : (d : ℕ) → Numbered → Numbered
 lengthened_by d n = on_free (λ i e rest. Free i (e + d) rest) n
 
 -- A free member of extent d at slot k comes after the first, or alone.
-abbrev pub followed_by : (k d : ℕ) → Numbered → Numbered
-followed_by k d End = Free k d End
-followed_by k d (Free i e rest) = Free i e (Free k d rest)
-followed_by k d (Alloc i g e rest) = Alloc i g e (Free k d rest)
-followed_by k d (Seq i e inner rest) = Seq i e inner (Free k d rest)
+abbrev pub with_free_after : (k d : ℕ) → Numbered → Numbered
+with_free_after k d End = Free k d End
+with_free_after k d (Free i e rest) = Free i e (Free k d rest)
+with_free_after k d (Alloc i g e rest) = Alloc i g e (Free k d rest)
+with_free_after k d (Seq i e inner rest) = Seq i e inner (Free k d rest)
 
 -- The last member, if it is free, is d longer.
 abbrev pub stretched : (d : ℕ) → Numbered → Numbered
@@ -49,7 +49,7 @@ stretched d n = extended (lengthened_by d) n
 
 -- A free member of extent d at slot k comes last.
 abbrev pub appended : (k d : ℕ) → Numbered → Numbered
-appended k d n = extended (followed_by k d) n
+appended k d n = extended (with_free_after k d) n
 
 -- A container of slot c and of extent e holds the members, and a free leaf of extent d at slot k comes after it.
 abbrev pub nested : (c k e d : ℕ) → Numbered → Numbered

@@ -127,7 +127,7 @@ pub record CanPlace (ns : List Node) (at : ℕ) (p : Plan) (t : Parts) : Type 0 
   pub once : (i : ℕ) → occurs i (taken_by p t) ≤ 1
 
 -- A plan was carried out in the free leaf at `at`.
-pub record IsPlaced (ns ms : List Node) (at : Link) (p : Plan) (t : Parts) : Type 0 where
+pub record IsCarriedOut (ns ms : List Node) (at : Link) (p : Plan) (t : Parts) : Type 0 where
   pub written : AreWritten p t at (node_at ns at.number) ns ms
   pub moved : (node_at ns at.number).next.number ≢ no_slot
       → node_at ms (node_at ns at.number).next.number ≡ following p t (node_at ns (node_at ns at.number).next.number)

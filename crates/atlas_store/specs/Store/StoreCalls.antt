@@ -97,7 +97,7 @@ pub record AreSlotsTaken {A : Type 0} (old new : Store A) (ks : List ℕ) : Type
   pub takes : OnlyTakes old new
 
 -- Slot `at` is a detached leaf, the only one, in which a plan can be carried out, and there are slots for it.
-pub record IsPlaceable {A : Type 0} (s : Store A) (at : ℕ) (p : Plan) (h : Holding) : Type 0 where
+pub record CanCarryOut {A : Type 0} (s : Store A) (at : ℕ) (p : Plan) (h : Holding) : Type 0 where
   pub leaf : IsDetachedLeaf (shelf_of s) at h
   pub only : IsDetachedOnly (at ∷ []) h
   pub feasible : IsFeasible p (extent_of (node_in (shelf_of s) at)) (across_of (node_in (shelf_of s) at))
@@ -105,7 +105,7 @@ pub record IsPlaceable {A : Type 0} (s : Store A) (at : ℕ) (p : Plan) (h : Hol
 
 -- A plan was carried out in the detached leaf of slot `at`, in the slots of its parts; what is left free is detached.
 pub record IsLeafPlaced {A : Type 0} (old new : Store A) (at : ℕ) (p : Plan) (t : Parts) : Type 0 where
-  pub kept : (h : Holding) → IsPlaceable old at p h
+  pub kept : (h : Holding) → CanCarryOut old at p h
       → (unused_list : List ℕ) × Holds (shelf_of new) (with_unused_list unused_list
       (after_place p t at (node_in (shelf_of new) (granted_by p t at)).generation h))
       × (length unused_list ≡ length h.unused_list - slots_of p)

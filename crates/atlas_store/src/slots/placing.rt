@@ -4,7 +4,7 @@ ghost use Rattle.std.specs.Prelude.{◌≡◌, ◌≢◌, ◌<◌, length};
 ghost use Rattle.atlas_model.specs.Boxes.{box_sides, side};
 ghost use Rattle.atlas_model.specs.Pixels.{box_of, rectangle_of};
 ghost use Rattle.atlas_store.specs.Slots.{nodes, rings, node_at, axis_of};
-ghost use Rattle.atlas_store.specs.Slots.Placing.{across_of, CanPlace, IsCutInto, IsPlaced};
+ghost use Rattle.atlas_store.specs.Slots.Placing.{across_of, CanPlace, IsCutInto, IsCarriedOut};
 ghost use Rattle.atlas_store.specs.Slots.Reading.{extent_of};
 ghost use Rattle.atlas_store.specs.Slots.Standing.{IsTree};
 ghost use Rattle.atlas_store.specs.Slots.Parts.{back_part, front_node, front_part, inner_node};
@@ -134,7 +134,7 @@ pub fn place_leaf(slots: &mut [Slot], at: Link, plan: Plan, parts: Parts)
     requires stands { IsTree (nodes slots.old) }
     requires ready { CanPlace (nodes slots.old) at.number plan parts }
     requires short { length slots.old < NO_SLOT }
-    ensures placed { IsPlaced (nodes slots.old) (nodes slots.new) at plan parts }
+    ensures placed { IsCarriedOut (nodes slots.old) (nodes slots.new) at plan parts }
     ensures same_rings { rings slots.new ≡ rings slots.old }
 {
     let leaf = read_node(slots, at);

@@ -21,7 +21,7 @@ use Rattle.atlas_store.specs.Store.Holdings.{shelf_of, node_in, with_detached, w
 use Rattle.atlas_search.specs.Bands.{list_of}
 use Rattle.atlas_store.specs.Slots.Lists.{node_sides, node_top}
 use Rattle.atlas_tree.specs.Plans.Planning.{IsPlanReady, IsPlanDone, IsPlanned}
-use Rattle.atlas_store.specs.Store.StoreCalls.{IsPlaceable, IsSharpened, UnlistsLeaf}
+use Rattle.atlas_store.specs.Store.StoreCalls.{CanCarryOut, IsSharpened, UnlistsLeaf}
 use Rattle.atlas_store.specs.Store.Choosing.{IsAtRest, IsChosen}
 use Rattle.atlas_tree.specs.Plans.Chosen.{IsGrantable, IsGrantMade}
 use Rattle.atlas_store.proofs.StoreLemmas.Filing.{with_mark-same, with_mark-other}
@@ -81,7 +81,7 @@ module _ {A : Type 0} {v v' : Store A} {r : Sides} {p : Found} {plan : Plan} {h 
   abbrev unlisted : Holding
   unlisted = with_detached p.at.number true (with_free_lists left.0 h)
 
-  is_placeable : IsPlaceable v' p.at.number plan unlisted
+  is_placeable : CanCarryOut v' p.at.number plan unlisted
   is_placeable = grind (arith, left, with_mark-same, with_mark-other, same-ne, slots-kept)
 
   pub placeable-chosen : IsPlanReady v' p.at.number plan

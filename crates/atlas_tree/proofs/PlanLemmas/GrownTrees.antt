@@ -13,7 +13,7 @@ use Rattle.atlas_model.specs.Trees as tree
 use Rattle.atlas_model.specs.Changes.{lengthened, lengthened_to, widened, grown_members}
 use Rattle.atlas_store.specs.Slots.Numbered.{Numbered, erase, first_slot, id_of, numbers}
 use Rattle.atlas_store.specs.Slots.Standing.{Sequence, Standing, Stands}
-use Rattle.atlas_store.specs.Slots.Growing.{last_after, last_slot, followed_by, lengthened_by, stretched, appended}
+use Rattle.atlas_store.specs.Slots.Growing.{last_after, last_slot, with_free_after, lengthened_by, stretched, appended}
 use Rattle.atlas_tree.specs.Plans.Growths.{strip_after}
 use Rattle.atlas_store.proofs.SlotLemmas.JoiningWrites.{used-inside}
 use Rattle.atlas_store.proofs.SlotLemmas.Reading.{HasMember}
@@ -49,7 +49,7 @@ pub erase-appended : (k d : ℕ) (ns : List Node) (s : Sequence) (b p : ℕ) (n 
     → ((node_at ns (last_after b n)).kind ≡ kind.Free → ⊥)
     → erase (appended k d n) ≡ lengthened d (erase n)
 erase-appended k d ns s b p n =
-    extended-keeps (followed_by k d) (λ m v. (s : Sequence) (b p : ℕ) → Standing ns s b p m
+    extended-keeps (with_free_after k d) (λ m v. (s : Sequence) (b p : ℕ) → Standing ns s b p m
     → ((node_at ns (last_after b m)).kind ≡ kind.Free → ⊥) → erase v ≡ lengthened d (erase m)) (record {
       free = λ i e m v some h s b p st busy. ap (tree.Free e) (h s i (p + e) st.2 busy) ∙ sym (lengthened-later d e m some);
       alloc = λ i g e m v some h s b p st busy. ap (tree.Alloc (id_of i g) e) (h s i (p + e) st.3 busy);
@@ -59,7 +59,7 @@ erase-appended k d ns s b p n =
 -- The first member stays.
 pub first-appended : (k d : ℕ) (n : Numbered) → HasMember n → first_slot (appended k d n) ≡ first_slot n
 first-appended k d =
-    extended-keeps (followed_by k d) (λ m n. HasMember m → first_slot n ≡ first_slot m) (grind arith) (grind arith)
+    extended-keeps (with_free_after k d) (λ m n. HasMember m → first_slot n ≡ first_slot m) (grind arith) (grind arith)
 
 -- n if b is more than a.
 abbrev pub if_longer : (a b n : ℕ) → ℕ

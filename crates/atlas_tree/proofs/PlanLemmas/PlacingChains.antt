@@ -19,7 +19,7 @@ use Rattle.atlas_store.specs.Store.Holdings.{
   with_unused_list,
   after_place,
 }
-use Rattle.atlas_store.specs.Store.StoreCalls.{IsLeafPlaced, IsPlaceable, ListsLeaf}
+use Rattle.atlas_store.specs.Store.StoreCalls.{IsLeafPlaced, CanCarryOut, ListsLeaf}
 use Rattle.atlas_tree.specs.Plans.Planning.{IsPlanDone, IsPlanned}
 use Rattle.atlas_store.proofs.SlotLemmas.Frames.{same-self}
 use Rattle.atlas_store.proofs.SlotLemmas.Placing.{unmarked}
@@ -62,7 +62,7 @@ listed-next {A} {v} {v'} {k} {ks} {h} w l =
     )
 
 module _ {A : Type 0} {old mid : Store A} {at : ℕ} {p : Plan} {t : Parts} (w : IsLeafPlaced old mid at p t)
-    {h : Holding} (ready : IsPlaceable old at p h) where
+    {h : Holding} (ready : CanCarryOut old at p h) where
   abbrev pub placed_holding : Holding
   placed_holding = with_unused_list (w.kept h ready).0
       (after_place p t at (node_in (shelf_of mid) (granted_by p t at)).generation h)

@@ -15,7 +15,7 @@ use Rattle.atlas_store.specs.Slots.{axis_of}
 use Rattle.atlas_store.specs.Slots.Placing.{granted_by, planned, slots_of}
 use Rattle.atlas_store.specs.Stored.{Shelf, Holding, Holds, IsDetachedOnly}
 use Rattle.atlas_store.specs.Store.Holdings.{shelf_of, node_in, OnlyTakes}
-use Rattle.atlas_store.specs.Store.StoreCalls.{IsPlaceable}
+use Rattle.atlas_store.specs.Store.StoreCalls.{CanCarryOut}
 
 -- The plan is the line of the cut table for a leaf and a request: p lies along the leaf's sequence, and q across.
 abbrev pub IsPlanFor : Node → Sides → Plan → Type 0
@@ -34,7 +34,7 @@ IsPlanFor leaf r (plan.CornerAcross p q) =
 
 -- A plan can be carried out in the detached leaf of slot `at`.
 abbrev pub IsPlanReady : {A : Type 0} → Store A → (at : ℕ) → Plan → Type 0
-IsPlanReady s at p = (h : Holding) × IsPlaceable s at p h
+IsPlanReady s at p = (h : Holding) × CanCarryOut s at p h
 
 -- Slot `to` is granted by a plan in place of the leaf of slot `at`, and each free slot stands in its list.
 pub record IsPlanned (new : Shelf) (at to : ℕ) (p : Plan) (h h' : Holding) : Type 0 where
@@ -50,5 +50,5 @@ pub record IsPlanned (new : Shelf) (at to : ℕ) (p : Plan) (h h' : Holding) : T
 
 -- A plan was carried out in the detached leaf of slot `at`, and slot `to` is granted.
 pub record IsPlanDone {A : Type 0} (old new : Store A) (at to : ℕ) (p : Plan) : Type 0 where
-  pub kept : (h : Holding) → IsPlaceable old at p h → (h' : Holding) × IsPlanned (shelf_of new) at to p h h'
+  pub kept : (h : Holding) → CanCarryOut old at p h → (h' : Holding) × IsPlanned (shelf_of new) at to p h h'
   pub takes : OnlyTakes old new

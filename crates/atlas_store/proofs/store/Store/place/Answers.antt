@@ -1,7 +1,7 @@
 use Rattle.std.proofs.Common.{◌-◌, ◌≡◌, ◌∙◌, ap, refl, sym, subst, length, arith}
 use Rattle.atlas_store.specs.Slots.{nodes, rings}
 use Rattle.atlas_search.specs.Numbers.{occurs}
-use Rattle.atlas_store.specs.Slots.Placing.{granted_by, taken_by, CanPlace, IsPlaced}
+use Rattle.atlas_store.specs.Slots.Placing.{granted_by, taken_by, CanPlace, IsCarriedOut}
 use Rattle.std.specs.Vec.{with_items}
 use Rattle.atlas_store.specs.Stored.{Shelf, Holds}
 use Rattle.atlas_store.specs.Store.Holdings.{shelf_of, with_unused_list, after_place}
@@ -49,7 +49,7 @@ returns g c =
     let ns = nodes mid.slots.items in
     let took = c.take_for-parts.ensures in
     let slots = are-slots mid c.deref_mut.ensures.value c.deref_mut.ensures.len c.place_leaf.auto.slots in
-    let placed = over-shelf (λ old new. IsPlaced (nodes old) (nodes new) at p t) _ _ _ _ slots
+    let placed = over-shelf (λ old new. IsCarriedOut (nodes old) (nodes new) at p t) _ _ _ _ slots
     c.place_leaf.ensures.placed in
     let same = over-shelf (λ old new. rings new ≡ rings old) _ _ _ _ slots c.place_leaf.ensures.same_rings in
     let can = can-taken at.number p t took c.requires.0 c.requires.1 in
