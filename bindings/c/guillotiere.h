@@ -2,7 +2,7 @@
  *
  * An atlas is one large rectangle, often a texture, that hands out boxes and takes them back. A simple allocator hands
  * out boxes and takes none back. A cache keeps rectangles under keys in pages, which are textures or the layers of a texture
- * array, and tells what its caller has to do to the textures. guillotiere_pack takes sprites that all are known beforehand
+ * array, and reports what its caller has to do to the textures. guillotiere_pack takes sprites that all are known beforehand
  * and packs them into one small sheet, guillotiere_pack_dense into one that is as a rule smaller, guillotiere_pack_pages into
  * several, guillotiere_pack_groups into several with each group of sprites on one of them, and guillotiere_fill as many of them
  * as one sheet takes; these need no handle. Lengths and coordinates are in pixels, areas in unit squares; y grows downwards.
@@ -22,7 +22,7 @@
  * is answered. After each status but GUILLOTIERE_DONE all handles hold what they held, and nothing was written, but for
  * the number of a bad sprite (of a sheet), and but for two calls of a cache: guillotiere_cache_insert answers
  * GUILLOTIERE_HELD of a key that was held, which is used then and whose place is written, and may have made changes after
- * another status, which it tells; and guillotiere_cache_get counts a miss.
+ * another status, which it reports; and guillotiere_cache_get counts a miss.
  *
  * What the caller owes, which nothing tests:
  * - A handle has been written by calls of this library alone, or is all zero. It isn't copied by `=` or memcpy: a copy is
@@ -473,7 +473,7 @@ uint32_t guillotiere_cache_peek(const guillotiere_cache *cache, uint64_t key, gu
 
 /* A place for a key, which is used in this frame. A key that is held keeps its place, and is the most recently used; that
  * counts as no hit. A new key comes on the first page with room for its size with the padding. Where none has room a page
- * grows, by its lesser side, which doubles, the width of equal ones, and no further than the largest page; where none can grow one
+ * grows, by its smaller side, which doubles, the width of equal ones, and no further than the largest page; where none can grow one
  * is added; and where all are there, of the keys on a page the least recently used one goes that this frame didn't use; and so on.
  * What was done is handed over by guillotiere_cache_next_change, also after FRAME_FULL and after an error: follow it before the
  * place is used.
@@ -488,7 +488,7 @@ uint32_t guillotiere_cache_peek(const guillotiere_cache *cache, uint64_t key, gu
 uint32_t guillotiere_cache_insert(guillotiere_cache *cache, uint64_t key, int32_t width, int32_t height,
                                   guillotiere_place *place);
 
-/* A key goes; the place that it had is written. No change tells it: forget its place, once the changes that weren't handed
+/* A key goes; the place that it had is written. No change reports it: forget its place, once the changes that weren't handed
  * over are followed. Takes no memory. DONE; NOT_HELD; EMPTY. */
 uint32_t guillotiere_cache_remove(guillotiere_cache *cache, uint64_t key, guillotiere_place *place);
 
@@ -496,23 +496,23 @@ uint32_t guillotiere_cache_remove(guillotiere_cache *cache, uint64_t key, guillo
  * made. Takes no memory. DONE; NO_CHANGE if there is none; EMPTY. */
 uint32_t guillotiere_cache_next_change(guillotiere_cache *cache, guillotiere_cache_change *change);
 
-/* All keys go. The pages stay, with their sizes and with nothing on them. No change tells it: forget all places, once the
+/* All keys go. The pages stay, with their sizes and with nothing on them. No change reports it: forget all places, once the
  * changes that weren't handed over are followed, which stay. Takes no memory. DONE; EMPTY. */
 uint32_t guillotiere_cache_clear(guillotiere_cache *cache);
 
-/* The keys that weren't used for at least so many frames go, each told by a change, the least recently used first: with 1,
+/* The keys that weren't used for at least so many frames go, each reported by a change, the least recently used first: with 1,
  * what this frame didn't use; with 0, all. DONE; MEMORY, and then all is as it was; EMPTY. */
 uint32_t guillotiere_cache_trim(guillotiere_cache *cache, uint64_t frames);
 
-/* The pages behind the last one with a key go, each told by a change, GUILLOTIERE_PAGE_REMOVED, the last one first. The others
+/* The pages behind the last one with a key go, each reported by a change, GUILLOTIERE_PAGE_REMOVED, the last one first. The others
  * stay, with their sizes, and so do all keys; after guillotiere_cache_clear all pages go. DONE; MEMORY, and then all is as it
  * was; EMPTY. */
 uint32_t guillotiere_cache_shrink(guillotiere_cache *cache);
 
 /* Places the keys of a page anew, the largest first, and of one area the one that was used last, so that what is free comes
- * together; pages are counted from 0. Each key of the page is told by a change, the most recently used first:
- * GUILLOTIERE_MOVED, also where it stays, or GUILLOTIERE_EVICTED, where it found no room. A place that a key moves to can overlap one that a later change moves from:
- * copy all pixels from the page as it was before the call.
+ * together; pages are counted from 0. Each key of the page is reported by a change, the most recently used first:
+ * GUILLOTIERE_MOVED, also where it stays, or GUILLOTIERE_EVICTED, where it found no room. A place that a key moves to can overlap one
+ * that a later change moves from: copy all pixels from the page as it was before the call.
  * DONE; NO_PAGE, SLOTS or MEMORY, and then all is as it was; EMPTY. */
 uint32_t guillotiere_cache_repack(guillotiere_cache *cache, uint32_t page);
 

@@ -349,16 +349,16 @@ impl<K: Copy + Eq + Hash, S: BuildHasher> TextureCache<K, S> {
     }
 
     /// A place for a key, which is used in this frame. A key that is held keeps its place, and is the most recently used
-    /// from now on, which counts as no hit; asked with another size, be it empty or too large, it is refused with
-    /// `OtherSize`, and nothing changes. A new key comes on the first page with room for its size, in pixels, with the
-    /// padding. Where none has, a page grows: its lesser side doubles, the width of equal ones, and no further than the
-    /// largest page. Where none can, one is added; and where all are there, the least recently used entry goes that lies on
-    /// a page and that this frame didn't use; and so on.
+    /// from now on, which counts as no hit; asked with another size, even one that is empty or too large, it is refused
+    /// with `OtherSize`, and nothing changes. A new key comes on the first page with room for its size, in pixels, with the
+    /// padding. Where none has, a page grows: its smaller side doubles, the width of equal ones, and no further than the
+    /// largest page. Where none can, one is added; and where there may be no more, the least recently used entry goes that
+    /// lies on a page and that this frame didn't use; and so on.
     ///
     /// A new key with an empty size, of which a side is 0 or below, becomes a blank entry: `Placed` with a place that is
     /// empty. It takes no room, so that no page changes and nothing goes, and it never goes for another key's room.
     ///
-    /// What was done to other keys and to pages is told by `next_change`, also after `FrameFull` and after an error: follow
+    /// What was done to other keys and to pages is reported by `next_change`, also after `FrameFull` and after an error: follow
     /// it before the place is used.
     pub fn insert(&mut self, key: K, size: Size) -> Result<Inserted, CacheError> {
         let size = convert::library_size(size);
@@ -366,7 +366,7 @@ impl<K: Copy + Eq + Hash, S: BuildHasher> TextureCache<K, S> {
         Ok(inserted_of(inserted))
     }
 
-    /// A key goes: the place that it had; None if it isn't held. No change tells it.
+    /// A key goes: the place that it had; None if it isn't held. No change reports it.
     pub fn remove(&mut self, key: K) -> Option<Place> {
         self.cache.remove(&key).map(place_of)
     }
@@ -382,25 +382,25 @@ impl<K: Copy + Eq + Hash, S: BuildHasher> TextureCache<K, S> {
         Some(change_of(change))
     }
 
-    /// All keys go; the pages stay. No change tells it, and the changes that weren't handed over stay.
+    /// All keys go; the pages stay. No change reports it, and the changes that weren't handed over stay.
     pub fn clear(&mut self) {
         self.cache.clear()
     }
 
-    /// The keys that weren't used for at least so many frames go, each told by a change, the least recently used first.
+    /// The keys that weren't used for at least so many frames go, each reported by a change, the least recently used first.
     pub fn trim(&mut self, frames: u64) -> Result<(), CacheError> {
         Ok(self.cache.trim(frames, &mut self.changes)?)
     }
 
-    /// The pages behind the last one with a key go, each told by a change, the last one first; the others stay, with their
-    /// sizes, and so do all keys. After `clear` all pages go.
+    /// The pages behind the last one with a key go, each reported by a change, the last one first; the others stay, with
+    /// their sizes, and so do all keys. After `clear` all pages go.
     pub fn shrink(&mut self) -> Result<(), CacheError> {
         Ok(self.cache.shrink(&mut self.changes)?)
     }
 
     /// Places the keys of a page anew, the largest first, and of one area the one that was used last, so that what is free
-    /// comes together; whether there is such a page. Each of its keys is told by a change, as moved, also where it stays, or
-    /// as evicted, where it found no room. A place that a key moves to can overlap one that a later change moves from: copy
+    /// comes together; whether there is such a page. Each of its keys is reported by a change, as moved, also where it stays,
+    /// or as evicted, where it found no room. A place that a key moves to can overlap one that a later change moves from: copy
     /// all pixels from the page as it was.
     pub fn repack(&mut self, page: u32) -> Result<bool, CacheError> {
         Ok(self.cache.repack(page, &mut self.changes)?)

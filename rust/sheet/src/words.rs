@@ -23,9 +23,9 @@ Status: 0 written; 1 a file can't be read or written; 2 wrong words; 3 the pictu
 pub struct Words {
     /// Its pictures (.png, .jpg, .jpeg, .webp), and those of the folders in it, are the sprites; names are paths in it
     pub folder: PathBuf,
-    /// OUT.png is the sheet, and beside it lies the file of the form; with --pages the sheets are OUT-0.png, OUT-1.png ..
+    /// OUT.png is the sheet, and next to it is the file of the form; with --pages the sheets are OUT-0.png, OUT-1.png ..
     pub out: PathBuf,
-    /// What is written beside the pictures
+    /// What is written next to the pictures
     #[arg(long, value_enum, default_value_t = Form::JsonHash)]
     pub form: Form,
     /// Leaves out the transparent borders of the pictures
@@ -79,7 +79,7 @@ pub struct Words {
     /// Each place, with the padding to its left and above it, begins at multiples of W and H
     #[arg(long, num_args = 2, value_names = ["W", "H"])]
     pub align: Option<Vec<i32>>,
-    /// So many changes of the order are tried for a smaller sheet; where one sheet takes all, each smaller one is told
+    /// So many changes of the order are tried for a smaller sheet; where one sheet takes all, each smaller one is reported
     #[arg(long, value_name = "N", default_value_t = 0)]
     pub effort: u32,
     /// Where the random changes begin
@@ -130,7 +130,7 @@ impl Words {
         self.pages.map_or(1, |pages| pages as usize)
     }
 
-    /// The name of the files without what stands before and after it.
+    /// The name of the files without what comes before and after it.
     pub fn stem(&self) -> &str {
         self.out
             .file_name()
