@@ -258,9 +258,9 @@ fn a_refused_event_is_not_recorded() {
 }
 
 // What is recorded is taken out without memory, once.
-fn finished_without_memory<'a>(
-    heap: &'a Refusing<Global>,
-) -> Result<Recording<&'a Refusing<Global>>, RecordingError> {
+fn finished_without_memory(
+    heap: &Refusing<Global>,
+) -> Result<Recording<&Refusing<Global>>, RecordingError> {
     let mut recorder = empty_recorder(heap);
     note_growth(&mut recorder)?;
     note_freeing(&mut recorder)?;
