@@ -110,15 +110,7 @@ fn rows() {
 
 // A line between two that are well.
 fn between(line: &[u8]) -> Vec<u8> {
-    [
-        b"simple 10 10
-",
-        line,
-        b"
-take 1 1
-",
-    ]
-    .concat()
+    [b"simple 10 10\n", line, b"\ntake 1 1\n"].concat()
 }
 
 #[test]
@@ -127,13 +119,7 @@ fn bad_second_lines() {
         assert!(parse_line(line).is_none(), "{line:?}");
         let (got, held) = run_text(&between(line));
         assert_eq!(got, Ok(ToolEnd::BadLine(2)), "{line:?}");
-        assert_eq!(
-            held.as_slice(),
-            b"ok
-bad line 2
-",
-            "{line:?}"
-        );
+        assert_eq!(held.as_slice(), b"ok\nbad line 2\n", "{line:?}");
     }
 }
 
