@@ -1,10 +1,11 @@
-//! What callers write first over an atlas. All is proved with no proof file but `apart::two` and `tiled`, which show
-//! how a clause and a law are cited.
+//! What callers write first over an atlas. All is proved with no proof file but `apart::two`, `beside::place_beside` and
+//! `tiled`, which show how a clause and a law are cited.
 #![tactic(auto)]
 
 mod apart;
 mod asked;
 mod back;
+mod beside;
 mod blanks;
 mod boxes;
 mod cards;
@@ -13,10 +14,12 @@ mod frames;
 mod glyphs;
 mod icons;
 mod keep;
+mod last_frame;
 mod lists;
 mod moves;
 mod pages;
 mod plain;
+mod recording;
 mod reserved;
 mod sheet;
 mod shown;

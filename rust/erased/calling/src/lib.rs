@@ -1,12 +1,13 @@
 // Erased from crates/calling/src/lib.rt by rust/erase: don't edit.
-//! What callers write first over an atlas. All is proved with no proof file but `apart::two` and `tiled`, which show
-//! how a clause and a law are cited.
+//! What callers write first over an atlas. All is proved with no proof file but `apart::two`, `beside::place_beside` and
+//! `tiled`, which show how a clause and a law are cited.
 #![forbid(unsafe_code)]
 #![allow(dead_code, unused_imports, unused_labels, unused_variables)]
 
 mod apart;
 mod asked;
 mod back;
+mod beside;
 mod blanks;
 mod boxes;
 mod cards;
@@ -15,10 +16,12 @@ mod frames;
 mod glyphs;
 mod icons;
 mod keep;
+mod last_frame;
 mod lists;
 mod moves;
 mod pages;
 mod plain;
+mod recording;
 mod reserved;
 mod sheet;
 mod shown;
