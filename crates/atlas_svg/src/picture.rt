@@ -111,37 +111,3 @@ pub fn read_picture(alloc: Global, text: &[u8]) -> Result<Picture, SvgError>
     let said = read_lines(alloc, text)?;
     show(alloc, &said)
 }
-
-#[cfg(test)]
-mod tests {
-    use super::*;
-
-    // The width, and how many live and free boxes there are; or the bad line, as 0, 0 and its number; or three zeros.
-    fn counts(alloc: Global, text: &[u8]) -> (u32, usize, u64) {
-        match read_picture(alloc, text) {
-            Ok(picture) => (
-                picture.sides.width,
-                picture.live.len(),
-                picture.free.len() as u64,
-            ),
-            Err(SvgError::BadLine(number)) => (0, 0, number),
-            Err(_) => (0, 0, 0),
-        }
-    }
-
-    #[test]
-    fn shows_what_follows_the_last_size(rt: HostRuntime) {
-        let first = b"hole 0 0 9 9\nsize 10 10\nbox 0 0 0 10 10\nlive 1\nholes 0\n";
-        assert_eq!(rt; counts(rt.alloc(), first), (10, 1, 0));
-        let last = b"size 10 10\nbox 0 0 0 10 10\nok\nsize 20 10\nhole 0 0 20 9\nhole 0 9 20 10";
-        assert_eq!(rt; counts(rt.alloc(), last), (20, 0, 2));
-    }
-
-    #[test]
-    fn names_the_bad_line(rt: HostRuntime) {
-        assert_eq!(rt; counts(rt.alloc(), b"size 10 10\nok\nsized\n"), (0, 0, 3));
-        assert_eq!(rt; counts(rt.alloc(), b"\nsize 10 10\n"), (0, 0, 1));
-        assert_eq!(rt; counts(rt.alloc(), b"ok\nhole 0 0 9 9\n"), (0, 0, 0));
-        assert_eq!(rt; counts(rt.alloc(), b""), (0, 0, 0));
-    }
-}
