@@ -7,6 +7,10 @@ mod cache;
 #[cfg(test)]
 mod cache_parts;
 #[cfg(test)]
+mod maxrects;
+#[cfg(test)]
+mod pack;
+#[cfg(test)]
 mod random;
 #[cfg(test)]
 mod recording;

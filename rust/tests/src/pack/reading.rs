@@ -1,13 +1,14 @@
 //! Lines that are read.
-use atlas_model::size2;
+
+use super::sprite;
 use pack_lines::{
-    DEFAULT_SETTINGS, Settings, Sheets, Sprite, folder_groups, read_job, read_settings, read_sprite,
+    folder_groups, read_job, read_settings, read_sprite, Settings, Sheets, DEFAULT_SETTINGS,
 };
-use std::alloc::Global;
-use std::process::Abort;
+use wollemigo_core::atlas_model::size2;
+use wollemigo_support::alloc::Global;
 
 // Each row: a text, and the line that says what is wrong with it.
-static BAD: [(&str, &str); 22] = [
+const BAD: [(&str, &str); 22] = [
     (
         "a 1 2\nb 1\n",
         "line 2: not a sprite, which is NAME WIDTH HEIGHT",
@@ -93,46 +94,44 @@ static BAD: [(&str, &str); 22] = [
 ];
 
 // What is wrong with a text, or how many sprites it names.
-fn told(alloc: Global, text: &str, rt: &impl Abort) -> String {
-    match read_job(alloc, text.as_bytes()) {
-        Ok(job) => format!(in alloc; "{} sprites", job.sprites.len()).expect(rt, "memory"),
-        Err(error) => format!(in alloc; "{error}").expect(rt, "memory"),
+fn told(text: &str) -> String {
+    match read_job(Global, text.as_bytes()) {
+        Ok(job) => format!("{} sprites", job.sprites.len()),
+        Err(error) => error.to_string(),
     }
 }
 
 #[test]
-fn bad_lines(rt: HostRuntime) {
-    for &(text, wrong) in &BAD {
-        assert_eq!(&rt; told(rt.alloc(), text, &rt).as_str(), wrong);
+fn bad_lines() {
+    for (text, wrong) in BAD {
+        assert_eq!(told(text), wrong, "{text:?}");
     }
 }
 
 #[test]
-fn good_lines(rt: HostRuntime) {
+fn good_lines() {
     for (text, sprites) in [
         ("", "0 sprites"),
         ("sheet", "0 sprites"),
         ("a 1 2", "1 sprites"),
         ("sheet json\nsheet 1 2\n~!\"\\ 0 -5\n", "2 sprites"),
     ] {
-        assert_eq!(&rt; told(rt.alloc(), text, &rt).as_str(), sprites);
+        assert_eq!(told(text), sprites, "{text:?}");
     }
 }
 
 #[test]
-fn sprites(rt: HostRuntime) {
-    let line = b"a/b.png 007 -3";
-    let sprite = read_sprite(rt.alloc(), line)
-        .expect(&rt, "memory")
-        .expect(&rt, "a sprite");
-    assert_eq!(&rt; sprite.name.as_str(), "a/b.png");
-    assert!(&rt; sprite.size == size2(7, -3));
-    let none = read_sprite(rt.alloc(), b"a/b.png 7").expect(&rt, "memory");
-    assert!(&rt; none.is_none());
+fn sprites() {
+    let read = read_sprite(Global, b"a/b.png 007 -3").expect("memory");
+    let sprite = read.expect("a sprite");
+    assert_eq!(sprite.name, "a/b.png");
+    assert_eq!(sprite.size, size2(7, -3));
+    let none = read_sprite(Global, b"a/b.png 7").expect("memory");
+    assert!(none.is_none());
 }
 
 // Each row: the bytes of a line that names no sprite.
-static NO_NAMES: [&[u8]; 22] = [
+const NO_NAMES: [&[u8]; 22] = [
     // Bytes that aren't UTF-8: one alone, one missing, a surrogate's, one between quotation marks.
     b"\xff 1 2",
     b"\xc3 1 2",
@@ -162,15 +161,15 @@ static NO_NAMES: [&[u8]; 22] = [
 ];
 
 #[test]
-fn no_names(rt: HostRuntime) {
-    for (row, line) in NO_NAMES.iter().enumerate() {
-        let read = read_sprite(rt.alloc(), line).expect(&rt, "memory");
-        assert!(&rt; read.is_none(), "row {row}");
+fn no_names() {
+    for line in NO_NAMES {
+        let read = read_sprite(Global, line).expect("memory");
+        assert!(read.is_none(), "{line:?}");
     }
 }
 
 // Each row: how a name is spelled, and the name.
-static NAMES: [(&str, &str); 11] = [
+const NAMES: [(&str, &str); 11] = [
     ("b\u{e4}r", "b\u{e4}r"),
     ("q\"", "q\""),
     ("a\\n", "a\\n"),
@@ -185,11 +184,11 @@ static NAMES: [(&str, &str); 11] = [
 ];
 
 #[test]
-fn names(rt: HostRuntime) {
-    for &(spelled, name) in &NAMES {
-        let line = format!(in rt.alloc(); "{spelled} 1 2").expect(&rt, "memory");
-        let read = read_sprite(rt.alloc(), line.as_bytes()).expect(&rt, "memory");
-        assert_eq!(&rt; read.expect(&rt, "a sprite").name.as_str(), name);
+fn names() {
+    for (spelled, name) in NAMES {
+        let line = format!("{spelled} 1 2");
+        let read = read_sprite(Global, line.as_bytes()).expect("memory");
+        assert_eq!(read.expect("a sprite").name, name);
     }
 }
 
@@ -267,9 +266,9 @@ fn settings_rows() -> [(&'static str, Option<Settings>); 9] {
 }
 
 #[test]
-fn settings(rt: HostRuntime) {
-    for (row, (words, wanted)) in settings_rows().iter().enumerate() {
-        assert!(&rt; read_settings(words.as_bytes()) == *wanted, "row {row}");
+fn settings() {
+    for (words, wanted) in settings_rows() {
+        assert_eq!(read_settings(words.as_bytes()), wanted, "{words:?}");
     }
 }
 
@@ -287,22 +286,9 @@ const FOLDERS: [(&str, Option<usize>); 10] = [
     ("a/b/", Some(9)),
 ];
 
-// Sprites with these names.
-fn named(alloc: Global, rt: &impl Abort) -> Vec<Sprite> {
-    let mut sprites = Vec::new(alloc);
-    for (text, _number) in FOLDERS {
-        let name = String::from_str(alloc, text).expect(rt, "memory");
-        let size = size2(1, 2);
-        sprites.push(Sprite { name, size }).expect(rt, "memory");
-    }
-    sprites
-}
-
 #[test]
-fn folders(rt: HostRuntime) {
-    let groups = folder_groups(rt.alloc(), &named(rt.alloc(), &rt)).expect(&rt, "memory");
-    assert!(&rt; groups.len() == FOLDERS.len());
-    for (row, (_name, number)) in FOLDERS.iter().enumerate() {
-        assert!(&rt; groups.get(row) == Some(number), "row {row}");
-    }
+fn folders() {
+    let sprites = FOLDERS.map(|(name, _)| sprite(name, 1, 2));
+    let groups = folder_groups(Global, &sprites).expect("memory");
+    assert_eq!(groups.as_slice(), FOLDERS.map(|(_, number)| number));
 }
