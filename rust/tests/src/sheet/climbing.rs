@@ -245,3 +245,33 @@ fn told_of_many() -> Result<(), Fail> {
     assert_eq!(found.map(|sheet| sheet.size), sizes.last().copied());
     Ok(())
 }
+
+const EIGHT: [(i32, i32); 8] = [
+    (9, 4),
+    (3, 8),
+    (5, 5),
+    (7, 2),
+    (2, 9),
+    (6, 6),
+    (4, 3),
+    (8, 5),
+];
+
+// Of these sprites, by effort and seed, the side of the least square, and whether the seventh has a place in 16 x 16. The
+// program says the same of them (gate/pack_cases.py), so it hands both on.
+#[test]
+fn effort_and_seed_show() -> Result<(), Fail> {
+    let sprites = EIGHT.map(|(width, height)| sides(width, height));
+    for (effort, seed, side, is_placed) in
+        [(0, 0, 17, false), (40, 1, 16, true), (40, 2, 17, false)]
+    {
+        let mut options = SheetOptions::new(SQUARES);
+        (options.effort, options.seed) = (effort, seed);
+        let found = pack(Global, &sprites, &options)?.map(|sheet| sheet.size);
+        assert_eq!(found, Some(size2(side, side)), "{effort}, {seed}");
+        options.allowed = Allowed::One(size2(16, 16));
+        let filled = fill(Global, &sprites, &options)?;
+        assert_eq!(filled.places[6].is_some(), is_placed, "{effort}, {seed}");
+    }
+    Ok(())
+}

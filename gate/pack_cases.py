@@ -1,0 +1,157 @@
+"""atlas_pack over lines of sprites, for each status, and over devices that fail: each case says whether the program does as its first
+line says. Expected values are worked out by hand from docs/PACK.md."""
+import os
+import subprocess
+
+# The lines in, and the lines out, or what is said where no sheet is written.
+ROWS = (
+    (b'a 4 3\nb 4 3\n', b'sheet 8 4\na 0 0 4 3\nb 4 0 4 3\nfull 750\n'),
+    (b'sheet one 8 6\na 2 6\nb 6 6\n', b'sheet 8 6\na 6 0 2 6\nb 0 0 6 6\nfull 1000\n'),
+    (b'sheet json one 4 4\nq" 4 4\n',
+     b'{"frames":{\n"q\\"":{"frame":{"x":0,"y":0,"w":4,"h":4},"rotated":false}\n},"meta":{"size":{"w":4,"h":4}}}\n'),
+    (b'sheet one 4 4 fill\na 4 4\nb 4 4\n', b'sheet 4 4\na 0 0 4 4\nb none\nfull 1000\n'),
+    (b'sheet one 4 4\na 4 4\nb 4 4\n', b'no sheet that is allowed takes all sprites'),
+    # By height they come as 10 x 6, 6 x 4, 4 x 2 and 4 x 2.
+    (b'sheet squares 1 20 dense\na 4 2\nb 10 6\nc 4 2\nd 6 4\n',
+     b'sheet 10 10\na 6 6 4 2\nb 0 0 10 6\nc 6 8 4 2\nd 0 6 6 4\nfull 1000\n'),
+    (b'sheet one 5 3 dense\na 3 3\nb 3 2\n', b'no sheet that is allowed takes all sprites'),
+    (b'a 1 1\nb 0 1\n', b'line 2: a side is below 1'),
+    (b'sheet json\na 1 1\nb 1 0\n', b'line 3: a side is below 1'),
+    (b'sheet padding 1\na 2147483647 1\n', b'line 2: the sprite is too large'),
+    (b'sheet one 0 4\n', b'line 1: a side of the sheet is below 1'),
+    (b'sheet powers 0\n', b'line 1: the greatest side is below the least'),
+    # Both sheets but the last are full; the last is as small as it can be.
+    (b'sheet one 4 4 pages 3\na 4 2\n"b c" 4 4\nd 4 2\n',
+     b'sheet 4 4\nsheet 4 4\na 1 0 0 4 2\n"b c" 0 0 0 4 4\nd 1 0 2 4 2\nfull 1000\n'),
+    (b'sheet powers 8 pages 2\na 8 8\nb 2 1\n', b'sheet 8 8\nsheet 2 1\na 0 0 0 8 8\nb 1 0 0 2 1\nfull 1000\n'),
+    (b'sheet pages 0\n', b'full 0\n'),
+    (b'sheet one 4 4 pages 2\na 4 4\nb 4 4\nc 1 1\n', b'more sheets are needed than pages allows'),
+    (b'sheet one 4 4 pages 9\na 4 4\nb 5 1\n', b'no sheet that is allowed takes all sprites'),
+    # The first folder opens a sheet, and the second has no room there.
+    (b'sheet one 4 4 pages 2 group\na/x 4 2\nb/y 4 2\nb/z 4 2\na/w 4 2\n',
+     b'sheet 4 4\nsheet 4 4\na/x 0 0 0 4 2\nb/y 1 0 0 4 2\nb/z 1 0 2 4 2\na/w 0 0 2 4 2\nfull 1000\n'),
+    # A folder ends at the last `/`.
+    (b'sheet one 4 4 pages 2 group\na/b/x 4 2\na/y 4 4\na/b/z 4 2\n',
+     b'sheet 4 4\nsheet 4 4\na/b/x 0 0 0 4 2\na/y 1 0 0 4 4\na/b/z 0 0 2 4 2\nfull 1000\n'),
+    # No sheet takes this folder.
+    (b'sheet one 4 4 pages 2 group\na/x 4 4\na/y 4 2\n', b'sheet 4 4\nsheet 4 4\na/x 0 0 0 4 4\na/y 1 0 0 4 2\nfull 750\n'),
+    (b'sheet one 4 4 pages 1 group\na/x 4 2\nb/y 4 4\n', b'more sheets are needed than pages allows'),
+    (b'sheet one 4 4 pages 9 group\na/x 5 1\n', b'no sheet that is allowed takes all sprites'),
+    (b'sheet group\n', b'line 1: group goes only with pages'),
+    (b'sheet pages 2\na 1 1\nb 0 1\n', b'line 3: a side is below 1'),
+    (b'sheet pages 2 fill\n', b'line 1: pages goes with neither fill nor dense nor json'),
+    (b'sheet align 0 1\n', b'line 1: a side of the alignment is below 1'),
+    (b'sheet align 16 16 one 48 48\na 33 33\n', b'sheet 48 48\na 0 0 33 33\nfull 472\n'),
+    (b'sheet width 8 9\na 4 2\n', b'sheet 8 2\na 0 0 4 2\nfull 500\n'),
+    (b'sheet one 2 8 turn\na 8 2\n', b'sheet 2 8\na 0 0 8 2 turned\nfull 1000\n'),
+    (b'sheet json one 4 4 fill\na 4 4\nq" 4 4\n',
+     b'{"frames":{\n"a":{"frame":{"x":0,"y":0,"w":4,"h":4},"rotated":false}\n},"meta":{"size":{"w":4,"h":4},"left":["q\\""]}}\n'),
+    # Names: one spelled by escapes, some that are none, and one twice.
+    (b'"\\u0041\\u00e4 b" 1 1\n', 'sheet 1 1\n"A\u00e4 b" 0 0 1 1\nfull 1000\n'.encode()),
+    *((name + b' 1 2\n', b'line 1: not a sprite, which is NAME WIDTH HEIGHT')
+      for name in (b'\xff', b'\xed\xa0\x80', b'"a', b'"a"b', b'""', b'a\tb', b'a\x7f', b'"\\n"', b'"\\x"', b'"\\ud83d"')),
+    (b'a 1 1\na 2 2\n', b'line 2: this name stands on an earlier line'),
+)
+# Sprites of which changes of the order by one seed fit into a smaller square than the ways find, and by another don't.
+SPRITES = b'a 9 4\nb 3 8\nc 5 5\nd 7 2\ne 2 9\nf 6 6\ng 4 3\nh 8 5\n'
+# Effort, seed, the side of the square, and whether the seventh sprite has a place in 16 x 16: what the library answers
+# (`effort_and_seed_show` in rust/tests/src/sheet/climbing.rs).
+OUTCOMES = ((0, 0, 17, False), (40, 1, 16, True), (40, 2, 17, False))
+
+
+def told(program, lines):
+    """The status, what is written, and what is said, of these lines."""
+    done = subprocess.run([program], input=lines, stdout=subprocess.PIPE, stderr=subprocess.PIPE)
+    return done.returncode, done.stdout, done.stderr
+
+
+def rows(program):
+    """Each row is answered by its lines: status 0, 4 where a sprite is left out, 3 where no sheet takes all, 2 for a bad line."""
+    wrong = 0
+    for lines, wanted in ROWS:
+        status, output, said = told(program, lines)
+        if wanted.endswith(b'\n'):
+            is_good = status == (4 if b' none\n' in wanted or b'"left"' in wanted else 0) and output == wanted
+        else:
+            is_good = status == (2 if wanted.startswith(b'line ') else 3) and output == b'' and said == wanted + b'\n'
+        if not is_good:
+            print(f"{lines!r}: {status}, {output!r}, {said!r}")
+        wrong += not is_good
+    return not wrong
+
+
+def left_out(program):
+    """Each sprite that is left out is named."""
+    status, _, said = told(program, b'sheet one 4 4 fill\na 4 4\nb 4 4\nc 1 5\n')
+    return status == 4 and said == b'no place: b\nno place: c\n'
+
+
+def progress(program):
+    """Where changes of the order are tried, each better sheet is said."""
+    status, _, said = told(program, b'sheet effort 5\na 4 3\nb 4 3\n')
+    return status == 0 and said == b'sheet 8 4\n'
+
+
+def effort_and_seed(program):
+    """Effort and seed reach the library: the sheet, and which sprite `fill` leaves out, are those that it answers."""
+    for effort, seed, side, is_placed in OUTCOMES:
+        _, sheet, _ = told(program, b'sheet squares 1 64 effort %d seed %d\n' % (effort, seed) + SPRITES)
+        _, filled, _ = told(program, b'sheet one 16 16 fill effort %d seed %d\n' % (effort, seed) + SPRITES)
+        if not sheet.startswith(b'sheet %d %d\n' % (side, side)) or (b'\ng none\n' not in filled) != is_placed:
+            return False
+    return True
+
+
+def whole_sheet(program):
+    """All sprites have places: status 0."""
+    return packs(program, b'sheet one 16 16\na 1 1\n', 0, b'sheet 16 16\na 0 0 1 1\nfull 3\n', b'')
+
+
+def sprite_left_out(program):
+    """With `fill` a sprite has no place: status 4, and it is named."""
+    lines = b'sheet one 4 4 fill\na 4 4\nb 4 4\n'
+    return packs(program, lines, 4, b'sheet 4 4\na 0 0 4 4\nb none\nfull 1000\n', b'no place: b\n')
+
+
+def bad_line(program):
+    """A line is bad: status 2."""
+    return packs(program, b'a 1\n', 2, b'', b'line 1: not a sprite, which is NAME WIDTH HEIGHT\n')
+
+
+def too_small_a_sheet(program):
+    """No sheet takes all sprites: status 3."""
+    return packs(program, b'sheet one 1 1\na 2 2\n', 3, b'', b'no sheet that is allowed takes all sprites\n')
+
+
+def too_few_sheets(program):
+    """More sheets are needed than `pages` allows: status 3."""
+    lines = b'sheet one 4 4 pages 1\na 4 4\nb 4 4\n'
+    return packs(program, lines, 3, b'', b'more sheets are needed than pages allows\n')
+
+
+def full_device_for_a_sheet(program):
+    """Standard output has no room for a sheet: status 1, and a line."""
+    with open('/dev/full', 'wb') as full:
+        done = subprocess.run([program], input=b'a 1 1\n', stdout=full, stderr=subprocess.PIPE)
+    return done.returncode == 1 and is_one_line(done.stderr)
+
+
+def folder_as_sprites(program):
+    """Standard input is a folder: status 1, and a line."""
+    folder = os.open('/', os.O_RDONLY)
+    done = subprocess.run([program], stdin=folder, stdout=subprocess.PIPE, stderr=subprocess.PIPE)
+    os.close(folder)
+    return done.returncode == 1 and done.stdout == b'' and is_one_line(done.stderr)
+
+
+def packs(program, lines, status, output, errors):
+    """Whether atlas_pack answers these lines so."""
+    return told(program, lines) == (status, output, errors)
+
+
+def is_one_line(text):
+    return len(text.splitlines()) == 1 and text.endswith(b'\n')
+
+
+CASES = (rows, left_out, progress, effort_and_seed, whole_sheet, sprite_left_out, bad_line, too_small_a_sheet, too_few_sheets,
+         full_device_for_a_sheet, folder_as_sprites)

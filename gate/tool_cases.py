@@ -1,0 +1,89 @@
+"""atlas_tool over devices that fail, a terminal, and a pipe: each case says whether the program does as its first line says."""
+import os
+import pty
+import subprocess
+
+LINES = b'simple 10 10\ntake 4 4\n'
+REPLIES = b'ok\nat 0 0 4 4\n'
+
+
+def closed_output(program):
+    """Standard output is closed."""
+    done = subprocess.run(['sh', '-c', '"$0" >&-', program], input=LINES, stderr=subprocess.PIPE)
+    return done.returncode == 1 and done.stderr == b''
+
+
+def full_device(program):
+    """Standard output has no room."""
+    with open('/dev/full', 'wb') as full:
+        done = subprocess.run([program], input=LINES, stdout=full, stderr=subprocess.PIPE)
+    return done.returncode == 1 and done.stderr == b''
+
+
+def reader_that_leaves(program):
+    """The reader of the output leaves after one line."""
+    process = subprocess.Popen([program], stdin=subprocess.PIPE, stdout=subprocess.PIPE, stderr=subprocess.PIPE, bufsize=0)
+    process.stdin.write(b'simple 10 10\n')
+    first = process.stdout.readline()
+    process.stdout.close()
+    try:
+        for _ in range(1000):
+            process.stdin.write(b'take 1 1\n')
+    except BrokenPipeError:
+        pass
+    try:
+        process.stdin.close()
+    except BrokenPipeError:
+        pass
+    message = process.stderr.read()
+    return first == b'ok\n' and process.wait() == 1 and message == b''
+
+
+def no_input(program):
+    """Standard input is closed."""
+    done = subprocess.run(['sh', '-c', '"$0" <&-', program], stdout=subprocess.PIPE, stderr=subprocess.PIPE)
+    return done.returncode == 1 and done.stdout == b'' and done.stderr == b''
+
+
+def folder_as_input(program):
+    """Standard input is a folder, of which no read succeeds."""
+    folder = os.open('/', os.O_RDONLY)
+    done = subprocess.run([program], stdin=folder, stdout=subprocess.PIPE, stderr=subprocess.PIPE)
+    os.close(folder)
+    return done.returncode == 1 and done.stdout == b'' and done.stderr == b''
+
+
+def terminal(program):
+    """A terminal asks line by line, and each answer comes before the next line."""
+    ours, its = pty.openpty()
+    process = subprocess.Popen([program], stdin=its, stdout=its, stderr=subprocess.PIPE)
+    os.close(its)
+    heard = b''
+    for line, answer in zip(LINES.splitlines(True), REPLIES.splitlines(True)):
+        os.write(ours, line)
+        wanted = line.replace(b'\n', b'\r\n') + answer.replace(b'\n', b'\r\n')
+        heard = b''
+        while len(heard) < len(wanted):
+            heard += os.read(ours, 1000)
+        if heard != wanted:
+            return False
+    os.write(ours, b'\x04')
+    status = process.wait()
+    message = process.stderr.read()
+    os.close(ours)
+    return status == 0 and message == b''
+
+
+def answer_before_next_line(program):
+    """A pipe that is held open gets each answer before the next line."""
+    process = subprocess.Popen([program], stdin=subprocess.PIPE, stdout=subprocess.PIPE, stderr=subprocess.PIPE, bufsize=0)
+    heard = []
+    for line in LINES.splitlines(True):
+        process.stdin.write(line)
+        heard.append(process.stdout.readline())
+    process.stdin.close()
+    rest = process.stdout.read()
+    return b''.join(heard) == REPLIES and rest == b'' and process.wait() == 0 and process.stderr.read() == b''
+
+
+CASES = (closed_output, full_device, reader_that_leaves, no_input, folder_as_input, terminal, answer_before_next_line)
