@@ -313,10 +313,10 @@ uint32_t guillotiere_atlas_with_slot_limit(int32_t width, int32_t height, const 
                                            uint32_t limit, guillotiere_atlas *atlas);
 
 /* Makes a copy that shares nothing with the atlas, where `copy` holds nothing: it answers later calls as the atlas does,
- * want of memory aside. DONE; MEMORY; EMPTY if `atlas` holds nothing or `copy` something. */
+ * except where memory is refused. DONE; MEMORY; EMPTY if `atlas` holds nothing or `copy` something. */
 uint32_t guillotiere_atlas_clone(const guillotiere_atlas *atlas, guillotiere_atlas *copy);
 
-/* Lets an atlas go, with all its memory; the handle holds nothing then. Of a handle that holds nothing: does nothing. */
+/* Frees an atlas, with all its memory; the handle holds nothing then. Of a handle that holds nothing: does nothing. */
 void guillotiere_atlas_free(guillotiere_atlas *atlas);
 
 /* --- An atlas: boxes ---------------------------------------------------------------------------------------------- */
@@ -412,7 +412,7 @@ uint32_t guillotiere_simple_new(int32_t width, int32_t height, guillotiere_simpl
 uint32_t guillotiere_simple_with_options(int32_t width, int32_t height, const guillotiere_options *options,
                                          guillotiere_simple *simple);
 
-/* Lets a simple allocator go, with all its memory; the handle holds nothing then. */
+/* Frees a simple allocator, with all its memory; the handle holds nothing then. */
 void guillotiere_simple_free(guillotiere_simple *simple);
 
 /* Asks for a box of this size, rounded up by the options. DONE: its rectangle is in `granted`. NO_ROOM if the size is
@@ -458,7 +458,7 @@ bool guillotiere_simple_is_empty(const guillotiere_simple *simple);
  * and NOTHING_FITS that is wrong with the options; MEMORY. */
 uint32_t guillotiere_cache_new(const guillotiere_cache_options *options, guillotiere_cache *cache);
 
-/* Lets a cache go, with all its memory; the handle holds nothing then. */
+/* Frees a cache, with all its memory; the handle holds nothing then. */
 void guillotiere_cache_free(guillotiere_cache *cache);
 
 /* A new frame: what was used before may be evicted from now on. Before the first new frame nothing gives way: all that is held is
@@ -468,13 +468,14 @@ uint32_t guillotiere_cache_begin_frame(guillotiere_cache *cache);
 /* The place of a key, which is used in this frame from now on. Counts a hit or a miss. DONE; NOT_HELD; EMPTY. */
 uint32_t guillotiere_cache_get(guillotiere_cache *cache, uint64_t key, guillotiere_place *place);
 
-/* The place of a key; it counts as no use, and as no hit or miss. DONE; NOT_HELD; EMPTY. */
+/* The place of a key; it doesn't count as a use, a hit or a miss. DONE; NOT_HELD; EMPTY. */
 uint32_t guillotiere_cache_peek(const guillotiere_cache *cache, uint64_t key, guillotiere_place *place);
 
 /* A place for a key, which is used in this frame. A key that is held keeps its place, and is the most recently used; that
- * counts as no hit. A new key comes on the first page with room for its size with the padding. Where none has room a page
- * grows, by its smaller side, which doubles, the width of equal ones, and no further than the largest page; where none can grow one
- * is added; and where all are there, of the keys on a page the least recently used one goes that this frame didn't use; and so on.
+ * doesn't count as a hit. A new key comes on the first page with room for its size with the padding. Where none has room a
+ * page grows, by its smaller side, which doubles, the width if they are equal, and no further than the largest page; where none
+ * can grow one is added; and where all are there, of the keys on a page the least recently used one that this frame didn't use
+ * goes; and so on.
  * What was done is handed over by guillotiere_cache_next_change, also after FRAME_FULL and after an error: follow it before the
  * place is used.
  * DONE: the key is new, and its place was written: its pixels are to be written to the texture. HELD: it was held, and its
@@ -520,14 +521,14 @@ uint32_t guillotiere_cache_repack(guillotiere_cache *cache, uint32_t page);
  * DONE; MEMORY; EMPTY. */
 uint32_t guillotiere_cache_reserve(guillotiere_cache *cache, size_t additional);
 
-/* The most recently used key, and its place; it counts as no use. DONE; NOT_HELD if no key is held; EMPTY. */
+/* The most recently used key, and its place; it doesn't count as a use. DONE; NOT_HELD if no key is held; EMPTY. */
 uint32_t guillotiere_cache_newest(const guillotiere_cache *cache, uint64_t *key, guillotiere_place *place);
 
-/* The least recently used key, and its place; it counts as no use. DONE; NOT_HELD if no key is held; EMPTY. */
+/* The least recently used key, and its place; it doesn't count as a use. DONE; NOT_HELD if no key is held; EMPTY. */
 uint32_t guillotiere_cache_oldest(const guillotiere_cache *cache, uint64_t *key, guillotiere_place *place);
 
-/* The key that was used next before this one, and its place; it counts as no use. From the newest key on, this gives each
- * key once. DONE: it is in `older`. NOT_HELD if `key` is the least recently used, or isn't held; EMPTY. */
+/* The key that was used next before this one, and its place; it doesn't count as a use. From the newest key on, this gives
+ * each key once. DONE: it is in `older`. NOT_HELD if `key` is the least recently used, or isn't held; EMPTY. */
 uint32_t guillotiere_cache_older(const guillotiere_cache *cache, uint64_t key, uint64_t *older, guillotiere_place *place);
 
 /* How many keys are held. DONE; EMPTY. */

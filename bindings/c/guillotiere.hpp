@@ -1,6 +1,6 @@
 // The atlas allocators of guillotiere and its sheets of sprites, for C++17: guillotiere.h with owners.
 //
-// An atlas, a simple allocator or a cache is owned by an object that is moved and not copied, and lets it go at its end. An object
+// An atlas, a simple allocator or a cache is owned by an object that is moved and not copied, and frees it at its end. An object
 // that was moved from holds nothing: each call of it answers status::empty. Nothing here throws but what a std::vector
 // throws when memory runs out; it compiles without exceptions.
 //
@@ -194,7 +194,7 @@ private:
     status error_;
 };
 
-// What a rearranging moved, and what found no room and is live no more.
+// What a rearranging moved, and what found no room and is no longer live.
 struct change_list {
     std::vector<change> changes;
     std::vector<allocation> failures;
@@ -446,7 +446,7 @@ public:
     std::optional<place> get(std::uint64_t key) {
         return found([this, key](place &at) { return guillotiere_cache_get(&handle_, key, &at); });
     }
-    // The same, and it counts as no use.
+    // The same, and it doesn't count as a use.
     std::optional<place> peek(std::uint64_t key) const {
         return found([this, key](place &at) { return guillotiere_cache_peek(&handle_, key, &at); });
     }

@@ -421,7 +421,7 @@ impl<A: Allocator + Copy> AtlasAllocator<A> {
     }
 
     /// A copy: the whole stored value is equal, slots, generations and lists included, and so are its answers to later
-    /// calls, want of memory aside. Its turns begin at 0. `Memory` is the only error.
+    /// calls, except where memory is refused. Its turns begin at 0. `Memory` is the only error.
     pub fn clone(&self) -> Result<Self, AtlasError>
         ensures unless { IsOkUnless result AtlasError.Memory }
         ensures equal { IfOk result (λ it. it.stored ≡ self.now.stored) }
@@ -499,8 +499,8 @@ impl<A: Allocator + Copy> AtlasAllocator<A> {
     }
 }
 
-/// The slots and the options, for a simple allocator that takes over the free rectangles. `guillotiere` doesn't give
-/// this function to its callers.
+/// The slots and the options, for a simple allocator that takes over the free rectangles. `guillotiere` doesn't
+/// re-export this function.
 pub fn store_of<A: Allocator + Copy>(atlas: &AtlasAllocator<A>) -> &Store<A>
     ensures options { options_of (shelf_of result.now).options ≡ (state_of atlas.now).options }
     ensures areas { AreFreeAreas (state_of atlas.now) (free_areas (nodes (shelf_of result.now).slots)) }

@@ -1,4 +1,4 @@
-//! The atlas allocator, which `guillotiere` gives to its callers, over the tree of slots of `atlas_tree`.
+//! The atlas allocator, which `guillotiere` re-exports, over the tree of slots of `atlas_tree`.
 #![tactic(auto)]
 
 mod atlas;

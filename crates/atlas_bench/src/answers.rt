@@ -54,7 +54,7 @@ impl Answers {
         self.checksum = (self.checksum ^ word).wrapping_mul(0x100_0000_01b3);
     }
 
-    /// Takes in that a request was granted.
+    /// Records that a request was granted.
     pub fn granted(&mut self, allocation: Allocation)
         requires { self.old.calls + 1 < 2 ^ 64 }
         ensures { self.new ≡ record { calls = self.old.calls + 1; checksum = with_grant self.old.checksum allocation } }
@@ -104,7 +104,7 @@ impl Answers {
         }
     }
 
-    /// Takes in that a request was granted by an allocator without ids.
+    /// Records that a request was granted by an allocator without ids.
     pub fn placed(&mut self, rectangle: Rectangle)
         requires { self.old.calls + 1 < 2 ^ 64 }
         ensures { self.new ≡ record { calls = self.old.calls + 1; checksum = with_box self.old.checksum rectangle } }
@@ -113,7 +113,7 @@ impl Answers {
         self.add_box(rectangle);
     }
 
-    /// Takes in that a request had no room.
+    /// Records that a request had no room.
     pub fn refused(&mut self)
         requires { self.old.calls + 1 < 2 ^ 64 }
         ensures { self.new ≡ record { calls = self.old.calls + 1; checksum = with_word self.old.checksum NO_ROOM } }
@@ -122,7 +122,7 @@ impl Answers {
         self.add(NO_ROOM);
     }
 
-    /// Takes in that a box was freed.
+    /// Records that a box was freed.
     pub fn freed(&mut self)
         requires { self.old.calls + 1 < 2 ^ 64 }
         ensures { self.new ≡ record { calls = self.old.calls + 1; checksum = with_word self.old.checksum FREED } }
@@ -131,7 +131,7 @@ impl Answers {
         self.add(FREED);
     }
 
-    /// Takes in that the atlas grew.
+    /// Records that the atlas grew.
     pub fn grown(&mut self)
         requires { self.old.calls + 1 < 2 ^ 64 }
         ensures { self.new ≡ record { calls = self.old.calls + 1; checksum = with_word self.old.checksum GROWN } }
@@ -140,7 +140,7 @@ impl Answers {
         self.add(GROWN);
     }
 
-    /// Takes in that the atlas was rearranged.
+    /// Records that the atlas was rearranged.
     pub fn rearranged(&mut self, list: &ChangeList)
         requires { self.old.calls + 1 < 2 ^ 64 }
         ensures { self.new ≡ record {
@@ -154,7 +154,7 @@ impl Answers {
         self.add(REARRANGED);
     }
 
-    /// Takes in that a key of a cache has this place.
+    /// Records that a key of a cache has this place.
     pub fn shown(&mut self, place: Place)
         requires { self.old.calls + 1 < 2 ^ 64 }
         ensures { self.new ≡ record { calls = self.old.calls + 1; checksum = with_place self.old.checksum place } }
@@ -164,14 +164,14 @@ impl Answers {
         self.add_box(place.rectangle);
     }
 
-    /// Takes in that a call, which is counted later, added a page.
+    /// Records that a call, which is counted later, added a page.
     pub fn page_added(&mut self)
         ensures { self.new ≡ record { calls = self.old.calls; checksum = with_word self.old.checksum PAGE_ADDED } }
     {
         self.add(PAGE_ADDED);
     }
 
-    /// Takes in that such a call evicted a key.
+    /// Records that such a call evicted a key.
     pub fn evicted(&mut self, key: u32)
         ensures { self.new ≡ record { calls = self.old.calls; checksum = with_evicted self.old.checksum key } }
     {

@@ -175,7 +175,7 @@ impl<K: Copy + Eq + Hash, S: BuildHasher, A: Allocator + Copy> TextureCache<K, S
         self.entries.prove_kept();
     }
 
-    /// The place of a key; None if it isn't held. It counts as no use.
+    /// The place of a key; None if it isn't held. It doesn't count as a use.
     pub fn peek(&self, key: &K) -> Option<Place>
         ensures { result ≡ place_for K.eq self.now key.now }
     {
@@ -207,15 +207,15 @@ impl<K: Copy + Eq + Hash, S: BuildHasher, A: Allocator + Copy> TextureCache<K, S
         Some(place_of(entry, &self.rooms.options()))
     }
 
-    /// A place for a key, which is used in this frame. A key that is held keeps its place, and is the most recently used
-    /// from now on, which counts as no hit; asked with another size, be it empty or too large, it is refused with
-    /// `OtherSize`, and nothing changes. A new key comes on the first page with room for its size, in pixels, with the
-    /// padding. Where none has, a page grows; where none can, one is added; and where all are there, the least recently
-    /// used entry goes that lies on a page and that this frame didn't use; and so on. `FrameFull` if then each entry on a
-    /// page is in use and no page has room, which isn't so as long as this frame has used nothing; `NeverFits` if the size,
-    /// with the padding and rounded up to the alignment, passes the largest page, and then nothing changes. What was done
-    /// is added to the changes, also after `FrameFull` and after an error: `Memory`, `Slots` if those of a page don't
-    /// suffice, or `Numbers` only where 4,294,967,295 entries are left.
+    /// A place for a key, which is used in this frame. A key that is held keeps its place, and is the most recently
+    /// used from now on, which doesn't count as a hit; asked for with another size, be it empty or too large, it is
+    /// refused with `OtherSize`, and nothing changes. A new key comes on the first page with room for its size, in
+    /// pixels, with the padding. Where none has, a page grows; where none can, one is added; and where all are there,
+    /// the least recently used entry that lies on a page and that this frame didn't use goes; and so on. `FrameFull` if
+    /// then each entry on a page is in use and no page has room, which isn't so as long as this frame has used nothing;
+    /// `NeverFits` if the size, with the padding and rounded up to the alignment, passes the largest page, and then
+    /// nothing changes. What was done is added to the changes, also after `FrameFull` and after an error: `Memory`,
+    /// `Slots` if those of a page don't suffice, or `Numbers` only where 4,294,967,295 entries are left.
     ///
     /// A new key with an empty size, of which a side is 0 or below, becomes a blank entry: `Placed` with a place that is
     /// empty. It takes no room, so that no page changes and nothing goes, and it never goes for another key's room.

@@ -143,7 +143,7 @@ impl<A: Allocator> Recency<A> {
         self.count == 0
     }
 
-    /// Says what each order keeps, and does nothing: each entry stands in it once, under a number that was given out.
+    /// Says what each order keeps, and does nothing: each entry is in it once, under a number that was given out.
     pub fn prove_kept(&self)
         ensures once { (k : ℕ) → occurs k self.now.entries ≤ 1 }
         ensures made { (k : ℕ) → IsEntry k self.now → k < self.now.made }

@@ -228,10 +228,10 @@ impl<A: Allocator + Copy> Rooms<A> {
         let _freed = self.pages[page as usize].deallocate(id);
     }
 
-    /// The first page that isn't at its largest grows: the page, and its size from now on, in pixels. Its lesser side,
-    /// the width of equal ones, is doubled, but no further than the largest page's, or the other side if that one is at its
-    /// largest. None exactly if each page is at its largest. No rectangle moves. `Slots` if that page has too few of them,
-    /// `Memory` if memory is refused. Unless a page grows, nothing changes.
+    /// The first page that isn't at its largest grows: the page, and its size from now on, in pixels. Its smaller side,
+    /// the width if they are equal, is doubled, but no further than the largest page's, or the other side if that one
+    /// is at its largest. None exactly if each page is at its largest. No rectangle moves. `Slots` if that page has too
+    /// few of them, `Memory` if memory is refused. Unless a page grows, nothing changes.
     pub fn grow_page(&mut self) -> Result<Option<(u32, Size)>, CacheError>
         ensures first { IfOk result (λ grown. IfSome grown (λ growth.
             IsFirstToGrow self.old.options (page_sizes self.old.pages) growth.0 growth.1)) }

@@ -224,8 +224,8 @@ pub fn picks_exist()
     ensures { PicksExist }
 {}
 
-/// A granted box lies inside a free box of before, with sides barely above those asked for,
-/// and is added to what is live.
+/// A granted box lies inside an earlier free box, with sides barely above those asked for, and is added to what is
+/// live.
 pub fn grants_lie_inside()
     ensures { GrantsLieInside }
 {}

@@ -90,7 +90,7 @@ pub const WAYS: [Way; 10] = [
     },
 ];
 
-/// Each key stands in `WAYS` with each choice.
+/// Each key is in `WAYS` with each choice.
 pub fn prove_ways()
     ensures { (key : Key) → (choice : Choice) → Contains WAYS (record { key = key; choice = choice }) }
 {}

@@ -1,5 +1,5 @@
-//! Tests of an atlas beside the rows of `guillotiere_tests`: walks, many boxes, memory, a long session. Expected values
-//! are worked by hand from the rules; none is an answer of the code under test.
+//! Tests of an atlas, in addition to the rows of `guillotiere_tests`: walks, many boxes, memory, a long session.
+//! Expected values are worked by hand from the rules; none is an answer of the code under test.
 #![tactic(auto)]
 
 #[cfg(test)]

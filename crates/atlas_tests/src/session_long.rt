@@ -1,4 +1,5 @@
-//! A long session: random calls of every kind, in lists of up to 50, beside the same calls made one by one on a copy.
+//! A long session: random calls of every kind, in lists of up to 50, alongside the same calls made one by one on a
+//! copy.
 
 use guillotiere::session::{Call, Reply, run};
 use guillotiere::{

@@ -1,4 +1,4 @@
-//! Why no pages are told.
+//! Why no pages are written.
 ghost use Rattle.std.specs.Prelude.{◌≡◌};
 ghost use Rattle.atlas_text.specs.declared.error.TextError.TheVariants.{Device, Memory, Options, Refused};
 
@@ -7,7 +7,7 @@ use std::alloc::{AllocError, AllocFailed};
 use std::io;
 use thiserror::Error;
 
-/// Why no pages are told.
+/// Why no pages are written.
 #[derive(Debug, Drop, Error)]
 pub enum TextError {
     /// The line with this number, counted from 1, is neither a frame nor a glyph.

@@ -1,4 +1,4 @@
-//! Plays the glyphs of a text through a cache, and tells the pages that come of it, in lines that `atlas_svg` draws.
+//! Plays the glyphs of a text through a cache, and writes the pages that result, in lines that `atlas_svg` draws.
 #![tactic(auto)]
 
 mod error;

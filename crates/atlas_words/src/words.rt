@@ -9,7 +9,7 @@ ghost use Rattle.atlas_words.specs.Words.{BeginsWithWord, BeginsWithNumber, Begi
 use atlas_model::{AllocId, AllocatorOptions, DEFAULT_OPTIONS, Size, size2};
 
 /// The bytes before the first space, all of them where there is none, and the rest from that space on. For programs
-/// that read lines of their own, as `atlas_bench`. It takes no memory.
+/// that read lines of their own, such as `atlas_bench`. It takes no memory.
 pub fn first_word(text: &[u8]) -> (&[u8], &[u8])
     ensures { BeginsWithWord text.now result.0.now result.1.now }
 {
@@ -22,7 +22,7 @@ pub fn first_word(text: &[u8]) -> (&[u8], &[u8])
 }
 
 /// The bytes before the first LF, all of them where there is none, and those after it. For programs that read lines of
-/// their own, as `atlas_bench` and `atlas_svg`. It takes no memory.
+/// their own, such as `atlas_bench` and `atlas_svg`. It takes no memory.
 pub fn first_line(text: &[u8]) -> (&[u8], &[u8])
     ensures { BeginsWithLine text.now result.0.now result.1.now }
 {
@@ -35,7 +35,7 @@ pub fn first_line(text: &[u8]) -> (&[u8], &[u8])
 }
 
 /// The number that one or more decimal digits write, where it fits a `u32`; None for every other text. For programs
-/// that read lines of their own, as `atlas_bench`. It takes no memory.
+/// that read lines of their own, such as `atlas_bench`. It takes no memory.
 pub fn unsigned(text: &[u8]) -> Option<u32>
     ensures found { IfSome result (λ n. SpellsUnsigned n text.now) }
     ensures only { (n : ℕ) → SpellsUnsigned n text.now → result ≡ Some n }

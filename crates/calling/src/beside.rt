@@ -1,4 +1,4 @@
-//! Rectangles beside those of an atlas, which stays as it is.
+//! Rectangles alongside those of an atlas, which stays as it is.
 ghost use Rattle.std.specs.Prelude.{◌∷◌, IfOk, IfSome};
 ghost use Rattle.guillotiere.specs.Boxes.{AreDisjoint};
 ghost use Rattle.guillotiere.specs.Pixels.{box_of};

@@ -31,7 +31,7 @@ pub fn got<A: Allocator + Copy>(
     Ok(())
 }
 
-/// Every other id than the granted one has what it had.
+/// Every id other than the granted one has what it had.
 pub fn others<A: Allocator + Copy>(
     atlas: &mut AtlasAllocator<A>,
     size: Size,

@@ -1,5 +1,5 @@
-//! What callers write first over an atlas. All is proved with no proof file but `apart::two`, `beside::place_beside` and
-//! `tiled`, which show how a clause and a law are cited.
+//! What callers write first over an atlas. All of it is proved without a proof file, except `apart::two`,
+//! `beside::place_beside` and `tiled`, which show how a clause and a law are cited.
 #![tactic(auto)]
 
 mod apart;

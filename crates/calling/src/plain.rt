@@ -93,7 +93,7 @@ pub fn far_corner<A: Allocator + Copy>(
     Ok(Some(point2(corner.x + size.width, corner.y + size.height)))
 }
 
-/// Memory and slots are all that can be wanting.
+/// Memory and slots are all that can be missing.
 pub fn why_not<A: Allocator + Copy>(atlas: &mut AtlasAllocator<A>, size: Size) -> &'static str {
     match atlas.allocate(size) {
         Ok(Some(_)) => "granted",

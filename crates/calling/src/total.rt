@@ -22,7 +22,7 @@ pub fn opened<A: Allocator + Copy>(
     }
 }
 
-/// Grows an atlas to any size, and tells whether it did.
+/// Grows an atlas to any size, and says whether it did.
 pub fn grown<A: Allocator + Copy>(atlas: &mut AtlasAllocator<A>, new_size: Size) -> bool {
     let size = atlas.size();
     match atlas::grow(atlas, new_size) {

@@ -183,9 +183,10 @@ pub extern "C" fn guillotiere_atlas_can_fit(
     can_fit
 }
 
-/// Takes memory for so many slots beside those that are used; nothing else changes. `DONE`; `SLOTS` if more slots would
-/// be used than the limit allows; `MEMORY`. A grant uses at most 4 more slots, a growth at most 3, a freeing none, and
-/// while there is memory for them the answer isn't `MEMORY`. The memory stays until the atlas is rearranged or freed.
+/// Takes memory for so many slots in addition to those that are used; nothing else changes. `DONE`; `SLOTS` if more
+/// slots would be used than the limit allows; `MEMORY`. A grant uses at most 4 more slots, a growth at most 3, a
+/// freeing none, and while there is memory for them the answer isn't `MEMORY`. The memory stays until the atlas is
+/// rearranged or freed.
 #[unsafe(no_mangle)]
 pub extern "C" fn guillotiere_atlas_reserve(
     alloc: Global,

@@ -162,8 +162,9 @@ pub extern "C" fn guillotiere_atlas_rearrange(
 }
 
 /// Places what is live anew in an empty atlas of this size, the largest first, and lists what moved and what found no
-/// room; the ids of the latter are live no more, and all former ids are void. Each array has room for as many as there
-/// are used slots, else the answer is `SHORT`. `DONE`; `BAD_CALL` if the size is empty; `SHORT`, `SLOTS` or `MEMORY`.
+/// room; the ids of the latter are no longer live, and all former ids are void. Each array has room for as many as
+/// there are used slots, else the answer is `SHORT`. `DONE`; `BAD_CALL` if the size is empty; `SHORT`, `SLOTS` or
+/// `MEMORY`.
 #[unsafe(no_mangle)]
 pub extern "C" fn guillotiere_atlas_resize_and_rearrange(
     alloc: Global,
@@ -223,8 +224,8 @@ fn ids_of(alloc: Global, numbers: &[u32]) -> Result<Vec<AllocId>, AtlasError>
     Ok(ids)
 }
 
-/// Frees the boxes of the ids of a list. `DONE`; `NOT_LIVE` if one of them isn't live or stands twice; `MEMORY`, as
-/// the list is copied first.
+/// Frees the boxes of the ids of a list. `DONE`; `NOT_LIVE` if one of them isn't live or is in the list twice;
+/// `MEMORY`, as the list is copied first.
 #[unsafe(no_mangle)]
 pub extern "C" fn guillotiere_atlas_deallocate_all(
     alloc: Global,

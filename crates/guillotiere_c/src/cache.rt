@@ -58,7 +58,7 @@ pub extern "C" fn guillotiere_cache_new(
     }
 }
 
-/// Lets a cache go, with all that it takes; the handle holds nothing then.
+/// Frees a cache, with all that it takes; the handle holds nothing then.
 #[unsafe(no_mangle)]
 pub extern "C" fn guillotiere_cache_free(alloc: Global, cache: &mut CacheHandle)
     ensures { cache.new.kept ≡ None }
@@ -122,7 +122,7 @@ pub extern "C" fn guillotiere_cache_get(
     write_found(found, place)
 }
 
-/// The place of a key; it counts as no use. `DONE`; `NOT_HELD`.
+/// The place of a key; it doesn't count as a use. `DONE`; `NOT_HELD`.
 #[unsafe(no_mangle)]
 pub extern "C" fn guillotiere_cache_peek(
     alloc: Global,
@@ -165,12 +165,12 @@ fn write_inserted(answer: Result<Inserted, CacheError>, place: &mut PlainPlace) 
     }
 }
 
-/// A place for a key, which is used in this frame, as `TextureCache::insert` finds it. `DONE` of a new key, whose pixels
-/// are to be written there; a key with an empty size has none, and its place is empty. `HELD` of one that was held, and then
-/// the place is written too; `FRAME_FULL` if each entry on a page is used in this frame and no page has room; `NEVER_FITS`
-/// if the size passes the largest page, with the padding and rounded up to the alignment; `OTHER_SIZE` if the key is held with
-/// another size; `NUMBERS`, `SLOTS`, `MEMORY`.
-/// What was done is told by `guillotiere_cache_next_change`, also after `FRAME_FULL` and after an error.
+/// A place for a key, which is used in this frame, as `TextureCache::insert` finds it. `DONE` of a new key, whose
+/// pixels are to be written there; a key with an empty size has none, and its place is empty. `HELD` of one that was
+/// held, and then the place is written too; `FRAME_FULL` if each entry on a page is used in this frame and no page has
+/// room; `NEVER_FITS` if the size passes the largest page, with the padding and rounded up to the alignment;
+/// `OTHER_SIZE` if the key is held with another size; `NUMBERS`, `SLOTS`, `MEMORY`. What was done is reported by
+/// `guillotiere_cache_next_change`, also after `FRAME_FULL` and after an error.
 #[unsafe(no_mangle)]
 pub extern "C" fn guillotiere_cache_insert(
     alloc: Global,
@@ -194,8 +194,8 @@ pub extern "C" fn guillotiere_cache_insert(
     write_inserted(answer, place)
 }
 
-/// A key goes, and the place that it had is written. No change tells it: the caller forgets its place, once the changes
-/// that weren't handed over are followed. Takes no memory. `DONE`; `NOT_HELD`.
+/// A key goes, and the place that it had is written. No change reports this: the caller forgets its place, once the
+/// changes that weren't handed over are followed. Takes no memory. `DONE`; `NOT_HELD`.
 #[unsafe(no_mangle)]
 pub extern "C" fn guillotiere_cache_remove(
     alloc: Global,
@@ -247,8 +247,8 @@ pub extern "C" fn guillotiere_cache_next_change(
     }
 }
 
-/// All keys go. The pages stay, with their sizes and with nothing on them. No change tells it: the caller forgets all
-/// places. The changes that weren't handed over stay. `DONE`.
+/// All keys go. The pages stay, with their sizes and with nothing on them. No change reports this: the caller forgets
+/// all places. The changes that weren't handed over stay. `DONE`.
 #[unsafe(no_mangle)]
 pub extern "C" fn guillotiere_cache_clear(alloc: Global, cache: &mut CacheHandle) -> u32
     ensures clears { IsSome cache.old.kept → GoesOver cache.old.kept cache.new.kept (λ f g.
@@ -265,8 +265,8 @@ pub extern "C" fn guillotiere_cache_clear(alloc: Global, cache: &mut CacheHandle
     DONE
 }
 
-/// The keys that weren't used for at least so many frames go, each told as evicted, the least recently used first: with
-/// 1, what this frame didn't use; with 0, all. `DONE`; `MEMORY`.
+/// The keys that weren't used for at least so many frames go, each reported as evicted, the least recently used first:
+/// with 1, what this frame didn't use; with 0, all. `DONE`; `MEMORY`.
 #[unsafe(no_mangle)]
 pub extern "C" fn guillotiere_cache_trim(alloc: Global, cache: &mut CacheHandle, frames: u64) -> u32
     ensures trims { result ≡ DONE → GoesOver cache.old.kept cache.new.kept (IsTrim frames) }
@@ -286,8 +286,8 @@ pub extern "C" fn guillotiere_cache_trim(alloc: Global, cache: &mut CacheHandle,
     }
 }
 
-/// The pages behind the last one with a key go, each told as removed, the last one first. The others stay, with their
-/// sizes, and so do all keys; after `clear` all pages go. `DONE`; `MEMORY`.
+/// The pages behind the last one with a key go, each reported as removed, the last one first. The others stay, with
+/// their sizes, and so do all keys; after `clear` all pages go. `DONE`; `MEMORY`.
 #[unsafe(no_mangle)]
 pub extern "C" fn guillotiere_cache_shrink(alloc: Global, cache: &mut CacheHandle) -> u32
     ensures shrinks { result ≡ DONE → GoesOver cache.old.kept cache.new.kept IsShrinking }
@@ -307,9 +307,9 @@ pub extern "C" fn guillotiere_cache_shrink(alloc: Global, cache: &mut CacheHandl
     }
 }
 
-/// Places the keys of a page anew, the largest first, so that what is free comes together. Each of them is told once,
-/// as moved or, where it found no room, as evicted; no other key changes. Pages are counted from 0. `DONE`; `NO_PAGE`;
-/// `SLOTS`; `MEMORY`.
+/// Places the keys of a page anew, the largest first, so that what is free comes together. Each of them is reported
+/// once, as moved or, where it found no room, as evicted; no other key changes. Pages are counted from 0. `DONE`;
+/// `NO_PAGE`; `SLOTS`; `MEMORY`.
 #[unsafe(no_mangle)]
 pub extern "C" fn guillotiere_cache_repack(alloc: Global, cache: &mut CacheHandle, page: u32) -> u32
     ensures repacks { result ≡ DONE → GoesOver cache.old.kept cache.new.kept (IsRepacking page) }

@@ -1,4 +1,4 @@
-//! The exports that tell of a cache: how many keys and pages it has, and how it was used.
+//! The exports that report on a cache: how many keys and pages it has, and how it was used.
 ghost use Rattle.std.specs.Prelude.{◌≡◌, ◌≢◌, ◌⊎◌, Some, None, IsNone, IsSome, length, slice_get};
 ghost use Rattle.atlas_cache.specs.Repacking.{free_by_page, live_by_page};
 ghost use Rattle.atlas_cache.specs.Rooms.{page_sizes};

@@ -27,7 +27,7 @@ fn write_keyed(found: Option<(u64, Place)>, key: &mut u64, place: &mut PlainPlac
     }
 }
 
-/// The most recently used key, and its place; it counts as no use. `DONE`; `NOT_HELD` if no key is held.
+/// The most recently used key, and its place; it doesn't count as a use. `DONE`; `NOT_HELD` if no key is held.
 #[unsafe(no_mangle)]
 pub extern "C" fn guillotiere_cache_newest(
     alloc: Global,
@@ -51,7 +51,7 @@ pub extern "C" fn guillotiere_cache_newest(
     write_keyed(found, key, place)
 }
 
-/// The least recently used key, and its place; it counts as no use. `DONE`; `NOT_HELD` if no key is held.
+/// The least recently used key, and its place; it doesn't count as a use. `DONE`; `NOT_HELD` if no key is held.
 #[unsafe(no_mangle)]
 pub extern "C" fn guillotiere_cache_oldest(
     alloc: Global,
@@ -75,8 +75,8 @@ pub extern "C" fn guillotiere_cache_oldest(
     write_keyed(found, key, place)
 }
 
-/// The key that was used next before this one, and its place; it counts as no use. `DONE`; `NOT_HELD` if this one is the
-/// least recently used, or isn't held.
+/// The key that was used next before this one, and its place; it doesn't count as a use. `DONE`; `NOT_HELD` if this one
+/// is the least recently used, or isn't held.
 #[unsafe(no_mangle)]
 pub extern "C" fn guillotiere_cache_older(
     alloc: Global,

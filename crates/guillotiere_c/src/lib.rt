@@ -1,9 +1,9 @@
 //! The allocators of `guillotiere` for C, and for every language that can call C (bindings/README.md).
 //!
-//! An allocator stands behind a handle of one pointer, which its caller keeps and which is all zero while it holds
+//! An allocator is held by a handle of one pointer, which its caller keeps and which is all zero while it holds
 //! nothing. Each call is total: it tests its own conditions, answers a status (`plain`), and writes what it gives back
 //! where its arguments point. A call that isn't `DONE` changes nothing; but a cache counts a miss, and an insert that
-//! is refused may have made changes, which it tells.
+//! is refused may have made changes, which it reports.
 #![tactic(auto)]
 
 mod atlas;

@@ -1,4 +1,4 @@
-//! The exports that make atlases, copy them and let them go.
+//! The exports that make atlases, copy them and free them.
 ghost use Rattle.std.specs.Prelude.{◌≡◌, ◌≢◌, ◌≤◌, IsSome, IsNone, Some, None};
 ghost use Rattle.guillotiere.specs.Boxes.{IsPositive};
 ghost use Rattle.guillotiere.specs.Choice.{AreValid};
@@ -113,7 +113,7 @@ pub extern "C" fn guillotiere_atlas_with_slot_limit(
     start(alloc, width, height, &options, limit, atlas)
 }
 
-/// Lets an atlas go, with all that it takes; the handle holds nothing then.
+/// Frees an atlas, with all that it takes; the handle holds nothing then.
 #[unsafe(no_mangle)]
 pub extern "C" fn guillotiere_atlas_free(alloc: Global, atlas: &mut AtlasHandle)
     ensures { atlas.new.kept ≡ None }

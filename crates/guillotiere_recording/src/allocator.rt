@@ -219,8 +219,8 @@ impl<A: Allocator + Copy> RecordingAllocator<A> {
     }
 
     /// Places what is allocated anew in an empty atlas of this size, in pixels, as the atlas's `resize_and_rearrange`
-    /// does. Asks a size that isn't empty. Each change has one name in `old` and `new`; the name of a failure is live
-    /// no more. `Memory` if memory is refused; `Slots` as the atlas's.
+    /// does. Asks a size that isn't empty. Each change has one name in `old` and `new`; the name of a failure is no
+    /// longer live. `Memory` if memory is refused; `Slots` as the atlas's.
     pub fn resize_and_rearrange(&mut self, new_size: Size) -> Result<ChangeList<A>, RecordingError>
         requires { IsPositive (sides_of new_size) }
         ensures recorded { IfOk result (λ list. self.new.recording
@@ -285,8 +285,8 @@ impl<A: Allocator + Copy> RecordingAllocator<A> {
         gather_names(*self.names.allocator(), &self.atlas, &self.names)
     }
 
-    /// Ends the session. The answer is what was recorded: events of a session, so that a replay of it may fail only as
-    /// such a one's. Takes no memory.
+    /// Ends the session. The answer is what was recorded: events of a session, so that a replay of it can fail only as
+    /// a session's can. Takes no memory.
     pub fn finish(self) -> Recording<A>
         ensures taken { result ≡ self.recording }
         ensures recorded { IsRecorded result }

@@ -67,10 +67,10 @@ impl<A: Allocator + Copy> Recording<A> {
     }
 
     /// Carries out the events once more, in a new atlas of the recorded size and options, and compares each answer. The
-    /// first fault ends it: `BadEvent` where an event can't be carried out, which is tested before its call, as its new
-    /// name is live, the name that it frees isn't, a side shrinks or a size is empty; `Differs` where the answer is
-    /// another than the event says; `Slots` as the atlas's; `Memory` if a request for memory is refused. Events are
-    /// counted from 0.
+    /// first fault ends it: `BadEvent` where an event can't be carried out, which is tested before its call, because
+    /// its new name is live, the name that it frees isn't, a side shrinks or a size is empty; `Differs` where the
+    /// answer isn't the one that the event has; `Slots` as the atlas's; `Memory` if a request for memory is refused.
+    /// Events are counted from 0.
     pub fn replay(&self) -> Result<ReplayStats<A>, ReplayFault>
         ensures replayed { IfOk result (IsReplayed self.now) }
         ensures fault { IfErr result (IsFaultOf self.now) }
@@ -79,11 +79,12 @@ impl<A: Allocator + Copy> Recording<A> {
         self.log.replay()
     }
 
-    /// A recording allocator that carried out the events as its own calls, and so goes on from where they end: its recording
-    /// is this one, and the boxes of its names are those of the events. The first fault ends it: `BadEvent` where an event
-    /// can't be carried out, as its new name isn't the next one (0, 1, 2, .. in the order of the grants), the name that it
-    /// frees isn't live, a side shrinks or a size is empty; `Differs` where the answer is another than the event says;
-    /// `Slots` as the atlas's; `Memory` if a request for memory is refused. Events are counted from 0.
+    /// A recording allocator that carried out the events as its own calls, and so goes on from where they end: its
+    /// recording is this one, and the boxes of its names are those of the events. The first fault ends it: `BadEvent`
+    /// where an event can't be carried out, because its new name isn't the next one (0, 1, 2, .. in the order of the
+    /// grants), the name that it frees isn't live, a side shrinks or a size is empty; `Differs` where the answer isn't
+    /// the one that the event has; `Slots` as the atlas's; `Memory` if a request for memory is refused. Events are
+    /// counted from 0.
     pub fn resume(&self) -> Result<RecordingAllocator<A>, ReplayFault>
         ensures resumed { IfOk result (λ session. session.recording ≡ self.now) }
         ensures faithful { IfOk result IsFaithful }

@@ -20,7 +20,7 @@ pub enum ReplayFault {
     /// More slots would be used than an atlas may use.
     #[error("no slot left")]
     Slots,
-    /// The event with this number, counted from 0, has another answer than the atlas gives.
+    /// The event with this number, counted from 0, has a different answer from the one that the atlas gives.
     #[error("event {0} differs")]
     Differs(usize),
     /// The event with this number, counted from 0, can't be carried out.

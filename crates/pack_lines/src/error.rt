@@ -12,16 +12,16 @@ pub enum PackError {
     /// The words after `sheet` on the first line are no settings.
     #[error("line 1: not a setting, or not its numbers")]
     BadSettings,
-    /// `pages` stands with `fill`, `dense` or `json`.
+    /// `pages` is given with `fill`, `dense` or `json`.
     #[error("line 1: pages goes with neither fill nor dense nor json")]
     NotTogether,
-    /// `group` stands without `pages`.
+    /// `group` is given without `pages`.
     #[error("line 1: group goes only with pages")]
     NoPages,
     /// This line is no sprite.
     #[error("line {0}: not a sprite, which is NAME WIDTH HEIGHT")]
     BadLine(usize),
-    /// The name on this line stands on an earlier one.
+    /// The name on this line is on an earlier one.
     #[error("line {0}: this name stands on an earlier line")]
     Twice(usize),
     /// The sprite on this line has a side below 1.

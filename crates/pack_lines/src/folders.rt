@@ -1,4 +1,4 @@
-//! Sprites in folders: what stands before the last `/` of a name.
+//! Sprites in folders: what comes before the last `/` of a name.
 ghost use Rattle.std.specs.Prelude.{◌≡◌, ◌<◌, ◌+◌, IfOk, MatchOption, None, OnOk, Some, length, slice_index_or, take};
 ghost use Rattle.pack_lines.specs.Folders.{AreByFolder, AreFirst, folder_groups, folder_in, folder_number, folder_of};
 
@@ -43,9 +43,9 @@ fn number_of<'a>(
     Ok(Some(number))
 }
 
-/// The number of each sprite's folder, which is what stands before the last `/` of its name: the number of the first sprite
-/// in that folder, counted from 0. None where a name has no `/`. So two sprites have the same number exactly if they have
-/// the same folder. It takes memory for the numbers.
+/// The number of each sprite's folder, which is what comes before the last `/` of its name: the number of the first
+/// sprite in that folder, counted from 0. None where a name has no `/`. So two sprites have the same number exactly if
+/// they have the same folder. It takes memory for the numbers.
 pub fn folder_groups(alloc: Global, sprites: &[Sprite]) -> Result<Vec<Option<usize>>, AllocError>
     ensures numbers { IfOk result (λ groups. groups.items ≡ folder_groups sprites.now) }
     ensures same { IfOk result (λ groups. AreByFolder sprites.now groups.items) }

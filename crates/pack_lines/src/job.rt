@@ -19,7 +19,7 @@ pub struct Job {
     pub settings: Settings,
     /// The sprites, in the order of their lines.
     pub sprites: Vec<Sprite>,
-    /// How many lines stand before those of the sprites: 1 where the first line sets something, else 0.
+    /// How many lines come before those of the sprites: 1 where the first line sets something, else 0.
     pub before: usize,
 }
 
@@ -62,10 +62,9 @@ fn read_first(text: &[u8]) -> Result<(Settings, usize, &[u8]), PackError>
 
 /// What the lines of a text ask for: settings, if the first line begins with the word `sheet`, and then a sprite each.
 ///
-/// `BadSettings` if the words after `sheet` are none; `NotTogether` if `pages` stands with `fill`, `dense` or `json`;
-/// `NoPages` if `group` stands without `pages`;
-/// `BadLine` names the first line that is no sprite; `Twice` names the first line whose name stands on an earlier one;
-/// `Memory` if memory is refused.
+/// `BadSettings` if the words after `sheet` are none; `NotTogether` if `pages` is given with `fill`, `dense` or `json`;
+/// `NoPages` if `group` is given without `pages`; `BadLine` names the first line that is no sprite; `Twice` names the
+/// first line whose name is on an earlier one; `Memory` if memory is refused.
 pub fn read_job(alloc: Global, text: &[u8]) -> Result<Job, PackError>
     ensures asks { IfOk result (λ job. AsksFor text.now job.before job.settings job.sprites.items) }
     ensures few { IfOk result (λ job. job.before ≤ 1) }

@@ -1,4 +1,4 @@
-//! Names that stand once.
+//! Names that occur once.
 ghost use Rattle.std.specs.Prelude.{◌≤◌, IfErr, OnOk};
 ghost use Rattle.pack_lines.specs.Names.{AreDistinct, IsNameFault};
 

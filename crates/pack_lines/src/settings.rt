@@ -214,7 +214,7 @@ fn next_setting(text: &[u8]) -> Option<(Setting, &[u8])>
     Some((with_numbers(word, first, second)?, rest))
 }
 
-/// What settings, each after one space, change of `DEFAULT_SETTINGS`; of two of one kind the later holds. None for
+/// What settings, each after one space, change of `DEFAULT_SETTINGS`; of two of one kind the later one counts. None for
 /// every other text.
 pub fn read_settings(text: &[u8]) -> Option<Settings>
     ensures found { IfSome result (λ settings. (all : List Setting) × SpellsSettings all text.now

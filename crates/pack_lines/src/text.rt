@@ -103,8 +103,8 @@ pub fn full_line(alloc: Global, fullness: u128) -> Result<String, AllocError>
 }
 
 /// A sheet as lines: its size, each sprite with its place, those without one, each in order, and how full it is, in
-/// thousandths. A name that has a space or begins with a quotation mark stands in quotation marks, as a string of JSON.
-/// It takes memory for the text.
+/// thousandths. A name that has a space or begins with a quotation mark is written in quotation marks, as a JSON
+/// string. It takes memory for the text.
 pub fn sheet_lines(
     alloc: Global,
     sheet: Size,

@@ -10,7 +10,7 @@ pub enum PlayError {
     /// The line with this number, counted from 1, is none that these sessions have.
     #[error("bad line {0}")]
     BadLine(u64),
-    /// The session that ends at the line with this number is answered otherwise.
+    /// The session that ends at the line with this number is answered differently.
     #[error("the session that ends at line {0} is answered otherwise")]
     Otherwise(u64),
     /// The atlas refused a call.

@@ -113,7 +113,7 @@ fn play_all<W: Write>(alloc: Global, text: &str, output: &mut W) -> Result<(), P
 }
 
 /// Plays the sessions of the reader, and writes a line for each kind: how many there are, and the kind. Ends at the
-/// first session that is answered otherwise.
+/// first session that is answered differently.
 pub fn run<R: Read, W: Write>(
     alloc: Global,
     input: &mut R,

@@ -7,7 +7,7 @@ use std::alloc::Global;
 use std::cell::Cell;
 use test_memory::Refusing;
 
-/// A line with its end, and the replies that are wanted, each with its end.
+/// A line with its end, and the expected replies, each with its end.
 #[derive(Drop)]
 pub struct Step {
     pub line: String,
@@ -82,7 +82,7 @@ impl<'a> Talk<'a> {
         }
     }
 
-    /// Whether all lines were given and answered as wanted.
+    /// Whether all lines were given and answered as expected.
     pub fn is_well(&self) -> bool {
         self.is_well.get() && self.begun.get() == self.steps.len()
     }

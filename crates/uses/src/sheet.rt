@@ -13,7 +13,7 @@ use guillotiere::Size;
 use std::alloc::Global;
 
 /// Packs sprites into a square sheet whose side has from `least` to `greatest` pixels, and is as small as `pack` finds
-/// one. The places stand in the order of the sprites. None if none of the ways of `atlas_sheet` packs all sprites into
+/// one. The places are in the order of the sprites. None if none of the ways of `atlas_sheet` packs all sprites into
 /// the greatest square.
 pub fn pack_square(
     alloc: Global,

@@ -343,17 +343,17 @@ impl<K: Copy + Eq + Hash, S: BuildHasher> TextureCache<K, S> {
         self.cache.get(&key).map(place_of)
     }
 
-    /// The place of a key; None if it isn't held. It counts as no use.
+    /// The place of a key; None if it isn't held. It doesn't count as a use.
     pub fn peek(&self, key: K) -> Option<Place> {
         self.cache.peek(&key).map(place_of)
     }
 
-    /// A place for a key, which is used in this frame. A key that is held keeps its place, and is the most recently used
-    /// from now on, which counts as no hit; asked with another size, even one that is empty or too large, it is refused
-    /// with `OtherSize`, and nothing changes. A new key comes on the first page with room for its size, in pixels, with the
-    /// padding. Where none has, a page grows: its smaller side doubles, the width of equal ones, and no further than the
-    /// largest page. Where none can, one is added; and where there may be no more, the least recently used entry goes that
-    /// lies on a page and that this frame didn't use; and so on.
+    /// A place for a key, which is used in this frame. A key that is held keeps its place, and is the most recently
+    /// used from now on, which doesn't count as a hit; asked for with another size, even one that is empty or too
+    /// large, it is refused with `OtherSize`, and nothing changes. A new key comes on the first page with room for its
+    /// size, in pixels, with the padding. Where none has, a page grows: its smaller side doubles, the width if they are
+    /// equal, and no further than the largest page. Where none can, one is added; and where there may be no more, the
+    /// least recently used entry that lies on a page and that this frame didn't use goes; and so on.
     ///
     /// A new key with an empty size, of which a side is 0 or below, becomes a blank entry: `Placed` with a place that is
     /// empty. It takes no room, so that no page changes and nothing goes, and it never goes for another key's room.
@@ -435,17 +435,17 @@ impl<K: Copy + Eq + Hash, S: BuildHasher> TextureCache<K, S> {
         self.cache.is_empty()
     }
 
-    /// The most recently used key, and its place. It counts as no use.
+    /// The most recently used key, and its place. It doesn't count as a use.
     pub fn newest(&self) -> Option<(K, Place)> {
         self.cache.newest().map(keyed)
     }
 
-    /// The least recently used key, and its place. It counts as no use.
+    /// The least recently used key, and its place. It doesn't count as a use.
     pub fn oldest(&self) -> Option<(K, Place)> {
         self.cache.oldest().map(keyed)
     }
 
-    /// The key that was used next before this one, and its place. It counts as no use.
+    /// The key that was used next before this one, and its place. It doesn't count as a use.
     pub fn older(&self, key: K) -> Option<(K, Place)> {
         self.cache.older(&key).map(keyed)
     }

@@ -192,7 +192,7 @@ impl RecordingAllocator {
     }
 
     /// Places what is allocated anew in an empty atlas of this size, the largest first. Each change has one name in
-    /// `old` and `new`; the name of a failure is live no more.
+    /// `old` and `new`; the name of a failure is no longer live.
     ///
     /// # Panics
     ///

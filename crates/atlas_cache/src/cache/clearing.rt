@@ -1,4 +1,4 @@
-//! What goes without another entry that comes, and room that is asked for beforehand.
+//! Entries that go without another one coming in, and room that is reserved beforehand.
 ghost use Rattle.std.specs.Prelude.{◌≡◌, ◌+◌, ◌≤◌, false, length, map, IfErr, IsOk, IsOkUnless, IsTrue, OnErr, OnOk};
 ghost use Rattle.std.specs.Prelude.{vec_capacity, vec_len};
 ghost use Rattle.std.specs.List.{AllByRecursion};
@@ -19,8 +19,8 @@ use std::hash::{BuildHasher, Hash};
 
 impl<K: Copy + Eq + Hash, S: BuildHasher, A: Allocator + Copy> TextureCache<K, S, A> {
     /// All keys go. The pages stay, with their sizes and with nothing on them, and so do the frame and the counts. No
-    /// change tells it: the caller forgets all places. Takes no memory, and gives none back: what the keys had is in reserve.
-    /// A `shrink` after it takes all pages away, and then the cache begins with small ones again.
+    /// change reports this: the caller forgets all places. Takes no memory, and gives none back: what the keys had is
+    /// in reserve. A `shrink` after it takes all pages away, and then the cache begins with small ones again.
     pub fn clear(&mut self)
         ensures clears { Clears self.old self.new }
         ensures told { ShowsSame (all_forgotten (picture_of K.eq self.old)) (picture_of K.eq self.new) }

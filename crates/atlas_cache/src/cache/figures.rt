@@ -1,4 +1,4 @@
-//! What a cache tells of itself: how it was made, how it was used, and the areas of its pages.
+//! What a cache reports about itself: how it was made, how it was used, and the areas of its pages.
 ghost use Rattle.std.specs.Prelude.{◌≡◌, slice_get, IfOk, IsOkUnless};
 ghost use Rattle.atlas_cache.specs.Asking.{AreUsable};
 ghost use Rattle.atlas_cache.specs.Repacking.{free_by_page, live_by_page};
@@ -62,9 +62,9 @@ impl<K: Copy + Eq + Hash, S: BuildHasher, A: Allocator + Copy> TextureCache<K, S
     }
 
     /// The area of a page, in pixels, that is free in rectangles which have no room for an entry of this size, with its
-    /// padding and rounded up to the alignment; None if there is no such page. A side below 0 counts as 0. Of the area
-    /// that is free (`free_area`) it tells how much is of no use for entries of the usual size: where that is much, it is
-    /// time to repack the page. Takes memory for a list of the page's free rectangles: `Memory` if that is refused.
+    /// padding and rounded up to the alignment; None if there is no such page. A side below 0 counts as 0. The answer
+    /// says how much of the free area (`free_area`) is of no use for entries of the usual size: where that is a lot, it
+    /// is time to repack the page. Takes memory for a list of the page's free rectangles: `Memory` if that is refused.
     pub fn unusable_area(&self, page: u32, size: Size) -> Result<Option<u64>, CacheError>
         ensures area { IfOk result (λ lost. lost
             ≡ slice_get (unusable_by_page self.now.options size self.now.pages) page) }

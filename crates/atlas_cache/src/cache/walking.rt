@@ -46,7 +46,7 @@ fn older<K: Copy + Eq + Hash, S: BuildHasher, A: Allocator + Copy>(
 }
 
 impl<K: Copy + Eq + Hash, S: BuildHasher, A: Allocator + Copy> TextureCache<K, S, A> {
-    /// The most recently used key, and its place; None if there is none. It counts as no use.
+    /// The most recently used key, and its place; None if there is none. It doesn't count as a use.
     pub fn newest(&self) -> Option<(K, Place)>
         ensures { result ≡ option_map (keyed self.now.options.padding) (first_entry self.now.entries) }
     {
@@ -56,7 +56,7 @@ impl<K: Copy + Eq + Hash, S: BuildHasher, A: Allocator + Copy> TextureCache<K, S
         Some((entry.key, place_of(entry, &self.rooms.options())))
     }
 
-    /// The least recently used key, and its place; None if there is none. It counts as no use.
+    /// The least recently used key, and its place; None if there is none. It doesn't count as a use.
     pub fn oldest(&self) -> Option<(K, Place)>
         ensures { result ≡ option_map (keyed self.now.options.padding) (last_entry self.now.entries) }
     {
@@ -67,8 +67,8 @@ impl<K: Copy + Eq + Hash, S: BuildHasher, A: Allocator + Copy> TextureCache<K, S
     }
 
     /// The key that was used next before this one, and its place; None if this one is the least recently used, or isn't
-    /// held. It counts as no use. From `newest` on, this gives each key once, in the order of use, with one look-up
-    /// each.
+    /// held. It doesn't count as a use. From `newest` on, this gives each key once, in the order of use, with one
+    /// look-up each.
     pub fn older(&self, key: &K) -> Option<(K, Place)>
         ensures next { IfSome (entry_for K.eq key.now self.now.entries) (λ e. ShowsOlder e result self.now) }
         ensures none { entry_for K.eq key.now self.now.entries ≡ None → result ≡ None }

@@ -80,7 +80,7 @@ fn set_previous(links: &mut [Link], ends: &mut Link, at: u32, previous: u32)
     }
 }
 
-/// The neighbours of an entry let it go.
+/// The neighbours of an entry are linked to each other instead of to it.
 pub fn unlink(links: &mut [Link], ends: &mut Link, at: u32)
     requires listed { IsInRing links.old ends.old at }
     requires short { length links.old ≤ no_entry }

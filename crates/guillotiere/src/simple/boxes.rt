@@ -128,8 +128,8 @@ impl<A: Allocator> FreeBoxes<A> {
         self.table.push(place, at, top_in(area));
     }
 
-    /// Makes it sure that n more entries can be used. The only error is `Memory`, where that is more than there are,
-    /// and nothing changes but the room.
+    /// Makes sure that n more entries can be used. The only error is `Memory`, where that is more than there are, and
+    /// nothing changes but the room.
     pub fn make_room(&mut self, n: u32) -> Result<(), AtlasError>
         requires few { n ≤ 2 }
         requires kept { (o : Options) × AreKept o (box_shelf self.old) }
@@ -162,7 +162,7 @@ impl<A: Allocator> FreeBoxes<A> {
         self.put(at, area, options);
     }
 
-    /// Leaves this box alone, in the room that there is. Takes no memory.
+    /// Leaves only this box, in the room that there is. Takes no memory.
     pub fn restart(&mut self, area: Rectangle, options: &Scale)
         requires exact { IsSolid area }
         requires valid { AreValid (options_of options.now) }

@@ -237,7 +237,7 @@ impl<A: Allocator + Copy> AtlasAllocator<A> {
     }
 
     /// A copy: the whole stored value is equal, slots, generations and lists included, and so are its answers to later
-    /// calls, want of memory aside. Its turns begin at 0. `Memory` is the only error.
+    /// calls, except where memory is refused. Its turns begin at 0. `Memory` is the only error.
     #[inline]
     pub fn clone(&self) -> Result<Self, AtlasError> {
         let store = self.store.copy()?;
@@ -288,8 +288,8 @@ impl<A: Allocator + Copy> AtlasAllocator<A> {
     }
 }
 
-/// The slots and the options, for a simple allocator that takes over the free rectangles. `guillotiere` doesn't give
-/// this function to its callers.
+/// The slots and the options, for a simple allocator that takes over the free rectangles. `guillotiere` doesn't
+/// re-export this function.
 #[inline]
 pub fn store_of<A: Allocator + Copy>(atlas: &AtlasAllocator<A>) -> &Store<A> {
     &atlas.store

@@ -1,5 +1,5 @@
 // Erased from crates/atlas_allocator/src/lib.rt by rust/erase: don't edit.
-//! The atlas allocator, which `guillotiere` gives to its callers, over the tree of slots of `atlas_tree`.
+//! The atlas allocator, which `guillotiere` re-exports, over the tree of slots of `atlas_tree`.
 
 mod atlas;
 

@@ -85,7 +85,7 @@ impl<A: Allocator> Recency<A> {
         self.count == 0
     }
 
-    /// Says what each order keeps, and does nothing: each entry stands in it once, under a number that was given out.
+    /// Says what each order keeps, and does nothing: each entry is in it once, under a number that was given out.
     #[inline]
     pub fn prove_kept(&self) {
         let _links = &self.links;

@@ -75,8 +75,8 @@ pub fn picks_are_one() {}
 #[inline]
 pub fn picks_exist() {}
 
-/// A granted box lies inside a free box of before, with sides barely above those asked for,
-/// and is added to what is live.
+/// A granted box lies inside an earlier free box, with sides barely above those asked for, and is added to what is
+/// live.
 #[inline]
 pub fn grants_lie_inside() {}
 

@@ -187,8 +187,8 @@ fn first_whole<A: Allocator + Copy>(
     }
 }
 
-/// All sprites in the smallest sheet that the ways and the changes of the order find, of whose size `told` is told
-/// last. None only where no way packs them into the greatest one.
+/// All sprites in the smallest sheet that the ways and the changes of the order find; `told` is last called with its
+/// size. None only where no way packs them into the greatest one.
 #[inline]
 pub fn packed<A: Allocator + Copy, F: FnMut(Size)>(
     alloc: A,

@@ -83,7 +83,7 @@ pub const WAYS: [Way; 10] = [
     },
 ];
 
-/// Each key stands in `WAYS` with each choice.
+/// Each key is in `WAYS` with each choice.
 #[inline]
 pub fn prove_ways() {}
 

@@ -17,7 +17,7 @@ pub enum ReplayFault {
     Memory,
     /// More slots would be used than an atlas may use.
     Slots,
-    /// The event with this number, counted from 0, has another answer than the atlas gives.
+    /// The event with this number, counted from 0, has a different answer from the one that the atlas gives.
     Differs(usize),
     /// The event with this number, counted from 0, can't be carried out.
     BadEvent(usize),

@@ -46,7 +46,7 @@ impl Answers {
         self.checksum = (self.checksum ^ word).wrapping_mul(0x100_0000_01b3);
     }
 
-    /// Takes in that a request was granted.
+    /// Records that a request was granted.
     pub fn granted(&mut self, allocation: Allocation) {
         self.calls += 1;
         self.add_grant(allocation);
@@ -79,31 +79,31 @@ impl Answers {
         }
     }
 
-    /// Takes in that a request was granted by an allocator without ids.
+    /// Records that a request was granted by an allocator without ids.
     pub fn placed(&mut self, rectangle: Rectangle) {
         self.calls += 1;
         self.add_box(rectangle);
     }
 
-    /// Takes in that a request had no room.
+    /// Records that a request had no room.
     pub fn refused(&mut self) {
         self.calls += 1;
         self.add(NO_ROOM);
     }
 
-    /// Takes in that a box was freed.
+    /// Records that a box was freed.
     pub fn freed(&mut self) {
         self.calls += 1;
         self.add(FREED);
     }
 
-    /// Takes in that the atlas grew.
+    /// Records that the atlas grew.
     pub fn grown(&mut self) {
         self.calls += 1;
         self.add(GROWN);
     }
 
-    /// Takes in that the atlas was rearranged.
+    /// Records that the atlas was rearranged.
     pub fn rearranged(&mut self, list: &ChangeList) {
         self.calls += 1;
         self.add_changes(&list.changes);
@@ -111,19 +111,19 @@ impl Answers {
         self.add(REARRANGED);
     }
 
-    /// Takes in that a key of a cache has this place.
+    /// Records that a key of a cache has this place.
     pub fn shown(&mut self, place: Place) {
         self.calls += 1;
         self.add(u64::from(place.page));
         self.add_box(place.rectangle);
     }
 
-    /// Takes in that a call, which is counted later, added a page.
+    /// Records that a call, which is counted later, added a page.
     pub fn page_added(&mut self) {
         self.add(PAGE_ADDED);
     }
 
-    /// Takes in that such a call evicted a key.
+    /// Records that such a call evicted a key.
     pub fn evicted(&mut self, key: u32) {
         self.add(0x1_0000_0000 + u64::from(key));
     }

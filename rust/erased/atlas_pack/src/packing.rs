@@ -47,7 +47,7 @@ pub fn sizes_of(alloc: Global, sprites: &[Sprite]) -> Result<Vec<Size>, AllocErr
     sprites.iter().map(|sprite| sprite.size).collect_in(alloc)
 }
 
-/// Each sprite beside its place or none, in order.
+/// Each sprite with its place or none, in order.
 pub fn beside(
     alloc: Global,
     sprites: Vec<Sprite>,
@@ -147,7 +147,7 @@ fn page_frame_of(sprite: Sprite, place: OnPage) -> PageFrame {
     }
 }
 
-/// Each sprite beside its place on one of several sheets, in order.
+/// Each sprite with its place on one of several sheets, in order.
 pub fn beside_pages(
     alloc: Global,
     sprites: Vec<Sprite>,

@@ -1,6 +1,6 @@
 // Erased from crates/atlas_tests/src/lib.rt by rust/erase: don't edit.
-//! Tests of an atlas beside the rows of `guillotiere_tests`: walks, many boxes, memory, a long session. Expected values
-//! are worked by hand from the rules; none is an answer of the code under test.
+//! Tests of an atlas, in addition to the rows of `guillotiere_tests`: walks, many boxes, memory, a long session.
+//! Expected values are worked by hand from the rules; none is an answer of the code under test.
 #![forbid(unsafe_code)]
 #![allow(dead_code, unused_imports, unused_labels, unused_variables)]
 

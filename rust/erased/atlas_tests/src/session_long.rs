@@ -1,5 +1,6 @@
 // Erased from crates/atlas_tests/src/session_long.rt by rust/erase: don't edit.
-//! A long session: random calls of every kind, in lists of up to 50, beside the same calls made one by one on a copy.
+//! A long session: random calls of every kind, in lists of up to 50, alongside the same calls made one by one on a
+//! copy.
 
 use wollemigo_core::guillotiere::session::{run, Call, Reply};
 use wollemigo_core::guillotiere::{

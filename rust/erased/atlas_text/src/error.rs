@@ -1,11 +1,11 @@
 // Erased from crates/atlas_text/src/error.rt by rust/erase: don't edit.
-//! Why no pages are told.
+//! Why no pages are written.
 
 use wollemigo_core::atlas_cache::{CacheError, OptionsError};
 use wollemigo_support::alloc::{AllocError, AllocFailed};
 use wollemigo_support::io;
 
-/// Why no pages are told.
+/// Why no pages are written.
 #[derive(Debug)]
 pub enum TextError {
     /// The line with this number, counted from 1, is neither a frame nor a glyph.

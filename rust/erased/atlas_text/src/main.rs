@@ -1,5 +1,5 @@
 // Erased from crates/atlas_text/src/main.rt by rust/erase: don't edit.
-//! Plays the glyphs of a text through a cache, and tells the pages that come of it, in lines that `atlas_svg` draws.
+//! Plays the glyphs of a text through a cache, and writes the pages that result, in lines that `atlas_svg` draws.
 #![forbid(unsafe_code)]
 #![allow(dead_code, unused_imports, unused_labels, unused_variables)]
 

@@ -4,7 +4,7 @@
 use wollemigo_core::atlas_model::{size2, AllocId, AllocatorOptions, Size, DEFAULT_OPTIONS};
 
 /// The bytes before the first space, all of them where there is none, and the rest from that space on. For programs
-/// that read lines of their own, as `atlas_bench`. It takes no memory.
+/// that read lines of their own, such as `atlas_bench`. It takes no memory.
 pub fn first_word(text: &[u8]) -> (&[u8], &[u8]) {
     for (i, byte) in text.iter().enumerate() {
         if *byte == b' ' {
@@ -15,7 +15,7 @@ pub fn first_word(text: &[u8]) -> (&[u8], &[u8]) {
 }
 
 /// The bytes before the first LF, all of them where there is none, and those after it. For programs that read lines of
-/// their own, as `atlas_bench` and `atlas_svg`. It takes no memory.
+/// their own, such as `atlas_bench` and `atlas_svg`. It takes no memory.
 pub fn first_line(text: &[u8]) -> (&[u8], &[u8]) {
     for (i, byte) in text.iter().enumerate() {
         if *byte == b'\n' {
@@ -26,7 +26,7 @@ pub fn first_line(text: &[u8]) -> (&[u8], &[u8]) {
 }
 
 /// The number that one or more decimal digits write, where it fits a `u32`; None for every other text. For programs
-/// that read lines of their own, as `atlas_bench`. It takes no memory.
+/// that read lines of their own, such as `atlas_bench`. It takes no memory.
 pub fn unsigned(text: &[u8]) -> Option<u32> {
     if text.is_empty() {
         return None;

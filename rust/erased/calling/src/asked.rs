@@ -89,7 +89,7 @@ pub fn page_like<A: Allocator + Copy>(
     AtlasAllocator::with_options(alloc, first.size(), &first.options())
 }
 
-/// A new atlas has the options that are told.
+/// A new atlas has the default options.
 pub fn default_options<A: Allocator + Copy>(alloc: A, size: Size) -> Result<(), AtlasError> {
     let atlas = AtlasAllocator::new(alloc, size)?;
     let options = atlas.options();

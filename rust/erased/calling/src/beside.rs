@@ -1,5 +1,5 @@
 // Erased from crates/calling/src/beside.rt by rust/erase: don't edit.
-//! Rectangles beside those of an atlas, which stays as it is.
+//! Rectangles alongside those of an atlas, which stays as it is.
 
 use wollemigo_core::guillotiere::{
     laws, size2, AtlasAllocator, AtlasError, Rectangle, SimpleAtlasAllocator, Size,

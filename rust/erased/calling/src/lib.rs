@@ -1,6 +1,6 @@
 // Erased from crates/calling/src/lib.rt by rust/erase: don't edit.
-//! What callers write first over an atlas. All is proved with no proof file but `apart::two`, `beside::place_beside` and
-//! `tiled`, which show how a clause and a law are cited.
+//! What callers write first over an atlas. All of it is proved without a proof file, except `apart::two`,
+//! `beside::place_beside` and `tiled`, which show how a clause and a law are cited.
 #![forbid(unsafe_code)]
 #![allow(dead_code, unused_imports, unused_labels, unused_variables)]
 

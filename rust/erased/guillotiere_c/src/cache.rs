@@ -40,7 +40,7 @@ pub extern "C" fn guillotiere_cache_new(
     }
 }
 
-/// Lets a cache go, with all that it takes; the handle holds nothing then.
+/// Frees a cache, with all that it takes; the handle holds nothing then.
 #[no_mangle]
 pub extern "C" fn guillotiere_cache_free(cache: &mut CacheHandle) {
     let alloc = Global;
@@ -91,7 +91,7 @@ pub extern "C" fn guillotiere_cache_get(
     write_found(found, place)
 }
 
-/// The place of a key; it counts as no use. `DONE`; `NOT_HELD`.
+/// The place of a key; it doesn't count as a use. `DONE`; `NOT_HELD`.
 #[no_mangle]
 pub extern "C" fn guillotiere_cache_peek(
     cache: &mut CacheHandle,
@@ -125,12 +125,12 @@ fn write_inserted(answer: Result<Inserted, CacheError>, place: &mut PlainPlace) 
     }
 }
 
-/// A place for a key, which is used in this frame, as `TextureCache::insert` finds it. `DONE` of a new key, whose pixels
-/// are to be written there; a key with an empty size has none, and its place is empty. `HELD` of one that was held, and then
-/// the place is written too; `FRAME_FULL` if each entry on a page is used in this frame and no page has room; `NEVER_FITS`
-/// if the size passes the largest page, with the padding and rounded up to the alignment; `OTHER_SIZE` if the key is held with
-/// another size; `NUMBERS`, `SLOTS`, `MEMORY`.
-/// What was done is told by `guillotiere_cache_next_change`, also after `FRAME_FULL` and after an error.
+/// A place for a key, which is used in this frame, as `TextureCache::insert` finds it. `DONE` of a new key, whose
+/// pixels are to be written there; a key with an empty size has none, and its place is empty. `HELD` of one that was
+/// held, and then the place is written too; `FRAME_FULL` if each entry on a page is used in this frame and no page has
+/// room; `NEVER_FITS` if the size passes the largest page, with the padding and rounded up to the alignment;
+/// `OTHER_SIZE` if the key is held with another size; `NUMBERS`, `SLOTS`, `MEMORY`. What was done is reported by
+/// `guillotiere_cache_next_change`, also after `FRAME_FULL` and after an error.
 #[no_mangle]
 pub extern "C" fn guillotiere_cache_insert(
     cache: &mut CacheHandle,
@@ -149,8 +149,8 @@ pub extern "C" fn guillotiere_cache_insert(
     write_inserted(answer, place)
 }
 
-/// A key goes, and the place that it had is written. No change tells it: the caller forgets its place, once the changes
-/// that weren't handed over are followed. Takes no memory. `DONE`; `NOT_HELD`.
+/// A key goes, and the place that it had is written. No change reports this: the caller forgets its place, once the
+/// changes that weren't handed over are followed. Takes no memory. `DONE`; `NOT_HELD`.
 #[no_mangle]
 pub extern "C" fn guillotiere_cache_remove(
     cache: &mut CacheHandle,
@@ -189,8 +189,8 @@ pub extern "C" fn guillotiere_cache_next_change(
     }
 }
 
-/// All keys go. The pages stay, with their sizes and with nothing on them. No change tells it: the caller forgets all
-/// places. The changes that weren't handed over stay. `DONE`.
+/// All keys go. The pages stay, with their sizes and with nothing on them. No change reports this: the caller forgets
+/// all places. The changes that weren't handed over stay. `DONE`.
 #[no_mangle]
 pub extern "C" fn guillotiere_cache_clear(cache: &mut CacheHandle) -> u32 {
     let alloc = Global;
@@ -203,8 +203,8 @@ pub extern "C" fn guillotiere_cache_clear(cache: &mut CacheHandle) -> u32 {
     DONE
 }
 
-/// The keys that weren't used for at least so many frames go, each told as evicted, the least recently used first: with
-/// 1, what this frame didn't use; with 0, all. `DONE`; `MEMORY`.
+/// The keys that weren't used for at least so many frames go, each reported as evicted, the least recently used first:
+/// with 1, what this frame didn't use; with 0, all. `DONE`; `MEMORY`.
 #[no_mangle]
 pub extern "C" fn guillotiere_cache_trim(cache: &mut CacheHandle, frames: u64) -> u32 {
     let alloc = Global;
@@ -220,8 +220,8 @@ pub extern "C" fn guillotiere_cache_trim(cache: &mut CacheHandle, frames: u64) -
     }
 }
 
-/// The pages behind the last one with a key go, each told as removed, the last one first. The others stay, with their
-/// sizes, and so do all keys; after `clear` all pages go. `DONE`; `MEMORY`.
+/// The pages behind the last one with a key go, each reported as removed, the last one first. The others stay, with
+/// their sizes, and so do all keys; after `clear` all pages go. `DONE`; `MEMORY`.
 #[no_mangle]
 pub extern "C" fn guillotiere_cache_shrink(cache: &mut CacheHandle) -> u32 {
     let alloc = Global;
@@ -237,9 +237,9 @@ pub extern "C" fn guillotiere_cache_shrink(cache: &mut CacheHandle) -> u32 {
     }
 }
 
-/// Places the keys of a page anew, the largest first, so that what is free comes together. Each of them is told once,
-/// as moved or, where it found no room, as evicted; no other key changes. Pages are counted from 0. `DONE`; `NO_PAGE`;
-/// `SLOTS`; `MEMORY`.
+/// Places the keys of a page anew, the largest first, so that what is free comes together. Each of them is reported
+/// once, as moved or, where it found no room, as evicted; no other key changes. Pages are counted from 0. `DONE`;
+/// `NO_PAGE`; `SLOTS`; `MEMORY`.
 #[no_mangle]
 pub extern "C" fn guillotiere_cache_repack(cache: &mut CacheHandle, page: u32) -> u32 {
     let alloc = Global;

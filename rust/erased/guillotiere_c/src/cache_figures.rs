@@ -1,5 +1,5 @@
 // Erased from crates/guillotiere_c/src/cache_figures.rt by rust/erase: don't edit.
-//! The exports that tell of a cache: how many keys and pages it has, and how it was used.
+//! The exports that report on a cache: how many keys and pages it has, and how it was used.
 
 use crate::cache_handle::CacheHandle;
 use crate::plain::{plain_size, PlainAreas, PlainSize, DONE, EMPTY, MEMORY, NO_PAGE};

@@ -19,7 +19,7 @@ fn write_keyed(found: Option<(u64, Place)>, key: &mut u64, place: &mut PlainPlac
     }
 }
 
-/// The most recently used key, and its place; it counts as no use. `DONE`; `NOT_HELD` if no key is held.
+/// The most recently used key, and its place; it doesn't count as a use. `DONE`; `NOT_HELD` if no key is held.
 #[no_mangle]
 pub extern "C" fn guillotiere_cache_newest(
     cache: &mut CacheHandle,
@@ -36,7 +36,7 @@ pub extern "C" fn guillotiere_cache_newest(
     write_keyed(found, key, place)
 }
 
-/// The least recently used key, and its place; it counts as no use. `DONE`; `NOT_HELD` if no key is held.
+/// The least recently used key, and its place; it doesn't count as a use. `DONE`; `NOT_HELD` if no key is held.
 #[no_mangle]
 pub extern "C" fn guillotiere_cache_oldest(
     cache: &mut CacheHandle,
@@ -53,8 +53,8 @@ pub extern "C" fn guillotiere_cache_oldest(
     write_keyed(found, key, place)
 }
 
-/// The key that was used next before this one, and its place; it counts as no use. `DONE`; `NOT_HELD` if this one is the
-/// least recently used, or isn't held.
+/// The key that was used next before this one, and its place; it doesn't count as a use. `DONE`; `NOT_HELD` if this one
+/// is the least recently used, or isn't held.
 #[no_mangle]
 pub extern "C" fn guillotiere_cache_older(
     cache: &mut CacheHandle,

@@ -1,5 +1,5 @@
 // Erased from crates/guillotiere_c/src/lifetimes.rt by rust/erase: don't edit.
-//! The exports that make atlases, copy them and let them go.
+//! The exports that make atlases, copy them and free them.
 
 use crate::atlas_handle::AtlasHandle;
 use crate::plain::{options_for, PlainOptions, BAD_CALL, DONE, EMPTY, MEMORY, MOST_SLOTS};
@@ -74,7 +74,7 @@ pub extern "C" fn guillotiere_atlas_with_slot_limit(
     start(alloc, width, height, &options, limit, atlas)
 }
 
-/// Lets an atlas go, with all that it takes; the handle holds nothing then.
+/// Frees an atlas, with all that it takes; the handle holds nothing then.
 #[no_mangle]
 pub extern "C" fn guillotiere_atlas_free(atlas: &mut AtlasHandle) {
     let alloc = Global;

@@ -15,7 +15,7 @@ pub const NO_ROOM: u32 = 1;
 /// The condition of the call doesn't hold: an empty size, options that aren't valid, a growth that shrinks a side.
 pub const BAD_CALL: u32 = 2;
 
-/// An id isn't live, or stands twice in a list of ids.
+/// An id isn't live, or is in a list of ids twice.
 pub const NOT_LIVE: u32 = 3;
 
 /// More slots would be used than the limit allows.

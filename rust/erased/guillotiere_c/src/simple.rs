@@ -69,7 +69,7 @@ pub extern "C" fn guillotiere_simple_with_options(
     start(alloc, width, height, &options, simple)
 }
 
-/// Lets a simple allocator go, with all that it takes; the handle holds nothing then.
+/// Frees a simple allocator, with all that it takes; the handle holds nothing then.
 #[no_mangle]
 pub extern "C" fn guillotiere_simple_free(simple: &mut SimpleHandle) {
     let alloc = Global;

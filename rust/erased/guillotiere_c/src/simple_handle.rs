@@ -22,7 +22,7 @@ impl SimpleHandle {
         }
     }
 
-    /// Lets a handle go. Asks that it holds nothing, so that nothing is lost.
+    /// Drops a handle. Asks that it holds nothing, so that nothing is lost.
     pub fn forget(handle: SimpleHandle) {
         let SimpleHandle { at: _ } = handle;
     }

@@ -1,6 +1,6 @@
 // Erased from crates/guillotiere_tests/src/lib.rt by rust/erase: don't edit.
-//! Rows of calls of an atlas and of sessions, beside those of `recorded_tests`. Expected values are worked by hand from the rules,
-//! or recorded from the Rust crate `guillotiere` 0.7.0; none is an answer of the code under test.
+//! Rows of calls of an atlas and of sessions, in addition to those of `recorded_tests`. Expected values are worked by
+//! hand from the rules, or recorded from the Rust crate `guillotiere` 0.7.0; none is an answer of the code under test.
 #![forbid(unsafe_code)]
 #![allow(dead_code, unused_imports, unused_labels, unused_variables)]
 

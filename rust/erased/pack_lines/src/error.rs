@@ -9,13 +9,13 @@ use wollemigo_support::io;
 pub enum PackError {
     /// The words after `sheet` on the first line are no settings.
     BadSettings,
-    /// `pages` stands with `fill`, `dense` or `json`.
+    /// `pages` is given with `fill`, `dense` or `json`.
     NotTogether,
-    /// `group` stands without `pages`.
+    /// `group` is given without `pages`.
     NoPages,
     /// This line is no sprite.
     BadLine(usize),
-    /// The name on this line stands on an earlier one.
+    /// The name on this line is on an earlier one.
     Twice(usize),
     /// The sprite on this line has a side below 1.
     EmptySprite(usize),

@@ -1,5 +1,5 @@
 // Erased from crates/pack_lines/src/folders.rt by rust/erase: don't edit.
-//! Sprites in folders: what stands before the last `/` of a name.
+//! Sprites in folders: what comes before the last `/` of a name.
 
 use crate::sprites::Sprite;
 use wollemigo_support::alloc::{AllocError, Global};
@@ -38,9 +38,9 @@ fn number_of<'a>(
     Ok(Some(number))
 }
 
-/// The number of each sprite's folder, which is what stands before the last `/` of its name: the number of the first sprite
-/// in that folder, counted from 0. None where a name has no `/`. So two sprites have the same number exactly if they have
-/// the same folder. It takes memory for the numbers.
+/// The number of each sprite's folder, which is what comes before the last `/` of its name: the number of the first
+/// sprite in that folder, counted from 0. None where a name has no `/`. So two sprites have the same number exactly if
+/// they have the same folder. It takes memory for the numbers.
 pub fn folder_groups(alloc: Global, sprites: &[Sprite]) -> Result<Vec<Option<usize>>, AllocError> {
     let mut firsts = BTreeMap::new(alloc);
     let mut groups = Vec::new(alloc);

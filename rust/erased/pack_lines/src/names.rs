@@ -1,5 +1,5 @@
 // Erased from crates/pack_lines/src/names.rt by rust/erase: don't edit.
-//! Names that stand once.
+//! Names that occur once.
 
 use crate::error::PackError;
 use crate::sprites::Sprite;

@@ -48,10 +48,10 @@ fn name_of(alloc: Global, bytes: &[u8]) -> Result<Option<String>, AllocError> {
     Ok(Some(String::from_str(alloc, name)?))
 }
 
-/// The sprite that the bytes of a line, without its LF, name: NAME WIDTH HEIGHT, parted by single spaces. None for
-/// every other line. A name is one or more characters in UTF-8, none of them a control character. It stands as it is
-/// where it has no space and doesn't begin with a quotation mark; each name may stand in quotation marks, as a string
-/// of JSON. It takes memory for the name.
+/// The sprite that the bytes of a line, without its LF, name: NAME WIDTH HEIGHT, separated by single spaces. None for
+/// every other line. A name is one or more characters in UTF-8, none of them a control character. It is written as it
+/// is where it has no space and doesn't begin with a quotation mark; each name may be written in quotation marks, as a
+/// JSON string. It takes memory for the name.
 pub fn read_sprite(alloc: Global, line: &[u8]) -> Result<Option<Sprite>, AllocError> {
     let (bytes, rest) = match read_spelled(alloc, line)? {
         Some((bytes, rest)) => (bytes, rest),

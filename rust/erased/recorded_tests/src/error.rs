@@ -9,7 +9,7 @@ use wollemigo_support::io;
 pub enum PlayError {
     /// The line with this number, counted from 1, is none that these sessions have.
     BadLine(u64),
-    /// The session that ends at the line with this number is answered otherwise.
+    /// The session that ends at the line with this number is answered differently.
     Otherwise(u64),
     /// The atlas refused a call.
     Refused(AtlasError),

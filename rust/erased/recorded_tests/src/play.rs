@@ -7,7 +7,7 @@ use test_memory::Refusing;
 use wollemigo_support::alloc::{AllocError, Global};
 use wollemigo_support::prelude::{format, String, Vec};
 
-/// The lines of a session, and the replies that are wanted.
+/// The lines of a session, and the expected replies.
 
 pub struct Session {
     steps: Vec<Step>,
@@ -39,7 +39,7 @@ impl Session {
         Ok(self.steps.push(Step { line, replies })?)
     }
 
-    /// Adds a line, and its replies, which are parted by commas.
+    /// Adds a line, and its replies, which are separated by commas.
     pub fn add(&mut self, alloc: Global, line: &str, replies: &str) -> Result<(), AllocError> {
         self.push(alloc, line, parted(alloc, replies)?)
     }
@@ -83,8 +83,8 @@ impl Session {
         false
     }
 
-    /// Whether the tool answers as wanted. A worked session is played with all that a line asks of memory refused once,
-    /// and with each request refused in turn: after a refusal all is as before, and the line is given again.
+    /// Whether the tool answers as expected. A worked session is played with all that a line asks of memory refused
+    /// once, and with each request refused in turn: after a refusal all is as before, and the line is given again.
     pub fn play(&self, alloc: Global, is_worked: bool) -> bool {
         let heap = Refusing::new(alloc);
         if self.is_told || !is_worked {

@@ -8,7 +8,7 @@ use test_memory::Refusing;
 use wollemigo_support::alloc::Global;
 use wollemigo_support::prelude::{String, Vec};
 
-/// A line with its end, and the replies that are wanted, each with its end.
+/// A line with its end, and the expected replies, each with its end.
 
 pub struct Step {
     pub line: String,
@@ -83,7 +83,7 @@ impl<'a> Talk<'a> {
         }
     }
 
-    /// Whether all lines were given and answered as wanted.
+    /// Whether all lines were given and answered as expected.
     pub fn is_well(&self) -> bool {
         self.is_well.get() && self.begun.get() == self.steps.len()
     }

@@ -181,9 +181,9 @@ impl<A: Allocator + Copy> TextureArray<A> {
         Some((glyph.page, glyph.inner))
     }
 
-    /// A place for a glyph of `width` by `height` pixels, as `get` then tells: the one that it has, or a new one on the
-    /// first page that has room for it and its border. Where none has, a page is added, unless there are `most`. None
-    /// if that can't be, or if with its border it is larger than a page, and then nothing changes. No other glyph
+    /// A place for a glyph of `width` by `height` pixels, as `get` then reports it: the one that it has, or a new one
+    /// on the first page that has room for it and its border. Where none has, a page is added, unless there are `most`.
+    /// None if that can't be, or if with its border it is larger than a page, and then nothing changes. No other glyph
     /// moves. After an error, `Memory` or `Slots`, each glyph is where it was.
     pub fn insert(
         &mut self,
@@ -203,7 +203,7 @@ impl<A: Allocator + Copy> TextureArray<A> {
         place_on(&mut self.pages, &mut self.glyphs, page, key, width, height)
     }
 
-    /// Takes a glyph out, and tells whether it was held. No other glyph moves. Takes no memory.
+    /// Takes a glyph out, and says whether it was held. No other glyph moves. Takes no memory.
     pub fn remove(&mut self, key: u32) -> bool {
         take_out(&mut self.pages, &mut self.glyphs, key)
     }

@@ -1,5 +1,5 @@
 // Erased from crates/atlas_cache/src/cache/clearing.rt by rust/erase: don't edit.
-//! What goes without another entry that comes, and room that is asked for beforehand.
+//! Entries that go without another one coming in, and room that is reserved beforehand.
 
 use crate::atlas_cache::cache::holding::{oldest, place_of, take_out};
 use crate::atlas_cache::cache::TextureCache;
@@ -11,8 +11,8 @@ use wollemigo_support::hash::{BuildHasher, Hash};
 
 impl<K: Copy + Eq + Hash, S: BuildHasher, A: Allocator + Copy> TextureCache<K, S, A> {
     /// All keys go. The pages stay, with their sizes and with nothing on them, and so do the frame and the counts. No
-    /// change tells it: the caller forgets all places. Takes no memory, and gives none back: what the keys had is in reserve.
-    /// A `shrink` after it takes all pages away, and then the cache begins with small ones again.
+    /// change reports this: the caller forgets all places. Takes no memory, and gives none back: what the keys had is
+    /// in reserve. A `shrink` after it takes all pages away, and then the cache begins with small ones again.
     #[inline]
     pub fn clear(&mut self) {
         self.entries.clear();

@@ -1,5 +1,5 @@
 // Erased from crates/atlas_cache/src/cache/figures.rt by rust/erase: don't edit.
-//! What a cache tells of itself: how it was made, how it was used, and the areas of its pages.
+//! What a cache reports about itself: how it was made, how it was used, and the areas of its pages.
 
 use crate::atlas_cache::cache::TextureCache;
 use crate::atlas_cache::counts::Counts;
@@ -53,9 +53,9 @@ impl<K: Copy + Eq + Hash, S: BuildHasher, A: Allocator + Copy> TextureCache<K, S
     }
 
     /// The area of a page, in pixels, that is free in rectangles which have no room for an entry of this size, with its
-    /// padding and rounded up to the alignment; None if there is no such page. A side below 0 counts as 0. Of the area
-    /// that is free (`free_area`) it tells how much is of no use for entries of the usual size: where that is much, it is
-    /// time to repack the page. Takes memory for a list of the page's free rectangles: `Memory` if that is refused.
+    /// padding and rounded up to the alignment; None if there is no such page. A side below 0 counts as 0. The answer
+    /// says how much of the free area (`free_area`) is of no use for entries of the usual size: where that is a lot, it
+    /// is time to repack the page. Takes memory for a list of the page's free rectangles: `Memory` if that is refused.
     #[inline]
     pub fn unusable_area(&self, page: u32, size: Size) -> Result<Option<u64>, CacheError> {
         if page < self.rooms.len() {

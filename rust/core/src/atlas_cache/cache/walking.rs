@@ -39,7 +39,7 @@ fn older<K: Copy + Eq + Hash, S: BuildHasher, A: Allocator + Copy>(
 }
 
 impl<K: Copy + Eq + Hash, S: BuildHasher, A: Allocator + Copy> TextureCache<K, S, A> {
-    /// The most recently used key, and its place; None if there is none. It counts as no use.
+    /// The most recently used key, and its place; None if there is none. It doesn't count as a use.
     #[inline]
     pub fn newest(&self) -> Option<(K, Place)> {
         let entry = match newest(&self.entries) {
@@ -51,7 +51,7 @@ impl<K: Copy + Eq + Hash, S: BuildHasher, A: Allocator + Copy> TextureCache<K, S
         Some((entry.key, place_of(entry, &self.rooms.options())))
     }
 
-    /// The least recently used key, and its place; None if there is none. It counts as no use.
+    /// The least recently used key, and its place; None if there is none. It doesn't count as a use.
     #[inline]
     pub fn oldest(&self) -> Option<(K, Place)> {
         let entry = match oldest(&self.entries) {
@@ -64,8 +64,8 @@ impl<K: Copy + Eq + Hash, S: BuildHasher, A: Allocator + Copy> TextureCache<K, S
     }
 
     /// The key that was used next before this one, and its place; None if this one is the least recently used, or isn't
-    /// held. It counts as no use. From `newest` on, this gives each key once, in the order of use, with one look-up
-    /// each.
+    /// held. It doesn't count as a use. From `newest` on, this gives each key once, in the order of use, with one
+    /// look-up each.
     #[inline]
     pub fn older(&self, key: &K) -> Option<(K, Place)> {
         let number = match look_up(&self.entries, key) {

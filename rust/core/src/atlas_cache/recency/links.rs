@@ -55,7 +55,7 @@ fn set_previous(links: &mut [Link], ends: &mut Link, at: u32, previous: u32) {
     }
 }
 
-/// The neighbours of an entry let it go.
+/// The neighbours of an entry are linked to each other instead of to it.
 #[inline]
 pub fn unlink(links: &mut [Link], ends: &mut Link, at: u32) {
     let own = own_link(links, at);

@@ -64,12 +64,12 @@ fn place_all<A: Allocator + Copy>(
 }
 
 impl<A: Allocator + Copy> Rooms<A> {
-    /// Places rectangles in an empty page of the size of this one, which becomes this page: the largest first, and those
-    /// of one area in the order of the list. Asks that there is such a page, and rectangles with the coordinates of
-    /// boxes. If the list names what is live on the page, each once, then the answer tells each rectangle of the page
-    /// once: those that were placed anew, with their former and their new ids, and those that found no room when their
-    /// turn came, whose ids are live no more. All former ids of the page are void. Other pages stay as they are. `Slots`
-    /// if the page has too few of them, `Memory` if memory is refused; then nothing changes.
+    /// Places rectangles in an empty page of the size of this one, which becomes this page: the largest first, and
+    /// those of one area in the order of the list. Asks that there is such a page, and rectangles with the coordinates
+    /// of boxes. If the list names what is live on the page, each once, then the answer lists each rectangle of the
+    /// page once: those that were placed anew, with their former and their new ids, and those that found no room when
+    /// their turn came, whose ids are no longer live. All former ids of the page are void. Other pages stay as they
+    /// are. `Slots` if the page has too few of them, `Memory` if memory is refused; then nothing changes.
     #[inline]
     pub fn repack(
         &mut self,

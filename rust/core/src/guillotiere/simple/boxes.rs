@@ -96,8 +96,8 @@ impl<A: Allocator> FreeBoxes<A> {
         self.table.push(place, at, top_in(area));
     }
 
-    /// Makes it sure that n more entries can be used. The only error is `Memory`, where that is more than there are,
-    /// and nothing changes but the room.
+    /// Makes sure that n more entries can be used. The only error is `Memory`, where that is more than there are, and
+    /// nothing changes but the room.
     #[inline]
     pub fn make_room(&mut self, n: u32) -> Result<(), AtlasError> {
         let all = self.used as usize + n as usize;
@@ -118,7 +118,7 @@ impl<A: Allocator> FreeBoxes<A> {
         self.put(at, area, options);
     }
 
-    /// Leaves this box alone, in the room that there is. Takes no memory.
+    /// Leaves only this box, in the room that there is. Takes no memory.
     #[inline]
     pub fn restart(&mut self, area: Rectangle, options: &Scale) {
         self.entries.clear();
