@@ -112,7 +112,7 @@ export interface Change {
   after: Allocation;
 }
 
-/** What a rearranging moved, and what found no room and is live no more. */
+/** What a rearranging moved, and what found no room and is no longer live. */
 export interface ChangeList {
   changes: Change[];
   failures: Allocation[];
@@ -329,7 +329,7 @@ export class TextureCache {
   beginFrame(): void;
   /** The place of a key, which is used in this frame from now on; null where it isn't held. Counts a hit or a miss. */
   get(key: Key): Place | null;
-  /** The place of a key; null where it isn't held. It counts as no use, and as no hit or miss. */
+  /** The place of a key; null where it isn't held. It doesn't count as a use, and as no hit or miss. */
   peek(key: Key): Place | null;
   /**
    * A place for a key, which is used in this frame. A key that is held keeps its place. For a new key a page may grow, one may
@@ -345,7 +345,7 @@ export class TextureCache {
   insert(key: Key, width: number, height: number): Entry | null;
   /** A key goes. Gives the place that it had; null where it wasn't held. No change reports this. */
   remove(key: Key): Place | null;
-  /** Whether a key is held; it counts as no use, and as no hit or miss. */
+  /** Whether a key is held; it doesn't count as a use, and as no hit or miss. */
   has(key: Key): boolean;
   /** What was done and not handed over yet, each change once, in the order in which they were made:
    * `for (const change of cache.changes())`. One that isn't reached waits for the next time. */
@@ -363,9 +363,9 @@ export class TextureCache {
   /** Takes memory for so many more keys. Throws `MEMORY`. */
   reserve(additional: number): void;
 
-  /** The most recently used key; null where none is held. It counts as no use. */
+  /** The most recently used key; null where none is held. It doesn't count as a use. */
   newest(): KeyedPlace | null;
-  /** The least recently used key; null where none is held. It counts as no use. */
+  /** The least recently used key; null where none is held. It doesn't count as a use. */
   oldest(): KeyedPlace | null;
   /** The key that was used next before this one; null where this one is the least recently used, or isn't held. It counts as no
    * use. From `newest` on, this gives each key once. */

@@ -181,7 +181,7 @@ public:
 
     explicit operator bool() const { return value_.has_value(); }
     bool has_value() const { return value_.has_value(); }
-    // Asks that there is a value.
+    // Requires that there is a value.
     T &operator*() { return *value_; }
     const T &operator*() const { return *value_; }
     T *operator->() { return &*value_; }

@@ -84,7 +84,7 @@ impl<A: Allocator + Copy> AtlasAllocator<A> {
     ghost use Rattle.atlas_model.specs.Callers.{LeavesNoBoxes, KeepsAll, AllLieApart, AllLieWithin};
     ghost use Rattle.atlas_model.specs.Callers.{HasFrame, IsAnswer, IsShortage, KeepsFrame, LiesWithin};
 
-    /// An atlas of this size, in pixels, with the default options: one free rectangle. Asks a size that isn't empty.
+    /// An atlas of this size, in pixels, with the default options: one free rectangle. Requires a size that isn't empty.
     /// `Memory` is the only error.
     pub fn new(alloc: A, size: Size) -> Result<Self, AtlasError>
         requires { IsPositive (sides_of size) }
@@ -98,7 +98,7 @@ impl<A: Allocator + Copy> AtlasAllocator<A> {
         AtlasAllocator::with_options(alloc, size, &DEFAULT_OPTIONS)
     }
 
-    /// The same with these options. Asks a size that isn't empty and valid options.
+    /// The same with these options. Requires a size that isn't empty and valid options.
     pub fn with_options(
         alloc: A,
         size: Size,
@@ -115,7 +115,7 @@ impl<A: Allocator + Copy> AtlasAllocator<A> {
         AtlasAllocator::with_slot_limit(alloc, size, options, MOST_SLOTS)
     }
 
-    /// The same with a limit on the slots that are used at once. Asks a size that isn't empty, valid options and a
+    /// The same with a limit on the slots that are used at once. Requires a size that isn't empty, valid options and a
     /// limit from 1 to 16777216.
     pub fn with_slot_limit(
         alloc: A,
@@ -324,7 +324,7 @@ impl<A: Allocator + Copy> AtlasAllocator<A> {
     }
 
     /// Places what is allocated anew in an empty atlas of this size, the largest first; the options and the limit stay.
-    /// Asks a size that isn't empty. The rectangles are taken in order of descending area, where areas count up to
+    /// Requires a size that isn't empty. The rectangles are taken in order of descending area, where areas count up to
     /// 2147483647, and of descending slot, the low 24 bits of the id, where areas are equal; each is placed where it
     /// then fits, or else listed as a failure, whose id is no longer live. All former ids are void, and each slot is in
     /// its first generation. `Slots` if on the way more slots would be used than the limit allows; `Memory` if memory
@@ -400,7 +400,7 @@ impl<A: Allocator + Copy> AtlasAllocator<A> {
         Ok(())
     }
 
-    /// Starts again at this size, in pixels, and with these options; the limit stays. Asks a size that isn't empty and
+    /// Starts again at this size, in pixels, and with these options; the limit stays. Requires a size that isn't empty and
     /// valid options. Always Ok. Keeps the room of the slots, and takes no memory and no turns.
     pub fn reset(&mut self, size: Size, options: &AllocatorOptions) -> Result<(), AtlasError>
         requires size { IsPositive (sides_of size) }

@@ -110,7 +110,7 @@ impl CacheOptions {
 
     /// What a page is asked for an entry of this size: the size with the padding at both ends of each side, in pixels.
     /// None if the size is empty, or if an empty page of the largest size has no room for that, rounded up to the
-    /// alignment of the atlas. Asks options of which `check` is Ok.
+    /// alignment of the atlas. Requires options of which `check` is Ok.
     pub fn asked(&self, size: Size) -> Option<Size>
         requires { AreUsable self.now }
         ensures { SomeIff result (CanStand self.now size) (size_of (bordered self.now size)) }

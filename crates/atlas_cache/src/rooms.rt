@@ -126,7 +126,7 @@ fn grown(size: Size, largest: Size) -> Size
 }
 
 impl<A: Allocator + Copy> Rooms<A> {
-    /// No pages. Asks options of which `check` is Ok. Takes no memory.
+    /// No pages. Requires options of which `check` is Ok. Takes no memory.
     pub fn new(alloc: A, options: CacheOptions) -> Self
         requires { AreUsable options }
         ensures options { result.options ≡ options }
@@ -162,7 +162,7 @@ impl<A: Allocator + Copy> Rooms<A> {
         self.pages.is_empty()
     }
 
-    /// The size of a page, in pixels. Asks that there is such a page.
+    /// The size of a page, in pixels. Requires that there is such a page.
     pub fn page_size(&self, page: u32) -> Size
         requires { page < length self.now.pages }
         ensures { slice_get (page_sizes self.now.pages) page ≡ Some result }
@@ -216,7 +216,7 @@ impl<A: Allocator + Copy> Rooms<A> {
         Ok(None)
     }
 
-    /// Frees the rectangle of an id of a page. Asks that the id is live there. No other rectangle moves. Takes no
+    /// Frees the rectangle of an id of a page. Requires that the id is live there. No other rectangle moves. Takes no
     /// memory.
     pub fn free(&mut self, page: u32, id: AllocId)
         requires { IsSome (rectangle_on self.old.pages page id) }

@@ -59,7 +59,7 @@ impl<A: Allocator + Copy> SimpleAtlasAllocator<A> {
     ghost use Rattle.guillotiere.specs.SimpleStored.{MayAskMemory, UsesEachEntry, UsesOldEntries, kept_entries};
     ghost use Rattle.guillotiere.specs.SimpleStored.{simple_state_of, used_entries};
 
-    /// An allocator of one free box of this size, in pixels, with `DEFAULT_OPTIONS`. Asks a size that isn't empty. The
+    /// An allocator of one free box of this size, in pixels, with `DEFAULT_OPTIONS`. Requires a size that isn't empty. The
     /// only error is `Memory`.
     pub fn new(alloc: A, size: Size) -> Result<Self, AtlasError>
         requires { IsPositive (sides_of size) }
@@ -72,7 +72,7 @@ impl<A: Allocator + Copy> SimpleAtlasAllocator<A> {
         Self::with_options(alloc, size, &DEFAULT_OPTIONS)
     }
 
-    /// An allocator of one free box of this size, in pixels, with these options. Asks a size that isn't empty and valid
+    /// An allocator of one free box of this size, in pixels, with these options. Requires a size that isn't empty and valid
     /// options. The only error is `Memory`.
     pub fn with_options(
         alloc: A,

@@ -32,7 +32,7 @@ impl AtlasHandle {
         }
     }
 
-    /// Drops a handle. Asks that it holds nothing, so that nothing is lost.
+    /// Drops a handle. Requires that it holds nothing, so that nothing is lost.
     pub fn forget(handle: AtlasHandle)
         requires { handle.kept ≡ None }
     {
@@ -54,7 +54,7 @@ impl AtlasHandle {
         AtlasHandle { at: at as *mut u8 }
     }
 
-    /// What it holds, taken apart. Asks that it holds an atlas.
+    /// What it holds, taken apart. Requires that it holds an atlas.
     pub fn open(alloc: Global, handle: AtlasHandle) -> Held<AtlasAllocator, Global>
         requires { IsSome handle.kept }
         ensures { handle.kept ≡ Some result.value }
@@ -68,7 +68,7 @@ impl AtlasHandle {
 }
 
 impl AtlasHandle {
-    /// Takes the atlas out; the handle holds nothing then. Asks that it holds an atlas.
+    /// Takes the atlas out; the handle holds nothing then. Requires that it holds an atlas.
     pub fn take(&mut self, alloc: Global) -> Box<AtlasAllocator>
         requires { IsSome self.old.kept }
         ensures taken { self.old.kept ≡ Some result.value }
@@ -78,7 +78,7 @@ impl AtlasHandle {
         release(AtlasHandle::open(alloc, handle))
     }
 
-    /// Puts an atlas in. Asks that the handle holds nothing.
+    /// Puts an atlas in. Requires that the handle holds nothing.
     pub fn put(&mut self, atlas: Box<AtlasAllocator>)
         requires { self.old.kept ≡ None }
         ensures put { self.new.kept ≡ Some atlas.value }

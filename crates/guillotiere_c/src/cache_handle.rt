@@ -31,7 +31,7 @@ impl CacheHandle {
         }
     }
 
-    /// Drops a handle. Asks that it holds nothing, so that nothing is lost.
+    /// Drops a handle. Requires that it holds nothing, so that nothing is lost.
     pub fn forget(handle: CacheHandle)
         requires { handle.kept ≡ None }
     {
@@ -53,7 +53,7 @@ impl CacheHandle {
         CacheHandle { at: at as *mut u8 }
     }
 
-    /// What it holds, taken apart. Asks that it holds a cache.
+    /// What it holds, taken apart. Requires that it holds a cache.
     pub fn open(alloc: Global, handle: CacheHandle) -> Held<FollowedCache, Global>
         requires { IsSome handle.kept }
         ensures { handle.kept ≡ Some result.value }
@@ -67,7 +67,7 @@ impl CacheHandle {
 }
 
 impl CacheHandle {
-    /// Takes the cache out; the handle holds nothing then. Asks that it holds a cache.
+    /// Takes the cache out; the handle holds nothing then. Requires that it holds a cache.
     pub fn take(&mut self, alloc: Global) -> Box<FollowedCache>
         requires { IsSome self.old.kept }
         ensures taken { self.old.kept ≡ Some result.value }
@@ -77,7 +77,7 @@ impl CacheHandle {
         release(CacheHandle::open(alloc, handle))
     }
 
-    /// Puts a cache in. Asks that the handle holds nothing.
+    /// Puts a cache in. Requires that the handle holds nothing.
     pub fn put(&mut self, cache: Box<FollowedCache>)
         requires { self.old.kept ≡ None }
         ensures put { self.new.kept ≡ Some cache.value }

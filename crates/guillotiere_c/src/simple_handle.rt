@@ -32,7 +32,7 @@ impl SimpleHandle {
         }
     }
 
-    /// Drops a handle. Asks that it holds nothing, so that nothing is lost.
+    /// Drops a handle. Requires that it holds nothing, so that nothing is lost.
     pub fn forget(handle: SimpleHandle)
         requires { handle.kept ≡ None }
     {
@@ -54,7 +54,7 @@ impl SimpleHandle {
         SimpleHandle { at: at as *mut u8 }
     }
 
-    /// What it holds, taken apart. Asks that it holds a simple allocator.
+    /// What it holds, taken apart. Requires that it holds a simple allocator.
     pub fn open(alloc: Global, handle: SimpleHandle) -> Held<SimpleAtlasAllocator, Global>
         requires { IsSome handle.kept }
         ensures { handle.kept ≡ Some result.value }
@@ -68,7 +68,7 @@ impl SimpleHandle {
 }
 
 impl SimpleHandle {
-    /// Takes the allocator out; the handle holds nothing then. Asks that it holds a simple allocator.
+    /// Takes the allocator out; the handle holds nothing then. Requires that it holds a simple allocator.
     pub fn take(&mut self, alloc: Global) -> Box<SimpleAtlasAllocator>
         requires { IsSome self.old.kept }
         ensures taken { self.old.kept ≡ Some result.value }
@@ -78,7 +78,7 @@ impl SimpleHandle {
         release(SimpleHandle::open(alloc, handle))
     }
 
-    /// Puts a simple allocator in. Asks that the handle holds nothing.
+    /// Puts a simple allocator in. Requires that the handle holds nothing.
     pub fn put(&mut self, simple: Box<SimpleAtlasAllocator>)
         requires { self.old.kept ≡ None }
         ensures put { self.new.kept ≡ Some simple.value }

@@ -69,7 +69,7 @@ impl<A: Allocator + Copy> RecordingAllocator<A> {
     ghost use Rattle.guillotiere_recording.specs.Recordings.{IsFaithful, IsNew, AreBooked, session_of};
     ghost use Rattle.guillotiere_recording.specs.Replays.{IsRecorded};
 
-    /// A recording atlas of this size, in pixels, with the default options: one free rectangle. Asks a size that isn't
+    /// A recording atlas of this size, in pixels, with the default options: one free rectangle. Requires a size that isn't
     /// empty. `Memory` is the only error.
     pub fn new(alloc: A, size: Size) -> Result<Self, RecordingError>
         requires { IsPositive (sides_of size) }
@@ -79,7 +79,7 @@ impl<A: Allocator + Copy> RecordingAllocator<A> {
         RecordingAllocator::with_options(alloc, size, &DEFAULT_OPTIONS)
     }
 
-    /// The same with these options. Asks a size that isn't empty and valid options.
+    /// The same with these options. Requires a size that isn't empty and valid options.
     pub fn with_options(
         alloc: A,
         size: Size,
@@ -219,7 +219,7 @@ impl<A: Allocator + Copy> RecordingAllocator<A> {
     }
 
     /// Places what is allocated anew in an empty atlas of this size, in pixels, as the atlas's `resize_and_rearrange`
-    /// does. Asks a size that isn't empty. Each change has one name in `old` and `new`; the name of a failure is no
+    /// does. Requires a size that isn't empty. Each change has one name in `old` and `new`; the name of a failure is no
     /// longer live. `Memory` if memory is refused; `Slots` as the atlas's.
     pub fn resize_and_rearrange(&mut self, new_size: Size) -> Result<ChangeList<A>, RecordingError>
         requires { IsPositive (sides_of new_size) }

@@ -93,7 +93,7 @@ impl<A: Allocator + Copy> Recording<A> {
         self.log.resume()
     }
 
-    /// Removes the event with this number, counted from 0; later ones move up by one. Asks a number below that of the
+    /// Removes the event with this number, counted from 0; later ones move up by one. Requires a number below that of the
     /// events. Takes no memory.
     pub fn remove_event(&mut self, at: usize)
         requires { at < length self.old.events }
@@ -129,7 +129,7 @@ impl<A: Allocator + Copy> Model for Recorder<A> {
 }
 
 impl<A: Allocator + Copy> Recorder<A> {
-    /// A recorder of an atlas of this size, in pixels, with these options, without events. Asks a size that isn't empty
+    /// A recorder of an atlas of this size, in pixels, with these options, without events. Requires a size that isn't empty
     /// and valid options. Takes no memory.
     pub fn new(alloc: A, size: Size, options: &AllocatorOptions) -> Recorder<A>
         requires size { IsPositive (sides_of size) }

@@ -65,7 +65,7 @@ impl Model for PictureCache {
 }
 
 impl PictureCache {
-    /// An empty cache over an atlas of this size, in pixels. Asks a size that isn't empty. `Memory` is the only error.
+    /// An empty cache over an atlas of this size, in pixels. Requires a size that isn't empty. `Memory` is the only error.
     pub fn new(alloc: Global, size: Size) -> Result<Self, AtlasError>
         requires { IsPositive (sides_of size) }
         ensures empty { IfOk result (λ it. it.held ≡ []) }
@@ -87,7 +87,7 @@ impl PictureCache {
     }
 
     /// Gives a new picture of this size a rectangle of its sides, rounded up to the alignment. None if the size is
-    /// empty or has no room; then nothing changes. Asks that the cache doesn't hold the picture: `get` is the test.
+    /// empty or has no room; then nothing changes. Requires that the cache doesn't hold the picture: `get` is the test.
     /// After an error, `Memory` or `Slots`, everything is as before.
     pub fn put(&mut self, key: u32, size: Size) -> Result<Option<Rectangle>, AtlasError>
         requires { picture_area self.old.held key ≡ None }
@@ -142,7 +142,7 @@ impl PictureCache {
         self.resize(size)
     }
 
-    /// Packs the pictures anew into an atlas of this size, in pixels, the largest first. Each is moved or lost. Asks a
+    /// Packs the pictures anew into an atlas of this size, in pixels, the largest first. Each is moved or lost. Requires a
     /// size that isn't empty. After an error, `Memory` or `Slots`, everything is as before.
     pub fn resize(&mut self, size: Size) -> Result<Repacking, AtlasError>
         requires { IsPositive (sides_of size) }

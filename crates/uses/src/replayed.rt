@@ -43,7 +43,7 @@ fn ask<A: Allocator + Copy>(
 }
 
 /// Asks for a box of each size in turn, in an atlas of `size`, in pixels. Where there is no room for one, the box that
-/// was granted first goes, and the size is asked for once more. Asks a size that isn't empty.
+/// was granted first goes, and the size is asked for once more. Requires a size that isn't empty.
 pub fn record<A: Allocator + Copy>(
     alloc: A,
     size: Size,
@@ -67,7 +67,7 @@ pub fn record<A: Allocator + Copy>(
 }
 
 /// Replays what was recorded, and lists what the replay's atlas holds at the end: the same boxes under the same names.
-/// Asks a session that was recorded, as `record` gives it. `Memory` is the only fault.
+/// Requires a session that was recorded, as `record` gives it. `Memory` is the only fault.
 pub fn replay<A: Allocator + Copy>(session: &Session<A>) -> Result<Vec<Allocation, A>, ReplayFault>
     requires recorded { IsRecorded session.now.recording }
     requires held { AreBooked session.now.recording.events session.now.held.items }

@@ -82,7 +82,7 @@ fn grown(size: Size, largest: Size) -> Size {
 }
 
 impl<A: Allocator + Copy> Rooms<A> {
-    /// No pages. Asks options of which `check` is Ok. Takes no memory.
+    /// No pages. Requires options of which `check` is Ok. Takes no memory.
     #[inline]
     pub fn new(alloc: A, options: CacheOptions) -> Self {
         Rooms {
@@ -109,7 +109,7 @@ impl<A: Allocator + Copy> Rooms<A> {
         self.pages.is_empty()
     }
 
-    /// The size of a page, in pixels. Asks that there is such a page.
+    /// The size of a page, in pixels. Requires that there is such a page.
     #[inline]
     pub fn page_size(&self, page: u32) -> Size {
         self.pages[page as usize].size()
@@ -153,7 +153,7 @@ impl<A: Allocator + Copy> Rooms<A> {
         Ok(None)
     }
 
-    /// Frees the rectangle of an id of a page. Asks that the id is live there. No other rectangle moves. Takes no
+    /// Frees the rectangle of an id of a page. Requires that the id is live there. No other rectangle moves. Takes no
     /// memory.
     #[inline]
     pub fn free(&mut self, page: u32, id: AllocId) {

@@ -33,14 +33,14 @@ pub struct SimpleAtlasAllocator<A: Allocator + Copy = Global> {
 }
 
 impl<A: Allocator + Copy> SimpleAtlasAllocator<A> {
-    /// An allocator of one free box of this size, in pixels, with `DEFAULT_OPTIONS`. Asks a size that isn't empty. The
+    /// An allocator of one free box of this size, in pixels, with `DEFAULT_OPTIONS`. Requires a size that isn't empty. The
     /// only error is `Memory`.
     #[inline]
     pub fn new(alloc: A, size: Size) -> Result<Self, AtlasError> {
         Self::with_options(alloc, size, &DEFAULT_OPTIONS)
     }
 
-    /// An allocator of one free box of this size, in pixels, with these options. Asks a size that isn't empty and valid
+    /// An allocator of one free box of this size, in pixels, with these options. Requires a size that isn't empty and valid
     /// options. The only error is `Memory`.
     #[inline]
     pub fn with_options(

@@ -32,14 +32,14 @@ pub struct RecordingAllocator<A: Allocator + Copy = Global> {
 }
 
 impl<A: Allocator + Copy> RecordingAllocator<A> {
-    /// A recording atlas of this size, in pixels, with the default options: one free rectangle. Asks a size that isn't
+    /// A recording atlas of this size, in pixels, with the default options: one free rectangle. Requires a size that isn't
     /// empty. `Memory` is the only error.
     #[inline]
     pub fn new(alloc: A, size: Size) -> Result<Self, RecordingError> {
         RecordingAllocator::with_options(alloc, size, &DEFAULT_OPTIONS)
     }
 
-    /// The same with these options. Asks a size that isn't empty and valid options.
+    /// The same with these options. Requires a size that isn't empty and valid options.
     #[inline]
     pub fn with_options(
         alloc: A,
@@ -136,7 +136,7 @@ impl<A: Allocator + Copy> RecordingAllocator<A> {
     }
 
     /// Places what is allocated anew in an empty atlas of this size, in pixels, as the atlas's `resize_and_rearrange`
-    /// does. Asks a size that isn't empty. Each change has one name in `old` and `new`; the name of a failure is no
+    /// does. Requires a size that isn't empty. Each change has one name in `old` and `new`; the name of a failure is no
     /// longer live. `Memory` if memory is refused; `Slots` as the atlas's.
     #[inline]
     pub fn resize_and_rearrange(

@@ -22,7 +22,7 @@ impl AtlasHandle {
         }
     }
 
-    /// Drops a handle. Asks that it holds nothing, so that nothing is lost.
+    /// Drops a handle. Requires that it holds nothing, so that nothing is lost.
     pub fn forget(handle: AtlasHandle) {
         let AtlasHandle { at: _ } = handle;
     }
@@ -38,7 +38,7 @@ impl AtlasHandle {
         AtlasHandle { at: at as *mut u8 }
     }
 
-    /// What it holds, taken apart. Asks that it holds an atlas.
+    /// What it holds, taken apart. Requires that it holds an atlas.
     pub fn open(alloc: Global, handle: AtlasHandle) -> Held<AtlasAllocator, Global> {
         let AtlasHandle { at } = handle;
         Held {
@@ -49,13 +49,13 @@ impl AtlasHandle {
 }
 
 impl AtlasHandle {
-    /// Takes the atlas out; the handle holds nothing then. Asks that it holds an atlas.
+    /// Takes the atlas out; the handle holds nothing then. Requires that it holds an atlas.
     pub fn take(&mut self, alloc: Global) -> Box<AtlasAllocator> {
         let handle = replace(self, AtlasHandle::none());
         release(AtlasHandle::open(alloc, handle))
     }
 
-    /// Puts an atlas in. Asks that the handle holds nothing.
+    /// Puts an atlas in. Requires that the handle holds nothing.
     pub fn put(&mut self, atlas: Box<AtlasAllocator>) {
         atlas.prove_sound();
         let empty = replace(self, AtlasHandle::close(hold(atlas)));

@@ -22,7 +22,7 @@ impl CacheHandle {
         }
     }
 
-    /// Drops a handle. Asks that it holds nothing, so that nothing is lost.
+    /// Drops a handle. Requires that it holds nothing, so that nothing is lost.
     pub fn forget(handle: CacheHandle) {
         let CacheHandle { at: _ } = handle;
     }
@@ -38,7 +38,7 @@ impl CacheHandle {
         CacheHandle { at: at as *mut u8 }
     }
 
-    /// What it holds, taken apart. Asks that it holds a cache.
+    /// What it holds, taken apart. Requires that it holds a cache.
     pub fn open(alloc: Global, handle: CacheHandle) -> Held<FollowedCache, Global> {
         let CacheHandle { at } = handle;
         Held {
@@ -49,13 +49,13 @@ impl CacheHandle {
 }
 
 impl CacheHandle {
-    /// Takes the cache out; the handle holds nothing then. Asks that it holds a cache.
+    /// Takes the cache out; the handle holds nothing then. Requires that it holds a cache.
     pub fn take(&mut self, alloc: Global) -> Box<FollowedCache> {
         let handle = replace(self, CacheHandle::none());
         release(CacheHandle::open(alloc, handle))
     }
 
-    /// Puts a cache in. Asks that the handle holds nothing.
+    /// Puts a cache in. Requires that the handle holds nothing.
     pub fn put(&mut self, cache: Box<FollowedCache>) {
         let empty = replace(self, CacheHandle::close(hold(cache)));
         CacheHandle::forget(empty);

@@ -22,7 +22,7 @@ impl SimpleHandle {
         }
     }
 
-    /// Drops a handle. Asks that it holds nothing, so that nothing is lost.
+    /// Drops a handle. Requires that it holds nothing, so that nothing is lost.
     pub fn forget(handle: SimpleHandle) {
         let SimpleHandle { at: _ } = handle;
     }
@@ -38,7 +38,7 @@ impl SimpleHandle {
         SimpleHandle { at: at as *mut u8 }
     }
 
-    /// What it holds, taken apart. Asks that it holds a simple allocator.
+    /// What it holds, taken apart. Requires that it holds a simple allocator.
     pub fn open(alloc: Global, handle: SimpleHandle) -> Held<SimpleAtlasAllocator, Global> {
         let SimpleHandle { at } = handle;
         Held {
@@ -49,13 +49,13 @@ impl SimpleHandle {
 }
 
 impl SimpleHandle {
-    /// Takes the allocator out; the handle holds nothing then. Asks that it holds a simple allocator.
+    /// Takes the allocator out; the handle holds nothing then. Requires that it holds a simple allocator.
     pub fn take(&mut self, alloc: Global) -> Box<SimpleAtlasAllocator> {
         let handle = replace(self, SimpleHandle::none());
         release(SimpleHandle::open(alloc, handle))
     }
 
-    /// Puts a simple allocator in. Asks that the handle holds nothing.
+    /// Puts a simple allocator in. Requires that the handle holds nothing.
     pub fn put(&mut self, simple: Box<SimpleAtlasAllocator>) {
         // Its contract says what each simple allocator keeps.
         let _size = simple.size();

@@ -148,7 +148,7 @@ fn new_page<A: Allocator + Copy>(
 }
 
 impl<A: Allocator + Copy> TextureArray<A> {
-    /// No pages yet; later at most `most`, of `side` by `side` pixels each. Asks that `side` is above 0.
+    /// No pages yet; later at most `most`, of `side` by `side` pixels each. Requires that `side` is above 0.
     pub fn new(alloc: A, side: u16, most: usize) -> Self {
         TextureArray {
             alloc,

@@ -65,7 +65,7 @@ fn place_all<A: Allocator + Copy>(
 
 impl<A: Allocator + Copy> Rooms<A> {
     /// Places rectangles in an empty page of the size of this one, which becomes this page: the largest first, and
-    /// those of one area in the order of the list. Asks that there is such a page, and rectangles with the coordinates
+    /// those of one area in the order of the list. Requires that there is such a page, and rectangles with the coordinates
     /// of boxes. If the list names what is live on the page, each once, then the answer lists each rectangle of the
     /// page once: those that were placed anew, with their former and their new ids, and those that found no room when
     /// their turn came, whose ids are no longer live. All former ids of the page are void. Other pages stay as they
@@ -93,14 +93,14 @@ impl<A: Allocator + Copy> Rooms<A> {
         Ok(list)
     }
 
-    /// The area of all live rectangles of a page together, in unit squares. Asks that there is such a page. Takes no
+    /// The area of all live rectangles of a page together, in unit squares. Requires that there is such a page. Takes no
     /// memory, and one pass over the slots of the page.
     #[inline]
     pub fn live_area(&self, page: u32) -> u64 {
         self.pages[page as usize].allocated_area()
     }
 
-    /// The area of all free rectangles of a page together, in unit squares. Asks that there is such a page. Takes no
+    /// The area of all free rectangles of a page together, in unit squares. Requires that there is such a page. Takes no
     /// memory, and one pass over the slots of the page.
     #[inline]
     pub fn free_area(&self, page: u32) -> u64 {

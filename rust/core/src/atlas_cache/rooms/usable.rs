@@ -61,7 +61,7 @@ fn unusable_on<A: Allocator + Copy>(
 
 impl<A: Allocator + Copy> Rooms<A> {
     /// The area of a page, in pixels, that is free in rectangles which have no room for an entry of this size, with its
-    /// padding and rounded up to the alignment. Asks that there is such a page. A side below 0 counts as 0. Takes memory
+    /// padding and rounded up to the alignment. Requires that there is such a page. A side below 0 counts as 0. Takes memory
     /// for a list of the page's free rectangles: `Memory` if that is refused.
     #[inline]
     pub fn unusable_area(&self, page: u32, size: Size) -> Result<u64, CacheError> {

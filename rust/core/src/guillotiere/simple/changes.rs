@@ -12,7 +12,7 @@ use wollemigo_support::alloc::Allocator;
 
 impl<A: Allocator + Copy> SimpleAtlasAllocator<A> {
     /// Makes the allocator larger: the new size is cut for the old one, and the split and the leftover are added, each
-    /// dropped if it is narrower or lower than the alignment. Nothing is merged; at an equal size nothing changes. Asks
+    /// dropped if it is narrower or lower than the alignment. Nothing is merged; at an equal size nothing changes. Requires
     /// that neither side shrinks. The only error is `Memory`, if more entries would be used than there are and memory
     /// for them is refused; then nothing changes.
     #[inline]
@@ -33,7 +33,7 @@ impl<A: Allocator + Copy> SimpleAtlasAllocator<A> {
         self.reset(self.size, &options)
     }
 
-    /// Begins anew with one free box of this size and with these options. Asks a size that isn't empty and valid
+    /// Begins anew with one free box of this size and with these options. Requires a size that isn't empty and valid
     /// options. Always Ok. Keeps the room of the entries, and takes no memory.
     #[inline]
     pub fn reset(&mut self, size: Size, options: &AllocatorOptions) -> Result<(), AtlasError> {
