@@ -39,7 +39,7 @@ class Trial:
         self.work = work or crate.folder / "out/incremental"
         self.edits = [edit for edit in edits_of(crate) if word in edit.name]
         # The crates with the most edits would end long after the others.
-        self.jobs = 2 if len(self.edits) > 40 else 1
+        self.jobs = 2 if len(self.edits) > 20 else 1
         self.checks, self.seconds = 0, 0.0
 
     def check(self, texts, only, kept):
