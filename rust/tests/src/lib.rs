@@ -3,6 +3,8 @@
 #![forbid(unsafe_code)]
 
 #[cfg(test)]
+mod atlas;
+#[cfg(test)]
 mod cache;
 #[cfg(test)]
 mod cache_parts;
@@ -22,3 +24,5 @@ mod simple;
 mod tool;
 #[cfg(test)]
 mod total;
+#[cfg(test)]
+mod uses;

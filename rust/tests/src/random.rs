@@ -8,3 +8,16 @@ pub fn next(state: &mut u64) -> u64 {
     z = (z ^ (z >> 27)).wrapping_mul(0x94d0_49bb_1331_11eb);
     z ^ (z >> 31)
 }
+
+/// A number below the bound; 0 where that is 0.
+pub fn below(state: &mut u64, bound: u16) -> u16 {
+    if bound == 0 {
+        return 0;
+    }
+    ((next(state) >> 40) % u64::from(bound)) as u16
+}
+
+/// The same as a side of a box.
+pub fn side(state: &mut u64, bound: u16) -> i32 {
+    i32::from(below(state, bound))
+}

@@ -1,6 +1,6 @@
 //! Replays: rows of recordings that are whole, cut or made up, and a long session.
 
-use crate::random::next;
+use crate::random::{below, side};
 use test_memory::Refusing;
 use test_tables::{rectangle, Corners};
 use wollemigo_core::guillotiere::{size2, AllocId, Allocation, ChangeList, Size, DEFAULT_OPTIONS};
@@ -228,18 +228,6 @@ fn an_event_is_removed_without_memory() -> Result<(), Fail> {
     remove(&mut recording, 5);
     assert_eq!(recording.events().len(), 5);
     Ok(())
-}
-
-// A number below the bound; 0 where that is 0.
-fn below(state: &mut u64, bound: u16) -> u16 {
-    if bound == 0 {
-        return 0;
-    }
-    ((next(state) >> 40) % u64::from(bound)) as u16
-}
-
-fn side(state: &mut u64, bound: u16) -> i32 {
-    i32::from(below(state, bound))
 }
 
 // Makes the atlas larger by up to 7 pixels a side.

@@ -1,18 +1,15 @@
 //! The texts of errors.
 
-use guillotiere::AtlasError;
-use std::test::Fail;
+use wollemigo_core::guillotiere::AtlasError;
 
 #[test]
-fn errors_say_what_was_refused(rt: HostRuntime) -> Result<(), Fail> {
+fn errors_say_what_was_refused() {
     let errors = [
         (AtlasError::Memory, "no memory"),
         (AtlasError::Slots, "no slot left"),
         (AtlasError::NotLive, "id is not live"),
     ];
     for (error, text) in errors {
-        let shown = format!(in rt.alloc(); "{error}")?;
-        assert_eq!(rt; shown.as_str(), text);
+        assert_eq!(error.to_string(), text);
     }
-    Ok(())
 }

@@ -1,35 +1,15 @@
 //! A long session: random calls of every kind, in lists of up to 50, alongside the same calls made one by one on a
 //! copy.
 
-use guillotiere::session::{Call, Reply, run};
-use guillotiere::{
-    AllocId, Allocation, AllocatorOptions, AtlasAllocator, AtlasError, ChangeList, DEFAULT_OPTIONS,
-    Size, size2,
+use crate::random::{below, side};
+use wollemigo_core::guillotiere::session::{run, Call, Reply};
+use wollemigo_core::guillotiere::{
+    size2, AllocId, Allocation, AllocatorOptions, AtlasAllocator, AtlasError, ChangeList, Size,
+    DEFAULT_OPTIONS,
 };
-use std::alloc::Global;
-use std::process::Abort;
-use std::test::Fail;
-
-// The next word of the generator splitmix64.
-fn next(state: &mut u64) -> u64 {
-    *state = state.wrapping_add(0x9e37_79b9_7f4a_7c15);
-    let mut z = *state;
-    z = (z ^ (z >> 30)).wrapping_mul(0xbf58_476d_1ce4_e5b9);
-    z = (z ^ (z >> 27)).wrapping_mul(0x94d0_49bb_1331_11eb);
-    z ^ (z >> 31)
-}
-
-// A number below the bound; 0 where that is 0.
-fn below(state: &mut u64, bound: u16) -> u16 {
-    if bound == 0 {
-        return 0;
-    }
-    ((next(state) >> 40) % u64::from(bound)) as u16
-}
-
-fn side(state: &mut u64, bound: u16) -> i32 {
-    i32::from(below(state, bound))
-}
+use wollemigo_support::alloc::Global;
+use wollemigo_support::test::Fail;
+use wollemigo_support::vec;
 
 // An id that was live before the list of calls, or any number.
 fn id(state: &mut u64, live: &[AllocId]) -> AllocId {
@@ -99,10 +79,7 @@ fn grown(atlas: &mut AtlasAllocator, size: Size) -> Reply {
 }
 
 fn reset(atlas: &mut AtlasAllocator, size: Size, options: &AllocatorOptions) -> Reply {
-    if size.is_empty() {
-        return Reply::BadCall;
-    }
-    if !options.is_valid() {
+    if size.is_empty() || !options.is_valid() {
         return Reply::BadCall;
     }
     done(atlas.reset(size, options))
@@ -129,71 +106,49 @@ fn made(atlas: &mut AtlasAllocator, call: &Call) -> Reply {
 }
 
 // A list of 1 to 50 calls.
-fn list(state: &mut u64, atlas: &AtlasAllocator, alloc: Global) -> Result<Vec<Call>, AtlasError> {
-    let mut live = Vec::new(alloc);
-    for allocation in &atlas.allocations()? {
-        live.push(allocation.id)?;
-    }
-    let mut calls = Vec::new(alloc);
+fn list(state: &mut u64, atlas: &AtlasAllocator) -> Result<Vec<Call>, AtlasError> {
+    let live: Vec<AllocId> = atlas.allocations()?.iter().map(|a| a.id).collect();
+    let mut calls = Vec::new();
     for _ in 0..=below(state, 50) {
-        calls.push(call(state, atlas.size(), live.as_slice()))?;
+        calls.push(call(state, atlas.size(), &live));
     }
     Ok(calls)
 }
 
-fn have_alike_live(atlas: &AtlasAllocator, copy: &AtlasAllocator) -> Result<bool, AtlasError> {
-    Ok(atlas.allocations()?.as_slice() == copy.allocations()?.as_slice())
-}
-
-fn have_alike_free(atlas: &AtlasAllocator, copy: &AtlasAllocator) -> Result<bool, AtlasError> {
-    Ok(atlas.free_rectangles()?.as_slice() == copy.free_rectangles()?.as_slice())
-}
-
 // Both atlases look the same.
-fn are_alike(
-    rt: &impl Abort,
-    atlas: &AtlasAllocator,
-    copy: &AtlasAllocator,
-) -> Result<(), AtlasError> {
-    assert!(rt; atlas.size() == copy.size() && atlas.slots() == copy.slots());
-    assert!(rt; have_alike_live(atlas, copy)?);
-    assert!(rt; have_alike_free(atlas, copy)?);
+fn are_alike(atlas: &AtlasAllocator, copy: &AtlasAllocator) -> Result<(), AtlasError> {
+    assert!(atlas.size() == copy.size() && atlas.slots() == copy.slots());
+    assert_eq!(atlas.allocations()?, copy.allocations()?);
+    assert_eq!(atlas.free_rectangles()?, copy.free_rectangles()?);
     Ok(())
 }
 
 // Makes a list of calls, and each of its calls on the copy. Returns how many there were.
 fn play_list(
-    rt: &impl Abort,
     state: &mut u64,
     atlas: &mut AtlasAllocator,
     copy: &mut AtlasAllocator,
-    alloc: Global,
 ) -> Result<usize, AtlasError> {
-    let calls = list(state, atlas, alloc)?;
-    let mut replies = Vec::new(alloc);
-    run(atlas, calls.as_slice(), &mut replies)?;
-    assert!(rt; replies.len() == calls.len());
+    let calls = list(state, atlas)?;
+    let mut replies = vec::Vec::new(Global);
+    run(atlas, &calls, &mut replies)?;
+    assert_eq!(replies.len(), calls.len());
     for (call, reply) in calls.iter().zip(&replies) {
-        assert!(rt; *reply == made(copy, call), "{call:?}");
+        assert_eq!(*reply, made(copy, call), "{call:?}");
     }
     Ok(calls.len())
 }
 
 #[test]
-fn a_list_is_answered_as_its_calls_one_by_one(rt: HostRuntime) -> Result<(), Fail> {
-    let mut state = 14u64;
-    let mut atlas = AtlasAllocator::with_options(rt.alloc(), size2(200, 200), &DEFAULT_OPTIONS)?;
+fn a_list_is_answered_as_its_calls_one_by_one() -> Result<(), Fail> {
+    let mut state = 14;
+    let mut atlas = AtlasAllocator::with_options(Global, size2(200, 200), &DEFAULT_OPTIONS)?;
     let mut copy = atlas.clone()?;
-    let mut count = 0usize;
+    let mut count = 0;
     // Each list has a call or more.
-    for _ in 0..20000u32 {
-        if count >= 20000 {
-            break;
-        }
-        let made = play_list(&rt, &mut state, &mut atlas, &mut copy, rt.alloc())?;
-        are_alike(&rt, &atlas, &copy)?;
-        count = count.saturating_add(made);
+    while count < 20000 {
+        count += play_list(&mut state, &mut atlas, &mut copy)?;
+        are_alike(&atlas, &copy)?;
     }
-    assert!(rt; count >= 20000);
     Ok(())
 }
