@@ -3,20 +3,21 @@ import subprocess
 
 import kept
 
-# What it is built for where nothing else is asked for: the target, and its least processor.
-TRIPLE, CPU = "x86_64-unknown-linux-gnu", "x86-64"
+# The targets that it is built for, and the least processor of each; the first where nothing else is asked for.
+TARGETS = {"x86_64-unknown-linux-gnu": "x86-64", "aarch64-unknown-linux-gnu": None}
+TRIPLE = next(iter(TARGETS))
 
 
 class NotBuilt(Exception):
     """What the kit said of an archive that it didn't build."""
 
 
-def name_of(crate, kit, triple=TRIPLE, cpu=CPU):
+def name_of(crate, kit, triple, cpu):
     """The name under which it is kept."""
     return kept.name_of(crate, kit, triple, cpu)
 
 
-def build(crate, kit, archive, work, jobs, triple=TRIPLE, cpu=CPU):
+def build(crate, kit, archive, work, jobs, triple, cpu):
     """Proves and builds it as this file. `work` is a folder where the check keeps what it proved, and finds what an earlier one did."""
     words = ["--toolchain", f"{kit}/toolchain", "--backend", "llvm", "--incremental", str(work), "--target", triple]
     words += ["--cpu", cpu] if cpu else []

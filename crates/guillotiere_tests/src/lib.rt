@@ -1,5 +1,6 @@
-//! Rows of calls of an atlas and of sessions, in addition to those of `recorded_tests`. Expected values are worked by
-//! hand from the rules, or recorded from the Rust crate `guillotiere` 0.7.0; none is an answer of the code under test.
+//! Rows of calls of an atlas and of sessions, in addition to those of `recorded_tests`, and what an atlas gives back.
+//! Expected values are worked by hand from the rules, or recorded from the Rust crate `guillotiere` 0.7.0; none is an
+//! answer of the code under test.
 #![tactic(auto)]
 
 #[cfg(test)]
@@ -14,6 +15,8 @@ mod atlas_growth;
 mod atlas_rearranging;
 #[cfg(test)]
 mod atlas_starts;
+#[cfg(test)]
+mod memory;
 #[cfg(test)]
 mod node_kinds;
 #[cfg(test)]

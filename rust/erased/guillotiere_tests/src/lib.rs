@@ -1,6 +1,7 @@
 // Erased from crates/guillotiere_tests/src/lib.rt by rust/erase: don't edit.
-//! Rows of calls of an atlas and of sessions, in addition to those of `recorded_tests`. Expected values are worked by
-//! hand from the rules, or recorded from the Rust crate `guillotiere` 0.7.0; none is an answer of the code under test.
+//! Rows of calls of an atlas and of sessions, in addition to those of `recorded_tests`, and what an atlas gives back.
+//! Expected values are worked by hand from the rules, or recorded from the Rust crate `guillotiere` 0.7.0; none is an
+//! answer of the code under test.
 #![forbid(unsafe_code)]
 #![allow(dead_code, unused_imports, unused_labels, unused_variables)]
 
@@ -16,6 +17,8 @@ mod atlas_growth;
 mod atlas_rearranging;
 #[cfg(test)]
 mod atlas_starts;
+#[cfg(test)]
+mod memory;
 #[cfg(test)]
 mod node_kinds;
 #[cfg(test)]

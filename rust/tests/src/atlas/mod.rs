@@ -1,10 +1,9 @@
-//! Tests of an atlas, in addition to the rows of `guillotiere_tests` and `recorded_tests`: walks, many boxes, memory, a
-//! long session. Expected values are worked by hand from the rules; none is an answer of the code under test.
+//! Tests of an atlas, in addition to the rows of `guillotiere_tests` and `recorded_tests`: walks, many boxes, a long
+//! session. Expected values are worked by hand from the rules; none is an answer of the code under test.
 
 mod churn;
 mod errors;
 mod geometry;
-mod memory;
 mod pages;
 mod queries;
 mod reserving;

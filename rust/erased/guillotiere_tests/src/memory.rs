@@ -1,11 +1,15 @@
+// Erased from crates/guillotiere_tests/src/memory.rt by rust/erase: don't edit.
 //! What an atlas takes of its allocator, and that all of it is given back.
 
 use test_memory::Refusing;
 use wollemigo_core::guillotiere::{size2, AtlasAllocator, AtlasError, SimpleAtlasAllocator};
 use wollemigo_support::alloc::Global;
+use wollemigo_support::prelude::{assert, assert_eq, HostRuntime};
 use wollemigo_support::test::Fail;
 
 type Atlas<'a> = AtlasAllocator<&'a Refusing<Global>>;
+
+// Functions here are small: a function's proof grows with the square of its length.
 
 fn filled(heap: &Refusing<Global>) -> Result<Atlas<'_>, AtlasError> {
     let mut atlas = AtlasAllocator::new(heap, size2(256, 256))?;
@@ -19,7 +23,7 @@ fn filled(heap: &Refusing<Global>) -> Result<Atlas<'_>, AtlasError> {
 fn freed_in_a_copy(atlas: &Atlas<'_>) -> Result<(), AtlasError> {
     let live = atlas.allocations()?;
     let mut copy = atlas.clone()?;
-    for allocation in &live {
+    for allocation in live.as_slice() {
         let _freed = copy.deallocate(allocation.id);
     }
     Ok(())
@@ -43,27 +47,30 @@ fn used(heap: &Refusing<Global>) -> Result<(), AtlasError> {
 
 #[test]
 fn what_is_taken_is_given_back() -> Result<(), Fail> {
-    let heap = Refusing::new(Global);
+    let rt = HostRuntime;
+    let heap = Refusing::new(rt.alloc());
     used(&heap)?;
-    assert!(0 < heap.requests());
-    assert_eq!(heap.returned(), heap.requests());
+    assert!(rt; 0 < heap.requests());
+    assert_eq!(rt; heap.returned(), heap.requests());
     Ok(())
 }
 
 #[test]
-fn what_is_taken_is_given_back_after_a_refusal() {
-    let heap = Refusing::new(Global);
-    let mut refused = 0;
+fn what_is_taken_is_given_back_after_a_refusal() -> Result<(), Fail> {
+    let rt = HostRuntime;
+    let heap = Refusing::new(rt.alloc());
+    let mut refused = 0u64;
     for number in 1..1000 {
         heap.refuse_nth(number);
         let answer = used(&heap);
         if !heap.is_done() {
             break;
         }
-        assert_eq!(answer, Err(AtlasError::Memory), "{number}");
-        refused += 1;
+        assert_eq!(rt; answer, Err(AtlasError::Memory), "{number}");
+        refused = refused.wrapping_add(1);
     }
     heap.refuse_nth(0);
-    assert!(10 < refused && refused < 999);
-    assert_eq!(heap.returned() + refused, heap.requests());
+    assert!(rt; 10 < refused && refused < 999);
+    assert_eq!(rt; heap.returned().wrapping_add(refused), heap.requests());
+    Ok(())
 }
