@@ -1,10 +1,12 @@
 """The trial of one crate's edits: what the check says of them, and what that shows."""
+import contextlib
 import os
 import pathlib
 import re
 import shutil
 import subprocess
 import tempfile
+from concurrent.futures import ThreadPoolExecutor
 
 from edit import BadEdit, edits_of, functions_of
 from values import states_another_value
@@ -57,10 +59,10 @@ class Trial:
                 command += ["--allow-holes", *(word for path in only for word in ("--only", path))]
             with tempfile.TemporaryFile("w+", errors="replace") as told:
                 ran = subprocess.Popen(command, cwd=room, stdin=subprocess.DEVNULL, stdout=told, stderr=subprocess.STDOUT)
-                self.seconds += seconds_of(ran)
+                used = seconds_of(ran)
                 told.seek(0)
                 said = told.read()
-            self.checks += 1
+            self.checks, self.seconds = self.checks + 1, self.seconds + used
             if os.environ.get("EDITS_LOGS"):
                 pathlib.Path(os.environ["EDITS_LOGS"], f"{self.crate.name}-{self.checks}.log").write_text(said)
             return said
@@ -103,17 +105,34 @@ class Trial:
                 left.append(edit)
             except BadEdit as error:
                 self.said[edit] = (False, f"BAD EDIT: {error}")
-        with tempfile.TemporaryDirectory(prefix="edits-kept-") as kept:
-            if os.path.isdir(self.work):
-                shutil.copytree(self.work, kept, dirs_exist_ok=True)
+        asked = [] if self.is_proved else sorted({path for edit in left for path in edit.checked()})
+        with ThreadPoolExecutor(1) as pool, self.kept() as kept:
+            without = pool.submit(self.check_without, asked)
             while any(edit.checked() for edit in left):
                 chosen, _ = self.batch([edit for edit in left if edit.checked()])
                 self.try_together(chosen, kept)
                 left = [edit for edit in left if edit not in chosen]
             for edit in left:
                 self.said[edit] = self.try_alone(edit, kept)
-            self.prove_without(kept)
+            for edit in self.said:
+                if told_of(edit.checked(), without.result()):
+                    self.said[edit] = (False, "its function isn't proved without it either, so nothing is shown")
         return self
+
+    @contextlib.contextmanager
+    def kept(self):
+        """A copy of what an earlier check kept."""
+        with tempfile.TemporaryDirectory(prefix="edits-kept-") as kept:
+            if os.path.isdir(self.work):
+                shutil.copytree(self.work, kept, dirs_exist_ok=True)
+            yield kept
+
+    def check_without(self, asked):
+        """What a check says of these functions as they stand: where it isn't known that the crate is proved, they are checked meanwhile."""
+        if not asked:
+            return ""
+        with self.kept() as kept:
+            return self.check({}, asked, kept)
 
     def try_together(self, chosen, kept):
         """Tries edits in one check; in two, of half of them each, where one has an error that the prover doesn't come to."""
@@ -131,16 +150,6 @@ class Trial:
                 self.said[edit] = told.verdict()
             else:
                 self.said[edit] = self.judged(edit, said) if len(chosen) == 1 else self.try_alone(edit, kept)
-
-    def prove_without(self, kept):
-        """Where it isn't known that the crate is proved as it stands: sees that the functions that edits turn are."""
-        asked = sorted({path for edit in self.said for path in edit.checked()})
-        if self.is_proved or not asked:
-            return
-        said = self.check({}, asked, kept)
-        for edit in self.said:
-            if told_of(edit.checked(), said):
-                self.said[edit] = (False, "its function isn't proved without it either, so nothing is shown")
 
     def try_alone(self, edit, kept):
         """Tries one edit by itself, over the functions that it is to be refused by, or over the whole crate where it names none."""
