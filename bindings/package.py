@@ -8,14 +8,17 @@ HERE = os.path.dirname(os.path.abspath(__file__))
 VERSION = '0.7.0'
 # Programs that were linked with one version run with another of the same 0.x.
 ABI = '0.7'
+# What pkg-config says of a library that the kit proved and built, and of one that cargo built.
+HOW = {True: ', proved and built by the Rattle kit', False: ' in plain Rust, from proved sources, and not proved itself'}
 SONAME = 'libguillotiere.so.' + ABI
 
 PKG_CONFIG = """prefix=%(prefix)s
 libdir=${prefix}/lib
 includedir=${prefix}/include
+proved=%(proved)s
 
 Name: guillotiere
-Description: An atlas allocator whose source is proved
+Description: An atlas allocator%(how)s
 Version: %(version)s
 Libs: -L${libdir} -lguillotiere
 %(private)sCflags: -I${includedir}
@@ -38,9 +41,10 @@ def fill(template, folder, values):
         file.write(text)
 
 
-def install(prefix, needs=(), shared='', imports='', pointer=8):
+def install(prefix, is_proved, needs=(), shared='', imports='', pointer=8):
     """Installs all but the library.
 
+    is_proved whether the kit proved and built the library
     needs     the words with which a program that links the static library links what that takes: '-lpthread'
     shared    where the shared library is below the prefix, if there is one
     imports   the same of its import library, under Windows
@@ -50,8 +54,9 @@ def install(prefix, needs=(), shared='', imports='', pointer=8):
         shutil.copy(os.path.join(HERE, 'c', header), place(prefix, 'include'))
     private = 'Libs.private: %s\n' % ' '.join(needs) if needs else ''
     with open(os.path.join(place(prefix, 'lib', 'pkgconfig'), 'guillotiere.pc'), 'w') as file:
-        file.write(PKG_CONFIG % {'prefix': prefix, 'version': VERSION, 'private': private})
+        file.write(PKG_CONFIG % {'prefix': prefix, 'version': VERSION, 'private': private,
+                                 'proved': 'yes' if is_proved else 'no', 'how': HOW[is_proved]})
     values = {'VERSION': VERSION, 'ABI': ABI, 'NEEDS': ';'.join(needs), 'SHARED': shared, 'IMPORT': imports,
-              'SONAME': SONAME if '.so' in shared else '', 'POINTER': str(pointer)}
+              'PROVED': 'TRUE' if is_proved else 'FALSE', 'SONAME': SONAME if '.so' in shared else '', 'POINTER': str(pointer)}
     for template in ('guillotiere-config.cmake.in', 'guillotiere-config-version.cmake.in'):
         fill(template, place(prefix, 'lib', 'cmake', 'guillotiere'), values)

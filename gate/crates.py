@@ -3,12 +3,15 @@ and left in each crate's out/: it keeps nothing else, and `rt` itself would prov
 """
 import os
 import pathlib
+import re
 import subprocess
 
 import kept
 
 TOP = pathlib.Path(__file__).resolve().parent.parent
 CRATES = TOP / "crates"
+# What `rt ci` says of a crate that it has proved, or that an earlier run had.
+PROVED = re.compile(r"^rt: (\w+)(?: proved| is kept: .*)$", re.M)
 
 
 def kit():
@@ -41,19 +44,22 @@ class Crate:
         """The files that its check reads, without those of the crates below it."""
         return [path for part in ("src", "specs", "proofs") for path in (self.folder / part).rglob("*") if path.is_file()]
 
+    def is_newer(self, path):
+        """Whether a file or a folder is newer than the sources of the crate and of all below it."""
+        return path.stat().st_mtime > max(it.stat().st_mtime for crate in [self, *self.below().values()] for it in crate.sources())
+
     def program(self):
         """The program that `rt ci` or `rt run` has proved and built; None where it is older than its sources, or isn't there."""
         built = self.folder / "out" / self.name
-        newest = max(path.stat().st_mtime for crate in [self, *self.below().values()] for path in crate.sources())
-        return str(built) if built.is_file() and built.stat().st_mtime > newest else None
+        return str(built) if built.is_file() and self.is_newer(built) else None
 
     def rlib(self):
         return self.folder / "out" / "rlib" / f"{self.name}.rlib"
 
     def is_new(self):
-        """Whether it is a library that is newer than its sources, as `rt ci` leaves it."""
+        """Whether it is a library that is newer than all that its proof reads, as `rt ci` leaves it."""
         built = self.rlib()
-        return (built / "format").is_file() and built.stat().st_mtime > max(it.stat().st_mtime for it in self.sources())
+        return (built / "format").is_file() and self.is_newer(built)
 
     def words(self, kit):
         words = ["--crate-name", self.name, self.root, "--extern", f"std={kit}/rlibs/std.rlib", "-L", f"dependency={kit}/rlibs"]

@@ -3,7 +3,7 @@
 for C, which bindings/build keeps. Each has the sum of all that it was made from in its name, so none goes stale. They lie in
 ~/.cache/guillotiere, or in $XDG_CACHE_HOME/guillotiere; whoever can write there is trusted, as with what `rt` keeps.
 
-    gate/kept.py      keeps this clone's libraries that others stand on and that are newer than their sources, as `rt ci` leaves them
+    gate/kept.py LOG      keeps this clone's libraries that others stand on and that `rt ci` has proved, by what it wrote to LOG
 """
 import contextlib
 import hashlib
@@ -73,18 +73,21 @@ def keep(name, path):
             shutil.rmtree(old) if old.is_dir() else old.unlink()
 
 
-def main():
+def main(log):
     import crates
     crates.read_crates()
     kit, kept = crates.kit(), 0
+    proved = {*crates.PROVED.findall(pathlib.Path(log).read_text(encoding="utf-8", errors="replace"))}
     cited = {dep for crate in crates.Crate.all.values() for dep in crate.deps}
     for crate in crates.Crate.all.values():
-        if crate.name in cited and crate.is_new():
+        if crate.name in cited and {crate.name, *crate.below()} <= proved and crate.is_new():
             keep(name_of(crate, kit), crate.rlib())
             kept += 1
     print(f"{kept} proved libraries are kept in {PLACE}")
 
 
 if __name__ == "__main__":
+    if len(sys.argv) != 2:
+        sys.exit("gate/kept.py takes the log of a run of `rt ci`")
     sys.path.insert(0, str(pathlib.Path(__file__).resolve().parent))
-    main()
+    main(sys.argv[1])
