@@ -54,7 +54,7 @@ def install(prefix, is_proved, needs=(), shared='', imports='', pointer=8):
         shutil.copy(os.path.join(HERE, 'c', header), place(prefix, 'include'))
     private = 'Libs.private: %s\n' % ' '.join(needs) if needs else ''
     with open(os.path.join(place(prefix, 'lib', 'pkgconfig'), 'guillotiere.pc'), 'w') as file:
-        file.write(PKG_CONFIG % {'prefix': prefix, 'version': VERSION, 'private': private,
+        file.write(PKG_CONFIG % {'prefix': prefix.replace(os.sep, '/'), 'version': VERSION, 'private': private,
                                  'proved': 'yes' if is_proved else 'no', 'how': HOW[is_proved]})
     values = {'VERSION': VERSION, 'ABI': ABI, 'NEEDS': ';'.join(needs), 'SHARED': shared, 'IMPORT': imports,
               'PROVED': 'TRUE' if is_proved else 'FALSE', 'SONAME': SONAME if '.so' in shared else '', 'POINTER': str(pointer)}
