@@ -17,8 +17,8 @@ declare global {
 }
 
 /**
- * Fetches and starts the WebAssembly module; all else waits for it. It may be called any number of times: once the module runs,
- * the others do nothing. After a trap it starts a new one; objects that were made before stay out of use.
+ * Fetches and starts the WebAssembly module; nothing else works before that. It may be called any number of times: once it runs,
+ * later calls do nothing. After a trap it starts a new module; objects that were made before stay out of use.
  *
  * @param source where the module is: `wollemigo.wasm` next to this script where nothing is given. Node reads it from the disk.
  * @throws {WollemigoError} `LOAD_FAILED`, with what was wrong as its `cause`.
@@ -58,7 +58,7 @@ export type ErrorCode =
   | 'EMPTY_ALIGNMENT'
   /** A sprite has a side below 1; `sprite` is its number. */
   | 'EMPTY_SPRITE'
-  /** A sprite passes 2147483647 pixels with the padding at both its sides; `sprite` is its number. */
+  /** A side of a sprite, with the padding at both its ends, exceeds 2147483647 pixels; `sprite` is its number. */
   | 'GREAT_SPRITE'
   /** A key is held with another size. */
   | 'OTHER_SIZE'
@@ -76,12 +76,12 @@ export type ErrorCode =
   | 'BAD_ATLAS'
   /** There is no such page. */
   | 'NO_PAGE'
-  /** A size passes the largest page of a cache, with the padding and rounded up to the alignment. */
+  /** With the padding, rounded up to the alignment, a size exceeds the largest page of a cache. */
   | 'NEVER_FITS'
   /** With the padding and rounded up, not even 1 by 1 fits the largest page of a cache. */
   | 'NOTHING_FITS';
 
-/** What every call throws that could not do what it was asked to. */
+/** Thrown by every call that could not do what it was asked to. */
 export class WollemigoError extends Error {
   constructor(code: ErrorCode, message: string, more?: { cause?: unknown; sprite?: number });
   readonly name: 'WollemigoError';
@@ -95,7 +95,7 @@ export interface Size {
   height: number;
 }
 
-/** `x` and `y` are those of its left upper corner. */
+/** `x` and `y` are those of its upper left corner. */
 export interface Rectangle extends Size {
   x: number;
   y: number;
@@ -120,11 +120,11 @@ export interface ChangeList {
 
 /** What is left out has the value that is named here. */
 export interface AtlasOptions {
-  /** Sides of requests are rounded up to multiples of these, which are above 0. 1 and 1. */
+  /** Sides of requests are rounded up to multiples of these, which are above 0. By default 1 and 1. */
   alignment?: Size;
-  /** A size is small if both its sides are below this. 32. */
+  /** A size is small if both its sides are below this. By default 32. */
   smallSizeThreshold?: number;
-  /** A size is large if a side is at least this, which is at least the small threshold. 256. */
+  /** A size is large if a side is at least this, which is at least the small threshold. By default 256. */
   largeSizeThreshold?: number;
 }
 
@@ -180,7 +180,7 @@ export class Atlas {
   get(id: number): Rectangle | null;
   /** Whether a request of this size has room: then `allocate` grants it, slots and memory aside. */
   canFit(width: number, height: number): boolean;
-  /** Takes memory for so many slots in addition to those that are used: 4 for a request, 3 for a growth. Throws `SLOTS`, `MEMORY`. */
+  /** Takes memory for this many slots beyond those in use: a request takes at most 4, a growth 3. Throws `SLOTS`, `MEMORY`. */
   reserve(additional: number): void;
 
   /** Makes the atlas larger; every live id keeps its rectangle. Throws `BAD_CALL` if a side shrinks; `SLOTS`, `MEMORY`. */
@@ -189,7 +189,7 @@ export class Atlas {
   canGrowTo(width: number, height: number): boolean;
   /** `resizeAndRearrange` at the present size. */
   rearrange(): ChangeList;
-  /** Places what is live anew in an empty atlas of this size, the largest first; options and limit stay. All former ids are
+  /** Repacks what is live into an empty atlas of this size, the largest first; options and limit stay. All former ids are
    * void. Throws `BAD_CALL`, `SLOTS`, `MEMORY`. */
   resizeAndRearrange(width: number, height: number): ChangeList;
   /** Starts again: no id is live. */
@@ -210,8 +210,8 @@ export class Atlas {
   free(): Rectangle[];
   /**
    * The tree of cuts: how the atlas is divided into its live and its free boxes, as a container that is the whole atlas. No two
-   * members of a container that are next to each other are free. Containers may lie in one another as deep as there are boxes,
-   * so go through them by a loop with a list of what is left, and not by a function that calls itself. Throws `MEMORY`.
+   * members of a container that are next to each other are free. Containers may be nested as deeply as there are boxes,
+   * so walk them with a loop and a list of what is left, not with a recursive function. Throws `MEMORY`.
    */
   cuts(): Container;
 
@@ -243,7 +243,7 @@ export class SimpleAtlas {
 
   readonly size: Size;
   readonly options: Required<AtlasOptions>;
-  /** Of entries, one of which each free box takes: how many are used, and how many there are. The limit is 4294967295. */
+  /** Counts of entries, of which each free box takes one: how many are used, and how many there are. The limit is 4294967295. */
   readonly slots: Slots;
   /** Whether one free box has the size of the whole. */
   readonly isEmpty: boolean;
@@ -254,8 +254,8 @@ export class SimpleAtlas {
 
 /**
  * A string of any length; a whole number from 0 to 9007199254740991; or a bigint from 0 to 9223372036854775807, which is the same
- * key as the number of that value. The library's own keys have 64 bits. A number is its own key. A string that is held has a
- * key of the upper half, that no other has: a table in JavaScript keeps which, until the string is held no more. So no two
+ * key as the number of that value. The library's own keys have 64 bits. A number is its own key. A string, while it is held, has a
+ * key from the upper half of those, which no other has: a table in JavaScript records it until the string isn't held any more. So no two
  * keys of this type are ever taken for one another.
  */
 export type Key = string | number | bigint;
@@ -264,14 +264,14 @@ export type Key = string | number | bigint;
 export interface CacheOptions {
   /** The size of a new page, which isn't empty. */
   page: Size;
-  /** Pages grow up to this; neither side is less than that of `page`. As `page`, so that none grows: the layers of a texture
+  /** Pages grow up to this; neither side is less than that of `page`. By default `page`, so that none grows: the layers of a texture
    * array have one size. */
   largestPage?: Size;
-  /** The most pages, at least 1. 1. */
+  /** The most pages, at least 1. By default 1. */
   pages?: number;
-  /** How wide the border is on all four sides of an entry, at least 0. 0. */
+  /** How wide the border is on all four sides of an entry, at least 0. By default 0. */
   padding?: number;
-  /** Of the atlas of each page. */
+  /** The options of each page's atlas. */
   atlas?: AtlasOptions;
 }
 
@@ -325,68 +325,68 @@ export class TextureCache {
   /** Throws `EMPTY_PAGE`, `LARGEST_PAGE`, `NO_PAGES`, `BAD_PADDING`, `BAD_ATLAS`, `NOTHING_FITS`, `MEMORY`. */
   constructor(options: CacheOptions);
 
-  /** A new frame: what was used before may be evicted from now on. */
+  /** Begins a new frame: what isn't used in it may be evicted. */
   beginFrame(): void;
   /** The place of a key, which is used in this frame from now on; null where it isn't held. Counts a hit or a miss. */
   get(key: Key): Place | null;
-  /** The place of a key; null where it isn't held. It doesn't count as a use, and as no hit or miss. */
+  /** The place of a key; null where it isn't held. This doesn't count as a use, a hit or a miss. */
   peek(key: Key): Place | null;
   /**
    * A place for a key, which is used in this frame. A key that is held keeps its place. For a new key a page may grow, one may
-   * be added, and keys that this frame didn't use may go; what was done is handed over by `changes`: follow it before the place
-   * is used, also where the call throws. Null where this frame uses all that the pages have room for: draw what is batched,
+   * be added, and keys that this frame didn't use may be evicted; what was done is handed over by `changes`: follow it before the place
+   * is used, even if the call throws. Null where this frame uses all that the pages have room for: draw what is batched,
    * call `beginFrame`, and insert again.
    *
-   * A key with an empty size, of which a side is below 1, takes no room and never goes for another key's. Both rectangles of
+   * A key with an empty size (a side below 1) takes no room and is never evicted to make room for another. Both rectangles of
    * its place are empty, on page 0, also where there is no page yet: there is nothing to write or to draw.
    *
    * Throws `OTHER_SIZE`, `NEVER_FITS`, and then nothing changed; `NUMBERS`, `SLOTS`, `MEMORY`.
    */
   insert(key: Key, width: number, height: number): Entry | null;
-  /** A key goes. Gives the place that it had; null where it wasn't held. No change reports this. */
+  /** Removes a key. Gives the place that it had; null where it wasn't held. No change reports this. */
   remove(key: Key): Place | null;
-  /** Whether a key is held; it doesn't count as a use, and as no hit or miss. */
+  /** Whether a key is held; this doesn't count as a use, a hit or a miss. */
   has(key: Key): boolean;
   /** What was done and not handed over yet, each change once, in the order in which they were made:
    * `for (const change of cache.changes())`. One that isn't reached waits for the next time. */
   changes(): IterableIterator<CacheChange>;
-  /** All keys go. The pages stay. No change reports this. */
+  /** Removes all keys. The pages stay. No change reports this. */
   clear(): void;
-  /** The keys that weren't used for at least so many frames go, each reported by a change. Throws `MEMORY`. */
+  /** Evicts the keys that weren't used for at least this many frames, each reported by a change. Throws `MEMORY`. */
   trim(frames: number | bigint): void;
-  /** The pages behind the last one with a key go, each reported as removed, the last one first; after `clear` all. Throws `MEMORY`. */
+  /** Removes the pages after the last one with a key, each reported as removed, the last one first; after `clear` all. Throws `MEMORY`. */
   shrink(): void;
-  /** Places the keys of a page anew, so that what is free comes together; each is reported by a change. Throws `NO_PAGE`, `SLOTS`,
+  /** Repacks the keys of a page, so that what is free comes together; each key is reported by a change. Throws `NO_PAGE`, `SLOTS`,
    * `MEMORY`. */
   repack(page: number): void;
 
-  /** Takes memory for so many more keys. Throws `MEMORY`. */
+  /** Takes memory for this many more keys. Throws `MEMORY`. */
   reserve(additional: number): void;
 
   /** The most recently used key; null where none is held. It doesn't count as a use. */
   newest(): KeyedPlace | null;
   /** The least recently used key; null where none is held. It doesn't count as a use. */
   oldest(): KeyedPlace | null;
-  /** The key that was used next before this one; null where this one is the least recently used, or isn't held. It counts as no
+  /** The next less recently used key; null where this one is the least recently used, or isn't held. This doesn't count as a
    * use. From `newest` on, this gives each key once. */
   older(key: Key): KeyedPlace | null;
   /** How many keys are held. */
   readonly length: number;
   readonly pageCount: number;
-  /** How many numbers keys had so far, since the cache was made or cleared: the number of each place is below. Those of keys that
-   * are gone are given again first, so what is kept of each key fits an array. */
+  /** How many numbers keys have had since the cache was made or cleared: the number of each place is below this. Those of keys that
+   * are gone are reused first, so what is kept of each key fits an array. */
   readonly numbers: number;
   /** Throws `NO_PAGE`. */
   pageSize(page: number): Size;
   /** The areas of a page that its keys take, with their padding and what the alignment added, and that are free. Throws `NO_PAGE`. */
   areas(page: number): Areas;
   /**
-   * Of the area of a page that is free, what lies in free boxes which have no room for a key of this size, with its padding and rounded
+   * How much of a page's free area lies in free boxes which have no room for a key of this size, with its padding and rounded
    * up. Asked with the size of a usual key it says how fragmented the page is: where that is much, it is time to repack it. Throws
    * `NO_PAGE`, `MEMORY`.
    */
   unusableArea(page: number, width: number, height: number): number;
-  /** Those with which it was made, and what was left out. */
+  /** Those with which it was made, with the defaults of what was left out. */
   readonly options: Required<CacheOptions> & { atlas: Required<AtlasOptions> };
   /** Counted since the cache was made. */
   readonly statistics: Statistics;
@@ -408,18 +408,18 @@ export type Sheets =
 
 /** What is left out has the value that is named here. */
 export interface SheetOptions {
-  /** Squares with a side from 1 to 4096. */
+  /** Which sheets are allowed. By default squares with a side from 1 to 4096. */
   sheets?: Sheets;
-  /** Pixels between two sprites, and between a sprite and the border: at most 65535. 0. */
+  /** Pixels between two sprites, and between a sprite and the border: at most 65535. By default 0. */
   padding?: number;
   /** Each place, with the padding at its left and above, begins on multiples of these sides and takes multiples of them, also at
-   * the right and lower border. 1 and 1. */
+   * the right and lower border. By default 1 and 1. */
   alignment?: Size;
-  /** Whether a sprite may lie turned by 90 degrees. false. */
+  /** Whether a sprite may lie turned by 90 degrees. By default false. */
   turn?: boolean;
-  /** How many more orders of the sprites are tried: 20000 for a second or so. 0. */
+  /** How many more orders of the sprites are tried: 20000 for a second or so. By default 0. */
   effort?: number;
-  /** For these orders: a whole number below 2^53, or a bigint below 2^64. The same input has the same sheet everywhere. 0. */
+  /** Seeds these orders: a whole number below 2^53, or a bigint below 2^64. The same input gives the same sheet everywhere. Default: 0. */
   seed?: number | bigint;
 }
 
@@ -442,7 +442,7 @@ export interface Sheet extends Size {
 export function pack(sprites: Iterable<Size>, options?: SheetOptions): Sheet | null;
 
 /**
- * The sheet of `pack`, or one with fewer pixels, in which no whole cuts part the sprites and none is turned: each, the highest first,
+ * The sheet of `pack`, or one with fewer pixels, laid out without guillotine cuts and with no sprite turned: each, the highest first,
  * lies as high up as it can, and there as far left. Never one with more pixels. Takes longer. Throws as `pack`.
  */
 export function packDense(sprites: Iterable<Size>, options?: SheetOptions): Sheet | null;
@@ -460,15 +460,15 @@ export interface Pages {
 
 /**
  * Packs all sprites into as few sheets as are found: each but the last is the greatest of those allowed, and the last as small as `pack`
- * finds it. On each sheet lies a sprite. null if a sprite is too large for an empty sheet. Throws as `pack`.
+ * finds it. No sheet is empty. null if a sprite is too large for an empty sheet. Throws as `pack`.
  */
 export function packPages(sprites: Iterable<Size>, options?: SheetOptions): Pages | null;
 
 /**
  * Packs as `packPages`, with all sprites of a group on one sheet. `groups` has the number of each sprite's group, a whole number from 0 to
  * 4294967294, in the order of the sprites; null, or no number where the list ends before, says that a sprite is in none, and what comes
- * after the last sprite counts for nothing. A group that no way packs alone into the greatest of the sheets allowed is no group: each of
- * its sprites is placed as one in none. Groups come in the order of their first sprites; the sheets of groups are as small as `pack` finds
+ * after the last sprite is ignored. A group that no way packs by itself into the greatest sheet allowed isn't kept together: each of
+ * its sprites is placed as if in none. Groups come in the order of their first sprites; the sheets of groups are as small as `pack` finds
  * them. null if a sprite is too large for an empty sheet. Throws as `pack`.
  */
 export function packGroups(sprites: Iterable<Size>, groups: Iterable<number | null>, options?: SheetOptions): Pages | null;
@@ -479,5 +479,5 @@ export interface Filled extends Size {
   left: number;
 }
 
-/** Places sprites in the greatest sheet that is allowed, as many pixels of them as are found room for. Throws as `pack`. */
+/** Places sprites in the greatest sheet that is allowed, as many pixels of them as it finds room for. Throws as `pack`. */
 export function fill(sprites: Iterable<Size>, options?: SheetOptions): Filled;

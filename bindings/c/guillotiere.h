@@ -2,7 +2,7 @@
  *
  * An atlas is one large rectangle, often a texture, that hands out boxes and takes them back. A simple allocator hands
  * out boxes and takes none back. A cache keeps rectangles under keys in pages, which are textures or the layers of a texture
- * array, and reports what its caller has to do to the textures. guillotiere_pack takes sprites that all are known beforehand
+ * array, and reports what its caller has to do to the textures. guillotiere_pack takes sprites that are all known beforehand
  * and packs them into one small sheet, guillotiere_pack_dense into one that is as a rule smaller, guillotiere_pack_pages into
  * several, guillotiere_pack_groups into several with each group of sprites on one of them, and guillotiere_fill as many of them
  * as one sheet takes; these need no handle. Lengths and coordinates are in pixels, areas in unit squares; y grows downwards.
@@ -18,21 +18,21 @@
  * guillotiere_atlas_free it holds nothing again, so freeing twice does nothing. An allocator's memory is from malloc,
  * and guillotiere_atlas_free gives all of it back.
  *
- * Statuses. A call answers a status. It is total: sizes, options, ids and limits may be any numbers, and what is wrong
- * is answered. After each status but GUILLOTIERE_DONE all handles hold what they held, and nothing was written, but for
- * the number of a bad sprite (of a sheet), and but for two calls of a cache: guillotiere_cache_insert answers
- * GUILLOTIERE_HELD of a key that was held, which is used then and whose place is written, and may have made changes after
+ * Statuses. A call returns a status. It is total: sizes, options, ids and limits may be any numbers, and what is wrong
+ * is reported. After any status other than GUILLOTIERE_DONE all handles hold what they held, and nothing was written, except
+ * the number of a bad sprite (of a sheet), and except by two calls of a cache: guillotiere_cache_insert answers
+ * GUILLOTIERE_HELD for a key that was held, which counts as used then and whose place is written, and may have made changes after
  * another status, which it reports; and guillotiere_cache_get counts a miss.
  *
  * What the caller owes, which nothing tests:
  * - A handle has been written by calls of this library alone, or is all zero. It isn't copied by `=` or memcpy: a copy is
  *   made by guillotiere_atlas_clone.
- * - No pointer is null, not even that of an array of length 0, and each is that of a value of its type, or of as many as
+ * - No pointer is null, not even that of an array of length 0, and each points to a value of its type, or to as many as
  *   the length says.
  * - What is passed by pointers without `const` overlaps nothing else that is passed.
  * - A handle is used by one call at a time, also where it is passed by `const`, which says that it holds afterwards what it
- *   held: two threads that read through one handle at once break it. It may be handed to another thread, by a lock, a start
- *   or a join.
+ *   held: two threads that read through one handle at once break it. It may be handed to another thread under a lock, or by
+ *   starting or joining a thread.
  * - malloc, realloc and free are those of one allocator; no call is made from a signal handler. */
 #ifndef GUILLOTIERE_H
 #define GUILLOTIERE_H
@@ -59,7 +59,7 @@ enum {
     GUILLOTIERE_EMPTY_RANGE = 9,      /* the greatest side of a sheet is below the least */
     GUILLOTIERE_EMPTY_ALIGNMENT = 10, /* a side of the alignment is below 1 */
     GUILLOTIERE_EMPTY_SPRITE = 11,    /* a sprite has a side below 1 */
-    GUILLOTIERE_GREAT_SPRITE = 12,    /* a sprite passes 2147483647 pixels with the padding at both its sides */
+    GUILLOTIERE_GREAT_SPRITE = 12,    /* a side of a sprite, with the padding at both its ends, exceeds 2147483647 pixels */
     GUILLOTIERE_OTHER_SIZE = 13,      /* a key is held with another size */
     GUILLOTIERE_NUMBERS = 14,         /* a cache holds 4294967295 keys, and can hold no more */
     GUILLOTIERE_EMPTY_PAGE = 15,      /* a side of a new page is below 1 */
@@ -72,7 +72,7 @@ enum {
     GUILLOTIERE_NO_PAGE = 22,         /* there is no such page */
     GUILLOTIERE_HELD = 23,            /* a key that is inserted was held already; its place was written */
     GUILLOTIERE_FRAME_FULL = 24,      /* this frame uses all that the pages of a cache have room for */
-    GUILLOTIERE_NEVER_FITS = 25,      /* a size passes the largest page, with the padding and rounded up to the alignment */
+    GUILLOTIERE_NEVER_FITS = 25,      /* with the padding, rounded up to the alignment, a size exceeds the largest page */
     GUILLOTIERE_NOTHING_FITS = 27     /* with the padding and rounded up, not even 1 by 1 fits the largest page; 26 isn't used */
 };
 
@@ -128,8 +128,8 @@ enum {
     GUILLOTIERE_PAGE_REMOVED = 4 /* `page`, the last one, is gone, and nothing was on it: drop its texture */
 };
 
-/* The version of this header: its three numbers, and a million times the first one, a thousand times the second one and the
- * third one together. */
+/* The version of this header: its three numbers, and all three as one: a million times the first, plus a thousand times the
+ * second, plus the third. */
 #define GUILLOTIERE_VERSION_MAJOR 0
 #define GUILLOTIERE_VERSION_MINOR 7
 #define GUILLOTIERE_VERSION_PATCH 0
@@ -139,7 +139,7 @@ enum {
 /* The greatest limit on the slots of an atlas, and that of an atlas without a limit of its own. */
 #define GUILLOTIERE_MOST_SLOTS 16777216
 
-/* In place of the number of a group: a sprite is in none. Each smaller number, 0 as well, is that of a group. */
+/* Instead of the number of a group: the sprite is in none. Every smaller number, 0 included, is that of a group. */
 #define GUILLOTIERE_NO_GROUP 4294967295u
 
 /* A handle that holds nothing, and the default options: initializers. */
@@ -167,7 +167,7 @@ typedef struct guillotiere_size {
     int32_t height;
 } guillotiere_size;
 
-/* The unit squares from min on and before max. */
+/* The unit squares from min up to, but not including, max. */
 typedef struct guillotiere_rectangle {
     int32_t min_x;
     int32_t min_y;
@@ -217,8 +217,8 @@ typedef struct guillotiere_change_count {
     size_t failures;
 } guillotiere_change_count;
 
-/* Which sheets are allowed, and how sprites lie in them. Of `width`, `height`, `least` and `greatest` those are read that
- * the kind names, in pixels. */
+/* Which sheets are allowed, and how sprites lie in them. Of `width`, `height`, `least` and `greatest`, in pixels, only those
+ * that the kind names are read. */
 typedef struct guillotiere_sheet_options {
     uint32_t allowed;         /* a kind of sheets */
     int32_t width;
@@ -228,9 +228,9 @@ typedef struct guillotiere_sheet_options {
     uint32_t padding;         /* pixels between two sprites, and between a sprite and the border: at most 65535 */
     int32_t alignment_width;  /* each place, with the padding at its left and above, begins on multiples of these sides, */
     int32_t alignment_height; /* which are at least 1, and takes multiples of them, also at the right and lower border */
-    uint32_t turn;            /* 0, or a sprite may lie turned by 90 degrees */
+    uint32_t turn;            /* 0 for no turning; otherwise a sprite may lie turned by 90 degrees */
     uint32_t effort;          /* how many more orders of the sprites are tried: 0 for none, 20000 for a second or so */
-    uint64_t seed;            /* for these orders; the same input has the same sheet on every machine */
+    uint64_t seed;            /* for these orders; the same input gives the same sheet on every machine */
 } guillotiere_sheet_options;
 
 /* Where a sprite lies: its place without the padding, and whether it is turned by 90 degrees (1 or 0): then the place is
@@ -252,8 +252,8 @@ typedef struct guillotiere_on_page {
     guillotiere_placed placed;
 } guillotiere_on_page;
 
-/* How a cache is made. Lengths are in pixels. The layers of a texture array have one size: for those `page` is to be equal
- * to `largest_page`. Pages that grow are for a texture each. */
+/* How a cache is made. Lengths are in pixels. The layers of a texture array all have the same size: for those `page` must equal
+ * `largest_page`. Pages that grow each need a texture of their own. */
 typedef struct guillotiere_cache_options {
     guillotiere_size page;         /* the size of a new page, which isn't empty */
     guillotiere_size largest_page; /* pages grow up to this; neither side is less than that of `page` */
@@ -264,7 +264,7 @@ typedef struct guillotiere_cache_options {
 
 /* Where a key lies: its number, which stays until the key is gone, and which no other key has meanwhile; its page, counted
  * from 0; `rectangle`, which no other entry overlaps; and `inner` in it, which has the
- * sides that were asked for and lies behind the padding from the left and from above. At the right and below `rectangle` has
+ * sides that were asked for; the padding lies to its left and above it. To its right and below it, `rectangle` has
  * the padding as well, and more where an alignment rounds up.
  *
  * The border of a new entry shows what lay there before. A linear filter reads it, so write all of `rectangle`: the pixels
@@ -336,11 +336,11 @@ uint32_t guillotiere_atlas_deallocate_all(guillotiere_atlas *atlas, const uint32
 /* The rectangle of a live id. DONE: it is in `found`. NOT_LIVE; EMPTY. */
 uint32_t guillotiere_atlas_get(const guillotiere_atlas *atlas, uint32_t id, guillotiere_rectangle *found);
 
-/* Whether a request of this size has room, in pixels: then guillotiere_atlas_allocate grants it, slots and memory aside; else
+/* Whether a request of this size, in pixels, has room: then guillotiere_atlas_allocate grants it, slots and memory aside; else
  * it answers NO_ROOM. Takes one search and no memory. False of a handle that holds nothing. */
 bool guillotiere_atlas_can_fit(const guillotiere_atlas *atlas, int32_t width, int32_t height);
 
-/* Takes memory for so many more slots than are used; nothing else changes. While there is memory for 4 more slots no
+/* Takes memory for this many slots beyond those in use; nothing else changes. While there is memory for 4 more slots no
  * request is answered MEMORY, and for 3 no growth; a request uses at most 4, a growth at most 3, a freeing none. The memory
  * stays until the atlas is rearranged or freed, and a copy has none of it.
  * DONE; SLOTS if more slots would be used than the limit allows; MEMORY; EMPTY. */
@@ -367,9 +367,9 @@ uint32_t guillotiere_atlas_rearrange(guillotiere_atlas *atlas, guillotiere_chang
                                      guillotiere_allocation *failures, size_t failures_len,
                                      guillotiere_change_count *count);
 
-/* Places what is live anew in an empty atlas of this size, the largest first; options and limit stay. All former ids are
+/* Repacks what is live into an empty atlas of this size, the largest first; options and limit stay. All former ids are
  * void. `changes` gets what was placed, `failures` what found no room and is no longer live, `count` how many of each. Both
- * arrays have room for as many as there are used slots (guillotiere_atlas_slots), else the answer is SHORT.
+ * arrays must have room for as many as there are used slots (guillotiere_atlas_slots), else the answer is SHORT.
  * DONE; BAD_CALL if a side isn't above 0; SHORT; SLOTS; MEMORY; EMPTY. */
 uint32_t guillotiere_atlas_resize_and_rearrange(guillotiere_atlas *atlas, int32_t width, int32_t height,
                                                 guillotiere_change *changes, size_t changes_len,
@@ -461,8 +461,8 @@ uint32_t guillotiere_cache_new(const guillotiere_cache_options *options, guillot
 /* Frees a cache, with all its memory; the handle holds nothing then. */
 void guillotiere_cache_free(guillotiere_cache *cache);
 
-/* A new frame: what was used before may be evicted from now on. Before the first new frame nothing gives way: all that is held is
- * used in it. DONE; EMPTY. */
+/* Begins a new frame: what isn't used in it may be evicted. Until the first call no key is evicted for another: all that is held
+ * counts as used in the current frame. DONE; EMPTY. */
 uint32_t guillotiere_cache_begin_frame(guillotiere_cache *cache);
 
 /* The place of a key, which is used in this frame from now on. Counts a hit or a miss. DONE; NOT_HELD; EMPTY. */
@@ -472,52 +472,52 @@ uint32_t guillotiere_cache_get(guillotiere_cache *cache, uint64_t key, guillotie
 uint32_t guillotiere_cache_peek(const guillotiere_cache *cache, uint64_t key, guillotiere_place *place);
 
 /* A place for a key, which is used in this frame. A key that is held keeps its place, and is the most recently used; that
- * doesn't count as a hit. A new key comes on the first page with room for its size with the padding. Where none has room a
- * page grows, by its smaller side, which doubles, the width if they are equal, and no further than the largest page; where none
- * can grow one is added; and where all are there, of the keys on a page the least recently used one that this frame didn't use
- * goes; and so on.
+ * doesn't count as a hit. A new key goes onto the first page with room for its size with the padding. If none has room, a
+ * page grows: its smaller side (the width if they are equal) doubles, but no further than the largest page. If none can grow,
+ * one is added; and if no more are allowed, the least recently used key that lies on a page and that this frame didn't use
+ * is evicted; and so on.
  * What was done is handed over by guillotiere_cache_next_change, also after FRAME_FULL and after an error: follow it before the
  * place is used.
  * DONE: the key is new, and its place was written: its pixels are to be written to the texture. HELD: it was held, and its
- * place was written, where its pixels are. FRAME_FULL: every page is there and at its largest, this frame uses all keys on
- * them and no page has room: draw what is batched, call guillotiere_cache_begin_frame and insert again; as long as a frame has used
- * nothing this isn't answered. NEVER_FITS if the size, with the padding on all sides and rounded up to the alignment, passes
- * the largest page, OTHER_SIZE if the key is held with another size, also with an empty one or with one of those: then nothing
- * changed. NUMBERS if 4294967295 keys are left; SLOTS if those of a page don't suffice; MEMORY; EMPTY.
- * A key with an empty size, of which a side is below 1, takes no room, and never goes for another key's. Both rectangles of its
+ * place, where its pixels are, was written. FRAME_FULL: all pages allowed exist, at their largest, this frame uses all keys on
+ * them and no page has room: draw what is batched, call guillotiere_cache_begin_frame and insert again; while a frame has used
+ * nothing this is never the answer. NEVER_FITS if the size, with the padding on all sides and rounded up to the alignment, exceeds
+ * the largest page, OTHER_SIZE if the key is held with another size, even if this one is empty or would never fit: then nothing
+ * changed. NUMBERS if 4294967295 keys are still held; SLOTS if those of a page don't suffice; MEMORY; EMPTY.
+ * A key with an empty size (a side below 1) takes no room, and is never evicted to make room for another. Both rectangles of its
  * place are empty, and its page is 0, also where there is no page yet: nothing is to be written or drawn. */
 uint32_t guillotiere_cache_insert(guillotiere_cache *cache, uint64_t key, int32_t width, int32_t height,
                                   guillotiere_place *place);
 
-/* A key goes; the place that it had is written. No change reports it: forget its place, once the changes that weren't handed
- * over are followed. Takes no memory. DONE; NOT_HELD; EMPTY. */
+/* Removes a key, and writes the place that it had. No change reports this: forget its place, once you have followed the
+ * changes that weren't handed over. Takes no memory. DONE; NOT_HELD; EMPTY. */
 uint32_t guillotiere_cache_remove(guillotiere_cache *cache, uint64_t key, guillotiere_place *place);
 
 /* Hands over the first change that wasn't handed over yet; each is handed over once, in the order in which they were
  * made. Takes no memory. DONE; NO_CHANGE if there is none; EMPTY. */
 uint32_t guillotiere_cache_next_change(guillotiere_cache *cache, guillotiere_cache_change *change);
 
-/* All keys go. The pages stay, with their sizes and with nothing on them. No change reports it: forget all places, once the
- * changes that weren't handed over are followed, which stay. Takes no memory. DONE; EMPTY. */
+/* Removes all keys. The pages stay, with their sizes and nothing on them. No change reports this. The changes that weren't
+ * handed over stay: follow them, then forget all places. Takes no memory. DONE; EMPTY. */
 uint32_t guillotiere_cache_clear(guillotiere_cache *cache);
 
-/* The keys that weren't used for at least so many frames go, each reported by a change, the least recently used first: with 1,
- * what this frame didn't use; with 0, all. DONE; MEMORY, and then all is as it was; EMPTY. */
+/* Evicts the keys that weren't used for at least this many frames, each reported by a change, the least recently used first:
+ * with 1, what this frame didn't use; with 0, all. DONE; MEMORY, and then all is as it was; EMPTY. */
 uint32_t guillotiere_cache_trim(guillotiere_cache *cache, uint64_t frames);
 
-/* The pages behind the last one with a key go, each reported by a change, GUILLOTIERE_PAGE_REMOVED, the last one first. The others
+/* Removes the pages after the last one with a key, each reported by a change, GUILLOTIERE_PAGE_REMOVED, the last one first. The others
  * stay, with their sizes, and so do all keys; after guillotiere_cache_clear all pages go. DONE; MEMORY, and then all is as it
  * was; EMPTY. */
 uint32_t guillotiere_cache_shrink(guillotiere_cache *cache);
 
-/* Places the keys of a page anew, the largest first, and of one area the one that was used last, so that what is free comes
+/* Repacks the keys of a page, the largest first, and among equal areas the most recently used, so that what is free comes
  * together; pages are counted from 0. Each key of the page is reported by a change, the most recently used first:
  * GUILLOTIERE_MOVED, also where it stays, or GUILLOTIERE_EVICTED, where it found no room. A place that a key moves to can overlap one
  * that a later change moves from: copy all pixels from the page as it was before the call.
  * DONE; NO_PAGE, SLOTS or MEMORY, and then all is as it was; EMPTY. */
 uint32_t guillotiere_cache_repack(guillotiere_cache *cache, uint32_t page);
 
-/* Takes memory for so many more keys; nothing else changes. An insertion still asks for memory for slots of a page and for changes.
+/* Takes memory for this many more keys; nothing else changes. An insertion still asks for memory for slots of a page and for changes.
  * DONE; MEMORY; EMPTY. */
 uint32_t guillotiere_cache_reserve(guillotiere_cache *cache, size_t additional);
 
@@ -527,15 +527,15 @@ uint32_t guillotiere_cache_newest(const guillotiere_cache *cache, uint64_t *key,
 /* The least recently used key, and its place; it doesn't count as a use. DONE; NOT_HELD if no key is held; EMPTY. */
 uint32_t guillotiere_cache_oldest(const guillotiere_cache *cache, uint64_t *key, guillotiere_place *place);
 
-/* The key that was used next before this one, and its place; it doesn't count as a use. From the newest key on, this gives
+/* The next less recently used key, and its place; this doesn't count as a use. From the newest key on, this gives
  * each key once. DONE: it is in `older`. NOT_HELD if `key` is the least recently used, or isn't held; EMPTY. */
 uint32_t guillotiere_cache_older(const guillotiere_cache *cache, uint64_t key, uint64_t *older, guillotiere_place *place);
 
 /* How many keys are held. DONE; EMPTY. */
 uint32_t guillotiere_cache_len(const guillotiere_cache *cache, size_t *len);
 
-/* How many numbers keys had so far, since the cache was made or cleared: the number of each place is below. The numbers of
- * keys that are gone are given again before new ones are, so there are at most as many as there ever were keys at once, and
+/* How many numbers keys have had since the cache was made or cleared: the number of each place is below this. The numbers of
+ * keys that are gone are reused before new ones are given out, so there are never more than there ever were keys at once, and
  * what a caller keeps of each key fits an array. DONE; EMPTY. */
 uint32_t guillotiere_cache_numbers(const guillotiere_cache *cache, uint32_t *numbers);
 
@@ -568,27 +568,27 @@ uint32_t guillotiere_cache_statistics(const guillotiere_cache *cache, guillotier
 /* Packs all sprites into the smallest sheet of those allowed that is found, by ten ways to order them and then by `effort`
  * small changes of the order. DONE: `size` has the sheet's size, and `places` where each sprite lies, in the order of the
  * sprites; no two places overlap, and what `places` has after them stays. Nothing is kept by the library, and nothing is
- * to be freed. Sprites may be none: then the sheet is the least.
+ * to be freed. There may be no sprites: then the sheet is the least.
  * NO_ROOM if not even the greatest sheet took all sprites; BAD_CALL if `allowed` is no kind of sheets or the padding is
  * above 65535; SHORT if places_len is below sprites_len; EMPTY_SHEET; EMPTY_RANGE; EMPTY_ALIGNMENT; EMPTY_SPRITE and
  * GREAT_SPRITE, and then `sprite` has the number of the first such sprite, counted from 0, and otherwise it stays as before;
  * MEMORY. Faults are looked for in this order; of powers of two and of one width the least side is 1, so a greatest side of 0
- * is EMPTY_RANGE. Sprites that count alike keep their order: in another order there may be another sheet, or none. */
+ * is EMPTY_RANGE. Sprites that rank equal keep their order: in another order there may be another sheet, or none. */
 uint32_t guillotiere_pack(const guillotiere_size *sprites, size_t sprites_len, const guillotiere_sheet_options *options,
                           guillotiere_placed *places, size_t places_len, guillotiere_size *size, size_t *sprite);
 
-/* Packs as guillotiere_pack, and then tries smaller sheets of those allowed, in which no whole cuts part the sprites: each
+/* Packs as guillotiere_pack, and then tries smaller sheets of those allowed, laid out without guillotine cuts: each
  * sprite, the highest first, as high up as it can lie, and there as far left. The sheet never has more pixels than that of
  * guillotiere_pack; in one that has fewer no sprite is turned. It takes longer. All else as guillotiere_pack. */
 uint32_t guillotiere_pack_dense(const guillotiere_size *sprites, size_t sprites_len, const guillotiere_sheet_options *options,
                                 guillotiere_placed *places, size_t places_len, guillotiere_size *size, size_t *sprite);
 
-/* Packs all sprites into as few sheets as are found: into the greatest of those allowed what guillotiere_fill places there,
- * then the same with the sprites that are left, and the last of them into as small a sheet as guillotiere_pack finds. With
- * `effort` so many changes of the order are tried for each sheet. DONE: `places` has where each sprite lies, in the order of
+/* Packs all sprites into as few sheets as are found: the greatest of those allowed gets what guillotiere_fill places there,
+ * the same is done with the sprites that are left, and the last of them get as small a sheet as guillotiere_pack finds.
+ * For each sheet `effort` changes of the order are tried. DONE: `places` has where each sprite lies, in the order of
  * the sprites, `count` how many sheets there are, at most as many as sprites, and `sizes` their sizes, as many as there is room
- * for; what the arrays have after that stays. No two places on one sheet overlap, and on each sheet lies a sprite. Sprites may
- * be none: then there are no sheets.
+ * for; what the arrays have after that stays. No two places on one sheet overlap, and no sheet is empty. There may be no
+ * sprites: then there are no sheets.
  * NO_ROOM if a sprite is too large for an empty sheet; else as guillotiere_pack. */
 uint32_t guillotiere_pack_pages(const guillotiere_size *sprites, size_t sprites_len, const guillotiere_sheet_options *options,
                                 guillotiere_on_page *places, size_t places_len, guillotiere_size *sizes, size_t sizes_len,
@@ -596,16 +596,16 @@ uint32_t guillotiere_pack_pages(const guillotiere_size *sprites, size_t sprites_
 
 /* Packs as guillotiere_pack_pages, with all sprites of a group on one sheet. `groups` has the number of each sprite's group, in
  * the order of the sprites; GUILLOTIERE_NO_GROUP, or no number where groups_len is below sprites_len, says that a sprite is in
- * none, and numbers past the last sprite count for nothing. A group that none of the ten ways packs alone into the greatest of
- * the sheets allowed is no group: each of its sprites is placed as one in none.
+ * none, and numbers past the last sprite are ignored. A group that none of the ten ways packs by itself into the greatest of
+ * the sheets allowed isn't kept together: each of its sprites is placed as if in no group.
  * Groups come in the order of their first sprites. The first opens a sheet; then each other group that this sheet takes as well
- * comes onto it, and of the sprites in none as many as it takes; and the sheet becomes as small as guillotiere_pack finds it.
+ * goes onto it, and as many of the sprites in no group as it takes; then the sheet is made as small as guillotiere_pack finds it.
  * Once no group is left, the sprites without a place are packed as by guillotiere_pack_pages. All else as guillotiere_pack_pages. */
 uint32_t guillotiere_pack_groups(const guillotiere_size *sprites, size_t sprites_len, const uint32_t *groups, size_t groups_len,
                                  const guillotiere_sheet_options *options, guillotiere_on_page *places, size_t places_len,
                                  guillotiere_size *sizes, size_t sizes_len, size_t *count, size_t *sprite);
 
-/* Places sprites in the greatest sheet that is allowed, as many pixels of them as are found room for. DONE, also where not all
+/* Places sprites in the greatest sheet that is allowed, as many pixels of them as it finds room for. DONE, even if not all
  * of them have a place: `places` has a place or none for each, in the order of the sprites, `left` how many have none, and
  * `size` the sheet's size. Never NO_ROOM; else as guillotiere_pack. */
 uint32_t guillotiere_fill(const guillotiere_size *sprites, size_t sprites_len, const guillotiere_sheet_options *options,

@@ -82,8 +82,8 @@ using cache_options = guillotiere_cache_options;
 using place = guillotiere_place;
 using counts = guillotiere_counts;
 
-// The version of this header, and that of the library that was linked: a million times the first number, a thousand times the
-// second one, and the third one.
+// The version of this header, and that of the library that was linked: a million times the first number, plus a thousand times
+// the second, plus the third.
 inline constexpr std::uint32_t header_version = GUILLOTIERE_VERSION;
 inline std::uint32_t version() { return guillotiere_version(); }
 
@@ -110,7 +110,7 @@ enum class insertion : std::uint32_t {
     fresh = GUILLOTIERE_DONE,            // the key is new: its pixels are to be written to its place, which is empty if it has none
     held = GUILLOTIERE_HELD,             // the key was held, and its pixels are in its place
     frame_full = GUILLOTIERE_FRAME_FULL, // draw what is batched, begin a frame, and insert again
-    never_fits = GUILLOTIERE_NEVER_FITS, // the size passes the largest page, with the padding and rounded up to the alignment
+    never_fits = GUILLOTIERE_NEVER_FITS, // with the padding, rounded up to the alignment, the size exceeds the largest page
 };
 
 // The answer of an insertion, and the place of a key that is new or was held.
@@ -119,8 +119,8 @@ struct inserted {
     std::optional<place> at;
 };
 
-// Which sheets are allowed, and how sprites lie in them: squares with a side up to 4096, unless it is said otherwise. Of `width`,
-// `height`, `least` and `greatest` those are read that the kind of sheets names.
+// Which sheets are allowed, and how sprites lie in them: squares with a side up to 4096, unless set otherwise. Of `width`,
+// `height`, `least` and `greatest` only those that the kind of sheets names are read.
 struct sheet_options {
     sheets allowed = sheets::squares;
     std::int32_t width = 0;
@@ -168,7 +168,7 @@ struct sheet_options {
 
 inline constexpr std::uint32_t most_slots = GUILLOTIERE_MOST_SLOTS;
 
-// In place of the number of a group: a sprite is in none.
+// Instead of the number of a group: the sprite is in none.
 inline constexpr std::uint32_t no_group = GUILLOTIERE_NO_GROUP;
 
 // A value, or the status that says why there is none, which is never status::done; without either, status::empty.
@@ -254,7 +254,7 @@ public:
 
     // Whether a request has room: then `allocate` grants it, slots and memory aside.
     bool can_fit(guillotiere::size requested) const { return guillotiere_atlas_can_fit(&handle_, requested.width, requested.height); }
-    // Takes memory for so many more slots than are used: 4 for a request, 3 for a growth.
+    // Takes memory for this many slots beyond those in use: a request takes at most 4, a growth 3.
     [[nodiscard]] status reserve(std::uint32_t additional) {
         return static_cast<status>(guillotiere_atlas_reserve(&handle_, additional));
     }
@@ -267,7 +267,7 @@ public:
         return static_cast<status>(guillotiere_atlas_reset(&handle_, of.width, of.height, &with));
     }
 
-    // Places what is live anew, at the present size or at another one.
+    // Repacks what is live, at the present size or at another one.
     result<change_list> rearrange() {
         return listed([this](auto &...places) { return guillotiere_atlas_rearrange(&handle_, places...); });
     }
@@ -439,7 +439,7 @@ public:
     cache &operator=(const cache &) = delete;
     ~cache() { guillotiere_cache_free(&handle_); }
 
-    // What was used before may be evicted from now on.
+    // Begins a new frame: what isn't used in it may be evicted.
     [[nodiscard]] status begin_frame() { return static_cast<status>(guillotiere_cache_begin_frame(&handle_)); }
 
     // The place of a key, which is used in this frame from now on.
@@ -462,7 +462,7 @@ public:
         default: return static_cast<status>(answer);
         }
     }
-    // The place that a key had, which goes.
+    // Removes a key, and gives the place that it had.
     std::optional<place> remove(std::uint64_t key) {
         return found([this, key](place &at) { return guillotiere_cache_remove(&handle_, key, &at); });
     }
@@ -472,20 +472,20 @@ public:
         if (guillotiere_cache_next_change(&handle_, &next) != GUILLOTIERE_DONE) return std::nullopt;
         return cache_change{static_cast<change_kind>(next.kind), next.page, next.size, next.key, next.from, next.to};
     }
-    // All keys go, and no change reports this.
+    // Removes all keys; no change reports this.
     [[nodiscard]] status clear() { return static_cast<status>(guillotiere_cache_clear(&handle_)); }
-    // What wasn't used for so many frames goes.
+    // Evicts what wasn't used for at least this many frames.
     [[nodiscard]] status trim(std::uint64_t frames) { return static_cast<status>(guillotiere_cache_trim(&handle_, frames)); }
     [[nodiscard]] status shrink() { return static_cast<status>(guillotiere_cache_shrink(&handle_)); }
     // A page's keys are placed anew. Copy all pixels from the page as it was before the call.
     [[nodiscard]] status repack(std::uint32_t page) { return static_cast<status>(guillotiere_cache_repack(&handle_, page)); }
 
-    // Takes memory for so many more keys.
+    // Takes memory for this many more keys.
     [[nodiscard]] status reserve(std::size_t additional) {
         return static_cast<status>(guillotiere_cache_reserve(&handle_, additional));
     }
 
-    // The most recently used key, the least recently used one, and the one that was used next before a key. None of these is a use.
+    // The most recently used key, the least recently used one, and the next less recently used one. None of these counts as a use.
     std::optional<keyed_place> newest() const {
         return walked([this](keyed_place &next) { return guillotiere_cache_newest(&handle_, &next.key, &next.at); });
     }
@@ -502,7 +502,7 @@ public:
         guillotiere_cache_len(&handle_, &found);
         return found;
     }
-    // The number of each place is below.
+    // How many numbers keys have had so far: the number of each place is below this.
     std::uint32_t numbers() const {
         std::uint32_t found = 0;
         guillotiere_cache_numbers(&handle_, &found);
@@ -575,7 +575,7 @@ struct pages {
     std::vector<on_page> places;
 };
 
-// A sheet that takes as many pixels of sprites as are found room for: its size, a place or nothing for each sprite, in their
+// A sheet with as many pixels of sprites as room was found for: its size, a place or nothing for each sprite, in their
 // order, and how many have none.
 struct filled_sheet {
     guillotiere::size size;
@@ -631,7 +631,7 @@ inline result<std::optional<sheet>> pack(const std::vector<size> &sprites, const
     return pack(sprites.data(), sprites.size(), with, bad);
 }
 
-// The sheet of `pack`, or one with fewer pixels in which no whole cuts part the sprites and none is turned; never one with more.
+// The sheet of `pack`, or one with fewer pixels, laid out without guillotine cuts and with no sprite turned; never one with more.
 inline result<std::optional<sheet>> pack_dense(const size *sprites, std::size_t count, const sheet_options &with,
                                                std::size_t *bad = nullptr) {
     return detail::packed_by(guillotiere_pack_dense, sprites, count, with, bad);
@@ -696,7 +696,7 @@ inline result<std::optional<pages>> pack_groups(const std::vector<size> &sprites
     return pack_groups(sprites.data(), sprites.size(), groups.data(), groups.size(), with, bad);
 }
 
-// Places sprites in the greatest sheet that is allowed, as many pixels of them as are found room for.
+// Places sprites in the greatest sheet that is allowed, as many pixels of them as it finds room for.
 inline result<filled_sheet> fill(const size *sprites, std::size_t count, const sheet_options &with, std::size_t *bad = nullptr) {
     const size none{};
     std::size_t number = 0;

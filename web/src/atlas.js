@@ -8,7 +8,7 @@ export const MOST_SLOTS = 16777216;
 const COPY = Symbol('copy');
 const FREE = 'atlas_free';
 
-/** What an atlas or a simple one gives by a call that writes words at the place for a few. */
+/** What a call of an atlas or a simple atlas writes at `runtime.at`, as the reader reads it. */
 export function found(owner, call, reader) {
   const runtime = runtimeOf(owner);
   require(runtime.calls[call](handle(owner), runtime.at));

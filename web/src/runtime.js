@@ -54,7 +54,7 @@ export class Runtime {
     return failure('TRAPPED', { cause });
   }
 
-  /** So many new pages of memory, which the module's own allocator then doesn't have. */
+  /** Takes this many new pages of memory, which the module's own allocator then doesn't have; gives their address. */
   #take(pages) {
     try {
       return this.#memory.grow(pages) * PAGE;

@@ -263,7 +263,7 @@ pub fn runs_keep_order()
     ensures { RunsKeepOrder }
 {}
 
-/// After a run the freeing of what it granted leaves the tree of the run without its grants.
+/// After a run, freeing what it granted leaves the tree that the run makes without its grants.
 #[tactic(auto, using(crate::proofs::StepLemmas::Traces::runs_leave_no_trace))]
 pub fn runs_leave_no_trace()
     ensures { RunsLeaveNoTrace }
@@ -281,8 +281,8 @@ pub fn renaming()
     ensures { RenamingChangesNothing }
 {}
 
-/// Two sound states that are one but for their ids answer each grant, freeing and growth alike, where neither is
-/// refused for memory, and are one but for their ids after it.
+/// Two sound states that differ only in their ids answer each grant, freeing and growth alike, where neither is
+/// refused for memory, and differ only in their ids after it.
 #[tactic(auto, using(crate::proofs::StepLemmas::Alike::alike_laws))]
 pub fn answers_without_ids()
     ensures alike { AnswersWithoutIds }
@@ -339,7 +339,7 @@ pub fn live_boxes_are_guarded()
     ensures { LiveAreGuarded }
 {}
 
-/// Where nothing is live, each positive request has room whose rounded sides fit the atlas.
+/// Where nothing is live, each positive request whose rounded sides fit the atlas has room.
 #[tactic(auto, using(crate::proofs::StepLemmas::CallerGrants::idle_has_room))]
 pub fn idle_has_room()
     ensures { IdleHasRoom }

@@ -22,7 +22,7 @@ pub enum Allowed {
 }
 
 impl Allowed {
-    /// A size whose sides no allowed sheet passes downwards.
+    /// A size whose sides are at most those of every allowed sheet.
     pub fn least(self) -> Size
         ensures { sides_of result ≡ least_sides self }
     {
@@ -34,7 +34,7 @@ impl Allowed {
         }
     }
 
-    /// A size whose sides no allowed sheet passes upwards.
+    /// A size whose sides are at least those of every allowed sheet.
     pub fn greatest(self) -> Size
         ensures { sides_of result ≡ greatest_sides self }
     {

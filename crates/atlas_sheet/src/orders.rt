@@ -11,7 +11,7 @@ use guillotiere::Size;
 use std::alloc::Allocator;
 use std::cmp::Reverse;
 
-/// By what sprites are sorted, the greatest first; those that are alike keep their order.
+/// What sprites are sorted by, the greatest first; those that compare equal keep their order.
 #[derive(Clone, Copy, Debug, PartialEq, Eq)]
 pub enum Key {
     Height,
@@ -22,7 +22,7 @@ pub enum Key {
 }
 
 impl Key {
-    /// What a sprite counts: pixels, or pixels times pixels. A side below 0 counts as 0.
+    /// The value of a sprite under this key: pixels, or pixels times pixels. A side below 0 counts as 0.
     pub fn of(self, sprite: Size) -> u64
         ensures { result ≡ key_of self (sides_of sprite) }
     {

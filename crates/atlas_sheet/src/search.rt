@@ -253,7 +253,7 @@ fn greatest_power(greatest: i32) -> Size
     power_size(most, most)
 }
 
-/// The allowed sheet whose sides no other passes.
+/// The allowed sheet whose sides no other exceeds.
 pub fn greatest_sheet(allowed: Allowed) -> Size
     requires { IsUsable allowed }
     ensures { IsGreatest allowed (sides_of result) }

@@ -11,8 +11,8 @@ pub trait ToolInput {
     // A read has failed.
     ghost has_failed: { Self → Bool };
 
-    /// How many bytes were put at the start of `buffer`: none of them only at the end or where `buffer` is empty.
-    /// `None` for an error, at which none was.
+    /// How many bytes were put at the start of `buffer`: 0 only at the end of the input or where `buffer` is empty.
+    /// `None` for an error; then none was put there.
     fn read(&mut self, buffer: &mut [u8]) -> Option<usize>
         ensures bytes { Reads (remaining self.old) (remaining self.new) result buffer.new }
         ensures failed { has_failed self.new ≡ has_failed_read (has_failed self.old) result };
@@ -30,7 +30,7 @@ pub trait ToolOutput {
     // A write has failed, or has taken none of some bytes.
     ghost has_failed: { Self → Bool };
 
-    /// How many bytes at the start of `bytes` went, or `None` for an error, at which none did.
+    /// How many bytes at the start of `bytes` were written, or `None` for an error; then none was.
     fn write(&mut self, bytes: &[u8]) -> Option<usize>
         ensures bytes { Writes (contents self.old) (contents self.new) result bytes.now }
         ensures failed { has_failed self.new ≡ has_failed_write (has_failed self.old) result bytes.now };

@@ -1,9 +1,9 @@
-//! Why a run ends before its end.
+//! Why a run ends early.
 use std::alloc::{AllocError, AllocFailed};
 use std::io;
 use thiserror::Error;
 
-/// Why a run ends before its end.
+/// Why a run ends early.
 #[derive(Debug, Drop, Error)]
 pub enum RunError {
     /// A request for memory was refused.

@@ -1,4 +1,4 @@
-//! Sprites on one square texture, with no whole cuts.
+//! Sprites on one square texture, with no guillotine cuts.
 ghost use Rattle.std.specs.Prelude.{◌≡◌, ◌<◌, length, IfOk, IfSome};
 
 use atlas_sheet::{Allowed, Sheet, SheetError, SheetOptions, pack_dense};

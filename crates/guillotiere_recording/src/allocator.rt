@@ -110,8 +110,8 @@ impl<A: Allocator + Copy> RecordingAllocator<A> {
     }
 
     /// Grants a request as the atlas does, under a new name. `Names` for every request once all 4294967296 names were
-    /// given; None as the atlas's, and recorded; `Memory` if memory for the event, for the name or for slots is
-    /// refused, also where the answer would be `Slots` or None; `Slots` as the atlas's.
+    /// given out; None where the atlas gives None, which is recorded; `Memory` if memory for the event, for the name or for slots is
+    /// refused, even where the answer would otherwise be `Slots` or None; `Slots` where the atlas gives `Slots`.
     pub fn allocate(&mut self, requested_size: Size) -> Result<Option<Allocation>, RecordingError>
         ensures recorded { IfOk result (λ answer. self.new.recording
             ≡ with_event (Allocate requested_size answer) self.old.recording) }
@@ -193,7 +193,7 @@ impl<A: Allocator + Copy> RecordingAllocator<A> {
         Ok(())
     }
 
-    /// Places what is allocated anew, as the atlas's `rearrange` does. Each change has one name in `old` and `new`; the
+    /// Repacks what is allocated, as the atlas's `rearrange` does. Each change has the same name in `old` and `new`; the
     /// name of a failure is no longer live. `Memory` if memory is refused; `Slots` as the atlas's.
     pub fn rearrange(&mut self) -> Result<ChangeList<A>, RecordingError>
         ensures recorded { IfOk result (λ list. self.new.recording
@@ -218,8 +218,8 @@ impl<A: Allocator + Copy> RecordingAllocator<A> {
         Ok(list)
     }
 
-    /// Places what is allocated anew in an empty atlas of this size, in pixels, as the atlas's `resize_and_rearrange`
-    /// does. Requires a size that isn't empty. Each change has one name in `old` and `new`; the name of a failure is no
+    /// Repacks what is allocated into an empty atlas of this size, in pixels, as the atlas's `resize_and_rearrange`
+    /// does. Requires a size that isn't empty. Each change has the same name in `old` and `new`; the name of a failure is no
     /// longer live. `Memory` if memory is refused; `Slots` as the atlas's.
     pub fn resize_and_rearrange(&mut self, new_size: Size) -> Result<ChangeList<A>, RecordingError>
         requires { IsPositive (sides_of new_size) }
@@ -246,8 +246,8 @@ impl<A: Allocator + Copy> RecordingAllocator<A> {
         Ok(list)
     }
 
-    /// Calls `visit` on each free rectangle once, in an order that is left open. Requires that `visit` may be called along
-    /// each list that may be shown, and no more: nothing else is called. Takes no memory.
+    /// Calls `visit` on each free rectangle once, in an unspecified order. Requires only that `visit` may be called on them
+    /// one after another in any such order: it is called with nothing else. Takes no memory.
     pub fn for_each_free_rectangle<F: FnMut(&Rectangle)>(&self, visit: F)
         requires { (areas : List Area) → AreFreeAreas (state_of self.now.atlas) areas
             → IsCallableAlong F.FnMut IsShownArea visit areas }
@@ -257,8 +257,8 @@ impl<A: Allocator + Copy> RecordingAllocator<A> {
         self.atlas.for_each_free_rectangle(visit);
     }
 
-    /// Calls `visit` on each live name and its rectangle once, by rising name. Requires that `visit` may be called along
-    /// that list, and no more: nothing else is called. Takes no memory.
+    /// Calls `visit` on each live name and its rectangle once, by rising name. Requires only that `visit` may be called on
+    /// them in that order: it is called with nothing else. Takes no memory.
     pub fn for_each_allocated_rectangle<F: FnMut(AllocId, &Rectangle)>(&self, visit: F)
         requires { (grants : List Grant) → AreBooked self.now.recording.events grants
             → IsCallableAlongGrants F.FnMut (λ (a : Grant). IsShownArea a.rectangle) visit grants }

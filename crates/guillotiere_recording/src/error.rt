@@ -20,7 +20,7 @@ pub enum RecordingError {
     /// The id is not the name of a box that is allocated now.
     #[error("id is not live")]
     NotLive,
-    /// Every name was given.
+    /// All names have been given out.
     #[error("no name left")]
     Names,
 }

@@ -18,7 +18,7 @@ pub fn books_are_true()
     ensures { BooksAreTrue }
 {}
 
-/// Sessions that are one but for ids answer alike what is no rearrangement, and the same events keep them so.
+/// Sessions that differ only in ids answer all but rearrangements alike, and the same events keep them so.
 pub fn twins()
     ensures answers { TwinsAnswerAlike }
     ensures names { TwinsShareNames }

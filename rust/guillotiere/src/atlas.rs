@@ -169,7 +169,7 @@ impl AtlasAllocator {
         self.atlas.can_fit(convert::library_size(requested_size))
     }
 
-    /// Takes memory for so many more slots than are used; nothing else changes. While there is memory for 4
+    /// Takes memory for this many slots beyond those in use; nothing else changes. While there is memory for 4
     /// more slots no request is refused memory, and for 3 no growth; a request uses at most 4, a growth at most 3, a
     /// freeing none. The memory stays until the atlas is rearranged or dropped, and a copy has none of it. An error is
     /// `Slots` or `Memory`.
@@ -270,7 +270,7 @@ impl AtlasAllocator {
         self.rearranged(|atlas| Ok(atlas.rearrange()?))
     }
 
-    /// Places what is allocated anew in an empty atlas of this size, the largest first; all former ids are void.
+    /// Repacks what is allocated into an empty atlas of this size, the largest first; all former ids are void.
     ///
     /// # Panics
     ///

@@ -77,8 +77,8 @@ pub struct Place {
     /// The rectangle with its padding, which no other entry of the page overlaps. Its border shows what lay there
     /// before: clear it.
     pub rectangle: Rectangle,
-    /// The rectangle that has the sides that were asked for: behind the padding, from the left and from above. At the right
-    /// and below, `rectangle` has the padding as well, and more where an alignment rounds up.
+    /// The rectangle that has the sides that were asked for: the padding lies to its left and above it. To its right
+    /// and below it, `rectangle` has the padding as well, and more where an alignment rounds up.
     pub inner: Rectangle,
 }
 
@@ -89,10 +89,10 @@ pub enum Inserted {
     Placed(Place),
     /// The key was held, and this is its place still, with the pixels that were written there.
     Held(Place),
-    /// Every page is there and at its largest, each entry was used in this frame, and no page has room: draw what this
+    /// All pages allowed exist, at their largest, each entry was used in this frame, and no page has room: draw what this
     /// frame has, begin a new one, and insert again.
     FrameFull,
-    /// The size passes the largest page, with the padding on all sides and rounded up to the alignment.
+    /// The size, with the padding on all sides and rounded up to the alignment, exceeds the largest page.
     NeverFits,
 }
 
@@ -300,8 +300,8 @@ fn change_of<K>(change: library::CacheChange<K>) -> CacheChange<K> {
 
 /// Rectangles under keys in pages, which are textures or the layers of a texture array.
 ///
-/// What a call did to keys and pages waits in the cache until `next_change` hands it over. The hasher that is taken
-/// where none is given is fast, and its seed is fixed: for keys that a stranger picks give another.
+/// What a call did to keys and pages waits in the cache until `next_change` hands it over. The default hasher is
+/// fast, and its seed is fixed: for keys that a stranger picks, give another one (`with_hasher`).
 pub struct TextureCache<K: Copy + Eq + Hash = u64, S: BuildHasher = DefaultHasher> {
     cache: library::TextureCache<K, S, Global>,
     changes: LibraryVec<library::CacheChange<K>, Global>,
@@ -332,8 +332,8 @@ impl<K: Copy + Eq + Hash, S: BuildHasher> TextureCache<K, S> {
         Ok(TextureCache::over(cache))
     }
 
-    /// A new frame: what was used before may go from now on. Before the first new frame nothing gives way: all that is held
-    /// is used in it.
+    /// Begins a new frame: what isn't used in it may be evicted. Until the first call no key is evicted for another: all that is held
+    /// counts as used in the current frame.
     pub fn begin_frame(&mut self) {
         self.cache.begin_frame()
     }
@@ -350,13 +350,13 @@ impl<K: Copy + Eq + Hash, S: BuildHasher> TextureCache<K, S> {
 
     /// A place for a key, which is used in this frame. A key that is held keeps its place, and is the most recently
     /// used from now on, which doesn't count as a hit; asked for with another size, even one that is empty or too
-    /// large, it is refused with `OtherSize`, and nothing changes. A new key comes on the first page with room for its
-    /// size, in pixels, with the padding. Where none has, a page grows: its smaller side doubles, the width if they are
-    /// equal, and no further than the largest page. Where none can, one is added; and where there may be no more, the
-    /// least recently used entry that lies on a page and that this frame didn't use goes; and so on.
+    /// large, it is refused with `OtherSize`, and nothing changes. A new key goes onto the first page with room for its
+    /// size, in pixels, with the padding. If none has room, a page grows: its smaller side (the width if they are equal)
+    /// doubles, but no further than the largest page. If none can grow, one is added; and if no more are allowed, the
+    /// least recently used entry that lies on a page and that this frame didn't use is evicted; and so on.
     ///
     /// A new key with an empty size, of which a side is 0 or below, becomes a blank entry: `Placed` with a place that is
-    /// empty. It takes no room, so that no page changes and nothing goes, and it never goes for another key's room.
+    /// empty. It takes no room, so no page changes and nothing is evicted for it, nor is it ever evicted for another key.
     ///
     /// What was done to other keys and to pages is reported by `next_change`, also after `FrameFull` and after an error: follow
     /// it before the place is used.
@@ -366,7 +366,7 @@ impl<K: Copy + Eq + Hash, S: BuildHasher> TextureCache<K, S> {
         Ok(inserted_of(inserted))
     }
 
-    /// A key goes: the place that it had; None if it isn't held. No change reports it.
+    /// Removes a key, and gives the place that it had; None if it isn't held. No change reports it.
     pub fn remove(&mut self, key: K) -> Option<Place> {
         self.cache.remove(&key).map(place_of)
     }
@@ -382,24 +382,24 @@ impl<K: Copy + Eq + Hash, S: BuildHasher> TextureCache<K, S> {
         Some(change_of(change))
     }
 
-    /// All keys go; the pages stay. No change reports it, and the changes that weren't handed over stay.
+    /// Removes all keys; the pages stay. No change reports it, and the changes that weren't handed over stay.
     pub fn clear(&mut self) {
         self.cache.clear()
     }
 
-    /// The keys that weren't used for at least so many frames go, each reported by a change, the least recently used first.
+    /// Evicts the keys that weren't used for at least this many frames, each reported by a change, the least recently used first.
     pub fn trim(&mut self, frames: u64) -> Result<(), CacheError> {
         Ok(self.cache.trim(frames, &mut self.changes)?)
     }
 
-    /// The pages behind the last one with a key go, each reported by a change, the last one first; the others stay, with
+    /// Removes the pages after the last one with a key, each reported by a change, the last one first; the others stay, with
     /// their sizes, and so do all keys. After `clear` all pages go.
     pub fn shrink(&mut self) -> Result<(), CacheError> {
         Ok(self.cache.shrink(&mut self.changes)?)
     }
 
-    /// Places the keys of a page anew, the largest first, and of one area the one that was used last, so that what is free
-    /// comes together; whether there is such a page. Each of its keys is reported by a change, as moved, also where it stays,
+    /// Repacks the keys of a page, the largest first, and among equal areas the most recently used, so that what is free
+    /// comes together. Returns whether there is such a page. Each of its keys is reported by a change, as moved, even if it stays,
     /// or as evicted, where it found no room. A place that a key moves to can overlap one that a later change moves from: copy
     /// all pixels from the page as it was.
     pub fn repack(&mut self, page: u32) -> Result<bool, CacheError> {
@@ -415,12 +415,12 @@ impl<K: Copy + Eq + Hash, S: BuildHasher> TextureCache<K, S> {
             .unusable_area(page, convert::library_size(size))?)
     }
 
-    /// Takes memory for so many more entries. An insertion still asks for memory for slots of a page and for changes.
+    /// Takes memory for this many more entries. An insertion still asks for memory for slots of a page and for changes.
     pub fn reserve(&mut self, additional: usize) -> Result<(), CacheError> {
         Ok(self.cache.reserve(additional)?)
     }
 
-    /// How many numbers entries had so far, since the cache was made or cleared: each entry's number is below.
+    /// How many numbers entries have had since the cache was made or cleared: each entry's number is below this.
     pub fn numbers(&self) -> u32 {
         self.cache.numbers()
     }
@@ -445,7 +445,7 @@ impl<K: Copy + Eq + Hash, S: BuildHasher> TextureCache<K, S> {
         self.cache.oldest().map(keyed)
     }
 
-    /// The key that was used next before this one, and its place. It doesn't count as a use.
+    /// The next less recently used key, and its place. It doesn't count as a use.
     pub fn older(&self, key: K) -> Option<(K, Place)> {
         self.cache.older(&key).map(keyed)
     }

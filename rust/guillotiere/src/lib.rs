@@ -17,10 +17,10 @@
 //! ```
 //!
 //! All work is done by `wollemigo-core`, which is the text of proved sources with its contracts removed. Nothing is
-//! decided here: values are turned into those of euclid, and errors into panics. What a caller may not do is tested by
-//! `guillotiere_total` of the same text.
+//! decided here: values are turned into those of euclid, and errors into panics. Whether a call is allowed is tested by
+//! `guillotiere_total`, which comes from the same sources.
 //!
-//! A call panics where the crate's panics, and if memory or slots run out; the text says which condition failed. Each
+//! A call panics where that of the crate does, and if memory or slots run out; the text says which condition failed. Each
 //! such call has a `try_` form that returns the error as a value; after an error everything is as before. This crate's
 //! README.md has a table of what else differs from the crate.
 //!

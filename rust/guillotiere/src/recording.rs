@@ -1,7 +1,7 @@
 //! Persistence: an allocator that records its calls, and recordings that can be kept and taken up again. The recorder of
 //! the crate `guillotiere` 0.7.0 doesn't compile; this one has names of its own.
 //!
-//! The ids of an [`AtlasAllocator`](crate::AtlasAllocator) depend on its slots, and of slots that are read from a file no
+//! The ids of an [`AtlasAllocator`](crate::AtlasAllocator) depend on its slots, and when slots are read from a file no
 //! one can say whether calls led to them. So what is kept is the list of calls with their answers, a [`Recording`]:
 //! `resume` carries them out once more in a new allocator and compares each answer before the allocator is given out.
 //!
@@ -49,8 +49,8 @@ use wollemigo_core::guillotiere_recording as library;
 use wollemigo_core::guillotiere_total::{recording as total, CallError};
 use wollemigo_support::alloc::Global;
 
-/// An allocator that hands out names in place of ids, and records each of its calls that isn't refused. Where rectangles
-/// lie is as [`AtlasAllocator`](crate::AtlasAllocator) has it.
+/// An allocator that hands out names in place of ids, and records each of its calls that isn't refused. Rectangles lie
+/// where an [`AtlasAllocator`](crate::AtlasAllocator) would place them.
 ///
 /// A call panics where that of an `AtlasAllocator` does, and has a `try_` form that returns the error as a value; after
 /// an error everything is as before, and nothing was recorded. Each call that is recorded takes memory for its event,
@@ -132,7 +132,7 @@ impl RecordingAllocator {
         self.session.can_fit(convert::library_size(requested_size))
     }
 
-    /// Takes memory for so many more slots than are used, as `AtlasAllocator::try_reserve` does; it is not recorded.
+    /// Takes memory for this many slots beyond those in use, as `AtlasAllocator::try_reserve` does; it is not recorded.
     /// What is recorded and the names take memory in addition. An error is `Slots` or `Memory`.
     pub fn try_reserve(&mut self, additional: u32) -> Result<(), AtlasError> {
         Ok(self.session.reserve(additional)?)
@@ -191,7 +191,7 @@ impl RecordingAllocator {
         self.rearranged(|session| Ok(session.rearrange()?))
     }
 
-    /// Places what is allocated anew in an empty atlas of this size, the largest first. Each change has one name in
+    /// Repacks what is allocated into an empty atlas of this size, the largest first. Each change has the same name in
     /// `old` and `new`; the name of a failure is no longer live.
     ///
     /// # Panics
@@ -381,7 +381,7 @@ pub enum ResumeError {
     /// The event with this number can't be carried out: its new name isn't the next one, no name is left, the name that
     /// it frees isn't live, a side shrinks, or a size is empty.
     BadEvent(usize),
-    /// The event with this number has another answer than the atlas gives.
+    /// The event with this number has a different answer from the one that the atlas gives.
     Differs(usize),
     /// More slots would be used than an atlas may use.
     Slots,

@@ -44,12 +44,12 @@ pub enum Allowed {
     },
 }
 
-/// What a sheet keeps to, and how long a better one is looked for.
+/// The rules for a sheet, and how long a better one is looked for.
 #[derive(Copy, Clone, Debug, PartialEq, Eq, Hash)]
 pub struct SheetOptions {
     /// Which sheets are allowed. `fill` takes the greatest of them.
     pub allowed: Allowed,
-    /// How many pixels at least lie between two sprites, and between a sprite and the border.
+    /// The least number of pixels between two sprites, and between a sprite and the border.
     pub padding: u16,
     /// Each place, with the padding at its left and above, begins on multiples of these sides and takes multiples of them, also
     /// at the right and lower border; both are above 0.
@@ -58,7 +58,7 @@ pub struct SheetOptions {
     pub turn: bool,
     /// How many changes of the order are tried.
     pub effort: u32,
-    /// Where the row of random changes begins. The same input has the same sheet on every machine.
+    /// The seed of the random changes. The same input gives the same sheet on every machine.
     pub seed: u64,
 }
 
@@ -139,7 +139,7 @@ pub enum SheetError {
     EmptyAlignment,
     /// The sprite with this number, counted from 0, has a side below 1.
     EmptySprite(usize),
-    /// The sprite with this number, counted from 0, passes 2147483647 pixels with the padding at both its sides.
+    /// A side of the sprite with this number, counted from 0, exceeds 2147483647 pixels with the padding at both its ends.
     GreatSprite(usize),
 }
 
@@ -228,7 +228,7 @@ pub fn pack_telling(
     converted(library::pack_telling(Global, &sprites, &options, told)?)
 }
 
-/// The sheet of `pack`, or a smaller one in which no whole cuts part the sprites, which comes out fuller as a rule, the more
+/// The sheet of `pack`, or a smaller one laid out without guillotine cuts, which is fuller as a rule, and the more so the more
 /// sprites there are. It never has more pixels than that of `pack`. In a smaller one no sprite is turned.
 pub fn pack_dense(sprites: &[Size], options: &SheetOptions) -> Result<Option<Sheet>, SheetError> {
     let sprites = library_sizes(sprites)?;
@@ -259,7 +259,7 @@ pub fn fill(sprites: &[Size], options: &SheetOptions) -> Result<Filled, SheetErr
 }
 
 /// Packs all sprites into as few sheets as are found: on each what `fill` places there of the sprites that are left, and the
-/// last of them in as small a sheet as `pack` finds. No sheet is empty, and no sprites have no sheets. None only where a sprite
+/// last of them in as small a sheet as `pack` finds. No sheet is empty; with no sprites there is no sheet. None only where a sprite
 /// is too large for an empty sheet.
 pub fn pack_pages(sprites: &[Size], options: &SheetOptions) -> Result<Option<Pages>, SheetError> {
     let (sprites, options) = (library_sizes(sprites)?, library_options(options));
@@ -267,11 +267,11 @@ pub fn pack_pages(sprites: &[Size], options: &SheetOptions) -> Result<Option<Pag
 }
 
 /// `pack_pages`, with all sprites of a group on one sheet: `groups` has the number of each sprite's group, in the order of the
-/// sprites. A sprite is in no group where that is None, or where `groups` ends before; numbers past the last sprite count for
-/// nothing. A group that no way packs alone into the greatest sheet that is allowed is placed as sprites in no group.
+/// sprites. A sprite is in no group where that is None, or where `groups` ends before; numbers past the last sprite are
+/// ignored. If no way packs a group by itself into the greatest sheet that is allowed, its sprites are placed as if in no group.
 ///
-/// Groups are taken in the order of their first sprites. The first opens a sheet; then each other group comes onto it that the
-/// greatest sheet takes as well, and as many sprites in no group as it takes; and the sheet becomes as small as `pack` finds it.
+/// Groups are taken in the order of their first sprites. The first opens a sheet; then each other group that the greatest sheet
+/// takes as well goes onto it, and as many sprites in no group as it takes; then the sheet is made as small as `pack` finds it.
 /// The sprites that are left then are packed as `pack_pages` does. None only where a sprite is too large for an empty sheet.
 ///
 /// ```

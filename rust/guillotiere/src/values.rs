@@ -6,7 +6,7 @@ use core::marker::PhantomData;
 pub type Point = euclid::default::Point2D<i32>;
 /// The size of a request, of a rectangle or of an atlas, in pixels.
 pub type Size = euclid::default::Size2D<i32>;
-/// The unit squares from `min` on and before `max`.
+/// The unit squares from `min` up to, but not including, `max`.
 pub type Rectangle = euclid::default::Box2D<i32>;
 
 /// The greatest limit on the slots of an atlas, and that of an atlas without a limit of its own.

@@ -17,7 +17,7 @@ pub struct Pages {
 #[derive(Copy, Clone, Debug, PartialEq)]
 pub struct Ways {
     pub options: SheetOptions,
-    /// Smaller sheets with no whole cuts are tried too, for the last sheet.
+    /// Smaller sheets with no guillotine cuts are tried too, for the last sheet.
     pub is_dense: bool,
     /// At most so many sheets.
     pub limit: usize,

@@ -49,7 +49,7 @@ pub struct Words {
     /// With --pages: one sheet has all pictures of a folder, where one of the greatest size takes them; those in FOLDER itself lie anywhere
     #[arg(long)]
     pub group: bool,
-    /// Tries smaller sheets too, in which no whole cuts part the sprites and none is turned; of several sheets for the last
+    /// Tries smaller sheets too, in which no guillotine cuts part the sprites and none is turned; of several sheets for the last
     #[arg(long)]
     pub dense: bool,
     /// Sprites may lie turned by 90 degrees

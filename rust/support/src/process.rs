@@ -4,7 +4,7 @@ pub use rust_std::process::ExitCode;
 
 use crate::rt::HostRuntime;
 
-/// The leave to end the process by a panic, as a failed assertion does.
+/// Permission to end the process by a panic, as a failed assertion does.
 pub trait Abort {}
 
 impl Abort for HostRuntime {}

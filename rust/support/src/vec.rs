@@ -236,7 +236,7 @@ impl<T, A: Allocator> Vec<T, A> {
         self.items.swap_remove(index)
     }
 
-    /// Takes the items of a range, also if what it gives is dropped before its end.
+    /// Takes out the items of a range, even if the iterator is dropped before its end.
     pub fn drain<R: RangeBounds<usize>>(&mut self, range: R) -> Drain<'_, T> {
         self.items.drain(range)
     }

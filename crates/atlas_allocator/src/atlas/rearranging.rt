@@ -1,4 +1,4 @@
-//! Placing what is allocated anew: the order in which it is taken, and the placing itself.
+//! Repacking what is allocated: the order in which it is taken, and the placing itself.
 ghost use Rattle.std.specs.Prelude.{◌≡◌, ◌-◌, All, IfErr, IfOk, IsPermutation, map};
 ghost use Rattle.atlas_model.specs.Boxes.{area, box_sides};
 ghost use Rattle.atlas_model.specs.Cuts.{cap};

@@ -38,8 +38,8 @@ impl<A: Allocator + Copy> AtlasAllocator<A> {
         free_sum(self.store.slots())
     }
 
-    /// Calls `visit` on each free rectangle once, in an order that is left open. Requires that `visit` may be called along
-    /// each list that may be shown, and no more: nothing else is called. No coordinate of these rectangles is negative.
+    /// Calls `visit` on each free rectangle once, in an unspecified order. Requires only that `visit` may be called on them
+    /// one after another in any such order: it is called with nothing else. No coordinate of these rectangles is negative.
     pub fn for_each_free_rectangle<F: FnMut(&Rectangle)>(&self, visit: F)
         requires { (areas : List Area) → AreFreeAreas (state_of self.now) areas
             → IsCallableAlong F.FnMut IsShownArea visit areas }
@@ -50,7 +50,7 @@ impl<A: Allocator + Copy> AtlasAllocator<A> {
     }
 
     /// Calls `visit` on each live id and its rectangle once, by rising number of the slot, which is the low 24 bits of
-    /// the id. Requires that `visit` may be called along that list, and no more: nothing else is called.
+    /// the id. Requires only that `visit` may be called on them in that order: it is called with nothing else.
     pub fn for_each_allocated_rectangle<F: FnMut(AllocId, &Rectangle)>(&self, visit: F)
         requires { (grants : List Grant) → AreGrants (state_of self.now) grants
             → IsCallableAlongGrants F.FnMut (IsShownGrant (state_of self.now)) visit grants }

@@ -1,4 +1,4 @@
-//! Entries that go without another one coming in, and room that is reserved beforehand.
+//! Removing entries without inserting one, and reserving room beforehand.
 ghost use Rattle.std.specs.Prelude.{◌≡◌, ◌+◌, ◌≤◌, false, length, map, IfErr, IsOk, IsOkUnless, IsTrue, OnErr, OnOk};
 ghost use Rattle.std.specs.Prelude.{vec_capacity, vec_len};
 ghost use Rattle.std.specs.List.{AllByRecursion};
@@ -18,7 +18,7 @@ use std::alloc::Allocator;
 use std::hash::{BuildHasher, Hash};
 
 impl<K: Copy + Eq + Hash, S: BuildHasher, A: Allocator + Copy> TextureCache<K, S, A> {
-    /// All keys go. The pages stay, with their sizes and with nothing on them, and so do the frame and the counts. No
+    /// Removes all keys. The pages stay, with their sizes and with nothing on them, and so do the frame and the counts. No
     /// change reports this: the caller forgets all places. Takes no memory, and gives none back: what the keys had is
     /// in reserve. A `shrink` after it takes all pages away, and then the cache begins with small ones again.
     pub fn clear(&mut self)
@@ -29,7 +29,7 @@ impl<K: Copy + Eq + Hash, S: BuildHasher, A: Allocator + Copy> TextureCache<K, S
         self.rooms.clear();
     }
 
-    /// The entries that weren't used for at least so many frames go: with 1, what this frame didn't use; with 0, all.
+    /// Evicts the entries that weren't used for at least this many frames: with 1, what this frame didn't use; with 0, all.
     /// Each is added to the changes as `Evicted`, the least recently used first. The others stay. The list of changes
     /// is asked for room for as many as there are entries; with `Memory`, if that is refused, nothing changes.
     pub fn trim(&mut self, frames: u64, changes: &mut Changes<K, A>) -> Result<(), CacheError>
@@ -44,7 +44,7 @@ impl<K: Copy + Eq + Hash, S: BuildHasher, A: Allocator + Copy> TextureCache<K, S
         Ok(())
     }
 
-    /// At least so many entries are in reserve from now on: the insertions that follow ask for memory only for pages, for
+    /// Makes sure that at least this many entries are in reserve: the insertions that follow ask for memory only for pages, for
     /// their slots, and for changes. Each key that is added takes one of them; one that goes gives none back, but `clear`
     /// does. Nothing else changes, and nothing at all with `Memory`, if memory is refused.
     pub fn reserve(&mut self, additional: usize) -> Result<(), CacheError>
@@ -56,7 +56,7 @@ impl<K: Copy + Eq + Hash, S: BuildHasher, A: Allocator + Copy> TextureCache<K, S
         Ok(())
     }
 
-    /// At least so many slots are in reserve on each page from now on. An insert that neither adds a page nor grows one takes
+    /// Makes sure that at least this many slots are in reserve on each page. An insert that neither adds a page nor grows one takes
     /// at most 4 of each page; a page that is added later has none in reserve, one that grows takes up to 3 of its own, and
     /// one that is repacked may have none. Nothing else changes. `Slots` if those of a page don't suffice, `Memory` if memory
     /// is refused; the pages before that one have theirs in reserve then.

@@ -8,7 +8,7 @@ use core::mem::replace;
 use core::slice;
 
 /// Values under keys, in the order of the keys. Rust's map aborts where memory is refused, so this is a list in order:
-/// a key is found by halves, and a new one moves those behind it.
+/// a key is found by binary search, and a new one moves those after it.
 pub struct BTreeMap<K, V, A: Allocator = Global> {
     entries: Vec<(K, V), A>,
 }

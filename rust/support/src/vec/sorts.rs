@@ -11,8 +11,8 @@ use rust_alloc::vec::Vec as Items;
 const FEW: usize = 20;
 
 impl<T: Copy, A: Allocator> Vec<T, A> {
-    /// Sorts; equal items keep their order. Takes memory for a time, but for up to 20 items or for those that are in
-    /// order. On an Err all items stand where they stood.
+    /// Sorts; equal items keep their order. Takes memory for a time, except for up to 20 items or for those already in
+    /// order. On an Err all items are where they were.
     pub fn sort(&mut self) -> Result<(), AllocError>
     where
         T: Ord,

@@ -1,4 +1,4 @@
-//! Sheets packed with no whole cuts.
+//! Sheets packed with no guillotine cuts.
 
 use super::climbing::{all_good, is_order, pixels};
 use super::filling::{sprites_of, upright};
