@@ -54,7 +54,7 @@ def report(names, workloads, long, folder, bare, crate):
     """Prints the table of these workloads, or what is missing."""
     lacking = missing()
     if lacking:
-        print('\nLinked: passed over, %s.' % lacking)
+        print('\nLinked: skipped, %s.' % lacking)
         return
     programs = [build(folder), bare]
     print('\nLinked: bench/driver.rs over rust/guillotiere.' + ('' if crate else " The crate's files weren't given."))

@@ -28,7 +28,7 @@ def build():
 def report(names, workloads, long, proved, crate):
     """Prints the table of these workloads, or what is missing."""
     if missing():
-        print('\nPlain: passed over, %s.' % missing())
+        print('\nPlain: skipped, %s.' % missing())
         return
     programs = [build(), proved]
     print('\nPlain: atlas_bench of rust/erased, built by cargo.' + ('' if crate else " The crate's files weren't given."))

@@ -50,7 +50,7 @@ class Edit:
         for file, old, new in self.pairs:
             text = mine.get(file) or (self.crate / file).read_text(encoding="utf-8")
             if text.count(old) != 1:
-                raise BadEdit(f"a text of it stands in {file} {text.count(old)} times, and not once")
+                raise BadEdit(f"one of its texts is in {file} {text.count(old)} times instead of once")
             mine[file] = text.replace(old, new)
         if not self.pairs:
             raise BadEdit("it has no 'old:' and 'new:' pair")

@@ -37,9 +37,9 @@ ROWS = (
     (b'sheet one 4 4 pages 2 group\na/x 4 4\na/y 4 2\n', b'sheet 4 4\nsheet 4 4\na/x 0 0 0 4 4\na/y 1 0 0 4 2\nfull 750\n'),
     (b'sheet one 4 4 pages 1 group\na/x 4 2\nb/y 4 4\n', b'more sheets are needed than pages allows'),
     (b'sheet one 4 4 pages 9 group\na/x 5 1\n', b'no sheet that is allowed takes all sprites'),
-    (b'sheet group\n', b'line 1: group goes only with pages'),
+    (b'sheet group\n', b'line 1: group needs pages'),
     (b'sheet pages 2\na 1 1\nb 0 1\n', b'line 3: a side is below 1'),
-    (b'sheet pages 2 fill\n', b'line 1: pages goes with neither fill nor dense nor json'),
+    (b'sheet pages 2 fill\n', b'line 1: pages can\'t be combined with fill, dense or json'),
     (b'sheet align 0 1\n', b'line 1: a side of the alignment is below 1'),
     (b'sheet align 16 16 one 48 48\na 33 33\n', b'sheet 48 48\na 0 0 33 33\nfull 472\n'),
     (b'sheet width 8 9\na 4 2\n', b'sheet 8 2\na 0 0 4 2\nfull 500\n'),
@@ -50,7 +50,7 @@ ROWS = (
     (b'"\\u0041\\u00e4 b" 1 1\n', 'sheet 1 1\n"A\u00e4 b" 0 0 1 1\nfull 1000\n'.encode()),
     *((name + b' 1 2\n', b'line 1: not a sprite, which is NAME WIDTH HEIGHT')
       for name in (b'\xff', b'\xed\xa0\x80', b'"a', b'"a"b', b'""', b'a\tb', b'a\x7f', b'"\\n"', b'"\\x"', b'"\\ud83d"')),
-    (b'a 1 1\na 2 2\n', b'line 2: this name stands on an earlier line'),
+    (b'a 1 1\na 2 2\n', b'line 2: this name is already used on an earlier line'),
 )
 # Sprites of which changes of the order by one seed fit into a smaller square than the ways find, and by another don't.
 SPRITES = b'a 9 4\nb 3 8\nc 5 5\nd 7 2\ne 2 9\nf 6 6\ng 4 3\nh 8 5\n'

@@ -53,7 +53,7 @@ def lines_that_cannot_be_read(program):
 
 def no_size(program):
     """No line gives the size: status 2."""
-    return [refused(program, lines) for lines in (b'ok\nhole 0 0 9 9\n', b'')] == [b'no line tells the size\n'] * 2
+    return [refused(program, lines) for lines in (b'ok\nhole 0 0 9 9\n', b'')] == [b'no line gives the size\n'] * 2
 
 
 CASES = (lines_of_boxes, lines_of_other_replies, lines_after_the_last_size, lines_that_cannot_be_read, no_size)

@@ -116,7 +116,7 @@ class Trial:
                 self.said[edit] = self.try_alone(edit, kept)
             for edit in self.said:
                 if told_of(edit.checked(), without.result()):
-                    self.said[edit] = (False, "its function isn't proved without it either, so nothing is shown")
+                    self.said[edit] = (False, "its function isn't proved even without the edit, so this shows nothing")
         return self
 
     @contextlib.contextmanager
@@ -207,7 +207,7 @@ class Told:
             return True, f"refused, as it must be{self.by_value}: {self.shown[:200]}"
         if self.names:
             return False, f"{ALONE}: {self.names[0][:200]}"
-        return False, "NO GOAL: the check says of no goal that it stays open, and refuses it for something else"
+        return False, "NO GOAL: the check reports no open goal, and refuses the edit for another reason"
 
 
 def whole(said, number):

@@ -82,7 +82,7 @@ static inline const char *guillotiere_status_text(uint32_t status) {
     case GUILLOTIERE_DONE: return "done";
     case GUILLOTIERE_NO_ROOM: return "the request has no room";
     case GUILLOTIERE_BAD_CALL: return "the condition of the call does not hold";
-    case GUILLOTIERE_NOT_LIVE: return "an id is not live, or stands twice";
+    case GUILLOTIERE_NOT_LIVE: return "an id is not live, or is listed twice";
     case GUILLOTIERE_SLOTS: return "too few slots";
     case GUILLOTIERE_MEMORY: return "no memory";
     case GUILLOTIERE_SHORT: return "an array is too short";
@@ -104,7 +104,7 @@ static inline const char *guillotiere_status_text(uint32_t status) {
     case GUILLOTIERE_NO_PAGE: return "there is no such page";
     case GUILLOTIERE_HELD: return "the key was held already";
     case GUILLOTIERE_FRAME_FULL: return "this frame uses all the room";
-    case GUILLOTIERE_NEVER_FITS: return "the size passes the largest page";
+    case GUILLOTIERE_NEVER_FITS: return "the size exceeds the largest page";
     case GUILLOTIERE_NOTHING_FITS: return "nothing fits the largest page with its padding";
     default: return "no status";
     }

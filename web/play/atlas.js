@@ -86,7 +86,7 @@ function addMany() {
 
 function run(isRunning) {
   player.run(isRunning);
-  return isRunning ? 'It runs.' : 'It stands still.';
+  return isRunning ? 'It runs.' : 'It is paused.';
 }
 
 export function stop() {

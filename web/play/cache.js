@@ -191,7 +191,7 @@ export function writeCounts() {
 function again() {
   trouble(null);
   shown.begin();
-  say('The cache begins anew.');
+  say('The cache starts over.');
 }
 
 export function start() {

@@ -114,7 +114,7 @@ export class Player {
     lines.forEach((line, at) => check(line, at));
     const trial = new Session();
     trial.replay(lines);
-    if (!trial.atlas) throw new Error('No line makes an atlas, as "atlas 512 384" does.');
+    if (!trial.atlas) throw new Error('No line makes an atlas; one such as "atlas 512 384" is needed.');
     this.session.atlas?.dispose();
     this.session = trial;
     this.forget();

@@ -183,7 +183,7 @@ export class Atlas extends Owner {
 
 /** An atlas that isn't out of use, and none of another kind. */
 export function requireAtlas(value, runtime) {
-  if (!(value instanceof Atlas)) throw new WollemigoError('BAD_OPTION', 'atlas is no Atlas');
+  if (!(value instanceof Atlas)) throw new WollemigoError('BAD_OPTION', 'atlas is not an Atlas');
   if (runtimeOf(value) !== runtime) throw failure('TRAPPED');
   return handle(value);
 }

@@ -14,7 +14,7 @@ export const FRAME_FULL = 24;
 
 const MESSAGES = {
   BAD_CALL: "an empty size, options that aren't valid, a growth that shrinks a side, or a bad limit",
-  NOT_LIVE: "an id isn't live, or stands twice",
+  NOT_LIVE: "an id isn't live, or is listed twice",
   SLOTS: 'more slots would be used than the limit allows',
   MEMORY: 'memory was refused',
   DISPOSED: 'the object was disposed of',
@@ -22,7 +22,7 @@ const MESSAGES = {
   EMPTY_RANGE: 'the greatest side of a sheet is below the least',
   EMPTY_ALIGNMENT: 'a side of the alignment is below 1',
   EMPTY_SPRITE: 'a sprite has a side below 1',
-  GREAT_SPRITE: 'a sprite passes 2147483647 pixels with the padding at both its sides',
+  GREAT_SPRITE: 'a side of a sprite, with the padding at both its ends, exceeds 2147483647 pixels',
   OTHER_SIZE: 'a key is held with another size',
   NUMBERS: 'a cache holds 4294967295 keys, and can hold no more',
   EMPTY_PAGE: 'a side of a new page is below 1',
@@ -31,7 +31,7 @@ const MESSAGES = {
   BAD_PADDING: 'the padding is below 0',
   BAD_ATLAS: "the options of the pages' atlases aren't valid",
   NO_PAGE: 'there is no such page',
-  NEVER_FITS: 'a size passes the largest page, with the padding and rounded up to the alignment',
+  NEVER_FITS: 'with the padding, rounded up to the alignment, a size exceeds the largest page',
   NOTHING_FITS: 'with the padding and rounded up, not even 1 by 1 fits the largest page',
   TRAPPED: 'the WebAssembly module has trapped, and is used no more',
   NOT_LOADED: "the module isn't there yet: await load() first",

@@ -10,7 +10,7 @@ pub enum SvgError {
     #[error("line {0} can't be read")]
     BadLine(u64),
     /// No line gives the size.
-    #[error("no line tells the size")]
+    #[error("no line gives the size")]
     NoSize,
     /// A request for memory was refused.
     #[error("no memory")]

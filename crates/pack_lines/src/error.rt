@@ -13,16 +13,16 @@ pub enum PackError {
     #[error("line 1: not a setting, or not its numbers")]
     BadSettings,
     /// `pages` is given with `fill`, `dense` or `json`.
-    #[error("line 1: pages goes with neither fill nor dense nor json")]
+    #[error("line 1: pages can't be combined with fill, dense or json")]
     NotTogether,
     /// `group` is given without `pages`.
-    #[error("line 1: group goes only with pages")]
+    #[error("line 1: group needs pages")]
     NoPages,
     /// This line is no sprite.
     #[error("line {0}: not a sprite, which is NAME WIDTH HEIGHT")]
     BadLine(usize),
     /// The name on this line is on an earlier one.
-    #[error("line {0}: this name stands on an earlier line")]
+    #[error("line {0}: this name is already used on an earlier line")]
     Twice(usize),
     /// The sprite on this line has a side below 1.
     #[error("line {0}: a side is below 1")]

@@ -11,7 +11,7 @@ pub enum PlayError {
     #[error("bad line {0}")]
     BadLine(u64),
     /// The session that ends at the line with this number is answered differently.
-    #[error("the session that ends at line {0} is answered otherwise")]
+    #[error("the session that ends at line {0} got other answers")]
     Otherwise(u64),
     /// The atlas refused a call.
     #[error("refused: {0}")]

@@ -168,7 +168,7 @@ def grouped(folder, room):
     for more, at in (([], ''), (['--scale', '0.9'], ' at scale 0.9')):
         done = run(to, out, '--size', '170', '170', '--pages', '20', '--group', *more)
         parted = [inside for inside, each in sorted(sheets_of_folders(out, at and '@0.9x').items()) if inside and len(each) > 1]
-        line = "guillotiere-sheet: folder %s is parted%s: one sheet of 170x170 doesn't take it\n"
+        line = "guillotiere-sheet: folder %s is split%s: it doesn't fit on one sheet of 170x170\n"
         assert parted and len(parted) < 6 and done.stderr == ''.join(line % (inside, at) for inside in parted), (parted, done.stderr)
     together = run(to, os.path.join(room, 'one sheet'), '--group')
     assert len(together.stdout.splitlines()) == 1
@@ -259,7 +259,7 @@ def theme(folder, room):
 
 
 def others(room):
-    """JPEG, WebP, 16 bits a sample, interlaced and transparent by a colour; files of other kinds and hidden ones are passed over."""
+    """JPEG, WebP, 16 bits a sample, interlaced and transparent by a colour; files of other kinds and hidden ones are skipped."""
     folder = os.path.join(room, 'others')
     picture = Image.effect_mandelbrot((40, 30), (-2, -1, 1, 1), 50).convert('RGB')
     icons.save(folder, 'a.jpg', picture, quality=95, subsampling=0)
@@ -311,7 +311,7 @@ def colours(room):
         write('a.png', *more)
         told = run(folder, out).stderr
         assert told.startswith('guillotiere-sheet: colours differ: a.png: ') and told.count('\n') == 1, told
-        assert told.endswith('gAMA is applied, so its numbers change: the sheet is sRGB\n' if is_applied else "aren't applied, the numbers are taken as sRGB\n")
+        assert told.endswith('gAMA is applied, so its numbers change: the sheet is sRGB\n' if is_applied else "aren't applied; the values are taken as sRGB\n")
         found = readers.read('json-hash', out)
         sheet = icons.chunks(out + '.png')
         assert not {b'gAMA', b'cHRM', b'iCCP'} & sheet.keys() and sheet[b'sRGB'] == b'\0'
@@ -386,10 +386,10 @@ def all_tests(room):
         if os.path.isdir(place):
             test(place, theme, place, room)
         else:
-            print('passed over %s: it is not there' % place)
+            print('skipped %s: it is not there' % place)
     chromium = browsers.browsers()['chromium']
     if chromium is None:
-        print('passed over the classes of CSS: there is no chromium')
+        print('skipped the classes of CSS: there is no chromium')
         return
     for way in ('plain', 'full', 'pages'):
         test('css, ' + way, css, chromium, folder, way, room)

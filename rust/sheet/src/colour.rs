@@ -19,7 +19,7 @@ pub struct Settled {
     pub notes: Vec<String>,
 }
 
-const PASSED_OVER: &str = "iCCP, other primaries in cHRM and gAMA without cHRM aren't applied, the numbers are taken as sRGB";
+const PASSED_OVER: &str = "iCCP, other primaries in cHRM, and gAMA without cHRM aren't applied; the values are taken as sRGB";
 
 impl Colour {
     /// The chunks gAMA, cHRM, sRGB and iCCP that stand before the pixels.

@@ -57,7 +57,7 @@ pub fn files(folder: &Path, drop_extension: bool) -> Result<Vec<(String, PathBuf
         lines.push(format!("{} and {} {}", first, second, what));
     }
     if found.is_empty() && lines.is_empty() {
-        return Err(Fault::file(folder, "no PNG, JPEG or WebP lies in it"));
+        return Err(Fault::file(folder, "it contains no PNG, JPEG or WebP"));
     }
     if !lines.is_empty() {
         lines.sort();

@@ -46,7 +46,7 @@ fn check_folders(words: &Words) -> Result<(), Fault> {
         .map_err(|error| Fault::file(&target, error))?;
     if target.starts_with(&folder) {
         let line = format!(
-            "{}: it lies in the folder of pictures, so that the sheet would become one of them",
+            "{}: it is inside the folder of pictures, so the sheet would become one of them",
             words.out.display()
         );
         return Err(Fault::new(WORDS, line));

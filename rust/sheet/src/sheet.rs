@@ -226,8 +226,8 @@ fn packed(
 
 fn no_room(homeless: &[&str], room: Size, words: &Words) -> Fault {
     let sheets = match words.limit() {
-        1 => "one sheet takes".to_string(),
-        count => format!("{} sheets take", count),
+        1 => "one sheet doesn't take".to_string(),
+        count => format!("{} sheets don't take", count),
     };
     let help = if keeps_together(words) {
         "more --pages, a larger sheet, --leave-out, or no --group may help"
@@ -235,7 +235,7 @@ fn no_room(homeless: &[&str], room: Size, words: &Words) -> Fault {
         "more --pages, a larger sheet or --leave-out would help"
     };
     let line = format!(
-        "{} not all pictures, {}x{} at most: {} found no place; {}",
+        "{} all pictures, {}x{} at most: {} found no place; {}",
         sheets,
         room.width,
         room.height,
@@ -267,7 +267,7 @@ fn parted(
     let several = sheets.iter().filter(|(_, sheets)| sheets.len() > 1);
     let line = |folder: &str| {
         format!(
-            "folder {} is parted{}: one sheet of {}x{} doesn't take it",
+            "folder {} is split{}: it doesn't fit on one sheet of {}x{}",
             folder,
             at_scale(scale),
             room.width,

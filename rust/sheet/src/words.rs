@@ -15,15 +15,15 @@ const GREATEST: i32 = 65536;
 const USAGE: &str = "guillotiere-sheet [OPTIONS] FOLDER OUT";
 
 const AFTER: &str = "\
-Status: 0 written; 1 a file can't be read or written; 2 wrong words; 3 the pictures don't fit; 4 written, and some are left out.";
+Status: 0 written; 1 a file can't be read or written; 2 wrong usage; 3 the pictures don't fit; 4 written, and some are left out.";
 
 /// Packs the pictures of a folder into sheets that engines load.
 #[derive(Parser, Debug)]
 #[command(name = "guillotiere-sheet", version, override_usage = USAGE, after_help = AFTER)]
 pub struct Words {
-    /// Its pictures (.png, .jpg, .jpeg, .webp), and those of the folders in it, are the sprites; names are paths in it
+    /// The folder whose pictures (.png, .jpg, .jpeg, .webp), with those of its subfolders, are the sprites; a name is a path in it
     pub folder: PathBuf,
-    /// OUT.png is the sheet, and next to it is the file of the form; with --pages the sheets are OUT-0.png, OUT-1.png ..
+    /// OUT.png is the sheet, with the data file of --form next to it; with --pages the sheets are OUT-0.png, OUT-1.png ..
     pub out: PathBuf,
     /// What is written next to the pictures
     #[arg(long, value_enum, default_value_t = Form::JsonHash)]
@@ -37,19 +37,19 @@ pub struct Words {
     /// Multiplies red, green and blue by alpha
     #[arg(long)]
     pub premultiply: bool,
-    /// Keeps the numbers of all pictures, whatever their files say of colours; the sheets say nothing of them
+    /// Keeps all pixel values, whatever the files say about colours; the sheets say nothing about these
     #[arg(long)]
     pub keep_numbers: bool,
     /// Also sheets of smaller pictures: 1,0.5 writes OUT and OUT@0.5x
     #[arg(long, value_name = "S,..", value_delimiter = ',', default_value = "1")]
     pub scale: Vec<Scale>,
-    /// At most so many sheets, which are numbered even where there is one; without it there is one, and no number
+    /// At most N sheets, numbered even if there is only one; without this option there is one, without a number
     #[arg(long, value_name = "N", value_parser = clap::value_parser!(u32).range(1..))]
     pub pages: Option<u32>,
     /// With --pages: one sheet has all pictures of a folder, where one of the greatest size takes them; those in FOLDER itself lie anywhere
     #[arg(long)]
     pub group: bool,
-    /// Tries smaller sheets too, in which no guillotine cuts part the sprites and none is turned; of several sheets for the last
+    /// Also tries smaller sheets without guillotine cuts, in which no sprite is turned; of several sheets for the last one
     #[arg(long)]
     pub dense: bool,
     /// Sprites may lie turned by 90 degrees
@@ -61,7 +61,7 @@ pub struct Words {
     /// Each side of a sheet is a power of two
     #[arg(long)]
     pub power_of_two: bool,
-    /// A sheet is a square; so it is where nothing else is asked for
+    /// Sheets are squares, which is the default
     #[arg(long, conflicts_with = "power_of_two")]
     pub square: bool,
     /// A sheet has this size
@@ -79,7 +79,7 @@ pub struct Words {
     /// Each place, with the padding to its left and above it, begins at multiples of W and H
     #[arg(long, num_args = 2, value_names = ["W", "H"])]
     pub align: Option<Vec<i32>>,
-    /// So many changes of the order are tried for a smaller sheet; where one sheet takes all, each smaller one is reported
+    /// Tries N changes of the order for a smaller sheet; where one sheet takes all, each smaller one is reported
     #[arg(long, value_name = "N", default_value_t = 0)]
     pub effort: u32,
     /// Where the random changes begin
@@ -94,7 +94,7 @@ pub struct Words {
     /// With --form css: OUT.html too, which shows each sprite
     #[arg(long)]
     pub page: bool,
-    /// Goes on, and writes anew whenever the folder changes
+    /// Keeps running, and writes the sheets again whenever the folder changes
     #[arg(long)]
     pub watch: bool,
 }
@@ -164,9 +164,9 @@ impl Words {
         } else if self.stem().chars().any(char::is_control) {
             Some("OUT has a control character")
         } else if self.page && self.form != Form::Css {
-            Some("--page goes with --form css alone")
+            Some("--page needs --form css")
         } else if self.turn && self.form == Form::Godot {
-            Some("--turn doesn't go with --form godot: its textures can't lie turned")
+            Some("--turn can't be used with --form godot: its textures can't be turned")
         } else {
             self.fault_of_sides()
         };
@@ -208,7 +208,7 @@ pub fn words(given: impl IntoIterator<Item = std::ffi::OsString>) -> Result<Word
             say(&error.to_string()).err().unwrap_or(told)
         }
         ErrorKind::MissingRequiredArgument => {
-            Fault::new(WORDS, "FOLDER and OUT are needed; --help tells more")
+            Fault::new(WORDS, "FOLDER and OUT are required; see --help")
         }
         _ => Fault::new(WORDS, one_line(&error)),
     })?;

@@ -7,7 +7,7 @@ pub fn fault(name: &str) -> Option<String> {
     let is_wrong = name.contains(':') || name.trim() != name || name.trim().is_empty();
     is_wrong.then(|| {
         format!(
-            "{:?}: a name in an .atlas has no colon, and no space at its ends",
+            "{:?}: a name in an .atlas can't contain a colon, or begin or end with a space",
             name
         )
     })

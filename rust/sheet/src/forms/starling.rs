@@ -6,7 +6,7 @@ use std::fmt::Write;
 /// Why a name can't stand in XML.
 pub fn fault(name: &str) -> Option<String> {
     let is_wrong = name.contains(['\u{fffe}', '\u{ffff}']);
-    is_wrong.then(|| format!("{:?}: XML can't have U+FFFE and U+FFFF", name))
+    is_wrong.then(|| format!("{:?}: XML can't contain U+FFFE or U+FFFF", name))
 }
 
 // The sides are those of the place in the sheet; the frame is what the sprite lies in, seen from its corner.

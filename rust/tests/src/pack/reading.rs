@@ -44,19 +44,19 @@ const BAD: [(&str, &str); 22] = [
     ),
     (
         "a 1 2\nb 3 4\na 5 6\n",
-        "line 3: this name stands on an earlier line",
+        "line 3: this name is already used on an earlier line",
     ),
     (
         "sheet turn\na 1 2\na 1 2\n",
-        "line 3: this name stands on an earlier line",
+        "line 3: this name is already used on an earlier line",
     ),
     (
         "a 1 2\n\"a\" 1 2\n",
-        "line 2: this name stands on an earlier line",
+        "line 2: this name is already used on an earlier line",
     ),
     (
         "\"\\u00e4 b\" 1 2\n\"\u{e4} b\" 3 4\n",
-        "line 2: this name stands on an earlier line",
+        "line 2: this name is already used on an earlier line",
     ),
     ("sheet 10 10\n", "line 1: not a setting, or not its numbers"),
     (
@@ -65,15 +65,15 @@ const BAD: [(&str, &str); 22] = [
     ),
     (
         "sheet pages 2 fill\n",
-        "line 1: pages goes with neither fill nor dense nor json",
+        "line 1: pages can't be combined with fill, dense or json",
     ),
     (
         "sheet dense pages 2\n",
-        "line 1: pages goes with neither fill nor dense nor json",
+        "line 1: pages can't be combined with fill, dense or json",
     ),
     (
         "sheet pages 1 turn json\na 1 2\na 1 2\n",
-        "line 1: pages goes with neither fill nor dense nor json",
+        "line 1: pages can't be combined with fill, dense or json",
     ),
     (
         "sheet group turn\na 1 2\na 1 2\n",
