@@ -27,7 +27,7 @@ pub enum PackError {
     /// The sprite on this line has a side below 1.
     #[error("line {0}: a side is below 1")]
     EmptySprite(usize),
-    /// The sprite on this line passes 2147483647 pixels with the padding at both its sides.
+    /// A side of the sprite on this line, with the padding at both its ends, exceeds 2147483647 pixels.
     #[error("line {0}: the sprite is too large")]
     GreatSprite(usize),
     /// A side of the sheet, or the least that is allowed, is below 1.
