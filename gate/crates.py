@@ -28,8 +28,11 @@ class Crate:
         self.name, self.folder = name.rpartition("/")[2], CRATES / name
         self.is_static = "staticlib" in words[0]
         self.deps = words[1].split()
-        self.root = "src/main.rt" if (self.folder / "src/main.rt").is_file() else "src/lib.rt"
+        self.root = "src/main.rt" if self.is_program() else "src/lib.rt"
         Crate.all[name] = self
+
+    def is_program(self):
+        return (self.folder / "src/main.rt").is_file()
 
     def below(self):
         """The repository's libraries below it, lowest first."""

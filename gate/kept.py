@@ -1,9 +1,9 @@
 #!/usr/bin/env python3
-"""What was proved on this machine, for later runs in other clones: libraries, which `./check` keeps once `rt ci` has passed, and archives
-for C, which bindings/build keeps. Each has the sum of all that it was made from in its name, so none goes stale. They lie in
+"""What was proved on this machine, for later runs in other clones: libraries and programs, which `./check` keeps once `rt ci` has passed,
+and archives for C, which bindings/build keeps. gate/take copies libraries and programs into another clone. Each has the sum of all that it was made from in its name, so none goes stale. They lie in
 ~/.cache/guillotiere, or in $XDG_CACHE_HOME/guillotiere; whoever can write there is trusted, as with what `rt` keeps.
 
-    gate/kept.py LOG      keeps this clone's libraries that others stand on and that `rt ci` has proved, by what it wrote to LOG
+    gate/kept.py LOG      keeps this clone's programs, and the libraries below them, that `rt ci` has proved, by what it wrote to LOG
 """
 import contextlib
 import hashlib
@@ -38,11 +38,11 @@ def link(one, other):
 
 
 def copy(one, other):
-    """Copies a file or the folder of a library."""
+    """Copies a program, an archive or the folder of a library."""
     if one.is_dir():
         shutil.copytree(one, other, copy_function=link)
     else:
-        shutil.copyfile(one, other)
+        shutil.copy(one, other)
 
 
 def has(name):
@@ -73,17 +73,45 @@ def keep(name, path):
             shutil.rmtree(old) if old.is_dir() else old.unlink()
 
 
+def name_of_program(crate, kit):
+    return name_of(crate, kit, "program")
+
+
+def keep_proved(crates, proved, kit):
+    """Keeps the programs among these crates, and the libraries that others cite, which are among the proved ones with all below them. Gives
+    how many libraries and how many programs there were."""
+    libraries = programs = 0
+    cited = {dep for crate in crates for dep in crate.deps}
+    for crate in crates:
+        if not {crate.name, *crate.below()} <= proved:
+            continue
+        if crate.name in cited and crate.is_new():
+            keep(name_of(crate, kit), crate.rlib())
+            libraries += 1
+        if crate.program():
+            keep(name_of_program(crate, kit), crate.program())
+            programs += 1
+    return libraries, programs
+
+
+def take_proved(crates, kit):
+    """Copies these programs and libraries, and the libraries below them, to where `rt ci` leaves them. Gives the names of what isn't kept."""
+    below = {name: library for crate in crates for name, library in crate.below().items()}
+    libraries = {**below, **{it.name: it for it in crates if not it.is_program()}}
+    pairs = [(name_of(it, kit), it.rlib()) for it in libraries.values()]
+    pairs += [(name_of_program(it, kit), it.folder / "out" / it.name) for it in crates if it.is_program()]
+    for name, path in pairs:
+        if has(name):
+            take(name, path)
+    return [name for name, _ in pairs if not has(name)]
+
+
 def main(log):
     import crates
     crates.read_crates()
-    kit, kept = crates.kit(), 0
     proved = {*crates.PROVED.findall(pathlib.Path(log).read_text(encoding="utf-8", errors="replace"))}
-    cited = {dep for crate in crates.Crate.all.values() for dep in crate.deps}
-    for crate in crates.Crate.all.values():
-        if crate.name in cited and {crate.name, *crate.below()} <= proved and crate.is_new():
-            keep(name_of(crate, kit), crate.rlib())
-            kept += 1
-    print(f"{kept} proved libraries are kept in {PLACE}")
+    libraries, programs = keep_proved(crates.Crate.all.values(), proved, crates.kit())
+    print(f"{libraries} proved libraries and {programs} programs are kept in {PLACE}")
 
 
 if __name__ == "__main__":
