@@ -26,8 +26,8 @@ use core::ops::Index;
 /// Hands out rectangles inside one large rectangle, the atlas, takes them back and joins free space at once.
 ///
 /// The atlas is a tree of cuts (docs/MODEL.md, "Trees of cuts"): its allocated and free rectangles are the leaves, and
-/// tile it. Freeing takes no memory; allocating and growing take it only where more slots are used than ever since the
-/// last start, and never for slots that `reserve` made ready. An empty one takes 21,672 bytes on the heap: 21,632 for
+/// tile it. Freeing takes no memory; allocating and growing take it only if more slots are used than at any time since the
+/// last start, and never for slots that `reserve` made ready. A new atlas takes 21,672 bytes on the heap: 21,632 for
 /// the table of its lists of free rectangles, and 40 for its one slot.
 
 pub struct AtlasAllocator<A: Allocator + Copy = Global> {
@@ -81,8 +81,8 @@ impl<A: Allocator + Copy> AtlasAllocator<A> {
         self.size
     }
 
-    /// Says what each atlas keeps, and does nothing: it is sound, live and free boxes tile it, and the rectangles of
-    /// live ids lie within it and apart from one another. A list of no held box is guarded.
+    /// States what always holds of an atlas, and does nothing: it is sound, live and free boxes tile it, and the rectangles of
+    /// live ids lie within it and apart from one another. The empty list of held boxes is guarded.
     #[inline]
     pub fn prove_sound(&self) {
         let _size = self.size();
@@ -114,9 +114,9 @@ impl<A: Allocator + Copy> AtlasAllocator<A> {
         Some(slots[at].node.area)
     }
 
-    /// Grants a request: the part of the rounded size at the `min` of the free rectangle that is picked. None if the
+    /// Grants a request: a rectangle of the rounded size, at the `min` of the free rectangle that is picked. None if the
     /// size is empty or, rounded up, fits no free rectangle. `Slots` if more slots would be used than the limit allows;
-    /// `Memory` if more would be used than ever since the last start, and memory for them is refused. Unless something
+    /// `Memory` if more would be used than at any time since the last start, and memory for them is refused. Unless something
     /// is granted, nothing changes. Takes no turns. At most 4 more slots are used: with 4 in reserve the answer is
     /// never `Memory`.
     #[inline]
@@ -125,7 +125,7 @@ impl<A: Allocator + Copy> AtlasAllocator<A> {
     }
 
     /// Frees the box of an id: it joins the free space next to it. `NotLive` if the id isn't live, and then nothing
-    /// changes. Takes no memory, and one turn more than there are members fewer. A turn marks a leaf as free, joins it
+    /// changes. Takes no memory, and one turn plus one for each member that disappears. A turn marks a leaf as free, joins it
     /// with the next one or lifts it into its container's place; links of lists are written in addition to the turns.
     #[inline]
     pub fn deallocate(&mut self, id: AllocId) -> Result<(), AtlasError> {
@@ -137,8 +137,8 @@ impl<A: Allocator + Copy> AtlasAllocator<A> {
     }
 
     /// Frees the boxes of the ids of a list. The tree that is left doesn't depend on their order; the numbers of later
-    /// ids may. `NotLive` if one of them isn't live or is there twice, and then nothing changes. Takes no memory, time in
-    /// proportion to the list, and one turn an id more than there are members fewer.
+    /// ids may. `NotLive` if one of them isn't live or is listed twice, and then nothing changes. Takes no memory, time in
+    /// proportion to the list, and one turn for each id plus one for each member that disappears.
     #[inline]
     pub fn deallocate_all(&mut self, ids: &[AllocId]) -> Result<(), AtlasError> {
         if !self.are_live_once(ids) {
@@ -150,11 +150,11 @@ impl<A: Allocator + Copy> AtlasAllocator<A> {
         Ok(())
     }
 
-    /// Makes the atlas larger; every live id keeps its rectangle. Requires that neither side shrinks. One free rectangle
-    /// alone is enlarged. Else, first along the top sequence, a free last member is enlarged or a free strip is
+    /// Makes the atlas larger; every live id keeps its rectangle. Requires that neither side shrinks. If the atlas is a single
+    /// free rectangle, that is enlarged. Otherwise, first along the top sequence, a free last member is enlarged or a free strip is
     /// appended, and then, across it, a free strip along the whole side (docs/MODEL.md, "Changes of a tree"); each only
     /// if that side grows. `Slots` if more slots would be used than the limit allows; `Memory` if more would be used
-    /// than ever since the last start, and memory for them is refused; then nothing changes. Takes no turns, and one
+    /// than at any time since the last start, and memory for them is refused; then nothing changes. Takes no turns, and one
     /// pass along the top sequence for each side that grows. At most 3 more slots are used: with 3 in reserve the
     /// answer is never `Memory`.
     #[inline]
@@ -178,7 +178,7 @@ impl<A: Allocator + Copy> AtlasAllocator<A> {
         self.resize_and_rearrange(self.size)
     }
 
-    /// Places what is allocated anew in an empty atlas of this size, the largest first; the options and the limit stay.
+    /// Repacks what is allocated into an empty atlas of this size, the largest first; the options and the limit stay.
     /// Requires a size that isn't empty. The rectangles are taken in order of descending area, where areas count up to
     /// 2147483647, and of descending slot, the low 24 bits of the id, where areas are equal; each is placed where it
     /// then fits, or else listed as a failure, whose id is no longer live. All former ids are void, and each slot is in
@@ -298,7 +298,7 @@ pub fn store_of<A: Allocator + Copy>(atlas: &AtlasAllocator<A>) -> &Store<A> {
 impl<A: Allocator + Copy> Index<AllocId> for AtlasAllocator<A> {
     type Output = Rectangle;
 
-    /// The rectangle of an id. Requires that the id is live: `get` is the test.
+    /// The rectangle of an id. Requires that the id is live, which `get` tests.
     #[inline]
     fn index(&self, id: AllocId) -> &Rectangle {
         let slots = self.store.slots();

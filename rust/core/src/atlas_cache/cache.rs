@@ -24,8 +24,8 @@ use wollemigo_support::alloc::{Allocator, Global};
 use wollemigo_support::hash::{BuildHasher, BuildHasherDefault, Hash};
 
 /// Rectangles under keys in the pages of a texture array. Contracts see a `CacheState`: how the cache was made, the
-/// atlas of each page, the entries, the most recently used first, how many numbers they had so far, how many more there is
-/// memory for in reserve, the frame, and how the cache was used.
+/// atlas of each page, the entries (the most recently used first), how many numbers they have had, for how many more there
+/// is memory in reserve, the frame, and how the cache was used.
 
 pub struct TextureCache<
     K: Copy + Eq + Hash,
@@ -61,8 +61,8 @@ impl<K: Copy + Eq + Hash, S: BuildHasher, A: Allocator + Copy> TextureCache<K, S
 }
 
 impl<K: Copy + Eq + Hash, S: BuildHasher, A: Allocator + Copy> TextureCache<K, S, A> {
-    /// A new frame: what was used before may go from now on. Before the first new frame nothing gives way: all that is held
-    /// is used in it. Frames are counted up to 2^64 - 1; after that one no other begins.
+    /// Begins a new frame: what isn't used in it may be evicted. Until the first call no key is evicted for another: all that is held
+    /// counts as used in the current frame. Frames are counted up to 2^64 - 1; after that one no other begins.
     #[inline]
     pub fn begin_frame(&mut self) {
         self.frame = count(self.frame);
@@ -96,7 +96,7 @@ impl<K: Copy + Eq + Hash, S: BuildHasher, A: Allocator + Copy> TextureCache<K, S
         }
     }
 
-    /// Says what each cache keeps, and does nothing: what is live on its pages is what the entries hold that lie there, each
+    /// States what always holds of a cache, and does nothing: what is live on its pages is what the entries that lie there hold, each
     /// once; each of those has its padding; two of one page lie apart, and each lies within its page, padding included; the
     /// others have empty sizes; and each entry has a key and a number of its own.
     #[inline]
@@ -135,21 +135,21 @@ impl<K: Copy + Eq + Hash, S: BuildHasher, A: Allocator + Copy> TextureCache<K, S
 
     /// A place for a key, which is used in this frame. A key that is held keeps its place, and is the most recently
     /// used from now on, which doesn't count as a hit; asked for with another size, be it empty or too large, it is
-    /// refused with `OtherSize`, and nothing changes. A new key comes on the first page with room for its size, in
-    /// pixels, with the padding. Where none has, a page grows; where none can, one is added; and where all are there,
-    /// the least recently used entry that lies on a page and that this frame didn't use goes; and so on. `FrameFull` if
-    /// then each entry on a page is in use and no page has room, which isn't so as long as this frame has used nothing;
-    /// `NeverFits` if the size, with the padding and rounded up to the alignment, passes the largest page, and then
+    /// refused with `OtherSize`, and nothing changes. A new key goes onto the first page with room for its size, in
+    /// pixels, with the padding. If none has room, a page grows; if none can, one is added; and if no more are allowed,
+    /// the least recently used entry that lies on a page and that this frame didn't use is evicted; and so on. `FrameFull` if
+    /// then this frame uses each entry on a page and no page has room, which can't be while this frame has used nothing;
+    /// `NeverFits` if the size, with the padding and rounded up to the alignment, exceeds the largest page, and then
     /// nothing changes. What was done is added to the changes, also after `FrameFull` and after an error: `Memory`,
-    /// `Slots` if those of a page don't suffice, or `Numbers` only where 4,294,967,295 entries are left.
+    /// `Slots` if those of a page don't suffice, or `Numbers` only where 4,294,967,295 entries are still held.
     ///
     /// A new key with an empty size, of which a side is 0 or below, becomes a blank entry: `Placed` with a place that is
-    /// empty. It takes no room, so that no page changes and nothing goes, and it never goes for another key's room.
+    /// empty. It takes no room, so no page changes and nothing is evicted for it, nor is it ever evicted for another key.
     /// While entries are in reserve, it is never refused with `Memory`.
     ///
-    /// Nor is an insert that neither adds a page nor grows one, as a page has room or every page is there and at its largest,
-    /// with one entry in reserve (`reserve`), 4 slots on each page (`reserve_slots`), and room in the changes for one more than
-    /// there are entries. With n entries, 4n slots and room for n more than there are entries, none of n such inserts is.
+    /// Nor is an insert that neither adds a page nor grows one (since a page has room, or all allowed exist, at their largest) refused
+    /// with `Memory`, given one entry in reserve (`reserve`), 4 slots on each page (`reserve_slots`), and room for one change more than
+    /// there are entries. Given n entries in reserve, 4n slots and room for n changes more than entries, none of n such inserts is.
     #[inline]
     pub fn insert(
         &mut self,
@@ -177,7 +177,7 @@ impl<K: Copy + Eq + Hash, S: BuildHasher, A: Allocator + Copy> TextureCache<K, S
         self.insert_new(key, size, asked, changes)
     }
 
-    /// A key goes: the place that it had; None if it isn't held. Takes no memory.
+    /// Removes a key, and gives the place that it had; None if it isn't held. Takes no memory.
     #[inline]
     pub fn remove(&mut self, key: &K) -> Option<Place> {
         self.entries.prove_kept();

@@ -21,5 +21,5 @@ pub enum CacheChange<K> {
     PageRemoved { page: u32 },
 }
 
-/// Changes in their order. A call adds what it did at the end, also where it was refused in the middle.
+/// Changes in their order. A call appends what it did, even if it was refused halfway.
 pub type Changes<K, A = Global> = Vec<CacheChange<K>, A>;

@@ -117,7 +117,7 @@ impl<K: Copy + Eq + Hash, S: BuildHasher, A: Allocator + Copy> Entries<K, S, A> 
         self.recency.is_empty()
     }
 
-    /// Says what the entries keep, and does nothing: each has a number of its own, which was given out, and a key of its
+    /// States what always holds of the entries, and does nothing: each has a number of its own, which was given out, and a key of its
     /// own.
     #[inline]
     pub fn prove_kept(&self) {
@@ -169,8 +169,8 @@ impl<K: Copy + Eq + Hash, S: BuildHasher, A: Allocator + Copy> Entries<K, S, A> 
         entry.frame = frame;
     }
 
-    /// An entry with a new key joins, the most recently used from now on, and gets a number, whatever it had: one that is
-    /// none's, and the next one only if all that were given out are in use. `Numbers` only if all are, and `Memory` if
+    /// Adds an entry with a new key, as the most recently used, and gives it a number, whatever number it had: one that no entry
+    /// has, and the next new one only if all that were given out are in use. `Numbers` only if all are, and `Memory` if
     /// memory is refused, which is never asked for where entries are in reserve; then nothing changes.
     #[inline]
     pub fn push(&mut self, entry: Entry<K>) -> Result<u32, CacheError> {
@@ -191,7 +191,7 @@ impl<K: Copy + Eq + Hash, S: BuildHasher, A: Allocator + Copy> Entries<K, S, A> 
         let _number = self.map.remove(&key);
     }
 
-    /// The rectangle of an entry is another one of its page from now on. The order stays.
+    /// Moves an entry to another rectangle of its page. The order stays.
     #[inline]
     pub fn move_to(&mut self, number: u32, id: AllocId, rectangle: Rectangle) {
         let entry = &mut self.items[number as usize];

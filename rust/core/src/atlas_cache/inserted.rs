@@ -10,10 +10,10 @@ pub enum Inserted {
     Placed(Place),
     /// The key was held, and this is its place still, with the pixels that were written there.
     Held(Place),
-    /// Every page is there and at its largest, each entry was used in this frame, and no page has room: draw what this
+    /// All pages allowed exist, at their largest, each entry was used in this frame, and no page has room: draw what this
     /// frame has, begin a new one, and insert again.
     FrameFull,
-    /// The size passes the largest page, with the padding on all sides and rounded up to the alignment.
+    /// The size, with the padding on all sides and rounded up to the alignment, exceeds the largest page.
     NeverFits,
 }
 

@@ -66,7 +66,7 @@ impl CacheOptions {
         Some(Size { width, height })
     }
 
-    /// Whether a cache can be made so: Ok, or else the first thing that is wrong, in the order of `OptionsError`.
+    /// Whether a cache can be made with these options: Ok, or else the first thing that is wrong, in the order of `OptionsError`.
     #[inline]
     pub fn check(&self) -> Result<(), OptionsError> {
         if !self.page.is_positive() {
@@ -90,7 +90,7 @@ impl CacheOptions {
         Ok(())
     }
 
-    /// What a page is asked for an entry of this size: the size with the padding at both ends of each side, in pixels.
+    /// The size that a page is asked for, for an entry of this size: with the padding at both ends of each side, in pixels.
     /// None if the size is empty, or if an empty page of the largest size has no room for that, rounded up to the
     /// alignment of the atlas. Requires options of which `check` is Ok.
     #[inline]

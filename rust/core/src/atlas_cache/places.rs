@@ -22,8 +22,8 @@ pub struct Place {
     /// The rectangle with its padding, which no other entry of the page overlaps. The border of a new entry shows what lay
     /// there before: it is to be cleared.
     pub rectangle: Rectangle,
-    /// The rectangle that has the sides that were asked for. It lies behind the padding from the left and from above; at
-    /// the right and below `rectangle` has the padding as well, and more where an alignment rounds up.
+    /// The rectangle that has the sides that were asked for. The padding lies to its left and above it; to its
+    /// right and below it `rectangle` has the padding as well, and more where an alignment rounds up.
     pub inner: Rectangle,
 }
 

@@ -85,7 +85,7 @@ impl<A: Allocator> Recency<A> {
         self.count == 0
     }
 
-    /// Says what each order keeps, and does nothing: each entry is in it once, under a number that was given out.
+    /// States what always holds of an order, and does nothing: each entry is in it once, under a number that was given out.
     #[inline]
     pub fn prove_kept(&self) {
         let _links = &self.links;
@@ -131,7 +131,7 @@ impl<A: Allocator> Recency<A> {
         Some(own.previous)
     }
 
-    /// A new entry, the most recently used from now on: its number. That is one that was given out before and belongs to no
+    /// Adds an entry, as the most recently used, and gives its number: one that was given out before and belongs to no
     /// entry, or, if all of those are in use, the next one. `Numbers` only if all are in use, and `Memory` if memory is
     /// refused, which is never asked for where entries are in reserve; then nothing changes.
     #[inline]

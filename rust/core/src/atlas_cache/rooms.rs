@@ -115,7 +115,7 @@ impl<A: Allocator + Copy> Rooms<A> {
         self.pages[page as usize].size()
     }
 
-    /// Says what the pages keep, and does nothing: each has the options of the cache, the greatest limit on slots and a
+    /// States what always holds of the pages, and does nothing: each has the options of the cache, the greatest limit on slots and a
     /// size from `page` to `largest_page`, and there are no more than the options allow; the rectangles of live ids of a page lie apart and
     /// within it; an idle page of the largest size has room for whatever `CacheOptions::asked` asks for.
     #[inline]

@@ -15,7 +15,7 @@ pub struct Size {
     pub height: i32,
 }
 
-/// A rectangle: the unit squares from `min` on and before `max`.
+/// A rectangle: the unit squares from `min` up to, but not including, `max`.
 #[derive(Clone, Copy, Debug, PartialEq, Eq, Hash)]
 pub struct Rectangle {
     pub min: Point,

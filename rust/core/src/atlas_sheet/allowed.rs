@@ -18,7 +18,7 @@ pub enum Allowed {
 }
 
 impl Allowed {
-    /// A size whose sides no allowed sheet passes downwards.
+    /// A size whose sides are at most those of every allowed sheet.
     #[inline]
     pub fn least(self) -> Size {
         match self {
@@ -29,7 +29,7 @@ impl Allowed {
         }
     }
 
-    /// A size whose sides no allowed sheet passes upwards.
+    /// A size whose sides are at least those of every allowed sheet.
     #[inline]
     pub fn greatest(self) -> Size {
         match self {

@@ -19,7 +19,7 @@ pub fn is_whole<A: Allocator>(arrangement: &Arrangement<A>) -> bool {
     arrangement.places.iter().all(|place| place.is_some())
 }
 
-/// Sprites that lie so ask in this order in a sheet.
+/// What sprites that lie this way find in a sheet when they ask in this order.
 #[inline]
 pub fn asked_in<A: Allocator + Copy>(
     alloc: A,

@@ -1,5 +1,5 @@
 // Erased from crates/atlas_sheet/src/dense.rt by rust/erase: don't edit.
-//! Sheets that are packed with no whole cuts.
+//! Sheets that are packed with no guillotine cuts.
 
 use crate::atlas_sheet::allowed::Allowed;
 use crate::atlas_sheet::cells::topmost_places;
@@ -54,7 +54,7 @@ pub fn pixels_of(size: Size) -> u64 {
     size.width.max(0) as u64 * size.height.max(0) as u64
 }
 
-/// How many pixels the sprites have together, or the greatest number.
+/// How many pixels the sprites have together, but at most 2^64 - 1.
 #[inline]
 pub fn sprite_pixels(sprites: &[Size]) -> u64 {
     let mut area: u64 = 0;
@@ -233,7 +233,7 @@ fn denser<A: Allocator + Copy>(
     }
 }
 
-/// The sheet of `pack`, or a smaller one in which no whole cuts part the sprites: they come by height, the highest
+/// The sheet of `pack`, or a smaller one laid out without guillotine cuts: the sprites come by height, the highest
 /// first, and each is placed as high up as it can lie, and there as far left. That is tried in smaller sheets than that of
 /// `pack`, by bisection, and among powers of two in one after another; where `pack` finds none, in the greatest too. The
 /// sheet never has more pixels than that of `pack`. In a smaller one no sprite is turned.

@@ -17,7 +17,7 @@ pub enum SheetError {
     EmptyAlignment,
     /// The sprite with this number, counted from 0, has a side below 1.
     EmptySprite(usize),
-    /// The sprite with this number, counted from 0, passes 2147483647 pixels with the padding at both its sides.
+    /// A side of the sprite with this number, counted from 0, exceeds 2147483647 pixels with the padding at both its ends.
     GreatSprite(usize),
 }
 

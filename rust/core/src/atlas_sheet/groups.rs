@@ -241,13 +241,13 @@ fn grouped<A: Allocator + Copy>(
 
 /// `pack_pages`, with the sprites of a group on one sheet: `groups` has the number of each sprite's group, in the order of
 /// the sprites. A sprite is in no group where that is None, or where the list ends before; entries past the last sprite
-/// count for nothing. All sprites of a group lie on one sheet, unless no way packs them alone into the greatest sheet that
-/// is allowed; then each of them is placed as one in no group.
+/// are ignored. All sprites of a group lie on one sheet, unless no way packs them by themselves into the greatest sheet that
+/// is allowed; then each of them is placed as if in no group.
 ///
-/// Groups are taken in the order of their first sprites. The first one opens a sheet; then each other group comes onto
-/// it that the greatest sheet takes as well, and as many sprites in no group as it takes, in their order. Such a sheet
+/// Groups are taken in the order of their first sprites. The first one opens a sheet; then each other group that the
+/// greatest sheet takes as well goes onto it, and as many sprites in no group as it takes, in their order. Such a sheet
 /// is as small as `pack` finds it for what lies there. The sprites that are left then are packed as `pack_pages` does.
-/// With effort so many changes of the order are tried for each sheet. None only where a sprite, in each of the ways that
+/// `effort` changes of the order are tried for each sheet. None only where a sprite, in each of the ways that
 /// it may lie, is too large for an empty sheet; then nothing is packed.
 ///
 /// The errors are those of `pack_pages`.

@@ -4,21 +4,21 @@
 use crate::atlas_sheet::allowed::Allowed;
 use crate::guillotiere::{size2, Size};
 
-/// How far apart sprites lie, and on what their places begin.
+/// How far apart sprites lie, and where their places may begin.
 #[derive(Clone, Copy, Debug, PartialEq, Eq)]
 pub struct Spacing {
-    /// How many pixels at least lie between two sprites, and between a sprite and the border.
+    /// The least number of pixels between two sprites, and between a sprite and the border.
     pub padding: u16,
     /// Each place, with the padding at its left and above, begins on multiples of these sides.
     pub alignment: Size,
 }
 
-/// What a sheet keeps to, and how long better places are looked for.
+/// The rules for a sheet, and how long better places are looked for.
 #[derive(Clone, Copy, Debug, PartialEq, Eq)]
 pub struct SheetOptions {
     /// Which sheets are allowed. `fill` takes the greatest of them.
     pub allowed: Allowed,
-    /// How many pixels at least lie between two sprites, and between a sprite and the border.
+    /// The least number of pixels between two sprites, and between a sprite and the border.
     pub padding: u16,
     /// Each sprite's place, with the padding at its left and above, begins on multiples of these sides, in pixels. Each
     /// side is at least 1.
@@ -27,7 +27,7 @@ pub struct SheetOptions {
     pub turn: bool,
     /// How many changes of the order are tried.
     pub effort: u32,
-    /// Where the row of random changes begins. The same input has the same sheet on every machine.
+    /// The seed of the random changes. The same input gives the same sheet on every machine.
     pub seed: u64,
 }
 

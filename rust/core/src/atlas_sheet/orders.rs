@@ -7,7 +7,7 @@ use core::cmp::Reverse;
 use wollemigo_support::alloc::Allocator;
 use wollemigo_support::prelude::Vec;
 
-/// By what sprites are sorted, the greatest first; those that are alike keep their order.
+/// What sprites are sorted by, the greatest first; those that compare equal keep their order.
 #[derive(Clone, Copy, Debug, PartialEq, Eq)]
 pub enum Key {
     Height,
@@ -18,7 +18,7 @@ pub enum Key {
 }
 
 impl Key {
-    /// What a sprite counts: pixels, or pixels times pixels. A side below 0 counts as 0.
+    /// The value of a sprite under this key: pixels, or pixels times pixels. A side below 0 counts as 0.
     #[inline]
     pub fn of(self, sprite: Size) -> u64 {
         let width = sprite.width.max(0) as u64;

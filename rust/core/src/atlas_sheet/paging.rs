@@ -82,7 +82,7 @@ fn found_on(page: usize, place: Option<Placed>) -> Option<OnPage> {
     Some(OnPage { page, placed })
 }
 
-/// The places with those that the sprites without one found on a sheet, in their order.
+/// The places, with those added that the sprites without one found on a sheet, in their order.
 #[inline]
 pub fn put_on<A: Allocator>(
     alloc: A,
@@ -145,8 +145,8 @@ fn paged<A: Allocator + Copy>(
 
 /// Places all sprites on as few sheets as are found: on each what `fill` places there of the sprites that are left, and
 /// the last sprites in as small a sheet as `pack` finds. Each sheet but the last is the greatest that is allowed. A
-/// sprite on a later sheet asked for a place on each earlier one, and found no room there; no sheet is empty. No sprites
-/// have no sheets. With effort so many changes of the order are tried for each sheet. None only where a sprite, in each
+/// sprite on a later sheet asked for a place on each earlier one, and found no room there; no sheet is empty. With no
+/// sprites there are no sheets. `effort` changes of the order are tried for each sheet. None only where a sprite, in each
 /// of the ways that it may lie, is too large for an empty sheet; then nothing is packed.
 ///
 /// `EmptySheet` if the least allowed side is below 1, `EmptyRange` if the greatest is less than the least,

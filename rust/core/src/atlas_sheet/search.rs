@@ -184,7 +184,7 @@ fn greatest_power(greatest: i32) -> Size {
     power_size(most, most)
 }
 
-/// The allowed sheet whose sides no other passes.
+/// The allowed sheet whose sides no other exceeds.
 #[inline]
 pub fn greatest_sheet(allowed: Allowed) -> Size {
     match allowed {

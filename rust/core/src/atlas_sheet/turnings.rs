@@ -10,8 +10,8 @@ use crate::guillotiere::Size;
 use wollemigo_support::alloc::Allocator;
 use wollemigo_support::prelude::Vec;
 
-/// How sprites that may be turned lie where the ways are tried with them. One that has room in the greatest sheet only
-/// the other way lies so.
+/// How sprites that may be turned lie when the ways are tried with them. One that has room in the greatest sheet only when
+/// it lies the other way round lies that way.
 #[derive(Clone, Copy, Debug, PartialEq, Eq)]
 pub enum Turning {
     /// Each as it is given.

@@ -8,9 +8,9 @@ use crate::guillotiere::AllocatorOptions;
 /// Which free box a sprite takes.
 #[derive(Clone, Copy, Debug, PartialEq, Eq)]
 pub enum Choice {
-    /// The box that leaves the greatest least margin: every size counts as large.
+    /// The box whose smaller margin is the greatest: every size counts as large.
     Roomiest,
-    /// The box that leaves the smallest least margin: every size counts as medium.
+    /// The box whose smaller margin is the smallest: every size counts as medium.
     Tightest,
 }
 

@@ -54,6 +54,6 @@ pub fn prove_page<A: Allocator + Copy>(pages: &[AtlasAllocator<A>], page: usize)
     }
 }
 
-/// The law of a grant on a page that is freed: each id of each page has the rectangle that it had. Does nothing.
+/// A law, and does nothing: once a grant on a page is freed, each id of each page has the rectangle that it had.
 #[inline]
 pub fn pages_are_given_back() {}

@@ -19,7 +19,7 @@ use wollemigo_support::alloc::{Allocator, Global};
 /// A simpler allocator, which hands out boxes and never takes one back: its free boxes make up no tree, and a part that
 /// is narrower or lower than the alignment is lost (docs/MODEL.md, "The simple allocator").
 ///
-/// It keeps the allocator that it was made with. Contracts see what it stores; `simple_state_of` reads its free boxes,
+/// It keeps the memory allocator that it was made with. Contracts see what it stores; `simple_state_of` reads its free boxes,
 /// its size and its options there.
 ///
 /// The table of its lists of free boxes takes 21,632 bytes on the heap, and each entry for a free box 20 more. Entries

@@ -63,8 +63,8 @@ impl<A: Allocator + Copy> RecordingAllocator<A> {
     }
 
     /// Grants a request as the atlas does, under a new name. `Names` for every request once all 4294967296 names were
-    /// given; None as the atlas's, and recorded; `Memory` if memory for the event, for the name or for slots is
-    /// refused, also where the answer would be `Slots` or None; `Slots` as the atlas's.
+    /// given out; None where the atlas gives None, which is recorded; `Memory` if memory for the event, for the name or for slots is
+    /// refused, even where the answer would otherwise be `Slots` or None; `Slots` where the atlas gives `Slots`.
     #[inline]
     pub fn allocate(&mut self, requested_size: Size) -> Result<Option<Allocation>, RecordingError> {
         if self.given == NAMES {
@@ -120,7 +120,7 @@ impl<A: Allocator + Copy> RecordingAllocator<A> {
         Ok(())
     }
 
-    /// Places what is allocated anew, as the atlas's `rearrange` does. Each change has one name in `old` and `new`; the
+    /// Repacks what is allocated, as the atlas's `rearrange` does. Each change has the same name in `old` and `new`; the
     /// name of a failure is no longer live. `Memory` if memory is refused; `Slots` as the atlas's.
     #[inline]
     pub fn rearrange(&mut self) -> Result<ChangeList<A>, RecordingError> {
@@ -135,8 +135,8 @@ impl<A: Allocator + Copy> RecordingAllocator<A> {
         Ok(list)
     }
 
-    /// Places what is allocated anew in an empty atlas of this size, in pixels, as the atlas's `resize_and_rearrange`
-    /// does. Requires a size that isn't empty. Each change has one name in `old` and `new`; the name of a failure is no
+    /// Repacks what is allocated into an empty atlas of this size, in pixels, as the atlas's `resize_and_rearrange`
+    /// does. Requires a size that isn't empty. Each change has the same name in `old` and `new`; the name of a failure is no
     /// longer live. `Memory` if memory is refused; `Slots` as the atlas's.
     #[inline]
     pub fn resize_and_rearrange(
@@ -154,15 +154,15 @@ impl<A: Allocator + Copy> RecordingAllocator<A> {
         Ok(list)
     }
 
-    /// Calls `visit` on each free rectangle once, in an order that is left open. Requires that `visit` may be called along
-    /// each list that may be shown, and no more: nothing else is called. Takes no memory.
+    /// Calls `visit` on each free rectangle once, in an unspecified order. Requires only that `visit` may be called on them
+    /// one after another in any such order: it is called with nothing else. Takes no memory.
     #[inline]
     pub fn for_each_free_rectangle<F: FnMut(&Rectangle)>(&self, visit: F) {
         self.atlas.for_each_free_rectangle(visit);
     }
 
-    /// Calls `visit` on each live name and its rectangle once, by rising name. Requires that `visit` may be called along
-    /// that list, and no more: nothing else is called. Takes no memory.
+    /// Calls `visit` on each live name and its rectangle once, by rising name. Requires only that `visit` may be called on
+    /// them in that order: it is called with nothing else. Takes no memory.
     #[inline]
     pub fn for_each_allocated_rectangle<F: FnMut(AllocId, &Rectangle)>(&self, visit: F) {
         let _size = self.atlas.size();

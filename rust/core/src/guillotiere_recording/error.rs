@@ -14,7 +14,7 @@ pub enum RecordingError {
     Slots,
     /// The id is not the name of a box that is allocated now.
     NotLive,
-    /// Every name was given.
+    /// All names have been given out.
     Names,
 }
 

@@ -13,6 +13,6 @@ pub fn sessions_are_named() {}
 #[inline]
 pub fn books_are_true() {}
 
-/// Sessions that are one but for ids answer alike what is no rearrangement, and the same events keep them so.
+/// Sessions that differ only in ids answer all but rearrangements alike, and the same events keep them so.
 #[inline]
 pub fn twins() {}

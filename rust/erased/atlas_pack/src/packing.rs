@@ -97,7 +97,7 @@ fn tell<P: Write>(progress: &mut P, size: Size) {
     let _ = writeln!(progress, "sheet {} {}", size.width, size.height);
 }
 
-// The sheet that the library packs all sprites into: with `dense` one with no whole cuts, where that is smaller. None
+// The sheet that the library packs all sprites into: with `dense` one with no guillotine cuts, where that is smaller. None
 // where none is found. Without `dense`, where changes of the order are tried, `progress` has a line for each sheet as
 // soon as it is found.
 fn packed<P: Write>(
@@ -118,7 +118,7 @@ fn packed<P: Write>(
     })
 }
 
-/// A sheet that takes all sprites, and their places: with `dense` one with no whole cuts, where that is smaller. `NoSheet`
+/// A sheet that takes all sprites, and their places: with `dense` one with no guillotine cuts, where that is smaller. `NoSheet`
 /// where none is found. Without `dense`, where changes of the order are tried, `progress` has a line for each sheet as soon
 /// as it is found.
 pub fn pack_whole<P: Write>(

@@ -20,7 +20,7 @@ impl core::fmt::Display for SvgError {
     fn fmt(&self, f: &mut core::fmt::Formatter<'_>) -> core::fmt::Result {
         match self {
             SvgError::BadLine(value) => write!(f, "line {} can't be read", value),
-            SvgError::NoSize => f.write_str("no line tells the size"),
+            SvgError::NoSize => f.write_str("no line gives the size"),
             SvgError::Memory(_) => f.write_str("no memory"),
             SvgError::Device(value) => write!(f, "{}", value),
         }

@@ -30,9 +30,9 @@ pub enum Command {
     Empty,
     /// `clear`: make the atlas one free rectangle again.
     Clear,
-    /// `rearrange`: place what is allocated anew.
+    /// `rearrange`: repack what is allocated.
     Rearrange,
-    /// `resize W H`: place what is allocated anew in this size.
+    /// `resize W H`: repack what is allocated into this size.
     Resize(Size),
     /// `from-atlas`: make the simple allocator take over the atlas's size, options and free rectangles.
     FromAtlas,

@@ -3,8 +3,8 @@
 
 /// What gives bytes.
 pub trait ToolInput {
-    /// How many bytes were put at the start of `buffer`: none of them only at the end or where `buffer` is empty.
-    /// `None` for an error, at which none was.
+    /// How many bytes were put at the start of `buffer`: 0 only at the end of the input or where `buffer` is empty.
+    /// `None` for an error; then none was put there.
     fn read(&mut self, buffer: &mut [u8]) -> Option<usize>;
 
     /// Whether a read has failed.
@@ -13,7 +13,7 @@ pub trait ToolInput {
 
 /// What takes bytes.
 pub trait ToolOutput {
-    /// How many bytes at the start of `bytes` went, or `None` for an error, at which none did.
+    /// How many bytes at the start of `bytes` were written, or `None` for an error; then none was.
     fn write(&mut self, bytes: &[u8]) -> Option<usize>;
 
     /// Whether a write has failed, or has taken none of some bytes.

@@ -1,9 +1,9 @@
 // Erased from crates/cache_tool/src/error.rt by rust/erase: don't edit.
-//! Why a run ends before its end.
+//! Why a run ends early.
 use wollemigo_support::alloc::{AllocError, AllocFailed};
 use wollemigo_support::io;
 
-/// Why a run ends before its end.
+/// Why a run ends early.
 #[derive(Debug)]
 pub enum RunError {
     /// A request for memory was refused.

@@ -1,5 +1,5 @@
 // Erased from crates/calling/src/cards.rt by rust/erase: don't edit.
-//! Sprites on one square texture, with no whole cuts.
+//! Sprites on one square texture, with no guillotine cuts.
 
 use wollemigo_core::atlas_sheet::{pack_dense, Allowed, Sheet, SheetError, SheetOptions};
 use wollemigo_core::guillotiere::{Rectangle, Size};

@@ -124,7 +124,7 @@ pub extern "C" fn guillotiere_atlas_rearrange(
     }
 }
 
-/// Places what is live anew in an empty atlas of this size, the largest first, and lists what moved and what found no
+/// Repacks what is live into an empty atlas of this size, the largest first, and lists what moved and what found no
 /// room; the ids of the latter are no longer live, and all former ids are void. Each array has room for as many as
 /// there are used slots, else the answer is `SHORT`. `DONE`; `BAD_CALL` if the size is empty; `SHORT`, `SLOTS` or
 /// `MEMORY`.

@@ -1,5 +1,5 @@
 // Erased from crates/guillotiere_c/src/dense.rt by rust/erase: don't edit.
-//! The export that packs sprites known beforehand into a sheet with no whole cuts.
+//! The export that packs sprites known beforehand into a sheet with no guillotine cuts.
 
 use crate::plain::{
     plain_size, PlainSize, BAD_CALL, DONE, EMPTY_SPRITE, GREAT_SPRITE, NO_ROOM, SHORT,
@@ -24,7 +24,7 @@ fn found(
     Ok(sheet)
 }
 
-/// Packs sprites as `guillotiere_pack` does, or into a smaller sheet with no whole cuts, in which none is turned, as
+/// Packs sprites as `guillotiere_pack` does, or into a smaller sheet with no guillotine cuts, in which none is turned, as
 /// `atlas_sheet::pack_dense` finds it; and writes where each of them lies, in the order of the sprites, and the size of the
 /// sheet. `DONE`; `NO_ROOM` if no order that was tried packs them into the greatest sheet that is allowed; `BAD_CALL` if the
 /// sheets are of no kind, or the padding is above 65535; `SHORT` if there is room for fewer places than sprites;

@@ -42,7 +42,7 @@ pub const EMPTY_ALIGNMENT: u32 = 10;
 /// A sprite has a side below 1.
 pub const EMPTY_SPRITE: u32 = 11;
 
-/// A sprite passes 2147483647 pixels with the padding at both its sides.
+/// A side of a sprite, with the padding at both its ends, exceeds 2147483647 pixels.
 pub const GREAT_SPRITE: u32 = 12;
 
 /// A key is held with another size.
@@ -81,7 +81,7 @@ pub const HELD: u32 = 23;
 /// This frame uses all that the pages of a cache have room for.
 pub const FRAME_FULL: u32 = 24;
 
-/// A size passes the largest page, with the padding and rounded up to the alignment.
+/// With the padding, rounded up to the alignment, a size exceeds the largest page.
 pub const NEVER_FITS: u32 = 25;
 
 /// Not even a size of 1 by 1 fits the largest page. (26 isn't used.)
@@ -135,7 +135,7 @@ pub struct PlainSize {
     pub height: i32,
 }
 
-/// As `Rectangle`: the unit squares from `min` on and before `max`.
+/// As `Rectangle`: the unit squares from `min` up to, but not including, `max`.
 #[repr(C)]
 #[derive(Clone, Copy)]
 pub struct PlainRectangle {
@@ -153,7 +153,7 @@ pub struct PlainAllocation {
     pub rectangle: PlainRectangle,
 }
 
-/// As `Change`, whose `new` is a word that C++ keeps for itself.
+/// As `Change`, whose field `new` is a reserved word in C++.
 #[repr(C)]
 #[derive(Clone, Copy)]
 pub struct PlainChange {

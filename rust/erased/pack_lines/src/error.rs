@@ -19,7 +19,7 @@ pub enum PackError {
     Twice(usize),
     /// The sprite on this line has a side below 1.
     EmptySprite(usize),
-    /// The sprite on this line passes 2147483647 pixels with the padding at both its sides.
+    /// A side of the sprite on this line, with the padding at both its ends, exceeds 2147483647 pixels.
     GreatSprite(usize),
     /// A side of the sheet, or the least that is allowed, is below 1.
     EmptySheet,
@@ -42,17 +42,19 @@ impl core::fmt::Display for PackError {
         match self {
             PackError::BadSettings => f.write_str("line 1: not a setting, or not its numbers"),
             PackError::NotTogether => {
-                f.write_str("line 1: pages goes with neither fill nor dense nor json")
+                f.write_str("line 1: pages can't be combined with fill, dense or json")
             }
-            PackError::NoPages => f.write_str("line 1: group goes only with pages"),
+            PackError::NoPages => f.write_str("line 1: group needs pages"),
             PackError::BadLine(value) => write!(
                 f,
                 "line {}: not a sprite, which is NAME WIDTH HEIGHT",
                 value
             ),
-            PackError::Twice(value) => {
-                write!(f, "line {}: this name stands on an earlier line", value)
-            }
+            PackError::Twice(value) => write!(
+                f,
+                "line {}: this name is already used on an earlier line",
+                value
+            ),
             PackError::EmptySprite(value) => write!(f, "line {}: a side is below 1", value),
             PackError::GreatSprite(value) => write!(f, "line {}: the sprite is too large", value),
             PackError::EmptySheet => f.write_str("line 1: a side of the sheet is below 1"),

@@ -34,7 +34,7 @@ pub enum Setting {
     Seed(u32),
     /// `fill`: as many sprites are placed as the greatest sheet takes.
     Fill,
-    /// `dense`: smaller sheets with no whole cuts are tried as well.
+    /// `dense`: smaller sheets with no guillotine cuts are tried as well.
     Dense,
     /// `json`: the sheet is written as JSON.
     Json,
@@ -61,7 +61,7 @@ pub struct Settings {
     pub seed: u32,
     /// Whether as many sprites are placed as the greatest sheet takes, in place of all in a small one.
     pub fill: bool,
-    /// Whether smaller sheets with no whole cuts are tried as well, where all sprites are packed.
+    /// Whether smaller sheets with no guillotine cuts are tried as well, where all sprites are packed.
     pub dense: bool,
     /// Whether the sheet is written as JSON.
     pub json: bool,

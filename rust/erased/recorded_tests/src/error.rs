@@ -25,7 +25,7 @@ impl core::fmt::Display for PlayError {
             PlayError::BadLine(value) => write!(f, "bad line {}", value),
             PlayError::Otherwise(value) => write!(
                 f,
-                "the session that ends at line {} is answered otherwise",
+                "the session that ends at line {} got other answers",
                 value
             ),
             PlayError::Refused(value) => write!(f, "refused: {}", value),

@@ -169,7 +169,7 @@ impl<A: Allocator + Copy> TextureArray<A> {
         self.pages.len()
     }
 
-    /// Says what each texture array keeps, and does nothing: two glyphs of one page lie apart, their borders included;
+    /// States what always holds of a texture array, and does nothing: two glyphs of one page lie apart, borders included;
     /// each lies within its page; each has its border; and what is live on a page is a glyph's.
     pub fn prove_kept(&self) {
         prove_pages(&self.pages);

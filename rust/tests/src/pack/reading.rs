@@ -77,7 +77,7 @@ const BAD: [(&str, &str); 22] = [
     ),
     (
         "sheet group turn\na 1 2\na 1 2\n",
-        "line 1: group goes only with pages",
+        "line 1: group needs pages",
     ),
     (
         "sheet powers\n",

@@ -1,5 +1,5 @@
 // Erased from crates/atlas_allocator/src/atlas/rearranging.rt by rust/erase: don't edit.
-//! Placing what is allocated anew: the order in which it is taken, and the placing itself.
+//! Repacking what is allocated: the order in which it is taken, and the placing itself.
 
 use crate::atlas_allocator::atlas::AtlasAllocator;
 use crate::atlas_model::{Allocation, AtlasError, Change, ChangeList, Rectangle, Size};

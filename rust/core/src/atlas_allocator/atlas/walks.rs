@@ -23,15 +23,15 @@ impl<A: Allocator + Copy> AtlasAllocator<A> {
         free_sum(self.store.slots())
     }
 
-    /// Calls `visit` on each free rectangle once, in an order that is left open. Requires that `visit` may be called along
-    /// each list that may be shown, and no more: nothing else is called. No coordinate of these rectangles is negative.
+    /// Calls `visit` on each free rectangle once, in an unspecified order. Requires only that `visit` may be called on them
+    /// one after another in any such order: it is called with nothing else. No coordinate of these rectangles is negative.
     #[inline]
     pub fn for_each_free_rectangle<F: FnMut(&Rectangle)>(&self, visit: F) {
         visit_free(self.store.slots(), visit);
     }
 
     /// Calls `visit` on each live id and its rectangle once, by rising number of the slot, which is the low 24 bits of
-    /// the id. Requires that `visit` may be called along that list, and no more: nothing else is called.
+    /// the id. Requires only that `visit` may be called on them in that order: it is called with nothing else.
     #[inline]
     pub fn for_each_allocated_rectangle<F: FnMut(AllocId, &Rectangle)>(&self, visit: F) {
         visit_allocated(self.store.slots(), visit);

@@ -1,5 +1,5 @@
 // Erased from crates/atlas_cache/src/cache/clearing.rt by rust/erase: don't edit.
-//! Entries that go without another one coming in, and room that is reserved beforehand.
+//! Removing entries without inserting one, and reserving room beforehand.
 
 use crate::atlas_cache::cache::holding::{oldest, place_of, take_out};
 use crate::atlas_cache::cache::TextureCache;
@@ -10,7 +10,7 @@ use wollemigo_support::alloc::Allocator;
 use wollemigo_support::hash::{BuildHasher, Hash};
 
 impl<K: Copy + Eq + Hash, S: BuildHasher, A: Allocator + Copy> TextureCache<K, S, A> {
-    /// All keys go. The pages stay, with their sizes and with nothing on them, and so do the frame and the counts. No
+    /// Removes all keys. The pages stay, with their sizes and with nothing on them, and so do the frame and the counts. No
     /// change reports this: the caller forgets all places. Takes no memory, and gives none back: what the keys had is
     /// in reserve. A `shrink` after it takes all pages away, and then the cache begins with small ones again.
     #[inline]
@@ -19,7 +19,7 @@ impl<K: Copy + Eq + Hash, S: BuildHasher, A: Allocator + Copy> TextureCache<K, S
         self.rooms.clear();
     }
 
-    /// The entries that weren't used for at least so many frames go: with 1, what this frame didn't use; with 0, all.
+    /// Evicts the entries that weren't used for at least this many frames: with 1, what this frame didn't use; with 0, all.
     /// Each is added to the changes as `Evicted`, the least recently used first. The others stay. The list of changes
     /// is asked for room for as many as there are entries; with `Memory`, if that is refused, nothing changes.
     #[inline]
@@ -29,7 +29,7 @@ impl<K: Copy + Eq + Hash, S: BuildHasher, A: Allocator + Copy> TextureCache<K, S
         Ok(())
     }
 
-    /// At least so many entries are in reserve from now on: the insertions that follow ask for memory only for pages, for
+    /// Makes sure that at least this many entries are in reserve: the insertions that follow ask for memory only for pages, for
     /// their slots, and for changes. Each key that is added takes one of them; one that goes gives none back, but `clear`
     /// does. Nothing else changes, and nothing at all with `Memory`, if memory is refused.
     #[inline]
@@ -38,7 +38,7 @@ impl<K: Copy + Eq + Hash, S: BuildHasher, A: Allocator + Copy> TextureCache<K, S
         Ok(())
     }
 
-    /// At least so many slots are in reserve on each page from now on. An insert that neither adds a page nor grows one takes
+    /// Makes sure that at least this many slots are in reserve on each page. An insert that neither adds a page nor grows one takes
     /// at most 4 of each page; a page that is added later has none in reserve, one that grows takes up to 3 of its own, and
     /// one that is repacked may have none. Nothing else changes. `Slots` if those of a page don't suffice, `Memory` if memory
     /// is refused; the pages before that one have theirs in reserve then.

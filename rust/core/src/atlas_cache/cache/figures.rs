@@ -23,7 +23,7 @@ impl<K: Copy + Eq + Hash, S: BuildHasher, A: Allocator + Copy> TextureCache<K, S
         self.counts
     }
 
-    /// How many numbers entries had so far, since the cache was made or cleared: each number is below. There are at most as
+    /// How many numbers entries have had since the cache was made or cleared: each number is below this. There are at most as
     /// many as there ever were entries at once.
     #[inline]
     pub fn numbers(&self) -> u32 {

@@ -106,7 +106,7 @@ fn settle_all<K: Copy + Eq + Hash, S: BuildHasher, A: Allocator + Copy>(
 
 impl<K: Copy + Eq + Hash, S: BuildHasher, A: Allocator + Copy> TextureCache<K, S, A> {
     /// Places the entries of a page anew, so that what is free comes together: the largest first, by the area of
-    /// `rectangle`, and of one area the one that was used last; the page doesn't grow. Whether there is such a page; if
+    /// `rectangle`, and among equal areas the most recently used; the page doesn't grow. Returns whether there is such a page; if
     /// not, nothing changes. Each entry of the page is added to the changes once, the most recently used first: as
     /// `Moved`, also where it stays in its place, or as `Evicted`, which is counted, where it found no room when its
     /// turn came. Every other entry stays, and so do the order of use, the frame and the options.

@@ -8,7 +8,7 @@ use wollemigo_support::alloc::Allocator;
 use wollemigo_support::hash::{BuildHasher, Hash};
 
 impl<K: Copy + Eq + Hash, S: BuildHasher, A: Allocator + Copy> TextureCache<K, S, A> {
-    /// The pages behind the last one with an entry go, and each is added to the changes as `PageRemoved`, the last page
+    /// Removes the pages after the last one with an entry, and adds each to the changes as `PageRemoved`, the last page
     /// first. The others stay, with their sizes, and so do all entries: a page that others follow stays, though it has
     /// nothing on it. After `clear` all pages go. The list of changes is asked for room for as many as there are pages;
     /// with `Memory`, if that is refused, nothing changes.

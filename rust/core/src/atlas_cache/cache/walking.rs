@@ -63,7 +63,7 @@ impl<K: Copy + Eq + Hash, S: BuildHasher, A: Allocator + Copy> TextureCache<K, S
         Some((entry.key, place_of(entry, &self.rooms.options())))
     }
 
-    /// The key that was used next before this one, and its place; None if this one is the least recently used, or isn't
+    /// The next less recently used key, and its place; None if this one is the least recently used, or isn't
     /// held. It doesn't count as a use. From `newest` on, this gives each key once, in the order of use, with one
     /// look-up each.
     #[inline]

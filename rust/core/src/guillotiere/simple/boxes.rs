@@ -96,8 +96,8 @@ impl<A: Allocator> FreeBoxes<A> {
         self.table.push(place, at, top_in(area));
     }
 
-    /// Makes sure that n more entries can be used. The only error is `Memory`, where that is more than there are, and
-    /// nothing changes but the room.
+    /// Makes sure that n more entries can be used; nothing but the room changes. The only error is `Memory`, which comes only
+    /// where that takes more entries than there are.
     #[inline]
     pub fn make_room(&mut self, n: u32) -> Result<(), AtlasError> {
         let all = self.used as usize + n as usize;

@@ -11,8 +11,8 @@ use crate::guillotiere::simple::boxes::FreeBoxes;
 use wollemigo_support::alloc::Allocator;
 
 impl<A: Allocator + Copy> SimpleAtlasAllocator<A> {
-    /// Makes the allocator larger: the new size is cut for the old one, and the split and the leftover are added, each
-    /// dropped if it is narrower or lower than the alignment. Nothing is merged; at an equal size nothing changes. Requires
+    /// Makes the allocator larger: the new size is cut for the old one, and the split and the leftover are added, except that one
+    /// that is narrower or lower than the alignment is dropped. Nothing is merged; at an equal size nothing changes. Requires
     /// that neither side shrinks. The only error is `Memory`, if more entries would be used than there are and memory
     /// for them is refused; then nothing changes.
     #[inline]
