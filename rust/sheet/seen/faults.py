@@ -106,7 +106,7 @@ CASES = [
     ('control', {**GOOD, 'x\ny.png': WHOLE}, ['F', 'O'], 1, [r'.*x\\ny\.png.*its name has a control character']),
     ('same name', {'a.png': WHOLE, 'a.jpg': WHOLE}, ['F', 'O', '--drop-extension'], 1, [r'.*a\.jpg and .*a\.png have the same name.*']),
     ('colon', {'a:b.png': WHOLE}, ['F', 'O', '--form', 'libgdx'], 2, [r'"a:b\.png": a name in an \.atlas can\'t contain a colon.*']),
-    ('space', {'a .png': WHOLE}, ['F', 'O', '--form', 'libgdx', '--drop-extension'], 2, [r'"a ": a name in an \.atlas has .* no space .*']),
+    ('space', {'a .png': WHOLE}, ['F', 'O', '--form', 'libgdx', '--drop-extension'], 2, [r'"a ": a name in an \.atlas can\'t .* end with a space']),
     ('no XML', {'a\uffff.png': WHOLE, 'b.png': WHOLE}, ['F', 'O', '--form', 'starling'], 2,
      [r'"a\\u\{ffff\}\.png": XML can\'t contain U\+FFFE or U\+FFFF']),
     ('classes', {'a b.png': WHOLE, 'a-b.png': WHOLE}, ['F', 'O', '--form', 'css'], 2, [r'.*have the same class in CSS, .*']),
