@@ -1,9 +1,9 @@
 #!/usr/bin/env python3
-"""What was proved on this machine, for later runs in other clones: libraries and programs, which `./check` keeps once `rt ci` has passed,
-and archives for C, which bindings/build keeps. gate/take copies libraries and programs into another clone. Each has the sum of all that it was made from in its name, so none goes stale. They lie in
+"""What was proved on this machine: libraries and programs, which `./check` keeps once `rt ci` has ended, and gate/take copies into other
+clones, and archives for C, which bindings/build keeps. The name of each has the sum of all it is made from, so none goes stale. They lie in
 ~/.cache/guillotiere, or in $XDG_CACHE_HOME/guillotiere; whoever can write there is trusted, as with what `rt` keeps.
 
-    gate/kept.py LOG      keeps this clone's programs, and the libraries below them, that `rt ci` has proved, by what it wrote to LOG
+    gate/kept.py LOG      keeps this clone's programs, and the libraries that others cite, that `rt ci` has proved, by what it wrote to LOG
 """
 import contextlib
 import hashlib
@@ -95,7 +95,7 @@ def keep_proved(crates, proved, kit):
 
 
 def take_proved(crates, kit):
-    """Copies these programs and libraries, and the libraries below them, to where `rt ci` leaves them. Gives the names of what isn't kept."""
+    """Copies these programs and libraries, and the libraries below them, to where `rt ci` leaves them. Gives names of what isn't kept."""
     below = {name: library for crate in crates for name, library in crate.below().items()}
     libraries = {**below, **{it.name: it for it in crates if not it.is_program()}}
     pairs = [(name_of(it, kit), it.rlib()) for it in libraries.values()]

@@ -17,8 +17,8 @@ declare global {
 }
 
 /**
- * Fetches and starts the WebAssembly module; nothing else works before that. It may be called any number of times: once it runs,
- * later calls do nothing. After a trap it starts a new module; objects that were made before stay out of use.
+ * Fetches and starts the WebAssembly module; nothing else works before that. It may be called any number of times: once the module
+ * runs, later calls do nothing. After a trap it starts a new module; objects that were made before stay out of use.
  *
  * @param source where the module is: `wollemigo.wasm` next to this script where nothing is given. Node reads it from the disk.
  * @throws {WollemigoError} `LOAD_FAILED`, with what was wrong as its `cause`.

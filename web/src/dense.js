@@ -1,4 +1,4 @@
-/** Sheets with no whole cuts. */
+/** Sheets with no guillotine cuts. */
 import { packedBy } from './sheet.js';
 
 export function packDense(sprites, given) {

@@ -131,7 +131,7 @@ test('sheets that were worked by hand', () => {
   assert.deepEqual(pack([]), { width: 1, height: 1, places: [] });
 });
 
-test('a sheet with no whole cuts', () => {
+test('a sheet with no guillotine cuts', () => {
   // By height they come as 10 x 6, 6 x 4, 4 x 2 and 4 x 2.
   const sprites = [[4, 2], [10, 6], [4, 2], [6, 4]].map(([width, height]) => ({ width, height }));
   const places = [[6, 6, 4, 2], [0, 0, 10, 6], [6, 8, 4, 2], [0, 6, 6, 4]].map((each) => ({ ...box(...each), turned: false }));

@@ -101,7 +101,7 @@ pub record IsFoundDense (o : SheetOptions) (sizes : List Size) (sheet : Size) (p
   pub apart : ArePaddedApart (spacing_of o) places
   pub larger : IsNoLargerThanWays o sizes (sides_of sheet)
 
--- What the library answers where all sprites are to be packed, also with no whole cuts or not.
+-- What the library answers where all sprites are to be packed, also with no guillotine cuts or not.
 abbrev pub IsAllPacked : (dense : Bool) → SheetOptions → List Size → (sheet : Size) → List (Option Placed) → Type 0
 IsAllPacked true o sizes sheet places = IsFoundDense o sizes sheet places
 IsAllPacked false o sizes sheet places = IsFoundSheet o sizes sheet places

@@ -1,4 +1,4 @@
--- Sheets with no whole cuts, beside the best one so far.
+-- Sheets with no guillotine cuts, beside the best one so far.
 use Rattle.std.proofs.Common.{◌≡◌, ◌≤◌, List, length, map, All, Option, Some, None, IfNone, IfSome, MatchOption, false, ap, inl, sym, subst, ◌∙◌, ℕ, arith}
 use Rattle.std.specs.List.{AllZip}
 use Rattle.std.proofs.lemmas.List.{length-map}

@@ -39,7 +39,7 @@ packed o asked sprites size order placed (Some s) same allowed shown first large
     let P : List Size → Type 0 = λ l. IsPackedSheet o l (size s) (placed s) in
     subst P same (record { order = order s; allowed = allowed; shown = shown; first = first; larger = larger })
 
--- The facts of a sheet with no whole cuts that was found, if one was.
+-- The facts of a sheet with no guillotine cuts that was found, if one was.
 pub packed_densely :
     {S : Type 0} (o : SheetOptions) (asked sprites : List Size) (size : S → Size) (placed : S → List Placed) (found : Option S)
     → asked ≡ sprites

@@ -1,4 +1,4 @@
--- What a packing with no whole cuts answers, and what it writes.
+-- What a packing with no guillotine cuts answers, and what it writes.
 use Rattle.std.specs.Prelude.{◌≡◌, ◌≤◌, List, length, map, Some}
 use Rattle.guillotiere.specs.declared.Size.{Size}
 use Rattle.guillotiere.specs.Pixels.{sides_of}

@@ -1,6 +1,6 @@
 //! An allocator of rectangles inside one large texture, with the names of the crate `guillotiere` 0.7.0. A program that
 //! uses that crate changes one line of its Cargo.toml. The package is in no registry yet: give the path from there to
-//! your clone of the repository, or `git = ".."` in place of `path`:
+//! your clone of the repository, or `git = "URL"` in place of `path`:
 //!
 //! ```toml
 //! guillotiere = { package = "wollemigo", path = "CLONE/rust/guillotiere" }
