@@ -75,7 +75,7 @@ pub fn prove_page<A: Allocator + Copy>(pages: &[AtlasAllocator<A>], page: usize)
     }
 }
 
-/// A law, and does nothing: once a grant on a page is freed, each id of each page has the rectangle that it had.
+/// Does nothing. A law: once a grant on a page is freed, each id of each page has the rectangle that it had before.
 pub fn pages_are_given_back()
     ensures { PagesAreGivenBack }
 {}

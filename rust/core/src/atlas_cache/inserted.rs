@@ -10,7 +10,7 @@ pub enum Inserted {
     Placed(Place),
     /// The key was held, and this is its place still, with the pixels that were written there.
     Held(Place),
-    /// All pages allowed exist, at their largest, each entry was used in this frame, and no page has room: draw what this
+    /// All pages allowed exist, at their largest, this frame used each entry on them, and no page has room: draw what this
     /// frame has, begin a new one, and insert again.
     FrameFull,
     /// The size, with the padding on all sides and rounded up to the alignment, exceeds the largest page.
