@@ -11,25 +11,25 @@ use euclid::size2;
 use std::collections::HashMap;
 use std::hash::{BuildHasherDefault, Hasher};
 
-const PAGE: i32 = 1024;
-const PAGES: usize = 4;
-const PADDING: i32 = 1;
+pub const PAGE: i32 = 1024;
+pub const PAGES: usize = 4;
+pub const PADDING: i32 = 1;
 const GLYPHS: u64 = 10_000;
-const CALLS_IN_A_FRAME: u32 = 2_000;
+pub const CALLS_IN_A_FRAME: u32 = 2_000;
 const NONE: u32 = u32::MAX;
 
 // Each doubling of the rank is as likely as the one before, about as by Zipf's law.
-fn next_rank(random: &mut Random) -> u64 {
+pub fn next_rank(random: &mut Random) -> u64 {
     let octave = random.below(14);
     ((1 << octave) - 1 + random.below(1 << octave)) % GLYPHS
 }
 
 // An odd factor gives each rank a key of its own.
-fn key_of(rank: u64) -> u32 {
+pub fn key_of(rank: u64) -> u32 {
     (rank as u32).wrapping_mul(0x9e37_79b1)
 }
 
-fn size_of(key: u32) -> Size {
+pub fn size_of(key: u32) -> Size {
     size2(8 + ((key >> 3) % 33) as i32, 8 + ((key >> 17) % 33) as i32)
 }
 
@@ -63,6 +63,9 @@ struct Entry {
 }
 
 pub struct Cache {
+    page: Size,
+    most: usize,
+    padding: i32,
     pages: Vec<AtlasAllocator>,
     numbers: HashMap<u32, u32, BuildHasherDefault<Folded>>,
     entries: Vec<Entry>,
@@ -75,7 +78,15 @@ pub struct Cache {
 
 impl Cache {
     pub fn new() -> Cache {
+        Cache::of((PAGE, PAGE), PAGES, PADDING)
+    }
+
+    /// With pages of this size, at most so many, and with this padding.
+    pub fn of(page: (i32, i32), most: usize, padding: i32) -> Cache {
         Cache {
+            page: size2(page.0, page.1),
+            most,
+            padding,
             pages: Vec::new(),
             numbers: HashMap::default(),
             entries: Vec::new(),
@@ -133,7 +144,7 @@ impl Cache {
     /// Adds a key that isn't known, if there is room for it.
     pub fn insert(&mut self, key: u32, size: Size) {
         self.answers.calls += 1;
-        let asked = size2(size.width + 2 * PADDING, size.height + 2 * PADDING);
+        let asked = size2(size.width + 2 * self.padding, size.height + 2 * self.padding);
         loop {
             let granted = (self.pages.iter_mut().enumerate())
                 .find_map(|(page, atlas)| atlas.allocate(asked).map(|granted| (page, granted)));
@@ -165,8 +176,8 @@ impl Cache {
 
     /// Adds a page, or lets the least recently used key go; `false` if neither can be done.
     fn make_room(&mut self) -> bool {
-        if self.pages.len() < PAGES {
-            self.pages.push(AtlasAllocator::new(size2(PAGE, PAGE)));
+        if self.pages.len() < self.most {
+            self.pages.push(AtlasAllocator::new(self.page));
             self.answers.add(u64::MAX - 4);
             return true;
         }
@@ -181,6 +192,27 @@ impl Cache {
         self.unused.push(number);
         self.answers.add((1 << 32) + u64::from(key));
         true
+    }
+}
+
+/// For bench/worst.
+impl Cache {
+    pub fn len(&self) -> usize {
+        self.numbers.len()
+    }
+
+    /// Rearranges a page; each key that lies there moves with its box.
+    pub fn repack(&mut self, page: usize) {
+        if page < self.pages.len() {
+            let list = self.pages[page].rearrange();
+            let moved: HashMap<u32, _, BuildHasherDefault<Folded>> =
+                list.changes.iter().map(|change| (change.old.id.serialize(), change.new)).collect();
+            for entry in self.entries.iter_mut().filter(|entry| entry.page == page) {
+                if let Some(new) = moved.get(&entry.id.serialize()) {
+                    (entry.id, entry.rectangle) = (new.id, new.rectangle);
+                }
+            }
+        }
     }
 }
 

@@ -1,11 +1,15 @@
 """The library behind the Rust crate's names: bench/driver.rs over rust/guillotiere, beside the bare program, for bench/run."""
 import os
 import shutil
+import sys
 
 from beside import print_table
 from measure import ROOT, absent, call, say
 
-REGISTRY = '/usr/share/cargo/registry'
+sys.path.append(os.path.join(ROOT, 'rust'))
+import cargo_here  # noqa: E402
+import stand_in  # noqa: E402
+
 PACKAGE = """[package]
 name = "%s"
 version = "0.0.0"
@@ -23,8 +27,7 @@ EUCLID = 'pub use guillotiere::{size2, Point as Point2D, Rectangle as Box2D, Siz
 def missing():
     """What the driver over rust/guillotiere needs and isn't here, in words, or ''."""
     here = absent(('cargo',))
-    has_euclid = os.path.isdir(REGISTRY) and any(name.startswith('euclid-') for name in os.listdir(REGISTRY))
-    return here or ('' if has_euclid else 'there is no euclid in %s (librust-euclid-dev)' % REGISTRY)
+    return here or ('' if stand_in.versions() else 'there is no euclid in %s (librust-euclid-dev)' % stand_in.REGISTRY)
 
 
 def write(path, text):
@@ -33,8 +36,9 @@ def write(path, text):
         file.write(text)
 
 
-def build(folder):
-    """Builds bench/driver.rs over rust/guillotiere by cargo, in release, with cargo's own settings."""
+def build(folder, has_own_cache=False):
+    """Builds bench/driver.rs over rust/guillotiere by cargo, in release, with cargo's own settings. The workload `cache` is a cache by
+    hand over the atlas, as for the Rust crate, or the package's own."""
     here = os.path.join(folder, 'linked')
     say('building the driver over rust/guillotiere')
     crate = os.path.join(ROOT, 'rust', 'guillotiere')
@@ -43,10 +47,11 @@ def build(folder):
     write(os.path.join(here, 'euclid', 'src', 'lib.rs'), EUCLID)
     write(os.path.join(here, 'src', 'allocator.rs'), ALLOCATOR)
     shutil.copy(os.path.join(ROOT, 'bench', 'driver.rs'), os.path.join(here, 'src', 'main.rs'))
-    shutil.copy(os.path.join(ROOT, 'bench', 'cache.rs'), os.path.join(here, 'src', 'cache.rs'))
-    call(['cargo', '--offline', '--config', 'source.crates-io.replace-with="debian"',
-          '--config', 'source.debian.directory="%s"' % REGISTRY, 'build', '--release'], 'cargo build of bench/driver.rs',
-         cwd=here, env=dict(os.environ, CARGO_TARGET_DIR='target'))
+    files = {'package_cache.rs': 'cache.rs', 'cache.rs': 'by_hand.rs'} if has_own_cache else {'cache.rs': 'cache.rs'}
+    for file, name in files.items():
+        shutil.copy(os.path.join(ROOT, 'bench', file), os.path.join(here, 'src', name))
+    call(['cargo'] + cargo_here.from_debian() + ['build', '--release'], 'cargo build of bench/driver.rs', cwd=here,
+         env=dict(os.environ, CARGO_TARGET_DIR='target'))
     return os.path.join(here, 'target', 'release', 'driver')
 
 

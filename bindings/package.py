@@ -2,15 +2,18 @@
 package. bindings/build and rust/install write the same.
 """
 import os
+import re
 import shutil
 
 HERE = os.path.dirname(os.path.abspath(__file__))
 VERSION = '0.7.0'
-# Programs that were linked with one version run with another of the same 0.x.
-ABI = '0.7'
+# What find_package takes for another version: those that begin so.
+SERIES = '0.7'
+# GUILLOTIERE_INTERFACE, which is in the name of the shared library.
+INTERFACE = 1
 # What pkg-config says of a library that the kit proved and built, and of one that cargo built.
 HOW = {True: ', proved and built by the Rattle kit', False: ' in plain Rust, from proved sources, and not proved itself'}
-SONAME = 'libguillotiere.so.' + ABI
+SONAME = 'libguillotiere.so.%d' % INTERFACE
 
 PKG_CONFIG = """prefix=%(prefix)s
 libdir=${prefix}/lib
@@ -20,8 +23,8 @@ proved=%(proved)s
 Name: guillotiere
 Description: An atlas allocator%(how)s
 Version: %(version)s
-Libs: -L${libdir} -lguillotiere
-%(private)sCflags: -I${includedir}
+Libs: -L"${libdir}" -lguillotiere
+%(private)sCflags: -I"${includedir}"
 """
 
 
@@ -41,6 +44,18 @@ def fill(template, folder, values):
         file.write(text)
 
 
+def exports():
+    """The functions of the header."""
+    with open(os.path.join(HERE, 'c', 'guillotiere.h')) as file:
+        return re.findall(r'^(?:uint32_t |void |bool |const char \*)(guillotiere_\w+)\(', file.read(), re.M)
+
+
+def hidden(names):
+    """For the assembler: an object that makes these names hidden where it is merged with the one that has them. So a plugin that links
+    the archive doesn't offer them as its own."""
+    return ''.join('.hidden %s\n' % name for name in names) + '.section .note.GNU-stack,"",%progbits\n'
+
+
 def install(prefix, is_proved, needs=(), shared='', imports='', pointer=8):
     """Installs all but the library.
 
@@ -56,7 +71,7 @@ def install(prefix, is_proved, needs=(), shared='', imports='', pointer=8):
     with open(os.path.join(place(prefix, 'lib', 'pkgconfig'), 'guillotiere.pc'), 'w') as file:
         file.write(PKG_CONFIG % {'prefix': prefix.replace(os.sep, '/'), 'version': VERSION, 'private': private,
                                  'proved': 'yes' if is_proved else 'no', 'how': HOW[is_proved]})
-    values = {'VERSION': VERSION, 'ABI': ABI, 'NEEDS': ';'.join(needs), 'SHARED': shared, 'IMPORT': imports,
+    values = {'VERSION': VERSION, 'SERIES': SERIES, 'NEEDS': ';'.join(needs), 'SHARED': shared, 'IMPORT': imports,
               'PROVED': 'TRUE' if is_proved else 'FALSE', 'SONAME': SONAME if '.so' in shared else '', 'POINTER': str(pointer)}
     for template in ('guillotiere-config.cmake.in', 'guillotiere-config-version.cmake.in'):
         fill(template, place(prefix, 'lib', 'cmake', 'guillotiere'), values)

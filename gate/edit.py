@@ -1,7 +1,8 @@
-"""The edits of crates/NAME/must-fail-together, and the functions of a crate as the check prints their paths."""
+"""The edits of crates/NAME/must-fail-together.edits, and the functions of a crate as the check prints their paths."""
 import pathlib
 import re
 
+FILE = "must-fail-together.edits"
 FUNCTION = re.compile(r'\s*(?:pub(?:\(crate\))? )?(?:const )?(?:unsafe )?(?:extern "C" )?fn (\w+)|(?:pub )?(?:const|struct) (\w+)')
 
 
@@ -10,22 +11,27 @@ class BadEdit(Exception):
 
 
 class Edit:
-    """An edit: its pairs of texts, by file, and the functions that it turns."""
+    """An edit: its name, its pairs of texts, by file, and the functions that it turns."""
 
-    def __init__(self, path):
-        self.path, self.crate, self.name = path, path.parent.parent, path.name
+    def __init__(self, folder, text):
+        """`folder` is its crate's, `text` its lines, of which the first one is 'edit: NAME'."""
+        self.crate, self.text, self.name = folder, text, ""
         self.pairs, self.by, file, old = [], [], "", None
-        for line in path.read_text(encoding="utf-8").splitlines():
-            word, _, text = line.partition(": ") if ": " in line else (line.rstrip(":"), "", "")
-            if word == "file":
-                file = text.strip()
+        for line in text.splitlines():
+            word, _, rest = line.partition(": ") if ": " in line else (line.rstrip(":"), "", "")
+            if word == "edit":
+                self.name = rest.strip()
+            elif word == "file" and self.name:
+                file = rest.strip()
             elif word == "by":
-                self.by.append(text.strip())
+                self.by.append(rest.strip())
             elif word == "old":
-                old = text
+                old = rest
             elif word == "new" and file and old:
-                self.pairs.append((file, old, text))
+                self.pairs.append((file, old, rest))
                 old = None
+            else:
+                raise SystemExit(f"{folder.name}/{FILE}: this line of {self.name or 'no edit'} isn't read: {line}")
         # A pair may change what an earlier pair made, and then no line of the source has its text.
         found = [self.place(file, old) for file, old, _ in self.pairs if not old.startswith("use ")]
         self.places = list(dict.fromkeys(it for it in found if it))
@@ -135,5 +141,14 @@ def type_of(head):
     return "".join(parted(head))
 
 
-def edits_of(crate):
-    return [Edit(path) for path in sorted((crate.folder / "must-fail-together").glob("*.edit"))]
+def edits_of(folder):
+    """The edits of the crate in this folder, by their names. A line of its file that begins with '#' says something to readers."""
+    path = folder / FILE
+    lines = path.read_text(encoding="utf-8").splitlines(keepends=True) if path.is_file() else []
+    parts = re.split(r"^(?=edit: )", "".join(it for it in lines if it.strip() and not it.startswith("#")), flags=re.M)
+    found = [Edit(folder, it.rstrip("\n")) for it in parts if it]
+    names = [it.name for it in found]
+    wrong = next((it for it in names if names.count(it) > 1 or not re.fullmatch(r"\w+", it)), None)
+    if wrong is not None:
+        raise SystemExit(f"{folder.name}/{FILE}: two edits have this name, or it isn't of letters, digits and _: {wrong}")
+    return sorted(found, key=lambda it: it.name)

@@ -1,7 +1,8 @@
 #!/usr/bin/env python3
 """What was proved on this machine: libraries and programs, which `./check` keeps once `rt ci` has ended, and gate/take copies into other
-clones, and archives for C, which bindings/build keeps. The name of each has the sum of all it is made from, so none goes stale. They lie in
-~/.cache/guillotiere, or in $XDG_CACHE_HOME/guillotiere; whoever can write there is trusted, as with what `rt` keeps.
+clones; archives for C, which bindings/build keeps; and what was said of edits that were refused, which gate/edits keeps. The name of each
+has the sum of all it is made from, so none goes stale. They lie in ~/.cache/guillotiere, or in $XDG_CACHE_HOME/guillotiere; whoever can
+write there is trusted, as with what `rt` keeps.
 
     gate/kept.py LOG      keeps this clone's programs, and the libraries that others cite, that `rt ci` has proved, by what it wrote to LOG
 """
@@ -71,6 +72,13 @@ def keep(name, path):
         of_crate = sorted(PLACE.glob(f"{name.rpartition('-')[0]}-*"), key=lambda it: -it.stat().st_mtime)
         for old in of_crate[MOST:]:
             shutil.rmtree(old) if old.is_dir() else old.unlink()
+
+
+def keep_text(name, text):
+    with tempfile.NamedTemporaryFile("w", encoding="utf-8") as file:
+        file.write(f"{text}\n")
+        file.flush()
+        keep(name, file.name)
 
 
 def name_of_program(crate, kit):

@@ -1,6 +1,5 @@
-"""atlas_pack over lines of sprites, for each status, and over devices that fail: each case says whether the program does as its first
-line says. Expected values are worked out by hand from docs/PACK.md."""
-import os
+"""atlas_pack over lines of sprites, and for each status: each case says whether the program does as its first line says. Expected values
+are worked out by hand from docs/PACK.md."""
 import subprocess
 
 # The lines in, and the lines out, or what is said where no sheet is written.
@@ -129,29 +128,9 @@ def too_few_sheets(program):
     return packs(program, lines, 3, b'', b'more sheets are needed than pages allows\n')
 
 
-def full_device_for_a_sheet(program):
-    """Standard output has no room for a sheet: status 1, and a line."""
-    with open('/dev/full', 'wb') as full:
-        done = subprocess.run([program], input=b'a 1 1\n', stdout=full, stderr=subprocess.PIPE)
-    return done.returncode == 1 and is_one_line(done.stderr)
-
-
-def folder_as_sprites(program):
-    """Standard input is a folder: status 1, and a line."""
-    folder = os.open('/', os.O_RDONLY)
-    done = subprocess.run([program], stdin=folder, stdout=subprocess.PIPE, stderr=subprocess.PIPE)
-    os.close(folder)
-    return done.returncode == 1 and done.stdout == b'' and is_one_line(done.stderr)
-
-
 def packs(program, lines, status, output, errors):
     """Whether atlas_pack answers these lines so."""
     return told(program, lines) == (status, output, errors)
 
 
-def is_one_line(text):
-    return len(text.splitlines()) == 1 and text.endswith(b'\n')
-
-
-CASES = (rows, left_out, progress, effort_and_seed, whole_sheet, sprite_left_out, bad_line, too_small_a_sheet, too_few_sheets,
-         full_device_for_a_sheet, folder_as_sprites)
+CASES = (rows, left_out, progress, effort_and_seed, whole_sheet, sprite_left_out, bad_line, too_small_a_sheet, too_few_sheets)

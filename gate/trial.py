@@ -8,7 +8,7 @@ import subprocess
 import tempfile
 from concurrent.futures import ThreadPoolExecutor
 
-from edit import BadEdit, edits_of, functions_of
+from edit import BadEdit, functions_of
 from values import states_another_value
 
 PROOFS = ("Invariants.antt", "Answers.antt", "Proof.antt")
@@ -33,13 +33,13 @@ ALONE = "REFUSED BY NAMES ALONE: its proof names what the edit took away: change
 
 
 class Trial:
-    """The trial of one crate's edits, or of those with a word in their name, over work that is kept from one round to the next."""
+    """The trial of some of a crate's edits, over work that is kept from one round to the next."""
 
-    def __init__(self, crate, kit, is_proved, word="", work=None):
+    def __init__(self, crate, kit, is_proved, edits, work=None):
         """`work` is a folder with what an earlier check of the crate kept; without it that is out/incremental, where it is there."""
         self.crate, self.kit, self.is_proved, self.said = crate, kit, is_proved, {}
         self.work = work or crate.folder / "out/incremental"
-        self.edits = [edit for edit in edits_of(crate) if word in edit.name]
+        self.edits = edits
         # The crates with the most edits would end long after the others.
         self.jobs = 2 if len(self.edits) > 20 else 1
         self.checks, self.seconds = 0, 0.0

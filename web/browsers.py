@@ -1,5 +1,6 @@
 """Runs pages in the browsers of this machine, headless, and takes what they post back. It needs no driver: a page posts its answer
 to the server that it came from."""
+import contextlib
 import http.server
 import os
 import shutil
@@ -24,12 +25,28 @@ def browsers():
     return {'chromium': shutil.which('chromium') or shutil.which('chromium-browser'), 'firefox': firefox}
 
 
-def command(name, path, profile, address):
+def command(name, path, profile, address, words=(), has_screen=False):
     if name == 'chromium':
-        return [path] + CHROMIUM + ['--user-data-dir=' + profile, address]
+        return [path] + CHROMIUM + list(words) + ['--user-data-dir=' + profile, address]
     with open(os.path.join(profile, 'user.js'), 'w') as file:
         file.writelines('user_pref("%s", false);\n' % each for each in PREFERENCES)
-    return [path, '--headless', '--no-remote', '--profile', profile, address]
+        file.write('user_pref("webgl.force-enabled", true);\n')
+    return [path] + ([] if has_screen else ['--headless']) + ['--no-remote', '--profile', profile, address]
+
+
+@contextlib.contextmanager
+def screen():
+    """A screen by Xvfb, without which Firefox draws nothing by WebGL. Gives the environment for it; None where there is no Xvfb."""
+    if shutil.which('Xvfb') is None:
+        yield None
+        return
+    words = ['Xvfb', '-displayfd', '1', '-screen', '0', '1280x900x24']
+    running = subprocess.Popen(words, stdout=subprocess.PIPE, stderr=subprocess.DEVNULL, text=True)
+    try:
+        yield {'DISPLAY': ':' + running.stdout.readline().strip()}
+    finally:
+        running.terminate()
+        running.wait()
 
 
 class Server:
@@ -76,14 +93,15 @@ class Server:
         return 'http://127.0.0.1:%d%s' % (self.http.server_port, path)
 
 
-def answer(name, path, folder, page, pages=(), seconds=300):
-    """What a page posts, as text, that a browser opened; `pages` are served from memory, and all else from the folder."""
+def answer(name, path, folder, page, pages=(), seconds=300, words=(), environment=None):
+    """What a page posts, as text, that a browser opened; `pages` are served from memory, and all else from the folder. `words` are
+    more ones for Chromium, and `environment` is that of a screen."""
     server = Server(folder, dict(pages))
     with tempfile.TemporaryDirectory(ignore_cleanup_errors=True) as profile:
         log = os.path.join(profile, 'log')
         with open(log, 'w') as file:
-            running = subprocess.Popen(command(name, path, profile, server.address(page)), stdout=file, stderr=file,
-                                       env=dict(os.environ, HOME=profile))
+            running = subprocess.Popen(command(name, path, profile, server.address(page), words, environment is not None), stdout=file,
+                                       stderr=file, env=dict(os.environ, HOME=profile, **(environment or {})))
         try:
             if not server.has_answer.wait(seconds):
                 with open(log) as file:

@@ -6,8 +6,9 @@
  * to 2147483647. Whatever else is given, of whatever type, is answered by a {@link WollemigoError} with a `code`, and then
  * nothing changed.
  *
- * An object has memory outside of JavaScript's own. `dispose` gives it back, and so does the end of a `using` block; that of a
- * forgotten object is given back some time after JavaScript's collector finds it.
+ * An object has memory outside of JavaScript's own. `dispose` gives it back to the module, and so does the end of a `using` block; that of a
+ * forgotten object is given back some time after JavaScript's collector finds it, and never while a function runs: a loop that makes
+ * objects and doesn't wait has to dispose of them. {@link memory} says how much there is.
  */
 
 declare global {
@@ -23,9 +24,21 @@ declare global {
  * @param source where the module is: `wollemigo.wasm` next to this script where nothing is given. Node reads it from the disk.
  * @throws {WollemigoError} `LOAD_FAILED`, with what was wrong as its `cause`.
  */
-export function load(
-  source?: string | URL | Response | PromiseLike<Response> | ArrayBuffer | ArrayBufferView | WebAssembly.Module,
-): Promise<void>;
+export function load(source?: Source | PromiseLike<Source>): Promise<void>;
+
+/** Where a module is: an address as text, a `URL`, a `Response`, bytes, or a `WebAssembly.Module`. */
+export type Source = string | { readonly href: string } | AnswerLike | ArrayBuffer | ArrayBufferView | ModuleLike;
+
+/** A `Response`; named by what is read of it, so that programs without the types of the DOM know it. */
+export interface AnswerLike {
+  readonly ok?: boolean;
+  readonly status?: number;
+  readonly url?: string;
+  arrayBuffer(): Promise<ArrayBuffer>;
+}
+
+/** A `WebAssembly.Module`, where the types of the DOM or of Node know that; else any object without properties of its own. */
+export type ModuleLike = typeof globalThis extends { WebAssembly: { Module: { prototype: infer M } } } ? M : object;
 
 /** Why a call did nothing. */
 export type ErrorCode =
@@ -33,13 +46,15 @@ export type ErrorCode =
   | 'BAD_NUMBER'
   /** A key is none of those that {@link Key} allows. */
   | 'BAD_KEY'
-  /** An option has a name that is not known, or isn't of its type; or a list can't be read. */
+  /** An option has a name that is not known, or isn't of its type; or options or a list can't be read: then `cause` is what was thrown. */
   | 'BAD_OPTION'
   /** `load` hasn't ended yet. */
   | 'NOT_LOADED'
   | 'LOAD_FAILED'
   /** The object was disposed of. */
   | 'DISPOSED'
+  /** A call of a class was made on an object that isn't of that class. */
+  | 'BAD_THIS'
   /** The WebAssembly module has trapped, in this call or an earlier one; it is used no more. */
   | 'TRAPPED'
   /** An empty size of an atlas, options that aren't valid, a growth that shrinks a side, a bad limit. */
@@ -83,16 +98,31 @@ export type ErrorCode =
 
 /** Thrown by every call that could not do what it was asked to. */
 export class WollemigoError extends Error {
-  constructor(code: ErrorCode, message: string, more?: { cause?: unknown; sprite?: number });
+  constructor(code: ErrorCode, message: string, more?: { cause?: unknown; sprite?: number; index?: number });
   readonly name: 'WollemigoError';
   readonly code: ErrorCode;
   /** Of `EMPTY_SPRITE` and `GREAT_SPRITE`: the number of the sprite, counted from 0. */
   readonly sprite?: number;
+  /** Of what `insertAll` throws for one of its keys: the index of that key. */
+  readonly index?: number;
 }
 
 export interface Size {
   width: number;
   height: number;
+}
+
+/** A size as an option: an object with these two properties and no other, so neither a rectangle nor a sheet. */
+export interface PlainSize extends Size {
+  x?: never;
+  y?: never;
+  id?: never;
+  places?: never;
+}
+
+/** What is told of an object that was disposed of, or whose module has trapped. */
+export interface OutOfUse {
+  state: 'DISPOSED' | 'TRAPPED';
 }
 
 /** `x` and `y` are those of its upper left corner. */
@@ -121,7 +151,7 @@ export interface ChangeList {
 /** What is left out has the value that is named here. */
 export interface AtlasOptions {
   /** Sides of requests are rounded up to multiples of these, which are above 0. By default 1 and 1. */
-  alignment?: Size;
+  alignment?: PlainSize;
   /** A size is small if both its sides are below this. By default 32. */
   smallSizeThreshold?: number;
   /** A size is large if a side is at least this, which is at least the small threshold. By default 256. */
@@ -157,6 +187,25 @@ export interface Container extends Rectangle {
   members: Member[];
 }
 
+/**
+ * Options for glyphs that come and go: an atlas with them stays fuller than one with the defaults, since a glyph takes the tightest free
+ * box, whatever its class. `web/bench/thresholds.js` of the repository measures both.
+ */
+export const GLYPHS: Readonly<{ smallSizeThreshold: 0; largeSizeThreshold: 5000 }>;
+
+/** How much memory the module has, and how many objects have some of it. */
+export interface Memory {
+  /** The bytes of the module's memory. It grows where it must, and is never given back before the page or the process ends. */
+  bytes: number;
+  /** How many objects of each class aren't disposed of, those that are forgotten and not collected yet among them. */
+  atlases: number;
+  simpleAtlases: number;
+  caches: number;
+}
+
+/** Throws `NOT_LOADED`, `TRAPPED`. */
+export function memory(): Memory;
+
 /** The greatest limit on the slots of an atlas, and that of an atlas without a limit of its own: 16777216. */
 export const MOST_SLOTS: 16777216;
 
@@ -172,6 +221,9 @@ export class Atlas {
   /** A box of this size, rounded up by the options, which overlaps no other live box; null where the size is empty or fits no
    * free box. Throws `SLOTS`, `MEMORY`. */
   allocate(width: number, height: number): Allocation | null;
+  /** As `allocate`, without an object for each box: writes it into `box` and answers true; false where there is no room, and then `box` is
+   * as it was. Throws `BAD_OPTION` where `box` can't be written to; then no box was taken. */
+  allocateInto(width: number, height: number, box: Allocation): boolean;
   /** Frees the box of a live id. Throws `NOT_LIVE`. */
   deallocate(id: number): void;
   /** Frees the boxes of these ids, all or none. Throws `NOT_LIVE` if one isn't live or comes twice; `MEMORY`. */
@@ -204,6 +256,8 @@ export class Atlas {
   readonly areas: Areas;
   /** Whether no id is live. */
   readonly isEmpty: boolean;
+  /** What `JSON.stringify` and a console show: its size, slots, areas and options; or as `state` that it is out of use. */
+  toJSON(): { size: Size; slots: Slots; areas: Areas; options: Required<AtlasOptions> } | OutOfUse;
   /** The live boxes, by rising slot, which is the low 24 bits of the id. Throws `MEMORY`. */
   allocated(): Allocation[];
   /** The free boxes, in an order that is left open. Throws `MEMORY`. */
@@ -247,6 +301,7 @@ export class SimpleAtlas {
   readonly slots: Slots;
   /** Whether one free box has the size of the whole. */
   readonly isEmpty: boolean;
+  toJSON(): { size: Size; slots: Slots; options: Required<AtlasOptions> } | OutOfUse;
 
   dispose(): void;
   [Symbol.dispose](): void;
@@ -263,10 +318,10 @@ export type Key = string | number | bigint;
 /** What is left out has the value that is named here. */
 export interface CacheOptions {
   /** The size of a new page, which isn't empty. */
-  page: Size;
+  page: PlainSize;
   /** Pages grow up to this; neither side is less than that of `page`. By default `page`, so that none grows: the layers of a texture
    * array have one size. */
-  largestPage?: Size;
+  largestPage?: PlainSize;
   /** The most pages, at least 1. By default 1. */
   pages?: number;
   /** How wide the border is on all four sides of an entry, at least 0. By default 0. */
@@ -304,7 +359,8 @@ export interface Entry extends Place {
 export type CacheChange =
   /** There is a new page, the last one: make a texture of this size for it. */
   | { kind: 'pageAdded'; page: number; width: number; height: number }
-  /** A page has this size now, and nothing on it moved: make its texture larger. */
+  /** A page has this size now, and nothing on it moved: make its texture larger, and copy what it had. It may come while quads of this page
+   * are batched: those keep their pixels, but coordinates that were divided by the former size are wrong. */
   | { kind: 'pageGrown'; page: number; width: number; height: number }
   /** A key is gone; its place was `from`. */
   | { kind: 'evicted'; key: Key; from: Place }
@@ -329,6 +385,12 @@ export class TextureCache {
   beginFrame(): void;
   /** The place of a key, which is used in this frame from now on; null where it isn't held. Counts a hit or a miss. */
   get(key: Key): Place | null;
+  /** Whether a key is held, which is used in this frame from now on, as by `get`. It makes no object: for a caller who keeps places by
+   * themselves. Counts a hit or a miss. */
+  touch(key: Key): boolean;
+  /** As `get`, without objects for each hit: writes the place into `place`, such as one that `get` gave, and answers true; false where the
+   * key isn't held, and then `place` is as it was. Throws `BAD_OPTION` where `place` can't be written to; the key is used all the same. */
+  getInto(key: Key, place: Place): boolean;
   /** The place of a key; null where it isn't held. This doesn't count as a use, a hit or a miss. */
   peek(key: Key): Place | null;
   /**
@@ -340,9 +402,20 @@ export class TextureCache {
    * A key with an empty size (a side below 1) takes no room and is never evicted to make room for another. Both rectangles of
    * its place are empty, on page 0, also where there is no page yet: there is nothing to write or to draw.
    *
+   * Quads that are drawn page by page lie in another order than they were batched in, which shows where they overlap.
+   *
    * Throws `OTHER_SIZE`, `NEVER_FITS`, and then nothing changed; `NUMBERS`, `SLOTS`, `MEMORY`.
    */
   insert(key: Key, width: number, height: number): Entry | null;
+  /**
+   * As `insert` of each key in turn, without objects for each. `sizes` has a width and a height for each key. Of each key that is placed
+   * 11 numbers are written into `out`, from 11 times its index on: 1 where it is new, else 0; its number and its page, as unsigned numbers
+   * of 32 bits; then `x`, `y`, `width` and `height` of `rectangle`, and those of `inner`. Answers how many were placed: fewer than all where
+   * this frame uses all that the pages have room for, at the first for which there is none.
+   *
+   * Throws as `insert` at the first key that is refused, whose index is the error's `index`; those before it are placed, and written.
+   */
+  insertAll(keys: Iterable<Key>, sizes: Iterable<number>, out: Int32Array): number;
   /** Removes a key. Gives the place that it had; null where it wasn't held. No change reports this. */
   remove(key: Key): Place | null;
   /** Whether a key is held; this doesn't count as a use, a hit or a miss. */
@@ -390,6 +463,8 @@ export class TextureCache {
   readonly options: Required<CacheOptions> & { atlas: Required<AtlasOptions> };
   /** Counted since the cache was made. */
   readonly statistics: Statistics;
+  toJSON():
+    | { length: number; pageCount: number; statistics: Statistics; options: TextureCache['options'] } | OutOfUse;
 
   dispose(): void;
   [Symbol.dispose](): void;
@@ -414,7 +489,7 @@ export interface SheetOptions {
   padding?: number;
   /** Each place, with the padding at its left and above, begins on multiples of these sides and takes multiples of them, also at
    * the right and lower border. By default 1 and 1. */
-  alignment?: Size;
+  alignment?: PlainSize;
   /** Whether a sprite may lie turned by 90 degrees. By default false. */
   turn?: boolean;
   /** How many more orders of the sprites are tried: 20000 for a second or so. By default 0. */

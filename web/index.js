@@ -1,11 +1,11 @@
 /** The package in browsers, and wherever `fetch` reads what lies beside a script. Its types are in index.d.ts. */
-import { content, start } from './src/runtime.js';
+import { beside, content, readAt, start } from './src/runtime.js';
 
 export * from './src/api.js';
 
 export function load(source) {
   return start(async () => {
-    const given = await (source === undefined ? new URL('./wollemigo.wasm', import.meta.url) : source);
-    return content(typeof given === 'string' || given instanceof URL ? await fetch(given) : given);
+    const given = await (source === undefined ? beside(() => new URL('./wollemigo.wasm', import.meta.url)) : source);
+    return content(typeof given === 'string' || given instanceof URL ? await readAt(given, fetch) : given);
   });
 }

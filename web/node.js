@@ -1,7 +1,7 @@
 /** The package in Node: the module is read from the disk. */
 import { readFile } from 'node:fs/promises';
 
-import { content, start } from './src/runtime.js';
+import { beside, content, readAt, start } from './src/runtime.js';
 
 export * from './src/api.js';
 
@@ -13,7 +13,7 @@ function bytes(place) {
 
 export function load(source) {
   return start(async () => {
-    const given = await (source === undefined ? new URL('./wollemigo.wasm', import.meta.url) : source);
-    return content(typeof given === 'string' || given instanceof URL ? await bytes(given) : given);
+    const given = await (source === undefined ? beside(() => new URL('./wollemigo.wasm', import.meta.url)) : source);
+    return content(typeof given === 'string' || given instanceof URL ? await readAt(given, bytes) : given);
   });
 }

@@ -4,8 +4,8 @@
 // that was moved from holds nothing: each call of it answers status::empty. Nothing here throws but what a std::vector
 // throws when memory runs out; it compiles without exceptions.
 //
-// Meaning, units and statuses are those of guillotiere.h, with what a caller owes there: one call at a time, and no two
-// threads at once.
+// Meaning, units and statuses are those of guillotiere.h, with what a caller owes there. As with a std::vector, any number of
+// threads may call `const` methods of one object at once, as long as none calls another one.
 #ifndef GUILLOTIERE_HPP
 #define GUILLOTIERE_HPP
 
@@ -47,6 +47,8 @@ enum class status : std::uint32_t {
     frame_full = GUILLOTIERE_FRAME_FULL,
     never_fits = GUILLOTIERE_NEVER_FITS,
     nothing_fits = GUILLOTIERE_NOTHING_FITS,
+    null_pointer = GUILLOTIERE_NULL_POINTER,
+    occupied = GUILLOTIERE_OCCUPIED,
 };
 
 // What a status means, in a few words of English.
@@ -86,6 +88,9 @@ using counts = guillotiere_counts;
 // the second, plus the third.
 inline constexpr std::uint32_t header_version = GUILLOTIERE_VERSION;
 inline std::uint32_t version() { return guillotiere_version(); }
+// The interface of this header, and that of the library that was linked: a program runs where the two are equal.
+inline constexpr std::uint32_t header_interface = GUILLOTIERE_INTERFACE;
+inline std::uint32_t linked_interface() { return guillotiere_interface(); }
 
 // What a cache did. Its kind says which fields have a meaning; the others have none.
 struct cache_change {
@@ -104,6 +109,7 @@ struct keyed_place {
 };
 
 inline constexpr options default_options = GUILLOTIERE_DEFAULT_OPTIONS;
+inline constexpr cache_options default_cache_options = GUILLOTIERE_DEFAULT_CACHE_OPTIONS;
 
 // What an insertion into a cache answers.
 enum class insertion : std::uint32_t {
@@ -213,7 +219,8 @@ public:
 
     atlas(atlas &&other) noexcept : handle_(std::exchange(other.handle_, guillotiere_atlas{})) {}
     atlas &operator=(atlas &&other) noexcept {
-        std::swap(handle_, other.handle_);
+        atlas moved(std::move(other)); // what this held goes with it
+        std::swap(handle_, moved.handle_);
         return *this;
     }
     atlas(const atlas &) = delete;
@@ -367,7 +374,8 @@ public:
 
     simple_atlas(simple_atlas &&other) noexcept : handle_(std::exchange(other.handle_, guillotiere_simple{})) {}
     simple_atlas &operator=(simple_atlas &&other) noexcept {
-        std::swap(handle_, other.handle_);
+        simple_atlas moved(std::move(other)); // what this held goes with it
+        std::swap(handle_, moved.handle_);
         return *this;
     }
     simple_atlas(const simple_atlas &) = delete;
@@ -423,7 +431,7 @@ private:
 // A cache of rectangles under keys, in pages that are textures or the layers of a texture array.
 class cache {
 public:
-    static result<cache> make(const cache_options &with) {
+    static result<cache> make(const cache_options &with = default_cache_options) {
         cache made;
         const auto answer = guillotiere_cache_new(&with, &made.handle_);
         if (answer != GUILLOTIERE_DONE) return static_cast<status>(answer);
@@ -432,7 +440,8 @@ public:
 
     cache(cache &&other) noexcept : handle_(std::exchange(other.handle_, guillotiere_cache{})) {}
     cache &operator=(cache &&other) noexcept {
-        std::swap(handle_, other.handle_);
+        cache moved(std::move(other)); // what this held goes with it
+        std::swap(handle_, moved.handle_);
         return *this;
     }
     cache(const cache &) = delete;
@@ -483,6 +492,15 @@ public:
     // Takes memory for this many more keys.
     [[nodiscard]] status reserve(std::size_t additional) {
         return static_cast<status>(guillotiere_cache_reserve(&handle_, additional));
+    }
+
+    // Makes sure that this many slots are in reserve on each page: an insertion uses at most 4 of each.
+    [[nodiscard]] status reserve_slots(std::uint32_t additional) {
+        return static_cast<status>(guillotiere_cache_reserve_slots(&handle_, additional));
+    }
+    // Takes memory for this many changes besides those that wait.
+    [[nodiscard]] status reserve_changes(std::size_t additional) {
+        return static_cast<status>(guillotiere_cache_reserve_changes(&handle_, additional));
     }
 
     // The most recently used key, the least recently used one, and the next less recently used one. None of these counts as a use.

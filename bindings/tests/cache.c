@@ -109,9 +109,11 @@ static void empty_handles(void) {
     CHECK(guillotiere_cache_oldest(&cache, &key, &place) == GUILLOTIERE_EMPTY && key == 77);
     CHECK(guillotiere_cache_older(&cache, 1, &key, &place) == GUILLOTIERE_EMPTY && key == 77);
     CHECK(guillotiere_cache_reserve(&cache, 1) == GUILLOTIERE_EMPTY);
+    CHECK(guillotiere_cache_reserve_slots(&cache, 1) == GUILLOTIERE_EMPTY);
+    CHECK(guillotiere_cache_reserve_changes(&cache, 1) == GUILLOTIERE_EMPTY);
     guillotiere_cache_free(&cache);
     make(&two_pages, &cache);
-    CHECK(guillotiere_cache_new(&two_pages, &cache) == GUILLOTIERE_EMPTY && cache.at != NULL);
+    CHECK(guillotiere_cache_new(&two_pages, &cache) == GUILLOTIERE_OCCUPIED && cache.at != NULL);
     guillotiere_cache_free(&cache);
     guillotiere_cache_free(&cache);
 }
@@ -411,10 +413,13 @@ static void random_session(void) {
     guillotiere_cache_free(&cache);
 }
 
-/* Each status has a text; 26 is none. */
+/* Each status has a text, by a function of the library, which others than C can call too; 26 is none. */
 static void texts(void) {
-    const char *const none = guillotiere_status_text(GUILLOTIERE_NOTHING_FITS + 1);
-    for (uint32_t status = GUILLOTIERE_DONE; status <= GUILLOTIERE_NOTHING_FITS; status++)
+    const char *(*const text)(uint32_t) = guillotiere_status_text;
+    const char *const none = guillotiere_status_text(GUILLOTIERE_OCCUPIED + 1);
+    CHECK(strcmp(none, "no status") == 0 && strcmp(text(GUILLOTIERE_DONE), "done") == 0);
+    CHECK(strcmp(text(GUILLOTIERE_SHORT), "an array is too short") == 0 && strcmp(text(4294967295u), "no status") == 0);
+    for (uint32_t status = GUILLOTIERE_DONE; status <= GUILLOTIERE_OCCUPIED; status++)
         CHECK((strcmp(guillotiere_status_text(status), none) != 0) == (status != 26));
 }
 
@@ -422,11 +427,28 @@ static void texts(void) {
 static void versions(void) {
     CHECK(guillotiere_version() == GUILLOTIERE_VERSION);
     CHECK(GUILLOTIERE_VERSION == 7000 && GUILLOTIERE_VERSION_MINOR == 7);
+    CHECK(guillotiere_interface() == GUILLOTIERE_INTERFACE && GUILLOTIERE_INTERFACE == 1);
+}
+
+/* The default options: a page of 512, which grows to 2048, and a border of 1. */
+static void default_options(void) {
+    const guillotiere_cache_options options = GUILLOTIERE_DEFAULT_CACHE_OPTIONS;
+    guillotiere_cache cache = GUILLOTIERE_NONE;
+    guillotiere_place place;
+    guillotiere_size size;
+    CHECK(guillotiere_cache_new(&options, &cache) == GUILLOTIERE_DONE);
+    CHECK(guillotiere_cache_insert(&cache, 1, 10, 20, &place) == GUILLOTIERE_DONE);
+    CHECK(place.rectangle.max_x - place.rectangle.min_x == 12 && place.inner.min_x - place.rectangle.min_x == 1);
+    CHECK(guillotiere_cache_page_size(&cache, 0, &size) == GUILLOTIERE_DONE && size.width == 512 && size.height == 512);
+    CHECK(guillotiere_cache_insert(&cache, 2, 2047, 1, &place) == GUILLOTIERE_NEVER_FITS);
+    CHECK(guillotiere_cache_insert(&cache, 2, 2046, 2046, &place) == GUILLOTIERE_DONE);
+    guillotiere_cache_free(&cache);
 }
 
 int main(void) {
     texts();
     versions();
+    default_options();
     bad_options();
     empty_handles();
     a_blank_key();

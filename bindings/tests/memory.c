@@ -241,6 +241,11 @@ static void use_cache(guillotiere_cache *cache) {
     status = guillotiere_cache_reserve(cache, 1000);
     CHECK(status == GUILLOTIERE_DONE || status == GUILLOTIERE_MEMORY);
     CHECK(keys_of(cache) == held);
+    status = guillotiere_cache_reserve_slots(cache, 100);
+    CHECK(status == GUILLOTIERE_DONE || status == GUILLOTIERE_MEMORY);
+    status = guillotiere_cache_reserve_changes(cache, 100);
+    CHECK(status == GUILLOTIERE_DONE || status == GUILLOTIERE_MEMORY);
+    CHECK(keys_of(cache) == held);
     uint64_t area = 77;
     status = guillotiere_cache_unusable_area(cache, 0, 10, 10, &area);
     CHECK(status == GUILLOTIERE_DONE || status == GUILLOTIERE_MEMORY || (status == GUILLOTIERE_NO_PAGE && held == 0));
@@ -272,8 +277,40 @@ static void caches(void) {
     }
 }
 
+/* Frames of a text in pages of one size, each made full of 16 by 16 boxes at first: after the three calls that reserve no frame asks
+ * for memory, though keys come and go. The requests are refused, so that one would be told by its status. */
+static void frames(void) {
+    enum { SIDE = 128, PAGES = 2, BOX = 16, ROOM_FOR = PAGES * (SIDE / BOX) * (SIDE / BOX), IN_A_FRAME = 40, FRAMES = 200 };
+    const guillotiere_cache_options options = {{SIDE, SIDE}, {SIDE, SIDE}, PAGES, 0, GUILLOTIERE_DEFAULT_OPTIONS};
+    guillotiere_cache cache = GUILLOTIERE_NONE;
+    guillotiere_cache_change change;
+    guillotiere_place place;
+    CHECK(guillotiere_cache_new(&options, &cache) == GUILLOTIERE_DONE);
+    for (uint64_t key = 0; key < ROOM_FOR; key++) CHECK(guillotiere_cache_insert(&cache, key, BOX, BOX, &place) == GUILLOTIERE_DONE);
+    CHECK(guillotiere_cache_clear(&cache) == GUILLOTIERE_DONE);
+    while (guillotiere_cache_next_change(&cache, &change) == GUILLOTIERE_DONE) continue;
+    CHECK(guillotiere_cache_reserve(&cache, 4 * ROOM_FOR) == GUILLOTIERE_DONE);
+    CHECK(guillotiere_cache_reserve_slots(&cache, 4 * ROOM_FOR * FRAMES) == GUILLOTIERE_DONE);
+    CHECK(guillotiere_cache_reserve_changes(&cache, 4 * ROOM_FOR) == GUILLOTIERE_DONE);
+    const long refused = refusals;
+    left = 0;
+    for (uint64_t frame = 0; frame < FRAMES; frame++) {
+        CHECK(guillotiere_cache_begin_frame(&cache) == GUILLOTIERE_DONE);
+        for (uint64_t i = 0; i < IN_A_FRAME; i++) {
+            const uint64_t key = frame * 7 + i * i % 61;
+            const uint32_t status = guillotiere_cache_insert(&cache, key, 5 + (int32_t)(key % 12), 9, &place);
+            CHECK(status == GUILLOTIERE_DONE || status == GUILLOTIERE_HELD);
+            while (guillotiere_cache_next_change(&cache, &change) == GUILLOTIERE_DONE) CHECK(change.kind == GUILLOTIERE_EVICTED);
+        }
+    }
+    left = -1;
+    CHECK(refusals == refused);
+    guillotiere_cache_free(&cache);
+}
+
 int main(void) {
     caches();
+    frames();
     reserve();
     pack(guillotiere_pack);
     pack(guillotiere_pack_dense);

@@ -47,6 +47,11 @@ static void moves() {
     CHECK(other.get(box.id) && other.get(box.id)->max_y == 20);
     one = std::move(other);
     CHECK(one.get(box.id));
+    auto full = made({16, 16});
+    full = std::move(one); // what it held is freed, and not handed to the source
+    CHECK(full.get(box.id) && one.size().width == 0 && one.allocate({1, 1}).error() == status::empty);
+    one = std::move(full);
+    CHECK(full.size().width == 0);
     auto *const alias = &one;
     one = std::move(*alias);
     CHECK(one.get(box.id));
@@ -212,6 +217,12 @@ static void caches() {
     const cache &read = *made;
     CHECK(*read.unusable_area(0, {16, 33}) == 511 && read.unusable_area(1, {1, 1}).error() == status::no_page);
     CHECK(read.areas(0)->allocated == 1 && read.areas(0)->free == 511 && !read.areas(1) && read.options().pages == 1);
+    auto usual = cache::make();
+    CHECK(usual->options().page.width == 512 && usual->options().largest_page.height == 2048 && usual->options().pages == 4);
+    CHECK(usual->options().padding == 1 && usual->reserve_slots(8) == status::done && usual->reserve_changes(8) == status::done);
+    auto other = cache::make();
+    *usual = std::move(*other);
+    CHECK(other->options().pages == 0 && other->begin_frame() == status::empty && usual->begin_frame() == status::done);
     cache taken = std::move(*made);
     CHECK(!made->newest() && made->options().pages == 0 && made->reserve(1) == status::empty);
     CHECK(made->insert(8, {1, 1}).error() == status::empty && !made->get(8) && made->len() == 0);
@@ -223,6 +234,8 @@ static void caches() {
     with.pages = 0;
     CHECK(cache::make(with).error() == status::no_pages);
     CHECK(std::string(text(cache::make(with).error())) == "no pages are allowed");
+    CHECK(header_interface == linked_interface() && default_cache_options.pages == 4 && default_cache_options.page.width == 512);
+    CHECK(cache::make()->options().largest_page.height == 2048 && cache::make(default_cache_options)->options().padding == 1);
     CHECK(std::string(text(status::done)) == "done" && std::string(guillotiere_status_text(99)) == "no status");
 }
 

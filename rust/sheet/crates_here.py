@@ -4,13 +4,19 @@ import re
 
 from cargo_here import REGISTRY, from_debian
 
-CRATES = ['clap', 'image', 'notify', 'png', 'serde_derive', 'serde_json', 'walkdir']
+CRATES = ['clap', 'clap_complete', 'ctrlc', 'fd-lock', 'globset', 'image', 'imagesize', 'indicatif', 'notify', 'png', 'same-file',
+          'serde_derive', 'serde_json', 'sysinfo', 'tera', 'walkdir']
 
 
 def missing():
     """Those that the folder lacks."""
     there = os.listdir(REGISTRY) if os.path.isdir(REGISTRY) else []
     return [name for name in CRATES if not any(re.fullmatch(name + r'-\d.*', each) for each in there)]
+
+
+def packages():
+    """The packages of Debian that have those."""
+    return ['librust-%s-dev' % name.replace('_', '-') for name in missing()]
 
 
 def words():

@@ -46,12 +46,49 @@ function pair(api) {
 
 /** A hit of a cache that holds 1,000 keys. */
 function hit(api, keyOf) {
+  return hitBy(api, keyOf, (cache, key) => cache.get(key).inner.x);
+}
+
+function hitBy(api, keyOf, call) {
   const cache = new api.TextureCache({ page: { width: 1024, height: 1024 }, pages: 4, padding: 1 });
   const keys = Array.from({ length: 1000 }, (_, i) => keyOf(i));
   for (const key of keys) cache.insert(key, 10, 20);
   let sum = 0;
   const time = least(16000, (calls) => {
-    for (let i = 0; i < calls; i++) sum += cache.get(keys[i % 1000]).inner.x;
+    for (let i = 0; i < calls; i++) sum += call(cache, keys[i % 1000]);
+  });
+  cache.dispose();
+  return { time, sum };
+}
+
+/** As `hit`, where no object is made. */
+function touch(api, keyOf) {
+  return hitBy(api, keyOf, (cache, key) => (cache.touch(key) ? 1 : 0));
+}
+
+/** Its rounds with a look-up in a `Map` in place of the hit. */
+function mapped(api, keyOf) {
+  const map = new Map();
+  const kept = (i) => {
+    const key = keyOf(i);
+    map.set(key, i + 1);
+    return key;
+  };
+  return hitBy(api, kept, (_, key) => (map.get(key) > 0 ? 1 : 0));
+}
+
+/** An insertion in a page of 256 x 256 that is full, with what it evicts, and the reading of what was done. */
+function evict(api, keyOf) {
+  const cache = new api.TextureCache({ page: { width: 256, height: 256 }, padding: 1 });
+  const keys = Array.from({ length: 4000 }, (_, i) => keyOf(i));
+  let [at, sum] = [0, 0];
+  const time = least(2000, (calls) => {
+    for (let i = 0; i < calls; i++) {
+      cache.beginFrame();
+      at = (at + 1) % keys.length;
+      cache.insert(keys[at], 5 + at * 7 % 20, 5 + at * 5 % 20);
+      for (const change of cache.changes()) sum += change.kind.length;
+    }
   });
   cache.dispose();
   return { time, sum };
@@ -106,15 +143,33 @@ function bySkyline(sprites) {
   return low;
 }
 
-export function measured(api) {
-  return {
-    pair: pair(api),
-    numbers: hit(api, (i) => i),
-    strings: hit(api, (i) => `glyph ${i}`),
-    atlas: fill((width, height) => new api.Atlas(width, height)),
-    simple: fill((width, height) => new api.SimpleAtlas(width, height)),
-    skyline: fill((width, height) => new Skyline(width, height)),
-    pack: sheet((sprites) => api.pack(sprites).width),
-    packSkyline: sheet(bySkyline),
-  };
+const glyph = (i) => `glyph ${i}`;
+const number = (i) => i;
+
+/** What is measured, by its name. */
+export const MEASURES = {
+  pair,
+  numbers: (api) => hit(api, number),
+  strings: (api) => hit(api, glyph),
+  touched: (api) => touch(api, glyph),
+  touchedNumbers: (api) => touch(api, number),
+  loop: (api) => hitBy(api, glyph, (_, key) => (key.length > 0 ? 1 : 0)),
+  map: (api) => mapped(api, glyph),
+  evicted: (api) => evict(api, number),
+  evictedStrings: (api) => evict(api, glyph),
+  atlas: (api) => fill((width, height) => new api.Atlas(width, height)),
+  simple: (api) => fill((width, height) => new api.SimpleAtlas(width, height)),
+  skyline: () => fill((width, height) => new Skyline(width, height)),
+  pack: (api) => sheet((sprites) => api.pack(sprites).width),
+  packSkyline: () => sheet(bySkyline),
+};
+
+/** All of them, each by a copy of this module of its own, since an engine makes code from what a function was called with before. */
+export async function measured(api) {
+  const told = {};
+  for (const name of Object.keys(MEASURES)) {
+    const copy = await import(`./bench.js?${name}`);
+    told[name] = copy.MEASURES[name](api);
+  }
+  return told;
 }

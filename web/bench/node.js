@@ -3,4 +3,4 @@ import * as wollemigo from '../node.js';
 import { measured } from './bench.js';
 
 await wollemigo.load();
-console.log(JSON.stringify(measured(wollemigo)));
+console.log(JSON.stringify(await measured(wollemigo)));

@@ -1,5 +1,7 @@
 // The tab of the atlas: its controls, what is told beside it and below it, and its session as lines.
-import { copy, count, find, make, numberOf, say, time, trouble } from './page.js';
+import { copy, count, download, find, make, numberOf, say, time, trouble } from './page.js';
+import { Beside } from './beside.js';
+import { wireHistory, writeHistory } from './history.js';
 import { Player } from './player.js';
 import { Pointing } from './pointing.js';
 import { fragmentOf, textOf } from './link.js';
@@ -17,6 +19,7 @@ const FIRST = ['atlas 512 256', ...['96 120', '64 64', '80 40', '64 64', '48 90'
 let player;
 let pointing;
 let tree;
+let beside;
 let isWritten = true; // whether the field of lines has the session's, and not what a person wrote
 
 export async function start() {
@@ -26,10 +29,14 @@ export async function start() {
   });
   tree = new Tree(player, (member) => pointing.pointAtMember(member), (id) => pointing.free(id));
   pointing = new Pointing(player, find('over'), (box) => tree.light(box));
+  beside = player.beside = new Beside(player);
   CLASSES.forEach((name) => find('classes').append(listOf(name)));
   wireButtons();
   wireSettings();
   wireSession();
+  find('zoom').addEventListener('input', zoomed);
+  wireHistory(player, () => run(false));
+  find('save').addEventListener('click', () => find('base').toBlob((blob) => download(blob, 'atlas.png')));
   new ResizeObserver(() => player.refit()).observe(find('stage'));
   player.play(FIRST);
   await fromLink();
@@ -39,7 +46,20 @@ export async function start() {
 
 function room() {
   const width = find('stage').clientWidth - 2;
-  return { width, height: Math.max(260, Math.min(window.innerHeight * 0.62, width * 1.2)) };
+  const height = Math.max(260, Math.min(window.innerHeight * 0.62, width * 1.2));
+  const zoom = 2 ** (find('zoom').value / 2);
+  find('viewport').style.maxHeight = zoom > 1 ? `${height + 2}px` : '';
+  return { width: width * zoom, height: height * zoom };
+}
+
+/** Draws the atlas larger, with what was in the middle of the view still there; the view is moved by scrolling. */
+function zoomed() {
+  const view = find('viewport');
+  const before = find('base').clientWidth;
+  const middle = [view.scrollLeft + view.clientWidth / 2, view.scrollTop + view.clientHeight / 2];
+  player.fit();
+  const [x, y] = middle.map((at) => at * find('base').clientWidth / before);
+  view.scrollTo(x - view.clientWidth / 2, y - view.clientHeight / 2);
 }
 
 function wanted() {
@@ -63,7 +83,7 @@ const ACTIONS = {
   'add-many': addMany,
   free: () => player.freeAny() ?? 'Nothing is live.',
   grow: () => player.grow(),
-  rearrange: () => player.call('rearrange'),
+  rearrange: () => player.rearrange(),
   undo: () => undone(player.undo(), 'Undone'),
   redo: () => undone(player.redo(), 'Done again'),
   run: () => run(!player.isRunning),
@@ -230,8 +250,10 @@ function write() {
   tree.refresh();
   tree.light(pointing.box);
   writeButtons();
+  writeHistory(player);
   writeCounts();
   writeSession();
+  beside.show();
 }
 
 function writeButtons() {

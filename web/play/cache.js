@@ -27,7 +27,8 @@ class Scroll {
       pages: numberOf(find('cache-pages')), padding: numberOf(find('cache-padding')),
     });
     this.pages = new Pages();
-    this.text = new Text(this.on, this.source, find('cache-sizes').value);
+    this.pixel = window.devicePixelRatio || 1;
+    this.text = new Text(this.on, this.source, find('cache-sizes').value, this.pixel);
     Object.assign(this, { first: 0, offset: 0, moved: 0, unplaced: 0, repacked: 0, calls: 0, milliseconds: 0, log: [] });
     find('cache-log').replaceChildren();
     this.frame();
@@ -85,11 +86,10 @@ class Scroll {
 
   /** One frame: all glyphs that are in sight. */
   frame() {
-    const { canvas, on } = this;
-    const pixel = window.devicePixelRatio || 1;
-    const width = canvas.clientWidth || 600, height = canvas.clientHeight || 150;
-    Object.assign(canvas, { width: Math.round(width * pixel), height: Math.round(height * pixel) });
-    on.setTransform(pixel, 0, 0, pixel, 0, 0);
+    const { on } = this;
+    const { width, height } = Object.assign(this.canvas, this.size());
+    // While the tab is hidden there is nothing to draw on.
+    if (width === 0) return;
     on.fillStyle = this.pages.colours.sheet;
     on.fillRect(0, 0, width, height);
     this.cache.beginFrame();
@@ -99,6 +99,20 @@ class Scroll {
       y += this.text.height(number);
     }
     this.write();
+  }
+
+  /** The size of the canvas as it is shown, in the screen's own pixels. */
+  size() {
+    const { clientWidth, clientHeight } = this.canvas;
+    return { width: Math.round(clientWidth * this.pixel), height: Math.round(clientHeight * this.pixel) };
+  }
+
+  /** Draws once more where the canvas is shown in another size, and begins anew on a screen with other pixels. */
+  fit() {
+    if (this.canvas.clientWidth === 0) return;
+    const { width, height } = this.size();
+    if (this.pixel !== (window.devicePixelRatio || 1)) this.begin();
+    else if (this.canvas.width !== width || this.canvas.height !== height) this.frame();
   }
 
   drawGlyph({ glyph, x, y }, top) {
@@ -126,7 +140,7 @@ class Scroll {
     let before = performance.now();
     const next = (now) => {
       if (!this.isRunning) return;
-      this.scroll(Math.max(0, Math.min(200, Number(find('cache-speed').value) * 10 * (now - before) / 1000)));
+      this.scroll(Math.max(0, Math.min(200, Number(find('cache-speed').value) * 10 * this.pixel * (now - before) / 1000)));
       before = now;
       requestAnimationFrame(next);
     };
@@ -182,7 +196,7 @@ export function stop() {
 
 export function writeCounts() {
   if (!shown) return;
-  if (shown.canvas.clientWidth && shown.calls === 0) shown.frame();
+  shown.fit();
   const told = shown.counts();
   find('counts').textContent = `${told.glyphs} glyphs on ${told.pages} pages · ${told['hit rate']} hits`;
   find('times').textContent = `a glyph ${shown.calls ? time(shown.milliseconds / shown.calls) : '-'}`;
@@ -194,9 +208,19 @@ function again() {
   say('The cache starts over.');
 }
 
+// A screen with more pixels takes larger glyphs, and they take larger pages.
+function setPages() {
+  const pixel = window.devicePixelRatio || 1;
+  if (pixel <= 1) return;
+  find('cache-page').value = 256;
+  find('cache-largest').value = pixel > 2 ? 1024 : 512;
+}
+
 export function start() {
+  setPages();
   shown = new Scroll();
   find('cache-own').value = TEXT;
+  new ResizeObserver(() => shown.fit()).observe(find('cache-text'));
   find('cache-run').addEventListener('click', () => shown.run(!shown.isRunning));
   find('cache-step').addEventListener('click', () => shown.scroll(shown.text.height(shown.first) - shown.offset));
   find('cache-repack').addEventListener('click', () => shown.repack());

@@ -2,6 +2,7 @@
 // one has what is pointed at.
 const LABEL = 11;
 const SHARE = 8; // of the time, one part goes into comparing free boxes
+const MOST = 4096; // pixels of the screen that a side of the canvas has
 const CELLS = 256; // along each side: what was drawn roughly is kept account of by these
 
 /** The colours of the page, as the style sheet has them now. */
@@ -38,6 +39,7 @@ export class Drawing {
     this.above = over.getContext('2d');
     this.known = new Map();
     this.shown = null;
+    this.motion = null;
     this.drawn = 0; // boxes so far
     this.rough = new Uint8Array(CELLS * CELLS);
   }
@@ -45,7 +47,8 @@ export class Drawing {
   /** Fits the canvases to a room, in pixels of the page, and has all drawn anew. */
   fit(session, room) {
     const pixel = window.devicePixelRatio || 1;
-    const scale = Math.min(room.width / session.width, room.height / session.height);
+    const most = MOST / (pixel * Math.max(session.width, session.height));
+    const scale = Math.min(room.width / session.width, room.height / session.height, most);
     const wide = Math.max(1, Math.round(session.width * scale * pixel));
     const high = Math.max(1, Math.round(session.height * scale * pixel));
     for (const canvas of [this.base, this.over]) {
@@ -63,11 +66,16 @@ export class Drawing {
   }
 
   /**
-   * Draws what changed since the last time. While the atlas runs, the edges of free boxes are compared only as often as that
-   * takes no more than a part of the time.
+   * Draws what changed since the last time, or where all is on its way to that. While the atlas runs, the edges of free boxes are compared
+   * only as often as that takes no more than a part of the time.
    */
-  draw(session, isRunning) {
+  draw(session, isRunning, now) {
     if (!this.hatch) return;
+    if (this.motion?.draw(this, session, now)) {
+      this.shown = session;
+      return;
+    }
+    this.motion = null;
     const begun = performance.now();
     if (!session.isNew && this.shown === session && isRunning && begun < this.next) {
       this.drawQuickly(session);
@@ -134,7 +142,8 @@ export class Drawing {
     return [x, y, Math.round(box.x1 * this.across) - x, Math.round(box.y1 * this.down) - y];
   }
 
-  drawBoxes(boxes, fill, hasLabel) {
+  /** A box's right and lower edge are those of its neighbours, unless it is framed. */
+  drawBoxes(boxes, fill, hasLabel, isFramed = false) {
     const { on, pixel } = this;
     const labelled = [];
     for (const box of boxes) {
@@ -143,10 +152,10 @@ export class Drawing {
       const isThin = wide < 3 * pixel || high < 3 * pixel;
       if (!isThin) {
         on.fillStyle = this.colours.edge;
-        on.fillRect(x, y, wide, high);
+        on.fillRect(x, y, wide + (isFramed ? pixel : 0), high + (isFramed ? pixel : 0));
       }
       const edge = isThin ? 0 : pixel;
-      on.fillStyle = fill;
+      on.fillStyle = box.fill ?? fill;
       on.fillRect(x + edge, y + edge, wide - edge, high - edge);
       if (hasLabel && high > (LABEL + 4) * pixel && wide > 20 * pixel) labelled.push([box.id, x, y, wide, high]);
     }

@@ -18,10 +18,12 @@ HOW VEXINGLY QUICK DAFT ZEBRAS JUMP!`;
 
 /** Lines of a text, each in a font of its own, over and over. */
 export class Text {
-  constructor(context, text, sizes) {
+  /** `pixel` is how many pixels of the screen are one of the page. All sizes and places are in the screen's. */
+  constructor(context, text, sizes, pixel) {
     this.context = context;
     this.lines = text.split('\n').filter((line) => line.trim() !== '');
-    this.sizes = SIZES[sizes];
+    this.sizes = SIZES[sizes].map((size) => Math.round(size * pixel));
+    this.left = Math.round(8 * pixel);
     this.measured = new Map();
   }
 
@@ -54,7 +56,7 @@ export class Text {
   line(number, width) {
     const { size, font } = this.fontOf(number);
     const placed = [];
-    let x = 8;
+    let x = this.left;
     for (const character of this.lines[number % this.lines.length]) {
       const glyph = this.glyph(character, font);
       if (x + glyph.advance > width) break;

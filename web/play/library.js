@@ -1,7 +1,7 @@
 // The package `wollemigo`, with boxes as the page keeps them: by their corners, as the tool tells them.
 import { Atlas as Owned } from '../index.js';
 
-export { load, pack, TextureCache } from '../index.js';
+export { load, pack, packDense, packGroups, packPages, TextureCache } from '../index.js';
 
 const REPLIES = { BAD_CALL: 'bad call', NOT_LIVE: 'refused not live', SLOTS: 'refused slots', MEMORY: 'refused memory' };
 

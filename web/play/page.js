@@ -9,6 +9,9 @@ export function make(name, properties = {}, ...inside) {
 
 export const count = (number) => Math.round(number).toLocaleString('en');
 
+/** Whether a person asked for less motion. */
+export const isStill = () => window.matchMedia('(prefers-reduced-motion: reduce)').matches;
+
 /** A time in words, from milliseconds. */
 export function time(milliseconds) {
   const shown = (value) => (value < 10 ? value.toFixed(1) : String(Math.round(value)));

@@ -2,6 +2,8 @@
 import { colours, hatching } from './drawing.js';
 import { find, make } from './page.js';
 
+const WIDE = 400; // pixels of the browser's page that a small page may take
+
 const canvasOf = (width, height) => make('canvas', { width, height });
 
 export class Pages {
@@ -34,7 +36,9 @@ export class Pages {
   size(page, width, height) {
     const { shown, caption } = this.pages[page];
     Object.assign(shown, { width, height });
-    shown.style.width = `${width * (width <= 128 ? 2 : width <= 256 ? 1.5 : 1)}px`;
+    // Each pixel of a page takes as many whole ones of the screen as have room.
+    const pixel = window.devicePixelRatio || 1;
+    shown.style.width = `${width * Math.max(1, Math.floor(WIDE * pixel / width)) / pixel}px`;
     shown.setAttribute('role', 'img');
     shown.setAttribute('aria-label', `Page ${page}, ${width} by ${height} pixels`);
     caption.textContent = `page ${page}, ${width} × ${height}`;

@@ -1,11 +1,15 @@
-// The page: loads the library, and has tabs, colours and the foot.
+// The page: loads the library, and has tabs and the foot.
 import { load } from './library.js';
+import { setColours, wireColours } from './colours.js';
 import { find, trouble } from './page.js';
 import * as atlas from './atlas.js';
 import * as cache from './cache.js';
 import * as sheet from './sheet.js';
 
 const TABS = ['atlas', 'cache', 'sheet'];
+
+/** The tab that an address names by its fragment; null where it names none. */
+const named = () => TABS.find((each) => location.hash === `#${each}`) ?? null;
 
 function chosen(name) {
   for (const each of TABS) {
@@ -20,50 +24,25 @@ function chosen(name) {
   ({ atlas, cache, sheet })[name].writeCounts();
 }
 
+/** Chooses a tab, and has the address name it, so that it can be kept and passed on. */
+function choose(name) {
+  chosen(name);
+  if (name !== 'atlas') history.replaceState(null, '', `#${name}`);
+  else if (named()) history.replaceState(null, '', location.pathname + location.search);
+}
+
 function wireTabs() {
+  window.addEventListener('hashchange', () => named() && chosen(named()));
   TABS.forEach((name, at) => {
     const tab = find(`tab-${name}`);
-    tab.addEventListener('click', () => chosen(name));
+    tab.addEventListener('click', () => choose(name));
     tab.addEventListener('keydown', (event) => {
       const step = { ArrowRight: 1, ArrowLeft: TABS.length - 1 }[event.key];
       if (!step) return;
       const next = TABS[(at + step) % TABS.length];
-      chosen(next);
+      choose(next);
       find(`tab-${next}`).focus();
     });
-  });
-}
-
-const prefers = window.matchMedia('(prefers-color-scheme: dark)');
-
-// The colours that a person chose, else those of the system.
-function setColours() {
-  let kept = null;
-  try {
-    kept = localStorage.getItem('colours');
-  } catch {
-    // Where nothing may be kept the system's colours hold until the switch is used.
-  }
-  const name = setColours.chosen ?? kept ?? (prefers.matches ? 'dark' : 'light');
-  document.documentElement.dataset.theme = name;
-  find('theme').textContent = name === 'dark' ? 'Light colours' : 'Dark colours';
-  return name;
-}
-
-function wireColours(redraw) {
-  find('theme').addEventListener('click', () => {
-    setColours.chosen = document.documentElement.dataset.theme === 'dark' ? 'light' : 'dark';
-    try {
-      localStorage.setItem('colours', setColours.chosen);
-    } catch {
-      // As above.
-    }
-    setColours();
-    redraw();
-  });
-  prefers.addEventListener('change', () => {
-    setColours();
-    redraw();
   });
 }
 
@@ -83,6 +62,8 @@ async function begin() {
     player.fit();
     shown.redraw();
   });
+  find('panel-atlas').parentElement.inert = false;
+  if (named()) chosen(named());
   // For the browser's console, and for the tests.
   window.play = { player, cache: shown, sheet: packed, isDue: atlas.isDue };
 }

@@ -1,5 +1,6 @@
 // What the controls of the atlas do: calls on a session, by hand or many a second, each drawn with the next frame.
 import { Drawing } from './drawing.js';
+import { Motion } from './motion.js';
 import { GREATEST_SIDE, MOST_LINES, Session, parsed } from './session.js';
 
 const BUDGET = 10; // milliseconds of a frame for calls
@@ -40,7 +41,7 @@ export class Player {
     this.calls += 1;
     const name = line.slice(0, line.indexOf(' '));
     if (name === 'alloc' && reply[0] !== 'none') this.pool.push(this.session.added.at(-1).id);
-    if (name === 'atlas' || name === 'grow' || name === 'resize') this.fit();
+    if (['atlas', 'record', 'grow', 'resize'].includes(name)) this.fit();
     this.ask();
     return reply;
   }
@@ -50,6 +51,7 @@ export class Player {
     this.session.lines = [];
     this.session.replies = [];
     this.session.undone = [];
+    this.session.chart = [];
     const plain = alignX === 1 && alignY === 1 && small === 32 && large === 256;
     return this.call(plain ? `atlas ${width} ${height}` : `atlas ${width} ${height} ${alignX} ${alignY} ${small} ${large}`);
   }
@@ -87,7 +89,20 @@ export class Player {
 
   grow() {
     const size = this.grown();
-    return size && this.call(`grow ${size[0]} ${size[1]}`);
+    return size && this.seen(`grow ${size[0]} ${size[1]}`);
+  }
+
+  rearrange() {
+    return this.seen('rearrange');
+  }
+
+  /** Carries out a line, and has what it does be seen as motion. */
+  seen(line) {
+    const { across, down } = this.drawing;
+    const { width, height } = this.session;
+    const reply = this.call(line);
+    this.drawing.motion = Motion.of(this.session, { across, down, width, height });
+    return reply;
   }
 
   undo() {
@@ -96,6 +111,10 @@ export class Player {
 
   redo() {
     return this.again(() => this.session.redo());
+  }
+
+  goTo(many) {
+    this.again(() => this.session.goTo(many));
   }
 
   again(what) {
@@ -180,20 +199,20 @@ export class Player {
     const begun = performance.now();
     if (this.isRunning) this.steps(now);
     if (this.drawing.shown === null && this.session.atlas) this.fit();
-    if (this.session.atlas) this.drawing.draw(this.session, this.isRunning);
+    if (this.session.atlas) this.drawing.draw(this.session, this.isRunning, now);
     const { last } = this.frame;
     this.frame.rate = last && now > last ? 0.9 * this.frame.rate + 0.1 * (1000 / (now - last)) : 0;
     this.frame.last = this.isRunning ? now : 0;
     this.onFrame();
     this.frame.milliseconds = performance.now() - begun;
-    if (this.isRunning) this.ask();
+    if (this.isRunning || this.drawing.motion) this.ask();
   }
 }
 
 function check(line, at) {
   const call = parsed(line);
   if (call.wrong) throw new Error(`Line ${at + 1} can't be played: ${call.wrong}.`);
-  const isSize = ['atlas', 'grow', 'resize'].includes(call.name);
+  const isSize = ['atlas', 'record', 'grow', 'resize'].includes(call.name);
   if (isSize && Math.max(call.numbers[0], call.numbers[1]) > GREATEST_SIDE) {
     throw new Error(`Line ${at + 1} can't be played: this page draws sides up to ${GREATEST_SIDE} pixels.`);
   }

@@ -5,9 +5,9 @@ import { rowsOf } from './tree.js';
 
 const PARTS = {
   atlas: [['n', 'n'], ['n', 'n', 'n', 'n', 'n', 'n']], alloc: [['n', 'n']], free: [['i']], grow: [['n', 'n']],
-  live: [[]], holes: [[]], size: [[]], empty: [[]], clear: [[]], rearrange: [[]], resize: [['n', 'n']],
+  live: [[]], holes: [[]], size: [[]], empty: [[]], clear: [[]], rearrange: [[]], resize: [['n', 'n']], record: [['n', 'n']],
 };
-const ELSEWHERE = ['simple', 'take', 'from-atlas', 'record', 'replay'];
+const ELSEWHERE = ['simple', 'take', 'from-atlas', 'replay'];
 const ASKING = ['live', 'holes', 'size', 'empty'];
 export const MOST_LINES = 500000;
 export const GREATEST_SIDE = 65536;
@@ -30,12 +30,16 @@ export function parsed(line) {
   return { name, numbers };
 }
 
+/** Whether a line makes an atlas. */
+export const isStart = (line) => line.startsWith('atlas ') || line.startsWith('record ');
+
 /** The class of a box's sides, by the thresholds of the options (docs/MODEL.md, "Choice"): 0 small, 1 medium, 2 large. */
 export function classOf(box, { small, large }) {
   const side = Math.max(box.x1 - box.x0, box.y1 - box.y0);
   return side >= large ? 2 : side >= small ? 1 : 0;
 }
 
+const areaOf = (box) => (box.x1 - box.x0) * (box.y1 - box.y0);
 const corners = (box) => `${box.x0} ${box.y0} ${box.x1} ${box.y1}`;
 
 export class Session {
@@ -43,6 +47,8 @@ export class Session {
     this.lines = [];
     this.undone = [];
     this.replies = [];
+    // Of each line how full the atlas was after it, also of those that can be done again.
+    this.chart = [];
     this.begin();
   }
 
@@ -52,6 +58,8 @@ export class Session {
     this.options = null;
     this.width = this.height = 0;
     this.live = new Map();
+    this.recorded = null;
+    this.area = 0; // of what is live
     this.changed();
   }
 
@@ -75,17 +83,20 @@ export class Session {
     if (call.wrong) throw new Error(call.wrong);
     this.lines.push(line);
     this.undone.length = 0;
+    this.chart.length = this.lines.length - 1;
     return this.carry(call);
   }
 
   carry(call) {
     const reply = this.answer(call);
     this.replies.push(reply);
+    this.chart[this.replies.length - 1] = this.area / Math.max(1, this.width * this.height);
     return reply;
   }
 
   answer({ name, numbers }) {
-    if (name !== 'atlas' && !this.atlas) return ['no atlas'];
+    const needsAtlas = name !== 'atlas' && name !== 'record';
+    if (needsAtlas && (!this.atlas || this.recorded && (name === 'clear' || name === 'empty'))) return ['no atlas'];
     try {
       return this[`do_${name}`](...numbers);
     } catch (error) {
@@ -101,19 +112,40 @@ export class Session {
     return ['ok'];
   }
 
+  /** A recorded session: boxes have names, 0, 1, 2 and so on, in the order of the grants, and keep them where they are placed anew. */
+  do_record(width, height) {
+    const reply = this.do_atlas(width, height);
+    this.recorded = { ids: new Map(), names: new Map(), next: 0 };
+    return reply;
+  }
+
+  /** Has a name stand for the id that a box has now. */
+  name(name, id) {
+    this.recorded.ids.set(name, id);
+    this.recorded.names.set(id, name);
+  }
+
   do_alloc(width, height) {
     const box = this.atlas.allocate(width, height);
     if (!box) return ['none'];
+    if (this.recorded) {
+      this.name(this.recorded.next, box.id);
+      box.id = this.recorded.next;
+      this.recorded.next += 1;
+    }
     box.line = this.lines.length - 1;
     this.live.set(box.id, box);
+    this.area += areaOf(box);
     this.added.push(box);
     this.forget();
     return [`id ${box.id} at ${corners(box)}`];
   }
 
   do_free(id) {
-    this.atlas.free(id);
+    if (this.recorded && !this.live.has(id)) return ['refused not live'];
+    this.atlas.free(this.recorded ? this.recorded.ids.get(id) : id);
     this.freed.push(this.live.get(id));
+    this.area -= areaOf(this.live.get(id));
     this.live.delete(id);
     this.forget();
     return ['ok'];
@@ -129,6 +161,7 @@ export class Session {
   do_clear() {
     this.atlas.clear();
     this.live.clear();
+    this.area = 0;
     this.changed();
     return ['ok'];
   }
@@ -145,12 +178,26 @@ export class Session {
 
   rearranged({ changes, failures }) {
     const line = this.lines.length - 1;
+    if (this.recorded) this.renamed(changes, failures);
     this.live.clear();
     for (const { from, to } of changes) this.live.set(to.id, { ...to, line, from });
+    for (const box of failures) this.area -= areaOf(box);
     this.changed();
     const moved = changes.map(({ from, to }) => `moved ${from.id} ${corners(from)} to ${to.id} ${corners(to)}`);
     const lost = failures.map((box) => `lost ${box.id} ${corners(box)}`);
     return [...moved, ...lost, `changes ${changes.length} failures ${failures.length}`];
+  }
+
+  /** Boxes that were placed anew, and those that were lost, under their names. */
+  renamed(changes, failures) {
+    const { names } = this.recorded;
+    this.recorded.names = new Map();
+    for (const { from, to } of changes) {
+      from.id = names.get(from.id);
+      this.name(from.id, to.id);
+      to.id = from.id;
+    }
+    for (const box of failures) box.id = names.get(box.id);
   }
 
   do_size() {
@@ -162,7 +209,7 @@ export class Session {
   }
 
   do_live() {
-    const boxes = this.atlas.live();
+    const boxes = this.recorded ? [...this.live.values()].sort((a, b) => a.id - b.id) : this.atlas.live();
     return [...boxes.map((box) => `box ${box.id} ${corners(box)}`), `live ${boxes.length}`];
   }
 
@@ -179,13 +226,13 @@ export class Session {
 
   /** The members of the tree of cuts, as rows. */
   cuts() {
-    if (!this.tree) this.tree = this.atlas ? rowsOf(this.atlas.cuts()) : [];
+    if (!this.tree) this.tree = this.atlas ? rowsOf(this.atlas.cuts(), this.recorded?.names) : [];
     return this.tree;
   }
 
   // The line that made the first atlas: it isn't undone.
   get first() {
-    return this.lines.findIndex((line, at) => line.startsWith('atlas ') && this.replies[at][0] === 'ok');
+    return this.lines.findIndex((line, at) => isStart(line) && this.replies[at][0] === 'ok');
   }
 
   get canUndo() {
@@ -211,6 +258,18 @@ export class Session {
     this.lines.push(line);
     this.carry(parsed(line));
     return line;
+  }
+
+  /** Goes to where the session was after so many lines, as undo and redo do; the lines after them can be done again. */
+  goTo(many) {
+    const all = [...this.lines, ...this.undone.slice().reverse()];
+    const kept = Math.min(Math.max(many, this.first + 1), all.length);
+    if (kept < this.lines.length) this.replay(all.slice(0, kept));
+    for (const line of all.slice(this.lines.length, kept)) {
+      this.lines.push(line);
+      this.carry(parsed(line));
+    }
+    this.undone = all.slice(kept).reverse();
   }
 
   /** Begins anew with these lines, which were parsed before. */

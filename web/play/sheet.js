@@ -1,8 +1,9 @@
-// The tab of sheets: pictures of a person are packed into one, which can be downloaded with where each lies.
-import { pack } from './library.js';
+// The tab of sheets: pictures of a person are packed into one or several, which can be downloaded with where each lies.
+import { pack, packDense, packGroups, packPages } from './library.js';
 import { count, download, find, make, numberOf, say, time, trouble } from './page.js';
 
 const MOST_PICTURES = 5000;
+const LISTED = 5; // of the files that are left out, by their names
 let shown;
 
 // What went wrong, in words, by the code of the library's error.
@@ -26,16 +27,42 @@ class Packed {
 
   /** Takes more pictures; one with a name that is known takes its place. */
   take(pictures) {
-    const named = new Map([...this.pictures, ...pictures].map((each) => [each.name, each]));
+    const known = this.isExample ? [] : this.pictures;
+    this.isExample = false;
+    const named = new Map([...known, ...pictures].map((each) => [each.name, each]));
     this.pictures = [...named.values()].sort((a, b) => (a.name < b.name ? -1 : 1)).slice(0, MOST_PICTURES);
     this.pack();
+  }
+
+  /** The sheets for these sizes, with the number of its sheet at each place; null where none that is allowed takes them all. */
+  packed(sizes) {
+    if (this.isSeveral) {
+      return find('sheet-groups').checked ? packGroups(sizes, this.folders(), this.options()) : packPages(sizes, this.options());
+    }
+    const one = (find('sheet-dense').checked ? packDense : pack)(sizes, this.options());
+    return one && { sizes: [one], places: one.places.map((place) => ({ page: 0, ...place })) };
+  }
+
+  get isSeveral() {
+    return find('sheet-pages').value === 'several';
+  }
+
+  /** Of each picture the number of its folder, which is what its name has before the last stroke; null where it has none. */
+  folders() {
+    const numbers = new Map();
+    return this.pictures.map(({ name }) => {
+      const folder = name.slice(0, Math.max(0, name.lastIndexOf('/')));
+      if (folder === '') return null;
+      if (!numbers.has(folder)) numbers.set(folder, numbers.size);
+      return numbers.get(folder);
+    });
   }
 
   pack() {
     this.sheet = null;
     const begun = performance.now();
     try {
-      if (this.pictures.length > 0) this.sheet = pack(this.pictures.map(({ width, height }) => ({ width, height })), this.options());
+      if (this.pictures.length > 0) this.sheet = this.packed(this.pictures.map(({ width, height }) => ({ width, height })));
     } catch (error) {
       trouble(WRONG[error.code] ? `${this.pictures[error.sprite].name} ${WRONG[error.code]}.` : error.message);
     }
@@ -46,50 +73,72 @@ class Packed {
   show() {
     const { sheet } = this;
     find('sheet').hidden = find('sheet-png').disabled = find('sheet-json').disabled = !sheet;
+    find('sheet-png').hidden = Boolean(sheet) && sheet.sizes.length > 1;
     find('sheet-told').textContent = this.words();
-    if (sheet) this.draw();
+    find('sheets').replaceChildren(find('sheet'));
+    sheet?.sizes.forEach((size, at) => this.draw(size, at));
     writeCounts();
   }
 
-  /** How many of 100 pixels of the sheet the pictures have. */
+  /** How many of 100 pixels of the sheets the pictures have. */
   share() {
-    const area = this.pictures.reduce((sum, { width, height }) => sum + width * height, 0);
-    return (100 * area / (this.sheet.width * this.sheet.height)).toFixed(1);
+    const areaOf = (sizes) => sizes.reduce((sum, { width, height }) => sum + width * height, 0);
+    return (100 * areaOf(this.pictures) / areaOf(this.sheet.sizes)).toFixed(1);
   }
 
   words() {
     const { length } = this.pictures;
     if (length === 0) return 'No pictures yet.';
     const pictures = length === 1 ? '1 picture' : `${count(length)} pictures`;
-    if (!this.sheet) return `${pictures}: no sheet that is allowed takes them all.`;
-    return `${pictures} on a sheet of ${this.sheet.width} × ${this.sheet.height}; ${this.share()} % of it is used.`;
+    if (!this.sheet) {
+      return `${pictures}: ${this.isSeveral ? 'one of them is too large for an empty sheet' : 'no sheet that is allowed takes them all'}.`;
+    }
+    const sizes = this.sheet.sizes.map(({ width, height }) => `${width} × ${height}`);
+    if (sizes.length === 1) return `${pictures} on a sheet of ${sizes[0]}; ${this.share()} % of it is used.`;
+    const listed = sizes.length > LISTED ? [...sizes.slice(0, LISTED), `${count(sizes.length - LISTED)} more`] : sizes;
+    return `${pictures} on ${count(sizes.length)} sheets: ${listed.join(', ')}; ${this.share()} % of their area is used.`;
   }
 
-  draw() {
-    const canvas = find('sheet');
-    const { width, height, places } = this.sheet;
+  /** Draws a sheet; of several each has its size and a button below it. */
+  draw({ width, height }, page) {
+    const isOne = this.sheet.sizes.length === 1;
+    const canvas = page === 0 ? find('sheet') : make('canvas', { role: 'img' });
+    canvas.setAttribute('aria-label', isOne ? 'The sheet' : `Sheet ${page}`);
     Object.assign(canvas, { width, height });
-    canvas.style.width = `${width * Math.max(1, Math.floor(Math.min(512 / width, 512 / height)))}px`;
+    canvas.style.width = `${width * Math.max(1, Math.floor(Math.min(512 / width, 512 / height) / (isOne ? 1 : 2)))}px`;
     const on = canvas.getContext('2d');
-    places.forEach((place, at) => {
-      const { image, width: wide, height: high } = this.pictures[at];
-      on.save();
-      on.translate(place.x + (place.turned ? high : 0), place.y);
-      if (place.turned) on.rotate(Math.PI / 2);
-      on.drawImage(image, 0, 0, wide, high);
-      on.restore();
-    });
+    this.sheet.places.forEach((place, at) => place.page === page && paint(on, place, this.pictures[at]));
+    if (isOne) return;
+    const button = make('button', { textContent: `Download ${imageOf(page)}` });
+    button.addEventListener('click', () => canvas.toBlob((blob) => download(blob, imageOf(page))));
+    const held = this.sheet.places.filter((place) => place.page === page).length;
+    find('sheets').append(make('figure', {}, canvas, make('figcaption', {}, `${width} × ${height}, ${count(held)} pictures `, button)));
   }
 
-  /** Where each picture lies, in the form that docs/PACK.md describes. */
+  /** Where each picture lies, in the form that docs/PACK.md describes; of several sheets in that of Phaser's `multiatlas`. */
   json() {
-    const frames = Object.fromEntries(this.sheet.places.map(({ x, y, turned }, at) => {
+    const frames = this.sheet.places.map(({ page, x, y, turned }, at) => {
       const { name, width: w, height: h } = this.pictures[at];
-      return [name, { frame: { x, y, w, h }, rotated: turned }];
-    }));
-    const { width: w, height: h } = this.sheet;
-    return `${JSON.stringify({ frames, meta: { image: 'sheet.png', size: { w, h } } }, null, 1)}\n`;
+      return { page, name, frame: { x, y, w, h }, rotated: turned };
+    });
+    const sizes = this.sheet.sizes.map(({ width: w, height: h }) => ({ w, h }));
+    const one = () => ({ frames: Object.fromEntries(frames.map(({ name, frame, rotated }) => [name, { frame, rotated }])),
+      meta: { image: 'sheet.png', size: sizes[0] } });
+    const several = () => ({ textures: sizes.map((size, at) => ({ image: imageOf(at), format: 'RGBA8888', size, scale: 1,
+      frames: frames.filter(({ page }) => page === at).map(({ name, frame, rotated }) => ({ filename: name, frame, rotated })) })) });
+    return `${JSON.stringify(sizes.length === 1 ? one() : several(), null, 1)}\n`;
   }
+}
+
+const imageOf = (page) => `sheet-${page}.png`;
+
+/** Paints a picture at its place. */
+function paint(on, { x, y, turned }, { image, width, height }) {
+  on.save();
+  on.translate(x + (turned ? height : 0), y);
+  if (turned) on.rotate(Math.PI / 2);
+  on.drawImage(image, 0, 0, width, height);
+  on.restore();
 }
 
 /** A file as a picture; null where it is none. */
@@ -109,12 +158,21 @@ async function pictureOf(file, name) {
 
 async function takeFiles(files) {
   trouble(null);
-  const chosen = files.filter(({ file }) => file.type.startsWith('image/'));
-  const pictures = (await Promise.all(chosen.map(({ file, name }) => pictureOf(file, name)))).filter((each) => each);
+  const read = await Promise.all(files.map(({ file, name }) => (file.type.startsWith('image/') ? pictureOf(file, name) : null)));
+  const pictures = read.filter((each) => each);
+  leftOut(files.filter((_, at) => !read[at]).map(({ name }) => name));
   if (pictures.length === 0) return trouble('None of these files is a picture that this browser reads.');
   shown.take(pictures);
-  const left = files.length - pictures.length;
-  return say(left ? `${left} files are no pictures and were left out.` : shown.words());
+  return say(find('sheet-left').hidden ? shown.words() : find('sheet-left').textContent);
+}
+
+/** Says in sight which files are none that this browser reads as pictures. */
+function leftOut(names) {
+  const note = find('sheet-left');
+  note.hidden = names.length === 0;
+  const listed = names.length > LISTED ? [...names.slice(0, LISTED), `${count(names.length - LISTED)} more`] : names;
+  note.textContent = names.length === 1 ? `Left out, since it is no picture that this browser reads: ${names[0]}`
+    : `Left out, since they are no pictures that this browser reads: ${count(names.length)} files, ${listed.join(', ')}`;
 }
 
 /** All files of a dropped file or folder. */
@@ -162,9 +220,11 @@ function example() {
     on.textAlign = 'center';
     on.textBaseline = 'middle';
     on.fillText(number, width / 2, height / 2);
-    pictures.push({ name: `shape-${String(number).padStart(2, '0')}.png`, image, width, height });
+    const folder = ['squares', 'rounds', 'triangles'][number % 3];
+    pictures.push({ name: `${folder}/${String(number).padStart(2, '0')}.png`, image, width, height });
   }
   shown.take(pictures);
+  shown.isExample = true;
 }
 
 function wireFiles() {
@@ -198,16 +258,21 @@ export function start() {
   wireFiles();
   find('sheet-example').addEventListener('click', () => {
     trouble(null);
+    leftOut([]);
     example();
     say(shown.words());
   });
   find('sheet-none').addEventListener('click', () => {
     shown.pictures = [];
+    shown.isExample = false;
+    leftOut([]);
     shown.pack();
   });
-  for (const id of ['kind', 'width', 'greatest', 'padding', 'turn', 'effort']) {
+  for (const id of ['kind', 'width', 'greatest', 'pages', 'groups', 'padding', 'turn', 'dense', 'effort']) {
     find(`sheet-${id}`).addEventListener('change', () => {
       find('sheet-width-label').hidden = find('sheet-kind').value !== 'heights';
+      find('sheet-groups').disabled = !shown.isSeveral;
+      find('sheet-dense').disabled = shown.isSeveral;
       trouble(null);
       shown.pack();
     });
@@ -216,5 +281,6 @@ export function start() {
   find('sheet-json').addEventListener('click', () => {
     download(new Blob([shown.json()], { type: 'application/json' }), 'sheet.json');
   });
+  example();
   return shown;
 }

@@ -7,12 +7,13 @@ const QUICK = 4000; // members: a larger tree is shown once the atlas stands sti
 
 const WAYS = { horizontal: 'right', vertical: 'down' };
 
-/** All members of a tree: each with its depth, and the row of the one that holds it. */
-export function rowsOf(whole) {
+/** All members of a tree: each with its depth, and the row of the one that holds it. `names` has other names for the boxes' ids. */
+export function rowsOf(whole, names) {
   const rows = [];
   const left = [{ member: whole, depth: 0, up: -1 }];
   while (left.length > 0) {
     const row = left.pop();
+    if (names && row.member.kind === 'live') row.member.id = names.get(row.member.id);
     const up = rows.push(row) - 1;
     const members = row.member.members ?? [];
     for (let at = members.length - 1; at >= 0; at -= 1) left.push({ member: members[at], depth: row.depth + 1, up });

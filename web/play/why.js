@@ -1,6 +1,6 @@
 // Why a box lies where it does: the lines before its own are carried out once more in another atlas, and its free boxes are
 // those that the request could choose from.
-import { Session, classOf, parsed } from './session.js';
+import { Session, classOf, isStart, parsed } from './session.js';
 
 const CLASSES = ['small', 'medium', 'large'];
 const wide = (box) => box.x1 - box.x0;
@@ -10,8 +10,8 @@ export const sides = (box) => `${wide(box)} × ${high(box)}`;
 /** The free boxes before a line was carried out. */
 function holesBefore(session, line) {
   const before = new Session();
-  const isStart = (_, at) => session.lines[at].startsWith('atlas ') && session.replies[at][0] === 'ok';
-  before.replay(session.lines.slice(session.lines.slice(0, line).findLastIndex(isStart), line));
+  const isFirst = (_, at) => isStart(session.lines[at]) && session.replies[at][0] === 'ok';
+  before.replay(session.lines.slice(session.lines.slice(0, line).findLastIndex(isFirst), line));
   const holes = before.free();
   before.atlas?.dispose();
   return holes;

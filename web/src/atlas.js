@@ -1,57 +1,114 @@
 import { DONE, NO_ROOM, NOT_LIVE, STATUSES, WollemigoError, failure, require } from './errors.js';
+import { MOST_SLOTS, allocationAt, changeAt, rectangleAt } from './interface.js';
 import * as reading from './reading.js';
-import { Owner, handle, runtimeOf } from './runtime.js';
-import { atlasOptions, count, length, list } from './values.js';
+import { ATLAS, Owner, handle, isOf, runtimeOf } from './runtime.js';
+import { atlasOptions, count, length, list, shownState, target, unwritable, whyNoAtlas, whyNoGrowth } from './values.js';
 
-export const MOST_SLOTS = 16777216;
+export { MOST_SLOTS };
+export const GLYPHS = Object.freeze({ smallSizeThreshold: 0, largeSizeThreshold: 5000 });
 
 const COPY = Symbol('copy');
-const FREE = 'atlas_free';
 
 /** What a call of an atlas or a simple atlas writes at `runtime.at`, as the reader reads it. */
-export function found(owner, call, reader) {
-  const runtime = runtimeOf(owner);
+export function found(owner, kind, call, reader) {
+  const runtime = runtimeOf(owner, kind);
   require(runtime.calls[call](handle(owner), runtime.at));
   return reader(runtime.words(), runtime.word);
+}
+
+/** What a call that places boxes anew tells. */
+function rearranged(atlas, call, why) {
+  const runtime = runtimeOf(atlas, ATLAS);
+  const many = atlasSlots(atlas).used;
+  const changes = runtime.room(4 * (changeAt.words + allocationAt.words) * many);
+  const failures = changes + 4 * changeAt.words * many;
+  require(call(runtime.calls, changes, many, failures, many, runtime.at), why);
+  const words = runtime.words();
+  const [moved, lost] = [words[runtime.word], words[runtime.word + 1]];
+  return {
+    changes: reading.list(words, changes >>> 2, moved, changeAt.words, reading.change),
+    failures: reading.list(words, failures >>> 2, lost, allocationAt.words, reading.allocation),
+  };
+}
+
+/** What a call lists, at most as many as there are used slots. */
+function listed(atlas, call, step, reader) {
+  const runtime = runtimeOf(atlas, ATLAS);
+  const many = atlasSlots(atlas).used;
+  const at = runtime.room(4 * step * many);
+  require(runtime.calls[call](handle(atlas), at, many, runtime.at));
+  const words = runtime.words();
+  return reading.list(words, at >>> 2, words[runtime.word], step, reader);
+}
+
+/** Whether a request is granted; the box is then at `runtime.at`. */
+function isGranted(atlas, runtime, width, height) {
+  let status;
+  try {
+    status = runtime.allocate(handle(atlas), width, height, runtime.at);
+  } catch (error) {
+    throw runtime.trap(error);
+  }
+  if (status === DONE) return true;
+  if (status === NO_ROOM) return false;
+  throw failure(STATUSES[status]);
+}
+
+/** Not by the property, which a caller may have laid over. */
+function atlasSize(atlas) {
+  return found(atlas, ATLAS, 'atlas_size', reading.size);
+}
+
+function atlasSlots(atlas) {
+  return found(atlas, ATLAS, 'atlas_slots', reading.slots);
 }
 
 export class Atlas extends Owner {
   constructor(width, height, options, slotLimit = MOST_SLOTS) {
     if (width === COPY) {
-      super(FREE, height);
+      super(ATLAS, height);
       return;
     }
     const [w, h] = [length(width, 'width'), length(height, 'height')];
     const [words, limit] = [atlasOptions(options, 'options'), count(slotLimit, 'slotLimit')];
-    super(FREE, (runtime, cell) => {
+    super(ATLAS, (runtime, cell) => {
       runtime.write(runtime.at, words);
       return runtime.calls.atlas_with_slot_limit(w, h, runtime.at, limit, cell);
-    });
+    }, () => whyNoAtlas(w, h, words) ?? `slotLimit is ${limit}, and must be from 1 to ${MOST_SLOTS}`);
   }
 
   clone() {
-    const runtime = runtimeOf(this);
+    const runtime = runtimeOf(this, ATLAS);
     return new Atlas(COPY, (current, cell) => runtime.calls.atlas_clone(handle(this), cell));
   }
 
   allocate(width, height) {
     const w = length(width, 'width');
     const h = length(height, 'height');
-    const runtime = runtimeOf(this);
-    let status;
+    const runtime = runtimeOf(this, ATLAS);
+    return isGranted(this, runtime, w, h) ? reading.allocation(runtime.words(), runtime.word) : null;
+  }
+
+  allocateInto(width, height, box) {
+    const w = length(width, 'width');
+    const h = length(height, 'height');
+    target(box, 'box');
+    const runtime = runtimeOf(this, ATLAS);
+    if (!isGranted(this, runtime, w, h)) return false;
+    const id = runtime.words()[runtime.word] >>> 0;
     try {
-      status = runtime.allocate(handle(this), w, h, runtime.at);
-    } catch (error) {
-      throw runtime.trap(error);
+      reading.allocationInto(runtime.words(), runtime.word, box);
+    } catch (cause) {
+      // Nobody knows the box, so it is given back, unless the atlas went out of use meanwhile.
+      if (isOf(this, ATLAS) && handle(this) !== 0) runtime.calls.atlas_deallocate(handle(this), id);
+      throw unwritable('box', cause);
     }
-    if (status === DONE) return reading.allocation(runtime.words(), runtime.word);
-    if (status === NO_ROOM) return null;
-    throw failure(STATUSES[status]);
+    return true;
   }
 
   deallocate(id) {
     const number = count(id, 'id');
-    const runtime = runtimeOf(this);
+    const runtime = runtimeOf(this, ATLAS);
     let status;
     try {
       status = runtime.deallocate(handle(this), number);
@@ -63,7 +120,7 @@ export class Atlas extends Owner {
 
   deallocateAll(ids) {
     const numbers = list(ids, 'ids', count);
-    const runtime = runtimeOf(this);
+    const runtime = runtimeOf(this, ATLAS);
     const at = runtime.room(4 * numbers.length);
     runtime.write(at, numbers);
     require(runtime.calls.atlas_deallocate_all(handle(this), at, numbers.length));
@@ -71,7 +128,7 @@ export class Atlas extends Owner {
 
   get(id) {
     const number = count(id, 'id');
-    const runtime = runtimeOf(this);
+    const runtime = runtimeOf(this, ATLAS);
     const status = runtime.calls.atlas_get(handle(this), number, runtime.at);
     if (status === NOT_LIVE) return null;
     require(status);
@@ -80,110 +137,94 @@ export class Atlas extends Owner {
 
   canFit(width, height) {
     const [w, h] = [length(width, 'width'), length(height, 'height')];
-    return runtimeOf(this).calls.atlas_can_fit(handle(this), w, h) !== 0;
+    return runtimeOf(this, ATLAS).calls.atlas_can_fit(handle(this), w, h) !== 0;
   }
 
   reserve(additional) {
     const number = count(additional, 'additional');
-    require(runtimeOf(this).calls.atlas_reserve(handle(this), number));
+    require(runtimeOf(this, ATLAS).calls.atlas_reserve(handle(this), number));
   }
 
   grow(width, height) {
     const [w, h] = [length(width, 'width'), length(height, 'height')];
-    require(runtimeOf(this).calls.atlas_grow(handle(this), w, h));
+    require(runtimeOf(this, ATLAS).calls.atlas_grow(handle(this), w, h), () => whyNoGrowth(w, h, atlasSize(this)));
   }
 
   canGrowTo(width, height) {
     const [w, h] = [length(width, 'width'), length(height, 'height')];
-    return runtimeOf(this).calls.atlas_can_grow_to(handle(this), w, h) !== 0;
+    return runtimeOf(this, ATLAS).calls.atlas_can_grow_to(handle(this), w, h) !== 0;
   }
 
   rearrange() {
-    return this.#rearranged((calls, ...all) => calls.atlas_rearrange(handle(this), ...all));
+    return rearranged(this, (calls, ...all) => calls.atlas_rearrange(handle(this), ...all));
   }
 
   resizeAndRearrange(width, height) {
     const [w, h] = [length(width, 'width'), length(height, 'height')];
-    return this.#rearranged((calls, ...all) => calls.atlas_resize_and_rearrange(handle(this), w, h, ...all));
-  }
-
-  #rearranged(call) {
-    const runtime = runtimeOf(this);
-    const many = this.slots.used;
-    const changes = runtime.room(60 * many);
-    const failures = changes + 40 * many;
-    require(call(runtime.calls, changes, many, failures, many, runtime.at));
-    const words = runtime.words();
-    const [moved, lost] = [words[runtime.word], words[runtime.word + 1]];
-    return {
-      changes: reading.list(words, changes >>> 2, moved, 10, reading.change),
-      failures: reading.list(words, failures >>> 2, lost, 5, reading.allocation),
-    };
+    return rearranged(this, (calls, ...all) => calls.atlas_resize_and_rearrange(handle(this), w, h, ...all), () => whyNoAtlas(w, h));
   }
 
   clear() {
-    require(runtimeOf(this).calls.atlas_clear(handle(this)));
+    require(runtimeOf(this, ATLAS).calls.atlas_clear(handle(this)));
   }
 
   reset(width, height, options) {
     const [w, h] = [length(width, 'width'), length(height, 'height')];
     const words = atlasOptions(options, 'options');
-    const runtime = runtimeOf(this);
+    const runtime = runtimeOf(this, ATLAS);
     runtime.write(runtime.at, words);
-    require(runtime.calls.atlas_reset(handle(this), w, h, runtime.at));
+    require(runtime.calls.atlas_reset(handle(this), w, h, runtime.at), () => whyNoAtlas(w, h, words));
   }
 
   get size() {
-    return found(this, 'atlas_size', reading.size);
+    return atlasSize(this);
   }
 
   get options() {
-    return found(this, 'atlas_options', reading.options);
+    return found(this, ATLAS, 'atlas_options', reading.options);
   }
 
   get slots() {
-    return found(this, 'atlas_slots', reading.slots);
+    return found(this, ATLAS, 'atlas_slots', reading.slots);
   }
 
   get areas() {
-    return found(this, 'atlas_areas', reading.areas);
+    return found(this, ATLAS, 'atlas_areas', reading.areas);
   }
 
   get isEmpty() {
-    return runtimeOf(this).calls.atlas_is_empty(handle(this)) !== 0;
+    return runtimeOf(this, ATLAS).calls.atlas_is_empty(handle(this)) !== 0;
+  }
+
+  toJSON() {
+    return shownState(() => ({
+      size: atlasSize(this), slots: atlasSlots(this), areas: found(this, ATLAS, 'atlas_areas', reading.areas),
+      options: found(this, ATLAS, 'atlas_options', reading.options),
+    }));
   }
 
   allocated() {
-    return this.#listed('atlas_live', 5, reading.allocation);
+    return listed(this, 'atlas_live', allocationAt.words, reading.allocation);
   }
 
   free() {
-    return this.#listed('atlas_free_boxes', 4, reading.rectangle);
+    return listed(this, 'atlas_free_boxes', rectangleAt.words, reading.rectangle);
   }
 
   cuts() {
-    const { width, height } = this.size;
-    const many = this.slots.used;
-    const runtime = runtimeOf(this);
+    const { width, height } = atlasSize(this);
+    const many = atlasSlots(this).used;
+    const runtime = runtimeOf(this, ATLAS);
     const at = runtime.room(44 * many);
     require(runtime.calls.atlas_members(handle(this), at, many, runtime.at));
     const whole = { kind: 'container', x: 0, y: 0, width, height, axis: 'vertical', members: [] };
     return reading.tree(runtime.words(), at >>> 2, many, whole);
   }
-
-  #listed(call, step, reader) {
-    const runtime = runtimeOf(this);
-    const many = this.slots.used;
-    const at = runtime.room(4 * step * many);
-    require(runtime.calls[call](handle(this), at, many, runtime.at));
-    const words = runtime.words();
-    return reading.list(words, at >>> 2, words[runtime.word], step, reader);
-  }
 }
 
 /** An atlas that isn't out of use, and none of another kind. */
 export function requireAtlas(value, runtime) {
-  if (!(value instanceof Atlas)) throw new WollemigoError('BAD_OPTION', 'atlas is not an Atlas');
-  if (runtimeOf(value) !== runtime) throw failure('TRAPPED');
+  if (!isOf(value, ATLAS)) throw new WollemigoError('BAD_OPTION', 'atlas is not an Atlas');
+  if (runtimeOf(value, ATLAS) !== runtime) throw failure('TRAPPED');
   return handle(value);
 }

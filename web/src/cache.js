@@ -1,8 +1,10 @@
-import { DONE, FRAME_FULL, HELD, NOT_HELD, STATUSES, failure, require } from './errors.js';
+import { found } from './atlas.js';
+import { DONE, FRAME_FULL, HELD, NOT_HELD, STATUSES, WollemigoError, failure, isOurs, require } from './errors.js';
+import { EVICTED, PAGE_ADDED, PAGE_GROWN, PAGE_REMOVED, cacheChangeAt, cacheOptionsAt, countsAt, placeAt } from './interface.js';
 import { Keys } from './keys.js';
 import * as reading from './reading.js';
-import { Owner, handle, runtimeOf } from './runtime.js';
-import { atlasOptions, count, length, options, size, wide } from './values.js';
+import { CACHE, Owner, handle, runtimeOf } from './runtime.js';
+import { atlasOptions, count, length, numbers, options, room, shownState, size, target, unwritable, whyNoAtlas, wide } from './values.js';
 
 const OPTIONS = {
   page: [size],
@@ -12,13 +14,32 @@ const OPTIONS = {
   atlas: [atlasOptions, [1, 1, 32, 256]],
 };
 
-/** A change of the library, its words in the order of the header; `keys` has the key of its number. */
+/** A change of the library; `keys` has the key of its number. */
 function change(words, at, keys) {
-  const [kind, page] = [words[at], words[at + 1] >>> 0];
-  if (kind < 2) return { kind: kind === 0 ? 'pageAdded' : 'pageGrown', page, ...reading.size(words, at + 2) };
-  if (kind === 4) return { kind: 'pageRemoved', page };
-  const [key, from] = [keys.key(words[at + 4], words[at + 5]), reading.place(words, at + 6)];
-  return kind === 2 ? { kind: 'evicted', key, from } : { kind: 'moved', key, from, to: reading.place(words, at + 16) };
+  const [kind, page] = [words[at + cacheChangeAt.kind], words[at + cacheChangeAt.page] >>> 0];
+  if (kind === PAGE_REMOVED) return { kind: 'pageRemoved', page };
+  if (kind === PAGE_ADDED || kind === PAGE_GROWN) {
+    return { kind: kind === PAGE_ADDED ? 'pageAdded' : 'pageGrown', page, ...reading.size(words, at + cacheChangeAt.size) };
+  }
+  const [lower, from] = [at + cacheChangeAt.key, reading.place(words, at + cacheChangeAt.from)];
+  const key = keys.key(words[lower], words[lower + 1]);
+  return kind === EVICTED ? { kind: 'evicted', key, from } : { kind: 'moved', key, from, to: reading.place(words, at + cacheChangeAt.to) };
+}
+
+/** How many numbers `insertAll` writes of a key: whether it is new, and those of its place. */
+const WORDS = 1 + placeAt.words;
+
+const first = (words, at) => words[at] >>> 0;
+
+function optionsRead(words, at) {
+  const { page, largestPage, pages, padding, atlas } = cacheOptionsAt;
+  return { page: reading.size(words, at + page), largestPage: reading.size(words, at + largestPage), pages: first(words, at + pages),
+    padding: words[at + padding], atlas: reading.options(words, at + atlas) };
+}
+
+function statisticsRead(words, at) {
+  const { hits, misses, evictions } = countsAt;
+  return { hits: reading.wide(words, at + hits), misses: reading.wide(words, at + misses), evictions: reading.wide(words, at + evictions) };
 }
 
 export class TextureCache extends Owner {
@@ -30,53 +51,126 @@ export class TextureCache extends Owner {
   constructor(given) {
     const { page, largestPage, pages, padding, atlas } = options(given, 'options', OPTIONS);
     const largest = largestPage ?? page;
-    super('cache_free', (runtime, cell) => {
+    super(CACHE, (runtime, cell) => {
       runtime.write(runtime.at, [page.width, page.height, largest.width, largest.height, pages, padding, ...atlas]);
       return runtime.calls.cache_new(runtime.at, cell);
-    });
+    }, () => whyNoAtlas(1, 1, atlas, 'options.atlas'));
   }
 
   beginFrame() {
-    require(runtimeOf(this).calls.cache_begin_frame(handle(this)));
+    require(runtimeOf(this, CACHE).calls.cache_begin_frame(handle(this)));
   }
 
   get(key) {
+    const runtime = runtimeOf(this, CACHE);
+    return this.#isFound(runtime, key) ? reading.place(runtime.words(), runtime.word) : null;
+  }
+
+  touch(key) {
+    const runtime = runtimeOf(this, CACHE);
+    return this.#isFound(runtime, key);
+  }
+
+  getInto(key, place) {
+    const runtime = runtimeOf(this, CACHE);
+    target(place, 'place');
+    if (!this.#isFound(runtime, key)) return false;
+    try {
+      reading.placeInto(runtime.words(), runtime.word, place);
+    } catch (cause) {
+      throw unwritable('place', cause);
+    }
+    return true;
+  }
+
+  /** Looks a key up, which is used then; its place is at `runtime.at`. */
+  #isFound(runtime, key) {
     const lower = this.#keys.lower(key);
-    const runtime = runtimeOf(this);
     let status;
     try {
       status = runtime.get(handle(this), lower, this.#keys.upper, runtime.at);
     } catch (error) {
       throw runtime.trap(error);
     }
-    return this.#place(runtime, status);
+    if (status === DONE) return true;
+    if (status === NOT_HELD) return false;
+    throw failure(STATUSES[status]);
   }
 
   peek(key) {
-    const number = this.#keys.number(key);
-    const runtime = runtimeOf(this);
-    return this.#place(runtime, runtime.calls.cache_peek(handle(this), number, runtime.at));
+    const runtime = runtimeOf(this, CACHE);
+    return this.#peeked(runtime, key);
   }
 
   has(key) {
-    return this.peek(key) !== null;
+    const runtime = runtimeOf(this, CACHE);
+    return this.#peeked(runtime, key) !== null;
+  }
+
+  #peeked(runtime, key) {
+    const number = this.#keys.number(key);
+    return this.#place(runtime, runtime.calls.cache_peek(handle(this), number, runtime.at));
   }
 
   insert(key, width, height) {
-    const [number, w, h] = [this.#keys.next(key), length(width, 'width'), length(height, 'height')];
-    const runtime = runtimeOf(this);
-    const status = runtime.calls.cache_insert(handle(this), number, w, h, runtime.at);
+    const runtime = runtimeOf(this, CACHE);
+    const [w, h] = [length(width, 'width'), length(height, 'height')];
+    const status = this.#inserted(runtime, key, w, h);
     const isPlaced = status === DONE || status === HELD;
-    const entry = isPlaced ? { ...reading.place(runtime.words(), runtime.word), isNew: status === DONE } : null;
-    if (status === DONE) this.#keys.keep(key);
+    const entry = isPlaced ? reading.entry(runtime.words(), runtime.word, status === DONE) : null;
     this.#follow(runtime);
     if (isPlaced || status === FRAME_FULL) return entry;
     throw failure(STATUSES[status]);
   }
 
+  insertAll(keys, sizes, out) {
+    const [all, sides] = [numbers(keys, 'keys'), numbers(sizes, 'sizes')];
+    const many = all.length;
+    if (sides.length < 2 * many) throw new WollemigoError('BAD_OPTION', `sizes has ${sides.length} numbers, and not ${2 * many}`);
+    room(out, 'out', WORDS * many);
+    const runtime = runtimeOf(this, CACHE);
+    for (let i = 0; i < many; i++) {
+      const status = this.#insertedInto(runtime, all[i], sides[2 * i], sides[2 * i + 1], out, WORDS * i, i);
+      if (status === FRAME_FULL) return i;
+    }
+    return many;
+  }
+
+  /** One of `insertAll`. */
+  #insertedInto(runtime, key, width, height, out, to, index) {
+    let code;
+    try {
+      const status = this.#inserted(runtime, key, length(width, 'width'), length(height, 'height'));
+      if (status === DONE || status === HELD) {
+        out[to] = status === DONE ? 1 : 0;
+        reading.placeWords(runtime.words(), runtime.word, out, to + 1);
+      }
+      this.#follow(runtime);
+      if (status === DONE || status === HELD || status === FRAME_FULL) return status;
+      code = STATUSES[status];
+    } catch (error) {
+      if (isOurs(error)) error.index = index;
+      throw error;
+    }
+    throw failure(code, { index });
+  }
+
+  /** The status of an insertion; the place is at `runtime.at`. */
+  #inserted(runtime, key, width, height) {
+    const lower = this.#keys.next(key);
+    let status;
+    try {
+      status = runtime.insert(handle(this), lower, this.#keys.upper, width, height, runtime.at);
+    } catch (error) {
+      throw runtime.trap(error);
+    }
+    if (status === DONE) this.#keys.keep(key);
+    return status;
+  }
+
   remove(key) {
+    const runtime = runtimeOf(this, CACHE);
     const number = this.#keys.number(key);
-    const runtime = runtimeOf(this);
     const place = this.#place(runtime, runtime.calls.cache_remove(handle(this), number, runtime.at));
     if (place !== null) this.#keys.forget(key);
     return place;
@@ -91,20 +185,25 @@ export class TextureCache extends Owner {
 
   /** Takes over what a call did, so that each key that went is read while its name is known. */
   #follow(runtime) {
-    while (runtime.calls.cache_next_change(handle(this), runtime.at) === DONE) {
-      const made = change(runtime.words(), runtime.word, this.#keys);
-      if (made.kind === 'evicted') this.#keys.forget(made.key);
-      this.#waiting.push(made);
+    const cell = handle(this);
+    try {
+      while (runtime.nextChange(cell, runtime.at) === DONE) {
+        const made = change(runtime.words(), runtime.word, this.#keys);
+        if (made.kind === 'evicted') this.#keys.forget(made.key);
+        this.#waiting.push(made);
+      }
+    } catch (error) {
+      throw runtime.trap(error);
     }
   }
 
   changes() {
-    runtimeOf(this);
+    runtimeOf(this, CACHE);
     return this.#changes();
   }
 
   *#changes() {
-    while (runtimeOf(this) && this.#handed < this.#waiting.length) {
+    while (runtimeOf(this, CACHE) && this.#handed < this.#waiting.length) {
       const next = this.#waiting[this.#handed];
       this.#handed += 1;
       if (this.#handed === this.#waiting.length) [this.#waiting, this.#handed] = [[], 0];
@@ -113,48 +212,48 @@ export class TextureCache extends Owner {
   }
 
   clear() {
-    require(runtimeOf(this).calls.cache_clear(handle(this)));
+    require(runtimeOf(this, CACHE).calls.cache_clear(handle(this)));
     this.#keys.clear();
   }
 
   trim(frames) {
     const number = wide(frames, 'frames');
-    const runtime = runtimeOf(this);
+    const runtime = runtimeOf(this, CACHE);
     require(runtime.calls.cache_trim(handle(this), number));
     this.#follow(runtime);
   }
 
   shrink() {
-    const runtime = runtimeOf(this);
+    const runtime = runtimeOf(this, CACHE);
     require(runtime.calls.cache_shrink(handle(this)));
     this.#follow(runtime);
   }
 
   repack(page) {
     const number = count(page, 'page');
-    const runtime = runtimeOf(this);
+    const runtime = runtimeOf(this, CACHE);
     require(runtime.calls.cache_repack(handle(this), number));
     this.#follow(runtime);
   }
 
   reserve(additional) {
     const number = count(additional, 'additional');
-    require(runtimeOf(this).calls.cache_reserve(handle(this), number));
+    require(runtimeOf(this, CACHE).calls.cache_reserve(handle(this), number));
   }
 
   newest() {
-    const runtime = runtimeOf(this);
+    const runtime = runtimeOf(this, CACHE);
     return this.#keyed(runtime, runtime.calls.cache_newest(handle(this), runtime.at, runtime.at + 8));
   }
 
   oldest() {
-    const runtime = runtimeOf(this);
+    const runtime = runtimeOf(this, CACHE);
     return this.#keyed(runtime, runtime.calls.cache_oldest(handle(this), runtime.at, runtime.at + 8));
   }
 
   older(key) {
+    const runtime = runtimeOf(this, CACHE);
     const number = this.#keys.number(key);
-    const runtime = runtimeOf(this);
     return this.#keyed(runtime, runtime.calls.cache_older(handle(this), number, runtime.at, runtime.at + 8));
   }
 
@@ -165,52 +264,50 @@ export class TextureCache extends Owner {
   }
 
   get length() {
-    return this.#found('cache_len', (words, at) => words[at] >>> 0);
+    return found(this, CACHE, 'cache_len', first);
   }
 
   get pageCount() {
-    return this.#found('cache_page_count', (words, at) => words[at] >>> 0);
+    return found(this, CACHE, 'cache_page_count', first);
   }
 
   get numbers() {
-    return this.#found('cache_numbers', (words, at) => words[at] >>> 0);
+    return found(this, CACHE, 'cache_numbers', first);
   }
 
   pageSize(page) {
     const number = count(page, 'page');
-    const runtime = runtimeOf(this);
+    const runtime = runtimeOf(this, CACHE);
     require(runtime.calls.cache_page_size(handle(this), number, runtime.at));
     return reading.size(runtime.words(), runtime.word);
   }
 
   areas(page) {
     const number = count(page, 'page');
-    const runtime = runtimeOf(this);
+    const runtime = runtimeOf(this, CACHE);
     require(runtime.calls.cache_areas(handle(this), number, runtime.at));
     return reading.areas(runtime.words(), runtime.word);
   }
 
   unusableArea(page, width, height) {
     const [number, w, h] = [count(page, 'page'), length(width, 'width'), length(height, 'height')];
-    const runtime = runtimeOf(this);
+    const runtime = runtimeOf(this, CACHE);
     require(runtime.calls.cache_unusable_area(handle(this), number, w, h, runtime.at));
     return reading.wide(runtime.words(), runtime.word);
   }
 
   get options() {
-    return this.#found('cache_options_of', (words, at) => (
-      { page: reading.size(words, at), largestPage: reading.size(words, at + 2), pages: words[at + 4] >>> 0, padding: words[at + 5],
-        atlas: reading.options(words, at + 6) }));
+    return found(this, CACHE, 'cache_options_of', optionsRead);
   }
 
   get statistics() {
-    return this.#found('cache_statistics', (words, at) => (
-      { hits: reading.wide(words, at), misses: reading.wide(words, at + 2), evictions: reading.wide(words, at + 4) }));
+    return found(this, CACHE, 'cache_statistics', statisticsRead);
   }
 
-  #found(call, reader) {
-    const runtime = runtimeOf(this);
-    require(runtime.calls[call](handle(this), runtime.at));
-    return reader(runtime.words(), runtime.word);
+  toJSON() {
+    return shownState(() => ({
+      length: found(this, CACHE, 'cache_len', first), pageCount: found(this, CACHE, 'cache_page_count', first),
+      statistics: found(this, CACHE, 'cache_statistics', statisticsRead), options: found(this, CACHE, 'cache_options_of', optionsRead),
+    }));
   }
 }

@@ -1,16 +1,9 @@
-/** What each status of the library is called, by its number (bindings/c/guillotiere.h). 26 isn't used. */
-export const STATUSES = [
-  'DONE', 'NO_ROOM', 'BAD_CALL', 'NOT_LIVE', 'SLOTS', 'MEMORY', 'SHORT', 'DISPOSED', 'EMPTY_SHEET', 'EMPTY_RANGE',
-  'EMPTY_ALIGNMENT', 'EMPTY_SPRITE', 'GREAT_SPRITE', 'OTHER_SIZE', 'NUMBERS', 'EMPTY_PAGE', 'LARGEST_PAGE', 'NO_PAGES',
-  'BAD_PADDING', 'BAD_ATLAS', 'NOT_HELD', 'NO_CHANGE', 'NO_PAGE', 'HELD', 'FRAME_FULL', 'NEVER_FITS', '', 'NOTHING_FITS',
-];
+import { DONE, EMPTY, STATUSES as CALLED } from './interface.js';
 
-export const DONE = 0;
-export const NO_ROOM = 1;
-export const NOT_LIVE = 3;
-export const NOT_HELD = 20;
-export const HELD = 23;
-export const FRAME_FULL = 24;
+export { DONE, FRAME_FULL, HELD, NO_ROOM, NOT_HELD, NOT_LIVE } from './interface.js';
+
+/** What each status of the library is called, by its number. A handle holds nothing where its owner was disposed of. */
+export const STATUSES = CALLED.map((name, status) => (status === EMPTY ? 'DISPOSED' : name));
 
 const MESSAGES = {
   BAD_CALL: "an empty size, options that aren't valid, a growth that shrinks a side, or a bad limit",
@@ -37,11 +30,21 @@ const MESSAGES = {
   NOT_LOADED: "the module isn't there yet: await load() first",
 };
 
+/** Whether an error is one of the package; a proxy of one isn't. */
+export let isOurs;
+
 export class WollemigoError extends Error {
+  #own = true;
+
+  static {
+    isOurs = (value) => typeof value === 'object' && value !== null && #own in value;
+  }
+
   constructor(code, message, more = {}) {
     super(message, 'cause' in more ? { cause: more.cause } : undefined);
     this.code = code;
     if ('sprite' in more) this.sprite = more.sprite;
+    if ('index' in more) this.index = more.index;
   }
 }
 Object.defineProperty(WollemigoError.prototype, 'name', { value: 'WollemigoError', configurable: true, writable: true });
@@ -50,7 +53,19 @@ export function failure(code, more) {
   return new WollemigoError(code, MESSAGES[code] ?? code, more);
 }
 
-/** Throws where a status isn't DONE. */
-export function require(status) {
-  if (status !== DONE) throw failure(STATUSES[status]);
+/** Throws where a status isn't DONE. Of a bad call or bad options, `why` says in words which condition doesn't hold. */
+export function require(status, why) {
+  if (status === DONE) return;
+  const code = STATUSES[status];
+  const words = code === 'BAD_CALL' || code === 'BAD_ATLAS' ? why?.() : undefined;
+  throw words === undefined ? failure(code) : new WollemigoError(code, words);
+}
+
+/** The message of what was thrown, which may be anything. */
+export function told(cause) {
+  try {
+    return cause instanceof Error && typeof cause.message === 'string' ? cause.message : 'no reason';
+  } catch {
+    return 'no reason';
+  }
 }

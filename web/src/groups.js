@@ -1,9 +1,8 @@
 /** Sprites in groups on several sheets. */
+import { NO_GROUP, onPageAt, sizeAt } from './interface.js';
 import { sheetsRead } from './pages.js';
 import { written } from './sheet.js';
 import { badNumber, list } from './values.js';
-
-const NO_GROUP = 4294967295;
 
 /** The number of a group, as the library has it; null is none. */
 function group(value, name) {
@@ -14,10 +13,10 @@ function group(value, name) {
 
 export function packGroups(sprites, groups, given) {
   const all = list(groups, 'groups', group);
-  const room = written(sprites, given, 9);
+  const room = written(sprites, given, onPageAt.words + sizeAt.words + 1);
   const { runtime, many, at, places, told, bad } = room;
-  const sizes = places + 24 * many;
-  const [from, numbers] = [sizes + 8 * many, all.slice(0, many)];
+  const sizes = places + 4 * onPageAt.words * many;
+  const [from, numbers] = [sizes + 4 * sizeAt.words * many, all.slice(0, many)];
   runtime.write(from, numbers);
   const status = runtime.calls.pack_groups(at, many, from, numbers.length, runtime.at, places, many, sizes, many, told, bad);
   return sheetsRead(status, room, sizes);

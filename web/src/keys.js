@@ -33,10 +33,10 @@ export class Keys {
     throw new WollemigoError('BAD_KEY', 'a key is a string, a whole number from 0 to 9007199254740991, or a bigint below 2^63');
   }
 
-  /** The number that a key has, or will have once it is kept. */
+  /** The lower 32 bits of the number that a key has, or will have once it is kept. */
   next(key) {
-    const number = this.number(key);
-    return number === UPPER ? UPPER + BigInt(this.#last + 1) : number;
+    if (typeof key === 'string') return this.#halves(this.#numbers.get(key) ?? this.#last + 1, -0x80000000);
+    return this.lower(key);
   }
 
   /** A key is held, by the number that `next` gave for it. */

@@ -1,18 +1,13 @@
 /** A running module: its calls, its memory, and places in it for handles and for what is passed by pointer. */
-import { WollemigoError, failure, require } from './errors.js';
+import { WollemigoError, failure, require, told } from './errors.js';
+import { EXPORTS } from './interface.js';
 
 const PAGE = 65536;
-const NAMES = [
-  ...['new', 'with_options', 'with_slot_limit', 'clone', 'free', 'allocate', 'deallocate', 'deallocate_all', 'get', 'can_fit',
-    'reserve', 'grow', 'can_grow_to', 'clear', 'reset', 'rearrange', 'resize_and_rearrange', 'size', 'options', 'is_empty',
-    'slots', 'areas', 'live', 'free_boxes', 'members'].map((name) => `atlas_${name}`),
-  ...['new', 'with_options', 'free', 'allocate', 'grow', 'can_grow_to', 'clear', 'reset', 'init_from_allocator', 'size', 'options',
-    'slots', 'is_empty'].map((name) => `simple_${name}`),
-  ...['new', 'free', 'begin_frame', 'get_halves', 'peek', 'insert', 'remove', 'next_change', 'clear', 'trim', 'shrink', 'repack', 'len',
-    'page_count', 'page_size', 'numbers', 'statistics', 'areas', 'options_of', 'newest', 'oldest', 'older', 'reserve', 'unusable_area',
-  ].map((name) => `cache_${name}`),
-  'pack', 'pack_dense', 'pack_pages', 'pack_groups', 'fill',
-];
+/**
+ * What a module has: the functions of the library, and those of rust/wasm beside them. web/play/build leaves the list out, since it leaves
+ * out of the module what its pages don't call.
+ */
+const NAMES = import.meta.cut ? [] : [...EXPORTS, 'atlas_members', 'cache_get_halves', 'cache_insert_halves'];
 
 /** The call of an export, of so many arguments; what it throws is a trap. */
 function guarded(call, trap) {
@@ -34,13 +29,21 @@ export class Runtime {
 
   constructor(exports) {
     this.hasTrapped = false;
+    /** How many owners there are of each kind, by its name. */
+    this.owners = { Atlas: 0, SimpleAtlas: 0, TextureCache: 0 };
     this.#memory = exports.memory;
     this.#words = new Int32Array(this.#memory.buffer);
-    this.calls = Object.fromEntries(NAMES.map((name) => [name, guarded(exports[`guillotiere_${name}`], (error) => this.trap(error))]));
+    const trap = (error) => this.trap(error);
+    this.calls = {};
+    for (const [name, call] of Object.entries(exports)) {
+      if (name.startsWith('guillotiere_')) this.calls[name.slice(12)] = guarded(call, trap);
+    }
     // The calls that are made most, without a function in between. Each is made within a `try`, and what it throws goes to `trap`.
     this.allocate = exports.guillotiere_atlas_allocate;
     this.deallocate = exports.guillotiere_atlas_deallocate;
     this.get = exports.guillotiere_cache_get_halves;
+    this.insert = exports.guillotiere_cache_insert_halves;
+    this.nextChange = exports.guillotiere_cache_next_change;
     /** Where values of a few words are passed: 256 bytes, as an address and as an index of words. */
     this.at = this.#take(1);
     this.word = this.at >>> 2;
@@ -65,6 +68,10 @@ export class Runtime {
 
   #addCells(from, to) {
     for (let at = to - 4; at >= from; at -= 4) this.#cells.push(at);
+  }
+
+  get bytes() {
+    return this.#memory.buffer.byteLength;
   }
 
   /** The memory by words. It is asked for anew after each call, which may have made the memory larger. */
@@ -117,6 +124,12 @@ export function running() {
   return current;
 }
 
+/** How much memory the module has, and what takes it. */
+export function memory() {
+  const { bytes, owners } = running();
+  return { bytes, atlases: owners.Atlas, simpleAtlases: owners.SimpleAtlas, caches: owners.TextureCache };
+}
+
 async function instance(module) {
   const made = await WebAssembly.instantiate(module, {});
   const { exports } = made instanceof WebAssembly.Instance ? made : made.instance;
@@ -131,8 +144,7 @@ async function started(module) {
   try {
     current = await instance(await module());
   } catch (cause) {
-    throw new WollemigoError('LOAD_FAILED', `the module can't be started: ${cause instanceof Error ? cause.message : 'no reason'}`,
-      { cause });
+    throw new WollemigoError('LOAD_FAILED', `the module can't be started: ${told(cause)}`, { cause });
   } finally {
     starting = null;
   }
@@ -148,36 +160,71 @@ export function start(module) {
 /** What WebAssembly takes, of a response, of bytes or of a module. */
 export async function content(source) {
   if (typeof source?.arrayBuffer !== 'function') return source;
-  if (source.ok === false) throw new TypeError(`the server answered ${source.status}`);
-  return source.arrayBuffer();
+  // A response of the right kind is compiled while it comes.
+  const isStreamed = typeof WebAssembly.compileStreaming === 'function' && typeof Response === 'function' && source instanceof Response
+    && /^application\/wasm\s*$/i.test(source.headers.get('Content-Type') ?? '');
+  if (source.ok !== false) return isStreamed ? WebAssembly.compileStreaming(source) : source.arrayBuffer();
+  throw new TypeError(`the server answered ${source.status} for ${source.url || 'it'}; ${REMEDY}`);
 }
 
-const registry = new FinalizationRegistry(({ runtime, cell, free }) => {
+export const REMEDY = 'put wollemigo.wasm there, or pass load() its address or its bytes';
+
+/** The address of the module next to a script, as a function gives it that bundlers know; a bundle for classic scripts or CommonJS has none. */
+export function beside(address) {
   try {
-    letGo(runtime, cell, free);
+    return address();
+  } catch (cause) {
+    throw new TypeError('this bundle has no address of its own, next to which wollemigo.wasm could lie; pass load() its address or its bytes',
+      { cause });
+  }
+}
+
+/** What `read` reads at an address, which is named where that fails. */
+export async function readAt(place, read) {
+  try {
+    return await read(place);
+  } catch (cause) {
+    throw new TypeError(`${place} can't be read (${told(cause)}); ${REMEDY}`, { cause });
+  }
+}
+
+const registry = new FinalizationRegistry(({ runtime, cell, kind }) => {
+  try {
+    letGo(runtime, cell, kind);
   } catch {
     // A trap is told by the next call; nobody called this one.
   }
 });
 
-function letGo(runtime, cell, free) {
+function letGo(runtime, cell, kind) {
   if (runtime.hasTrapped) return;
-  runtime.calls[free](cell);
+  runtime.owners[kind.name] -= 1;
+  runtime.calls[kind.free](cell);
   runtime.giveCell(cell);
 }
 
-/** The place of an owner's handle, and the module that it is in. Each throws of one that is out of use. */
-export let handle;
+/** What owners are of, each by the call that lets its handle go. Only these modules have them, so nothing else makes an owner. */
+export const ATLAS = Object.freeze({ name: 'Atlas', free: 'atlas_free' });
+export const SIMPLE = Object.freeze({ name: 'SimpleAtlas', free: 'simple_free' });
+export const CACHE = Object.freeze({ name: 'TextureCache', free: 'cache_free' });
+const KINDS = new Set([ATLAS, SIMPLE, CACHE]);
+
+/** Whether a value is an owner of a kind: what it was made as, whatever its prototype is now. */
+export let isOf;
+/** The module that an owner's handle is in, and the place of that handle. The first throws of one that is of another kind, or out of use. */
 export let runtimeOf;
+export let handle;
 
 /** An object that owns what stands behind a handle. */
 export class Owner {
   #runtime;
   #cell;
-  #free;
+  #kind;
 
   static {
-    runtimeOf = (owner) => {
+    isOf = (value, kind) => typeof value === 'object' && value !== null && #kind in value && value.#kind === kind;
+    runtimeOf = (owner, kind) => {
+      if (!isOf(owner, kind)) throw new WollemigoError('BAD_THIS', `a call of ${kind.name} was made on what is no ${kind.name}`);
       const runtime = owner.#runtime;
       if (runtime.hasTrapped) throw failure('TRAPPED');
       if (owner.#cell === 0) throw failure('DISPOSED');
@@ -186,25 +233,37 @@ export class Owner {
     handle = (owner) => owner.#cell;
   }
 
-  /** `make` fills the handle at a cell and gives a status; `free` is the name of the call that lets it go. */
-  constructor(free, make) {
+  /** `make` fills the handle at a cell and gives a status; of a bad call, `why` says what was wrong. */
+  constructor(kind, make, why) {
+    if (!KINDS.has(kind)) throw new WollemigoError('BAD_THIS', 'the class that owners have in common makes none by itself');
     const runtime = running();
     const cell = runtime.takeCell();
     const status = make(runtime, cell);
     if (status !== 0) runtime.giveCell(cell);
-    require(status);
+    require(status, why);
     this.#runtime = runtime;
     this.#cell = cell;
-    this.#free = free;
-    registry.register(this, { runtime, cell, free }, this);
+    this.#kind = kind;
+    runtime.owners[kind.name] += 1;
+    registry.register(this, { runtime, cell, kind }, this);
+  }
+
+  /** What Node and others that follow it show in a console. */
+  [Symbol.for('nodejs.util.inspect.custom')](depth, settings, inspect) {
+    const name = this.constructor?.name ?? 'Object';
+    if (typeof inspect !== 'function' || !(#kind in this) || typeof depth === 'number' && depth < 0) return `${name} {}`;
+    return `${name} ${inspect(this.toJSON(), settings)}`;
   }
 
   dispose() {
+    if (typeof this !== 'object' || this === null || !(#kind in this)) {
+      throw new WollemigoError('BAD_THIS', 'dispose was called on what has no memory of the module');
+    }
     const cell = this.#cell;
     if (cell === 0) return;
     this.#cell = 0;
     registry.unregister(this);
-    letGo(this.#runtime, cell, this.#free);
+    letGo(this.#runtime, cell, this.#kind);
   }
 }
 if (Symbol.dispose !== undefined) {

@@ -1,4 +1,5 @@
 import { DONE, NO_ROOM, STATUSES, WollemigoError, failure } from './errors.js';
+import { HEIGHTS, ONE_SIZE, POWERS, SQUARES, placedAt, sizeAt } from './interface.js';
 import * as reading from './reading.js';
 import { running } from './runtime.js';
 import * as values from './values.js';
@@ -6,10 +7,10 @@ import * as values from './values.js';
 const { bool, count, length, list, options, size, wide } = values;
 
 const KINDS = {
-  size: { number: 0, readers: { width: [length], height: [length] } },
-  squares: { number: 1, readers: { least: [length, 1], greatest: [length] } },
-  powers: { number: 2, readers: { greatest: [length] } },
-  heights: { number: 3, readers: { width: [length], greatest: [length] } },
+  size: { number: ONE_SIZE, readers: { width: [length], height: [length] } },
+  squares: { number: SQUARES, readers: { least: [length, 1], greatest: [length] } },
+  powers: { number: POWERS, readers: { greatest: [length] } },
+  heights: { number: HEIGHTS, readers: { width: [length], greatest: [length] } },
 };
 
 /** The number of a kind of sheets, its width, its height, and its least and greatest side. */
@@ -33,7 +34,7 @@ const OPTIONS = {
 };
 
 export function placed(words, at) {
-  return { ...reading.rectangle(words, at), turned: words[at + 4] !== 0 };
+  return { ...reading.rectangle(words, at + placedAt.area), turned: words[at + placedAt.turned] !== 0 };
 }
 
 /** A sprite may be any object that has these two. */
@@ -46,24 +47,27 @@ export function written(sprites, given, step) {
   const sides = list(sprites, 'sprites', sprite);
   const { sheets: allowed, padding, alignment, turn, effort, seed } = options(given, 'options', OPTIONS);
   const runtime = running();
-  const [many, at] = [sides.length, runtime.room(4 * (2 + step) * sides.length)];
+  const [many, at] = [sides.length, runtime.room(4 * (sizeAt.words + step) * sides.length)];
   const halves = [Number(BigInt.asUintN(32, seed)), Number(seed >> 32n)];
   runtime.write(at, sides.flat());
   runtime.write(runtime.at, [...allowed, padding, alignment.width, alignment.height, turn ? 1 : 0, effort, ...halves]);
-  return { runtime, many, at, places: at + 8 * many, told: runtime.at + 64, bad: runtime.at + 72 };
+  return { runtime, many, at, places: at + 4 * sizeAt.words * many, told: runtime.at + 64, bad: runtime.at + 72 };
 }
 
 export function refused(status, words, bad) {
   const code = STATUSES[status];
+  if (code === 'BAD_CALL') return new WollemigoError(code, 'options.padding must be at most 65535');
   return failure(code, code.endsWith('_SPRITE') ? { sprite: words[bad >>> 2] >>> 0 } : undefined);
 }
 
 /** The sheet that a call finds. */
 export function packedBy(call, sprites, given) {
-  const { runtime, many, at, places, told, bad } = written(sprites, given, 5);
+  const { runtime, many, at, places, told, bad } = written(sprites, given, placedAt.words);
   const status = runtime.calls[call](at, many, runtime.at, places, many, told, bad);
   const words = runtime.words();
-  if (status === DONE) return { ...reading.size(words, told >>> 2), places: reading.list(words, places >>> 2, many, 5, placed) };
+  if (status === DONE) {
+    return { ...reading.size(words, told >>> 2), places: reading.list(words, places >>> 2, many, placedAt.words, placed) };
+  }
   if (status === NO_ROOM) return null;
   throw refused(status, words, bad);
 }

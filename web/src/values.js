@@ -1,5 +1,5 @@
 /** Values of JavaScript as those of the library. What can't be turned is told by an error, and no value is turned in part. */
-import { WollemigoError } from './errors.js';
+import { WollemigoError, isOurs } from './errors.js';
 
 /** At most 40 characters of what was given. */
 function shown(value) {
@@ -36,11 +36,57 @@ export function bool(value, name) {
   return value;
 }
 
+/** What reading a caller's object gives. What its getters, iterators or traps throw is the cause of an error of the package. */
+export function reading(name, read) {
+  try {
+    return read();
+  } catch (cause) {
+    if (isOurs(cause)) throw cause;
+    throw new WollemigoError('BAD_OPTION', `${name} can't be read`, { cause });
+  }
+}
+
+const kindOfArray = Object.getOwnPropertyDescriptor(Object.getPrototypeOf(Int32Array.prototype), Symbol.toStringTag).get;
+
+/** The values of a typed array as they are, and those of another list read out, so that nothing of the caller's runs later. */
+export function numbers(given, name) {
+  return kindOfArray.call(given) === undefined ? list(given, name, (value) => value) : given;
+}
+
+/** An Int32Array that has room for so many numbers. */
+export function room(given, name, least) {
+  if (kindOfArray.call(given) !== 'Int32Array' || given.length < least) {
+    throw new WollemigoError('BAD_OPTION', `${name} is no Int32Array with room for ${least} numbers`);
+  }
+  return given;
+}
+
+/** An object that a call writes into. */
+export function target(value, name) {
+  if (typeof value !== 'object' || value === null) throw new WollemigoError('BAD_OPTION', `${name} is ${shown(value)}, and not an object`);
+}
+
+/** What is told where writing into a caller's object throws. */
+export function unwritable(name, cause) {
+  return isOurs(cause) ? cause : new WollemigoError('BAD_OPTION', `${name} can't be written to`, { cause });
+}
+
+/** Whether a value is an object as a literal makes it, in this realm or another, or one without a prototype. */
+function isPlain(value) {
+  if (typeof value !== 'object' || value === null) return false;
+  const above = Object.getPrototypeOf(value);
+  return above === null || Object.getPrototypeOf(above) === null;
+}
+
 /** Reads the options that have these names, each by its reader, or by its name's default where it is left out. */
 export function options(given, name, readers) {
+  return reading(name, () => optionsRead(given, name, readers));
+}
+
+function optionsRead(given, name, readers) {
   const read = {};
   const of = given === undefined ? {} : given;
-  if (typeof of !== 'object' || of === null) throw new WollemigoError('BAD_OPTION', `${name} is ${shown(given)}, and not an object`);
+  if (!isPlain(of)) throw new WollemigoError('BAD_OPTION', `${name} is ${shown(given)}, and not a plain object`);
   for (const key of Object.keys(of)) {
     if (!Object.hasOwn(readers, key)) throw new WollemigoError('BAD_OPTION', `${name} has no ${shown(key)}`);
   }
@@ -73,10 +119,40 @@ export function atlasOptions(given, name) {
 
 /** The values of a list, each read. */
 export function list(given, name, reader) {
-  if (given === null || given === undefined || typeof given[Symbol.iterator] !== 'function') {
-    throw new WollemigoError('BAD_OPTION', `${name} is ${shown(given)}, and not a list`);
+  return reading(name, () => {
+    if (given === null || given === undefined || typeof given[Symbol.iterator] !== 'function') {
+      throw new WollemigoError('BAD_OPTION', `${name} is ${shown(given)}, and not a list`);
+    }
+    const read = [];
+    for (const value of given) read.push(reader(value, `${name}[${read.length}]`));
+    return read;
+  });
+}
+
+/**
+ * Which condition of a size and of the four numbers of an atlas's options doesn't hold, in words; undefined where all do. The library
+ * decides, and this only words what it refused.
+ */
+export function whyNoAtlas(width, height, [across, down, small, large] = [1, 1, 32, 256], name = 'options') {
+  for (const [value, of] of [[width, 'width'], [height, 'height'], [across, `${name}.alignment.width`], [down, `${name}.alignment.height`]]) {
+    if (value < 1) return `${of} is ${value}, and must be at least 1`;
   }
-  const read = [];
-  for (const value of given) read.push(reader(value, `${name}[${read.length}]`));
-  return read;
+  if (small <= large) return undefined;
+  return `${name}.smallSizeThreshold is ${small}, and must be at most largeSizeThreshold, which is ${large}`;
+}
+
+/** Which side a growth shrinks. */
+export function whyNoGrowth(width, height, now) {
+  if (width < now.width) return `width is ${width}, and must be at least ${now.width}, the present one: a growth shrinks no side`;
+  return height < now.height ? `height is ${height}, and must be at least ${now.height}, the present one: a growth shrinks no side` : undefined;
+}
+
+/** What a console shows of an owner, and what becomes JSON: what `read` tells, or that it is out of use. */
+export function shownState(read) {
+  try {
+    return read();
+  } catch (error) {
+    if (isOurs(error) && (error.code === 'DISPOSED' || error.code === 'TRAPPED')) return { state: error.code };
+    throw error;
+  }
 }

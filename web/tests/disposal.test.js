@@ -1,8 +1,6 @@
-// What is let go, by hand and by JavaScript's collector, and what is refused memory.
+// What is let go by hand, and what memory tells.
 import assert from 'node:assert/strict';
 import { test } from 'node:test';
-import { setFlagsFromString } from 'node:v8';
-import { runInNewContext } from 'node:vm';
 
 import * as wollemigo from '../node.js';
 import { refused } from './support.js';
@@ -10,21 +8,19 @@ import { refused } from './support.js';
 const { Atlas, SimpleAtlas, TextureCache } = wollemigo;
 await wollemigo.load();
 const page = { width: 64, height: 64 };
-// An atlas with memory for this many slots has some 600 MB, and there are 4 GB at most.
-const MANY = 16777000;
 
 /** Each method and getter of a class with arguments that are right. */
 const USES = {
   Atlas: {
     allocate: [1, 1], deallocate: [3], deallocateAll: [[]], get: [3], canFit: [1, 1], reserve: [1], grow: [200, 200],
     canGrowTo: [200, 200], rearrange: [], resizeAndRearrange: [5, 5], clear: [], reset: [5, 5], allocated: [], free: [], cuts: [],
-    clone: [],
+    clone: [], allocateInto: [1, 1, {}],
   },
   SimpleAtlas: { allocate: [1, 1], grow: [200, 200], canGrowTo: [200, 200], clear: [], reset: [5, 5], initFrom: [new Atlas(5, 5)] },
   TextureCache: {
     beginFrame: [], get: ['a'], peek: ['a'], insert: ['a', 1, 1], remove: ['a'], has: ['a'], changes: [], clear: [], trim: [1], repack: [0],
     shrink: [], pageSize: [0], areas: [0], newest: [], oldest: [], older: ['a'], reserve: [1],
-    unusableArea: [0, 1, 1],
+    unusableArea: [0, 1, 1], touch: ['a'], getInto: ['a', {}], insertAll: [['a'], [1, 1], new Int32Array(11)],
   },
 };
 const MAKERS = {
@@ -35,7 +31,7 @@ test('each call of what was disposed of', () => {
   for (const [name, make] of Object.entries(MAKERS)) {
     const it = make();
     const described = Object.getOwnPropertyDescriptors(wollemigo[name].prototype);
-    const methods = Object.keys(described).filter((each) => each !== 'constructor' && described[each].value !== undefined);
+    const methods = Object.keys(described).filter((each) => !['constructor', 'toJSON'].includes(each) && described[each].value !== undefined);
     const getters = Object.keys(described).filter((each) => described[each].get !== undefined);
     assert.deepEqual(methods.sort(), Object.keys(USES[name]).sort());
     assert.ok(getters.length > 2);
@@ -43,11 +39,37 @@ test('each call of what was disposed of', () => {
     it.dispose();
     for (const method of methods) refused(() => it[method](...USES[name][method]), 'DISPOSED', `${name}.${method}`);
     for (const getter of getters) refused(() => it[getter], 'DISPOSED', `${name}.${getter}`);
+    assert.deepEqual(it.toJSON(), { state: 'DISPOSED' });
     if (Symbol.dispose !== undefined) it[Symbol.dispose]();
   }
   const gone = new Atlas(5, 5);
   gone.dispose();
   refused(() => SimpleAtlas.from(gone), 'DISPOSED', 'from');
+});
+
+test('what memory tells', () => {
+  const before = wollemigo.memory();
+  const counts = ({ atlases, simpleAtlases, caches }) => [atlases, simpleAtlases, caches];
+  assert.ok(before.bytes >= 131072 && before.bytes % 65536 === 0);
+  const made = [new Atlas(5, 5), new Atlas(5, 5).clone(), new SimpleAtlas(5, 5), new TextureCache({ page })];
+  refused(() => new Atlas(0, 5), 'BAD_CALL', 'none is made');
+  const [atlases, simples, caches] = counts(before);
+  assert.deepEqual(counts(wollemigo.memory()), [atlases + 3, simples + 1, caches + 1]);
+  for (const each of made) for (let i = 0; i < 2; i++) each.dispose();
+  assert.deepEqual(counts(wollemigo.memory()), [atlases + 1, simples, caches]);
+});
+
+test('a loop that disposes of what it makes takes no more than one', () => {
+  for (let i = 0; i < 10; i++) new Atlas(5, 5).dispose();
+  const { bytes } = wollemigo.memory();
+  for (let i = 0; i < 20000; i++) new Atlas(5, 5).dispose();
+  assert.equal(wollemigo.memory().bytes, bytes);
+});
+
+test('the options for glyphs', () => {
+  const { smallSizeThreshold, largeSizeThreshold } = new Atlas(64, 64, wollemigo.GLYPHS).options;
+  assert.deepEqual([smallSizeThreshold, largeSizeThreshold], [0, 5000]);
+  assert.deepEqual(new TextureCache({ page, atlas: wollemigo.GLYPHS }).options.atlas.largeSizeThreshold, 5000);
 });
 
 test('a loop over changes ends where its cache is disposed of', () => {
@@ -71,31 +93,4 @@ test('more objects than there are places at first', () => {
   const all = Array.from({ length: 2000 }, (_, i) => new SimpleAtlas(1 + i, 1));
   for (const [i, each] of all.entries()) assert.equal(each.size.width, 1 + i);
   for (const each of all) each.dispose();
-});
-
-test('memory that is refused, and is there again after a disposal', () => {
-  const all = [];
-  const fill = () => {
-    for (let i = 0; i < 30; i++) {
-      all.push(new Atlas(100, 100));
-      all.at(-1).allocate(20, 60);
-      all.at(-1).reserve(MANY);
-    }
-  };
-  refused(fill, 'MEMORY', 'reserve');
-  for (const each of all) assert.deepEqual(each.allocated(), [{ id: 3, x: 0, y: 0, width: 20, height: 60 }]);
-  for (const each of all) each.dispose();
-  const again = new Atlas(100, 100);
-  again.reserve(MANY);
-  again.dispose();
-});
-
-test('what is forgotten is let go', async () => {
-  setFlagsFromString('--expose-gc');
-  const collect = runInNewContext('gc');
-  for (let i = 0; i < 30; i++) {
-    new Atlas(100, 100).reserve(MANY);
-    collect();
-    await new Promise((done) => setTimeout(done, 1));
-  }
 });

@@ -39,6 +39,19 @@ test('each kind of source', () => {
   }
 });
 
+test('a response of the right kind is compiled while it comes', () => {
+  const file = JSON.stringify(join(web, 'wollemigo.wasm'));
+  for (const [kind, wanted] of [['application/wasm', 1], ['text/plain', 0]]) {
+    const program = `import { readFileSync } from 'node:fs'; import { Atlas, load } from 'wollemigo';
+      let times = 0;
+      const { compileStreaming } = WebAssembly;
+      WebAssembly.compileStreaming = (source) => { times += 1; return compileStreaming(source); };
+      await load(new Response(readFileSync(${file}), { headers: { 'Content-Type': '${kind}' } }));
+      console.log(times, new Atlas(100, 100).allocate(20, 60).id);`;
+    assert.equal(told(program), `${wanted} 3\n`, kind);
+  }
+});
+
 test('the lines of README.md', () => {
   const [, program] = /^```js\n([^]*?)^```$/m.exec(readFileSync(join(web, 'README.md'), 'utf8'));
   assert.equal(told(program), '0 0 20 60\ncontainer 1024 1024\npageAdded 0\n0 1 1 true\n43 43 2\n');

@@ -21,7 +21,7 @@ function deepest({ axis, members }: Container): number {
 function useAtlas(): void {
   const atlas = new Atlas(5, 5, { alignment: { width: 1, height: 1 }, smallSizeThreshold: 32 }, MOST_SLOTS);
   const granted: Allocation | null = atlas.allocate(1, 1);
-  if (granted !== null) atlas.deallocate(granted.id);
+  if (granted !== null && atlas.allocateInto(2, 2, granted)) atlas.deallocate(granted.id);
   atlas.deallocateAll(new Set([1, 2]));
   const { changes, failures } = atlas.resizeAndRearrange(5, 5);
   const sum: number = changes[0].after.id + failures.length + atlas.rearrange().changes.length + atlas.options.largeSizeThreshold;

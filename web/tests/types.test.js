@@ -9,7 +9,7 @@ import * as browser from '../index.js';
 import * as node from '../node.js';
 
 const types = readFileSync(new URL('../index.d.ts', import.meta.url), 'utf8');
-const sources = ['errors', 'values', 'runtime', 'sheet', 'keys', 'atlas', 'cache', 'simple']
+const sources = ['interface', 'errors', 'values', 'runtime', 'sheet', 'keys', 'atlas', 'cache', 'simple']
   .map((name) => readFileSync(new URL(`../src/${name}.js`, import.meta.url), 'utf8')).join('\n');
 
 test('what is exported is what the types name', () => {
@@ -32,7 +32,9 @@ test('each code that the types name is thrown, and no other', () => {
   const union = types.slice(types.indexOf('export type ErrorCode ='), types.indexOf('/** What every call throws'));
   const named = new Set([...union.matchAll(/^ {2}\| '(\w+)'/gm)].map((found) => found[1]));
   const thrown = new Set([...sources.matchAll(/'([A-Z][A-Z_]{4,})'/g)].map((found) => found[1]));
-  for (const name of ['SHORT', 'NO_ROOM', 'NOT_HELD', 'NO_CHANGE', 'HELD', 'FRAME_FULL']) thrown.delete(name);
+  // What the library answers and JavaScript throws in no case, or under another name.
+  const others = ['SHORT', 'NO_ROOM', 'NOT_HELD', 'NO_CHANGE', 'HELD', 'FRAME_FULL', 'EMPTY', 'NULL_POINTER', 'OCCUPIED'];
+  for (const name of others) thrown.delete(name);
   assert.deepEqual([...thrown].filter((name) => !named.has(name)), []);
 });
 
@@ -42,4 +44,16 @@ test('a program by the types', { skip: tsc.error !== undefined && 'there is no t
   const words = ['--noEmit', '--strict', '--target', 'es2022', '--module', 'es2022', '--lib', 'es2022,dom', program];
   const done = spawnSync('tsc', words, { encoding: 'utf8' });
   assert.equal(done.status, 0, done.stdout);
+});
+
+test('the types refuse what the package refuses, also without those of the DOM', { skip: tsc.error !== undefined && 'there is no tsc' }, () => {
+  const refusing = fileURLToPath(new URL('refused.ts', import.meta.url));
+  const wanted = readFileSync(refusing, 'utf8').split('\n').flatMap((line, at) => (line.endsWith('// refused') ? [at + 1] : []));
+  const words = ['--noEmit', '--strict', '--target', 'es2022', '--module', 'es2022', '--lib', 'es2022'];
+  for (const more of [[], ['--exactOptionalPropertyTypes']]) {
+    const { stdout } = spawnSync('tsc', [...words, ...more, refusing], { encoding: 'utf8' });
+    const found = new Set([...stdout.matchAll(/refused\.ts\((\d+),/g)].map((each) => Number(each[1])));
+    assert.deepEqual([...found].sort((a, b) => a - b), wanted, stdout);
+    assert.doesNotMatch(stdout, /index\.d\.ts\(/);
+  }
 });

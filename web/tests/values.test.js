@@ -132,7 +132,7 @@ test('a value that meddles while it is read', () => {
   atlas.deallocateAll({ * [Symbol.iterator]() { yield second.id; new Atlas(900, 900).rearrange(); } });
   assert.ok(atlas.isEmpty);
   const thrown = new Error('of the caller');
-  assert.throws(() => atlas.reset(5, 5, { get smallSizeThreshold() { throw thrown; } }), thrown);
+  assert.equal(refused(() => atlas.reset(5, 5, { get smallSizeThreshold() { throw thrown; } }), 'BAD_OPTION', 'thrown').cause, thrown);
   assert.deepEqual(atlas.size, { width: 100, height: 100 });
   refused(() => atlas.reset(5, 5, { get smallSizeThreshold() { atlas.dispose(); return 1; } }), 'DISPOSED', 'disposed');
   const sprites = [{ width: 3, height: 5 }, { width: 4, height: 4 }];

@@ -3,6 +3,7 @@ pub mod PassLemmas
 pub mod EntryKeeping
 pub mod EntryLemmas
 pub mod GatherLemmas
+pub mod IdOrderLemmas
 pub mod Moves
 pub mod ReadyLemmas
 pub mod RelocateLemmas
@@ -15,6 +16,7 @@ pub mod RoomLemmas
 pub mod ShrinkLemmas
 pub mod SpareLemmas
 pub mod ListLemmas
+pub mod MarkLemmas
 pub mod ApartLemmas
 pub mod CacheLemmas
 pub mod HoldingLemmas

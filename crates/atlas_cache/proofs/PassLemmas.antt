@@ -3,10 +3,9 @@ use Rattle.std.proofs.Common.{ℕ, ◌+◌, ◌≤◌, ◌≡◌, true, false, e
 use Rattle.std.specs.List.{IsDistinct}
 use Rattle.atlas_cache.specs.declared.entries.Entry.{Entry}
 use Rattle.atlas_cache.specs.Caches.{entries_of, IsOldestLying}
-use Rattle.atlas_cache.specs.Entries.{entry_at, is_blank, lying, numbers, without_number, IsNumber}
+use Rattle.atlas_cache.specs.Entries.{entry_at, is_blank, lying, numbers, without_number, AreBlank, EndsBlank, IsBeforeBlanks, IsNumber}
 use Rattle.atlas_cache.specs.Orders.{oldest_of}
 use Rattle.atlas_cache.proofs.BlankLemmas.{lying-past}
-use Rattle.atlas_cache.proofs.ListLemmas.{append-none}
 use Rattle.atlas_cache.proofs.RelocateLemmas.{without-at}
 use Rattle.atlas_cache.proofs.WalkLemmas.{at-number, entries-append, numbers-append}
 
@@ -17,12 +16,26 @@ module _ {K : Type 0} where
     pub older : List (ℕ × Entry K)
     pub was : es ≡ newer ++ older
     pub next : last ≡ oldest_of (numbers newer)
-    pub blank : lying (entries_of older) ≡ []
-    pub counted : length newer + count ≡ length es
+    pub blank : AreBlank older
+    pub counted : length newer + count ≤ length es
 
-  pub none-passed : (es : List (ℕ × Entry K)) (next : Option ℕ) → next ≡ oldest_of (numbers es) → Passed es next 0
-  none-passed es next is =
-      record { newer = es; older = []; was = sym (append-none es); next = is; blank = refl; counted = omega arith }
+  longer : (xs ys : List (ℕ × Entry K)) → length xs ≤ length (xs ++ ys)
+  longer [] ys = omega arith
+  longer (x ∷ xs) ys = omega (arith, longer xs ys)
+
+  pub none-passed : (es : List (ℕ × Entry K)) (next : Option ℕ) → IsBeforeBlanks next es → Passed es next 0
+  none-passed es next b = record {
+    newer = b.newer;
+    older = b.older;
+    was = b.was;
+    next = b.last;
+    blank = b.blank;
+    counted = omega (arith, longer b.newer b.older, ap length b.was);
+  }
+
+  none-lie : (es : List (ℕ × Entry K)) → AreBlank es → lying (entries_of es) ≡ []
+  none-lie [] blank = refl
+  none-lie (x ∷ es) blank = lying-past x.1 (entries_of es) blank.0 ∙ none-lie es blank.1
 
   no-last : (xs : List (ℕ × Entry K)) → None ≡ oldest_of (numbers xs) → xs ≡ []
   no-last [] is = refl
@@ -33,9 +46,9 @@ module _ {K : Type 0} where
   no-length [] is = refl
   no-length (x ∷ xs) is = absurd (omega (arith, is))
 
-  all-blank : (es newer older : List (ℕ × Entry K)) → es ≡ newer ++ older → newer ≡ [] → lying (entries_of older) ≡ []
+  all-blank : (es newer older : List (ℕ × Entry K)) → es ≡ newer ++ older → newer ≡ [] → AreBlank older
       → lying (entries_of es) ≡ []
-  all-blank es newer older was none blank = rw (was, none) blank
+  all-blank es newer older was none blank = rw (was, none) (none-lie older blank)
 
   -- Where none is left, all are blank.
   pub passed-none : (es : List (ℕ × Entry K)) (count : ℕ) → Passed es None count → lying (entries_of es) ≡ []
@@ -69,8 +82,8 @@ module _ {K : Type 0} where
     pub newer : List (ℕ × Entry K)
     pub older : List (ℕ × Entry K)
     pub was : es ≡ newer ++ (n, e) ∷ older
-    pub blank : lying (entries_of older) ≡ []
-    pub counted : length newer + (count + 1) ≡ length es
+    pub blank : AreBlank older
+    pub counted : length newer + (count + 1) ≤ length es
 
   whole : (es : List (ℕ × Entry K)) (n count : ℕ) (p : Passed es (Some n) count) (l : Last n p.newer)
       → es ≡ l.rest ++ (n, l.entry) ∷ p.older
@@ -116,9 +129,15 @@ module _ {K : Type 0} where
     older = (n, e) ∷ l.older;
     was = l.was;
     next = is;
-    blank = lying-past e (entries_of l.older) blank ∙ l.blank;
+    blank = (blank, l.blank);
     counted = l.counted;
   }
+
+  -- A blank entry can be marked.
+  pub can-pass : (es : List (ℕ × Entry K)) (n : ℕ) (e : Entry K) (count : ℕ) → Looked es n e count → is_blank e ≡ true
+      → EndsBlank n es
+  can-pass es n e count l blank =
+      record { newer = l.newer; older = (n, e) ∷ l.older; was = l.was; first = refl; blank = (blank, l.blank) }
 
   pub looked-numbers : (es : List (ℕ × Entry K)) (n : ℕ) (e : Entry K) (count : ℕ) (l : Looked es n e count)
       → numbers es ≡ numbers l.newer ++ n ∷ numbers l.older
@@ -139,5 +158,5 @@ module _ {K : Type 0} where
     others = ap (λ xs. entries_of (without_number n xs)) l.was
         ∙ ap entries_of (without-at n e l.newer l.older (rw l.was at apart)) ∙ entries-both l.newer l.older;
     lies = lies;
-    blank = l.blank;
+    blank = none-lie l.older l.blank;
   }

@@ -54,7 +54,7 @@ module _ {A : Type 0} (old new : List AtlasValue) (page : ℕ) (list : ChangeLis
   abbrev cs : List Change
   cs = list.changes.items
 
-  old_once : (id : ℕ) → count_by (old_is id) cs ≤ 1
+  pub old_once : (id : ℕ) → count_by (old_is id) cs ≤ 1
   old_once id = omega (
     arith,
     does.tells.once_before id,

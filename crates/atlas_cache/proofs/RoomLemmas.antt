@@ -2,6 +2,7 @@
 pub mod Growing
 pub mod Ordering
 pub mod Paging
+pub mod Refusing
 pub mod Repacking
 pub mod Reserving
 pub mod Standing

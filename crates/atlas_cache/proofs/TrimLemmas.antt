@@ -9,10 +9,12 @@ use Rattle.atlas_cache.specs.declared.options.CacheOptions.{CacheOptions}
 use Rattle.atlas_cache.specs.Caches.{CacheState, shown, FramesFall, HaveOwnKeys}
 use Rattle.atlas_cache.specs.Changes.{Picture, all_changed, changed, picture_of, ShowsSame}
 use Rattle.atlas_cache.specs.Clearing.{all_evicted, DropsLast, IsUnusedFor, IsUsedSince, TellsChanges, Trims}
+use Rattle.atlas_cache.specs.Reserving.{UseAtMost}
 use Rattle.atlas_cache.specs.Rooms.{page_sizes}
 use Rattle.atlas_cache.proofs.KeyLemmas.{own_without}
 use Rattle.atlas_cache.proofs.ListLemmas.{append-none, falls-last}
 use Rattle.atlas_cache.proofs.PictureLemmas.{same_both, same_shown, taken}
+use Rattle.atlas_cache.proofs.RoomLemmas.Reserving.{both_used, none_used}
 
 module _ {K : Type 0} where
   -- Where the last was used since, all were.
@@ -33,6 +35,7 @@ module _ {K : Type 0} where
     pub numbers : t.numbers ≡ s.numbers
     pub reserved : t.reserved ≡ s.reserved
     pub sizes : page_sizes t.pages ≡ page_sizes s.pages
+    pub slots : UseAtMost 0 s.pages t.pages
     pub options : t.options ≡ s.options
     pub frame : t.frame ≡ s.frame
     pub counts : t.counts ≡ record s.counts { evictions = min (s.counts.evictions + length gone) 18446744073709551615 }
@@ -55,6 +58,7 @@ module _ {K : Type 0} where
       numbers = refl;
       reserved = refl;
       sizes = refl;
+      slots = none_used 0 s.pages;
       options = refl;
       frame = refl;
       counts = let same : min (s.counts.evictions + 0) 18446744073709551615 ≡ s.counts.evictions = omega arith in rw same refl;
@@ -84,6 +88,7 @@ module _ {K : Type 0} where
             numbers = one.numbers ∙ h.numbers;
             reserved = one.reserved ∙ h.reserved;
             sizes = one.sizes ∙ h.sizes;
+            slots = both_used 0 0 0 s.pages t.pages u.pages (omega arith) h.slots one.slots;
             options = one.options ∙ h.options;
             frame = one.frame ∙ h.frame;
             counts = rw (one.counts, h.counts) (ap (λ n. record s.counts { evictions = n }) (omega arith));
@@ -103,6 +108,7 @@ module _ {K : Type 0} where
       numbers = h.numbers;
       reserved = h.reserved;
       sizes = h.sizes;
+      slots = h.slots;
       options = h.options;
       frame = h.frame;
       counts = h.counts;

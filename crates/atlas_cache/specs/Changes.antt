@@ -19,6 +19,7 @@ use Rattle.atlas_cache.specs.Caches.{CacheState, entry_for, place_for, shown, Ar
 use Rattle.atlas_cache.specs.Counting.{one_more}
 use Rattle.atlas_cache.specs.Entries.{is_blank, lying}
 use Rattle.atlas_cache.specs.Refusals.{IsWithoutNumber}
+use Rattle.atlas_cache.specs.Reserving.{UseAtMost}
 use Rattle.atlas_cache.specs.Rooms.{page_sizes, AreAllLargest, IsAtLeast, IsFirstToGrow, IsRounded}
 
 -- A caller's picture of a cache: the place of each key, and the size of each page.
@@ -243,6 +244,7 @@ module _ {K : Type 0} where
     pub numbers : t.numbers ≡ s.numbers
     pub reserved : t.reserved ≡ s.reserved
     pub sizes : page_sizes t.pages ≡ page_sizes s.pages
+    pub slots : UseAtMost 0 s.pages t.pages
     pub options : t.options ≡ s.options
     pub frame : t.frame ≡ s.frame
     pub counts : t.counts ≡ s.counts

@@ -7,6 +7,7 @@ use Rattle.atlas_cache.specs.declared.entries.Entry.{Entry}
 use Rattle.atlas_cache.specs.Caches.{CacheState, shown}
 use Rattle.atlas_cache.specs.Changes.{Picture, all_changed, picture_of, ShowsSame}
 use Rattle.atlas_cache.specs.Counting.{one_more}
+use Rattle.atlas_cache.specs.Reserving.{UseAtMost}
 use Rattle.atlas_cache.specs.Rooms.{page_sizes, IsNothingLive}
 
 module _ {K : Type 0} where
@@ -18,6 +19,7 @@ module _ {K : Type 0} where
     pub reserved : t.reserved ≡ s.reserved + length s.entries
     pub nothing : IsNothingLive t.pages
     pub sizes : page_sizes t.pages ≡ page_sizes s.pages
+    pub slots : UseAtMost 0 s.pages t.pages
     pub options : t.options ≡ s.options
     pub frame : t.frame ≡ s.frame
     pub counts : t.counts ≡ s.counts
@@ -48,6 +50,7 @@ module _ {K : Type 0} where
     pub numbers : t.numbers ≡ s.numbers
     pub reserved : t.reserved ≡ s.reserved
     pub sizes : page_sizes t.pages ≡ page_sizes s.pages
+    pub slots : UseAtMost 0 s.pages t.pages
     pub options : t.options ≡ s.options
     pub frame : t.frame ≡ s.frame
     pub counts : t.counts ≡ record s.counts { evictions = one_more s.counts.evictions }
@@ -63,6 +66,7 @@ module _ {K : Type 0} where
     pub numbers : t.numbers ≡ s.numbers
     pub reserved : t.reserved ≡ s.reserved
     pub sizes : page_sizes t.pages ≡ page_sizes s.pages
+    pub slots : UseAtMost 0 s.pages t.pages
     pub options : t.options ≡ s.options
     pub frame : t.frame ≡ s.frame
     pub counts : t.counts

@@ -1,9 +1,11 @@
 -- Entries of a cache under their numbers, the most recently used first.
-use Rattle.std.specs.Prelude.{◌≡◌, ◌≤◌, ◌==◌, ℕ, max, Bool, nat_eq, if◌then◌else◌, List, [], ◌∷◌, length, map, Option, None, Some}
+use Rattle.std.specs.Prelude.{◌≡◌, ◌≤◌, ◌==◌, ℕ, max, Bool, true, nat_eq, if◌then◌else◌, List, [], ◌∷◌, ◌++◌, length, map, Option, None, Some}
 use Rattle.std.specs.Prelude.{IsNone, IsSome}
 use Rattle.std.specs.List.{AllByRecursion}
 use Rattle.std.specs.Option.{option_map_or}
 use Rattle.std.specs.Map.{keys_of, lookup, remove_entry}
+use Rattle.atlas_search.specs.Numbers.{front}
+use Rattle.atlas_cache.specs.Orders.{oldest_of}
 use Rattle.guillotiere.specs.declared.Rectangle.{Rectangle}
 use Rattle.atlas_cache.specs.declared.entries.Entry.{Entry}
 
@@ -62,6 +64,26 @@ module _ {K : Type 0} where
   -- At least so many are in reserve.
   abbrev pub with_reserve : ℕ → Table K → Table K
   with_reserve n t = record t { reserved = max t.reserved n }
+
+  -- All of them are blank.
+  abbrev pub AreBlank : List (ℕ × Entry K) → Type 0
+  AreBlank es = AllByRecursion (λ e. is_blank e.1 ≡ true) es
+
+  -- The order ends with blank entries, of which this is the number of the first, or with none, which has the number of no entry.
+  pub record EndsBlank (mark : ℕ) (es : List (ℕ × Entry K)) : Type 0 where
+    pub newer : List (ℕ × Entry K)
+    pub older : List (ℕ × Entry K)
+    pub was : es ≡ newer ++ older
+    pub first : mark ≡ front (numbers older)
+    pub blank : AreBlank older
+
+  -- The same, by the number of the last before them.
+  pub record IsBeforeBlanks (next : Option ℕ) (es : List (ℕ × Entry K)) : Type 0 where
+    pub newer : List (ℕ × Entry K)
+    pub older : List (ℕ × Entry K)
+    pub was : es ≡ newer ++ older
+    pub last : next ≡ oldest_of (numbers newer)
+    pub blank : AreBlank older
 
   -- The others, without the entry of a number.
   abbrev pub without_number : ℕ → List (ℕ × Entry K) → List (ℕ × Entry K)

@@ -1,7 +1,9 @@
 -- What a repacking of a page makes of the entries of a cache, and what it tells.
-use Rattle.std.specs.Prelude.{◌≡◌, ◌==◌, ◌+◌, ◌-◌, ◌++◌, ℕ, ℤ, min, List, length, Option, None, Some, find, option_map}
+use Rattle.std.specs.Prelude.{◌≡◌, ◌==◌, ◌+◌, ◌-◌, ◌≤◌, ◌++◌, ℕ, ℤ, min, List, length, Option, None, Some, find, option_map}
 use Rattle.std.specs.Prelude.{if◌then◌else◌}
-use Rattle.std.specs.List.{filter_map}
+use Rattle.std.specs.List.{count_by, filter_map}
+use Rattle.std.specs.List.Sorted.{IsSortedByKey}
+use Rattle.std.specs.Ordering.{nat_cmp}
 use Rattle.guillotiere.specs.declared.Change.{Change}
 use Rattle.guillotiere.specs.declared.Allocation.{Allocation}
 use Rattle.guillotiere.specs.Pages.{KeepsPages}
@@ -11,6 +13,15 @@ use Rattle.atlas_cache.specs.declared.entries.Entry.{Entry}
 use Rattle.atlas_cache.specs.Caches.{CacheState, shown}
 use Rattle.atlas_cache.specs.Repacking.{PlacesAnew}
 use Rattle.atlas_cache.specs.Rooms.{page_sizes}
+
+-- The id that a rectangle had before a change.
+abbrev pub former_id : Change → ℕ
+former_id c = c.old.id
+
+-- The changes stand in the order of their former ids, and no two have one.
+pub record AreInIdOrder (cs : List Change) : Type 0 where
+  pub rising : IsSortedByKey former_id nat_cmp cs
+  pub once : (id : ℕ) → count_by (λ c. c.old.id == id) cs ≤ 1
 
 module _ {K : Type 0} where
   -- What an entry has become, where `renewed` says it of the entries of a page: another one stays.

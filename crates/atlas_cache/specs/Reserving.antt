@@ -19,10 +19,14 @@ UseAtMost n old new =
     (page : ℕ) (t : AtlasValue) → slice_get new page ≡ Some t
     → (s : AtlasValue) × (slice_get old page ≡ Some s) × UsesAtMost n s t
 
--- Some page uses all but 3 at most of the 16,777,216 slots that there can be.
+-- With n more, some page would use more than the 16,777,216 slots that there can be.
+abbrev pub IsShortFor : ℕ → List AtlasValue → Type 0
+IsShortFor n pages =
+    (page : ℕ) × (s : AtlasValue) × (slice_get pages page ≡ Some s) × (16777216 < used_in (state_of s) + n)
+
+-- Some page uses all but 3 at most.
 abbrev pub IsShortOfSlots : List AtlasValue → Type 0
-IsShortOfSlots pages =
-    (page : ℕ) × (s : AtlasValue) × (slice_get pages page ≡ Some s) × (16777216 < used_in (state_of s) + 4)
+IsShortOfSlots pages = IsShortFor 4 pages
 
 -- For how many more items a list has memory.
 abbrev pub room_in : {X Z : Type 0} → Vec X Z → ℕ

@@ -50,6 +50,12 @@ pub record KeepsRooms (r : RoomsState) : Type 0 where
   pub few : length r.pages ≤ r.options.pages
   pub each : ArePagesOf r.options r.pages
 
+-- No page has room for the size that stands at its number.
+pub record AreRefused (pages : List AtlasValue) (refused : List Size) : Type 0 where
+  pub as_many : length refused ≡ length pages
+  pub none : (k : ℕ) (s : AtlasValue) (size : Size) → slice_get pages k ≡ Some s → slice_get refused k ≡ Some size
+      → HasRoomFor size s → ⊥
+
 -- Memory was refused, or the slots of a page don't suffice.
 abbrev pub IsRefusal : CacheError → Type 0
 IsRefusal error = (error ≡ Memory) ⊎ (error ≡ Slots)

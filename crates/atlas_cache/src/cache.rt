@@ -175,7 +175,7 @@ impl<K: Copy + Eq + Hash, S: BuildHasher, A: Allocator + Copy> TextureCache<K, S
         self.entries.prove_kept();
     }
 
-    /// The place of a key; None if it isn't held. It doesn't count as a use.
+    /// The place of a key; None if it isn't held. It doesn't count as a use. One look-up by a hash.
     pub fn peek(&self, key: &K) -> Option<Place>
         ensures { result ≡ place_for K.eq self.now key.now }
     {
@@ -185,7 +185,8 @@ impl<K: Copy + Eq + Hash, S: BuildHasher, A: Allocator + Copy> TextureCache<K, S
         Some(place_of(found, &self.rooms.options()))
     }
 
-    /// The place of a key, which is used in this frame from now on; None if it isn't held. Counts a hit or a miss.
+    /// The place of a key, which is used in this frame from now on; None if it isn't held. Counts a hit or a miss. One look-up by a hash,
+    /// however many keys there are.
     pub fn get(&mut self, key: &K) -> Option<Place>
         ensures place { result ≡ place_for K.eq self.old key.now }
         ensures uses { IfSome (entry_for K.eq key.now self.old.entries) (λ e. Uses e self.old self.new) }
@@ -224,6 +225,11 @@ impl<K: Copy + Eq + Hash, S: BuildHasher, A: Allocator + Copy> TextureCache<K, S
     /// Nor is an insert that neither adds a page nor grows one (since a page has room, or all allowed exist, at their largest) refused
     /// with `Memory`, given one entry in reserve (`reserve`), 4 slots on each page (`reserve_slots`), and room for one change more than
     /// there are entries. Given n entries in reserve, 4n slots and room for n changes more than entries, none of n such inserts is.
+    ///
+    /// Takes one look-up by a hash. A new key that isn't blank also takes a few steps for each page, and a request of an atlas for each
+    /// page that isn't known to have no room: one that refused a size no larger in width and height, and hasn't changed since, is. An
+    /// eviction takes a freeing and another request of its page; it passes each blank key that was used before what it evicts once, and
+    /// not again until that key is used.
     pub fn insert(
         &mut self,
         key: K,
@@ -274,12 +280,15 @@ impl<K: Copy + Eq + Hash, S: BuildHasher, A: Allocator + Copy> TextureCache<K, S
         self.insert_new(key, size, asked, changes)
     }
 
-    /// Removes a key, and gives the place that it had; None if it isn't held. Takes no memory.
+    /// Removes a key, and gives the place that it had; None if it isn't held. Takes no memory, and nothing of what is in reserve;
+    /// one look-up by a hash, and a freeing.
     pub fn remove(&mut self, key: &K) -> Option<Place>
         ensures place { result ≡ place_for K.eq self.old key.now }
         ensures removes { IfSome (entry_for K.eq key.now self.old.entries) (λ e. Removes e self.old self.new) }
         ensures none { result ≡ None → self.new ≡ self.old }
         ensures told { ShowsSame (placed K.eq key.now None (picture_of K.eq self.old)) (picture_of K.eq self.new) }
+        ensures ready { (n : ℕ) → HaveSlots n self.old.pages → HaveSlots n self.new.pages }
+        ensures full { IsFull self.old → IsFull self.new }
     {
         self.entries.prove_kept();
         let Some((number, gone)) = look_up(&self.entries, key) else {
@@ -425,7 +434,7 @@ impl<K: Copy + Eq + Hash, S: BuildHasher, A: Allocator + Copy> TextureCache<K, S
             → HasReserves n (room_in changes.new) self.new }
         ensures full { IsFull self.new }
     {
-        let Some((number, entry)) = oldest_lying(&self.entries) else {
+        let Some((number, entry)) = oldest_lying(&mut self.entries) else {
             return None;
         };
         if entry.frame == self.frame {

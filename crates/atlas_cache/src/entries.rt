@@ -6,12 +6,14 @@ ghost use Rattle.std.specs.Prelude.{vec_capacity, vec_len};
 ghost use Rattle.std.specs.HashMap.{Updates, get, hash_map_len, spare};
 ghost use Rattle.std.specs.List.{AllByRecursion, IsDistinct};
 ghost use Rattle.atlas_cache.specs.Entries.{is_blank};
-ghost use Rattle.atlas_cache.specs.Orders.{newest_of, oldest_of};
+ghost use Rattle.atlas_search.specs.Numbers.{front, without};
+ghost use Rattle.atlas_cache.specs.Orders.{newest_of, oldest_of, IsEntry};
 ghost use Rattle.atlas_cache.specs.Refusals.{IsWithoutNumber};
 ghost use Rattle.atlas_cache.specs.declared.error.CacheError.TheVariants.{Memory};
 
 use crate::error::CacheError;
 use crate::recency::Recency;
+use crate::recency::links::NO_ENTRY;
 use guillotiere::{AllocId, Rectangle, Size};
 use std::alloc::{Allocator, Global};
 use std::collections::HashMap;
@@ -60,10 +62,12 @@ pub struct Entries<K: Copy + Eq + Hash, S: BuildHasher = DefaultHasher, A: Alloc
     map: HashMap<K, u32, S, A>,
     recency: Recency<A>,
     items: Vec<Entry<K>, A>,
+    // This entry and all that were used before it are blank; `NO_ENTRY`: it isn't known of any.
+    mark: u32,
 }
 
 impl<K: Copy + Eq + Hash, S: BuildHasher, A: Allocator> Model for Entries<K, S, A> {
-    ghost use Rattle.atlas_cache.specs.Entries.{Table};
+    ghost use Rattle.atlas_cache.specs.Entries.{EndsBlank, Table};
 
     ghost Value = { Table K };
 
@@ -77,7 +81,21 @@ impl<K: Copy + Eq + Hash, S: BuildHasher, A: Allocator> Model for Entries<K, S, 
     } };
 
     ghost invariant = { λ s. AreKept K.eq s.map s.recency s.items.items
-        × HasMemory s.map s.recency (vec_capacity s.items) };
+        × HasMemory s.map s.recency (vec_capacity s.items)
+        × EndsBlank s.mark (numbered s.items.items s.recency.entries) };
+}
+
+// An entry leaves its place in the order: where it is marked, the one that was used next before it is.
+fn unmark<A: Allocator>(recency: &Recency<A>, mark: &mut u32, number: u32)
+    requires { IsEntry number recency.now }
+    ensures { (newer older : List ℕ) → recency.now.entries ≡ newer ++ older → mark.old ≡ front older
+        → mark.new ≡ front (without number older) }
+{
+    recency.prove_kept();
+    if number != *mark {
+        return;
+    }
+    *mark = recency.older(number).unwrap_or(NO_ENTRY);
 }
 
 // Memory for one more behind all, if there are no more than so many.
@@ -142,7 +160,7 @@ impl<K: Copy + Eq + Hash, A: Allocator + Copy> Entries<K, DefaultHasher, A> {
 
 impl<K: Copy + Eq + Hash, S: BuildHasher, A: Allocator + Copy> Entries<K, S, A> {
     ghost use Rattle.atlas_cache.specs.Entries.{AreNumbered, IsNextNumber, IsNumber, entry_at, keys, moved, number_of, numbers, touched};
-    ghost use Rattle.atlas_cache.specs.Entries.{with_reserve, without_number};
+    ghost use Rattle.atlas_cache.specs.Entries.{with_reserve, without_number, EndsBlank, IsBeforeBlanks};
 
     /// No entries, with a hasher for the keys. Takes no memory.
     pub fn with_hasher(alloc: A, hasher: S) -> Self
@@ -154,6 +172,7 @@ impl<K: Copy + Eq + Hash, S: BuildHasher, A: Allocator + Copy> Entries<K, S, A> 
             map: HashMap::with_hasher(alloc, hasher),
             recency: Recency::new(alloc),
             items: Vec::new(alloc),
+            mark: NO_ENTRY,
         }
     }
 
@@ -236,6 +255,25 @@ impl<K: Copy + Eq + Hash, S: BuildHasher, A: Allocator + Copy> Entries<K, S, A> 
         self.recency.newer(number)
     }
 
+    /// The least recently used entry that wasn't passed; None if all were. All that were used before it are blank.
+    pub fn unpassed(&self) -> Option<u32>
+        ensures next { IsBeforeBlanks result self.now.entries }
+        ensures entry { IfSome result (λ number. IsNumber number self.now.entries) }
+    {
+        if self.mark == NO_ENTRY {
+            return self.recency.oldest();
+        }
+        self.recency.newer(self.mark)
+    }
+
+    /// An entry is passed, until it is used, and all that were used before it, until they are. Requires that they are blank.
+    pub fn pass(&mut self, number: u32)
+        requires { EndsBlank number self.old.entries }
+        ensures { self.new ≡ self.old }
+    {
+        self.mark = number;
+    }
+
     /// An entry is used in this frame, and is the most recently used from now on.
     pub fn touch(&mut self, number: u32, frame: u64)
         requires { IsNumber number self.old.entries }
@@ -243,6 +281,7 @@ impl<K: Copy + Eq + Hash, S: BuildHasher, A: Allocator + Copy> Entries<K, S, A> 
         ensures made { self.new.made ≡ self.old.made }
         ensures reserved { self.new.reserved ≡ self.old.reserved }
     {
+        unmark(&self.recency, &mut self.mark, number);
         self.recency.touch(number);
         let entry = &mut self.items[number as usize];
         entry.frame = frame;
@@ -279,6 +318,7 @@ impl<K: Copy + Eq + Hash, S: BuildHasher, A: Allocator + Copy> Entries<K, S, A> 
         ensures reserved { self.new.reserved ≡ self.old.reserved }
     {
         let key = self.items[number as usize].key;
+        unmark(&self.recency, &mut self.mark, number);
         self.recency.remove(number);
         let _number = self.map.remove(&key);
     }
@@ -324,5 +364,6 @@ impl<K: Copy + Eq + Hash, S: BuildHasher, A: Allocator + Copy> Entries<K, S, A> 
         self.map.clear();
         self.recency.clear();
         self.items.clear();
+        self.mark = NO_ENTRY;
     }
 }

@@ -147,6 +147,7 @@ impl<A: Allocator> Recency<A> {
     pub fn prove_kept(&self)
         ensures once { (k : ℕ) → occurs k self.now.entries ≤ 1 }
         ensures made { (k : ℕ) → IsEntry k self.now → k < self.now.made }
+        ensures few { self.now.made ≤ no_entry }
     {
         let _links = &self.links;
     }

@@ -18,12 +18,14 @@ ghost use Rattle.atlas_cache.specs.Rooms.{IsRefusal, KeepsRooms, LargestHasRoom}
 ghost use Rattle.atlas_cache.specs.Shrinking.{DropsIdle, IsLastInUse};
 ghost use Rattle.atlas_cache.specs.declared.error.CacheError.TheVariants.{Memory, Slots};
 
+mod asking;
 mod repacking;
 mod reserving;
 mod usable;
 
 use crate::error::CacheError;
 use crate::options::CacheOptions;
+use crate::rooms::asking::{NO_SIZE, ask};
 use guillotiere::pages::prove_page;
 use guillotiere::{AllocId, Allocation, AtlasAllocator, AtlasError, Size};
 use std::alloc::{Allocator, Global};
@@ -33,17 +35,19 @@ use std::marker::Model;
 #[derive(Drop)]
 pub struct Rooms<A: Allocator + Copy = Global> {
     pages: Vec<AtlasAllocator<A>, A>,
+    // For each page a size that it has no room for: the one that it refused last, or `NO_SIZE` if it changed since.
+    refused: Vec<Size, A>,
     options: CacheOptions,
 }
 
 impl<A: Allocator + Copy> Model for Rooms<A> {
-    ghost use Rattle.atlas_cache.specs.Rooms.{rooms_of, KeepsRooms, RoomsState};
+    ghost use Rattle.atlas_cache.specs.Rooms.{rooms_of, AreRefused, KeepsRooms, RoomsState};
 
     ghost Value = { RoomsState };
 
     ghost view = { λ r. rooms_of r.options r.pages.items };
 
-    ghost invariant = { λ r. KeepsRooms (rooms_of r.options r.pages.items) };
+    ghost invariant = { λ r. KeepsRooms (rooms_of r.options r.pages.items) × AreRefused r.pages.items r.refused.items };
 }
 
 // Why a cache refuses what an atlas refused.
@@ -134,6 +138,7 @@ impl<A: Allocator + Copy> Rooms<A> {
     {
         Rooms {
             pages: Vec::new(alloc),
+            refused: Vec::new(alloc),
             options,
         }
     }
@@ -195,7 +200,8 @@ impl<A: Allocator + Copy> Rooms<A> {
         self.place_among(0, to, asked)
     }
 
-    // The same, where none but the pages from `from` on and before `to` can have room: only these are looked at.
+    // The same, where none but the pages from `from` on and before `to` can have room: only these are looked at, and of
+    // these only those are searched that changed since they refused a size that was no larger.
     pub(crate) fn place_among(
         &mut self,
         from: usize,
@@ -207,7 +213,7 @@ impl<A: Allocator + Copy> Rooms<A> {
         ensures { PlacesFirst asked self.old self.new result }
     {
         for page in from..to {
-            match self.pages[page].allocate(asked) {
+            match ask(&mut self.pages[page], &mut self.refused[page], asked) {
                 Ok(None) => {}
                 Ok(Some(granted)) => return Ok(Some((number(page, self.options.pages), granted))),
                 Err(error) => return Err(refusal(error)),
@@ -226,6 +232,7 @@ impl<A: Allocator + Copy> Rooms<A> {
         ensures slots { UseAtMost 0 self.old.pages self.new.pages }
     {
         let _freed = self.pages[page as usize].deallocate(id);
+        self.refused[page as usize] = NO_SIZE;
     }
 
     /// The first page that isn't at its largest grows: the page, and its size from now on, in pixels. Its smaller side,
@@ -257,6 +264,7 @@ impl<A: Allocator + Copy> Rooms<A> {
         if let Err(error) = self.pages[page].grow(size) {
             return Err(refusal(error));
         }
+        self.refused[page] = NO_SIZE;
         Ok(Some((number(page, self.options.pages), size)))
     }
 
@@ -284,9 +292,11 @@ impl<A: Allocator + Copy> Rooms<A> {
             return Ok(None);
         }
         let alloc = *self.pages.allocator();
+        self.refused.reserve(1)?;
         match AtlasAllocator::with_options(alloc, self.options.page, &self.options.atlas) {
             Ok(page) => {
                 self.pages.push(page)?;
+                self.refused.push_reserved(NO_SIZE);
                 Ok(Some((number, self.options.page)))
             }
             Err(_) => Err(CacheError::Memory),
@@ -309,17 +319,20 @@ impl<A: Allocator + Copy> Rooms<A> {
             return None;
         }
         self.pages.truncate(last);
+        self.refused.truncate(last);
         Some(number(last, self.options.pages))
     }
 
-    /// All rectangles go. The pages stay, with their sizes. Takes no memory.
+    /// All rectangles go. The pages stay, with their sizes and what they have in reserve. Takes no memory.
     pub fn clear(&mut self)
         ensures nothing { IsNothingLive self.new.pages }
         ensures sizes { page_sizes self.new.pages ≡ page_sizes self.old.pages }
         ensures options { self.new.options ≡ self.old.options }
+        ensures slots { UseAtMost 0 self.old.pages self.new.pages }
     {
         for page in 0..self.pages.len() {
             let _cleared = self.pages[page].clear();
+            self.refused[page] = NO_SIZE;
         }
     }
 }

@@ -14,3 +14,4 @@ pub mod AddingLines
 pub mod SearchingBefore
 pub mod Windows
 pub mod ItemPicks
+pub mod Blanking

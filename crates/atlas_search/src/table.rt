@@ -1,8 +1,8 @@
 //! The table of the lists of free slots: the first slot of each, a bound of its slots' `min.y`, and marks of those that
 //! have a slot and of the one that was emptied last.
-ghost use Rattle.std.specs.Prelude.{◌≡◌, ◌≢◌, ◌+◌, ◌*◌, ◌<◌, ℕ, true, false, IfOk};
+ghost use Rattle.std.specs.Prelude.{◌≡◌, ◌≢◌, ◌+◌, ◌*◌, ◌<◌, ℕ, true, false, IfOk, length};
 ghost use Rattle.atlas_search.specs.Bands.{number_of};
-ghost use Rattle.atlas_search.specs.Masks.{IsMarked};
+ghost use Rattle.atlas_search.specs.Masks.{IsMarked, is_marked_at};
 ghost use Rattle.atlas_search.specs.Numbers.{no_slot};
 ghost use Rattle.atlas_search.specs.Tables.{IsPushed, head_of, is_used_at, low_of};
 
@@ -28,6 +28,35 @@ const BLANK: ListHead = ListHead {
     first: Link::NONE,
     low: 0,
 };
+
+// The lists of a row are empty in these columns from now on.
+fn blank_row(heads: &mut [ListHead], row: usize, columns: Mask)
+    requires long { length heads.old ≡ LISTS }
+    requires row { row < BANDS }
+    requires columns { (j : ℕ) → IsMarked columns j → j < BANDS }
+    ensures long { length heads.new ≡ LISTS }
+    ensures blank { (j : ℕ) → IsMarked columns j → is_used_at heads.new (52 * row + j) ≡ false }
+    ensures kept { (k : ℕ) → is_used_at heads.old k ≡ false → is_used_at heads.new k ≡ false }
+{
+    let mut left = columns;
+    while let Some(column) = left.take_first() {
+        heads[BANDS * row + column] = BLANK;
+    }
+}
+
+// All lists are empty from now on, of which only marked ones may have a slot.
+fn blank_marked(heads: &mut [ListHead], marks: &Marks)
+    requires long { length heads.old ≡ LISTS }
+    requires marked { (i j : ℕ) → i < BANDS → j < BANDS → is_used_at heads.old (52 * i + j) ≡ true
+        → is_marked_at marks.now i j ≡ true }
+    ensures long { length heads.new ≡ LISTS }
+    ensures blank { (k : ℕ) → is_used_at heads.new k ≡ false }
+{
+    let mut left = marks.used();
+    while let Some(row) = left.take_first() {
+        blank_row(heads, row, marks.row(row));
+    }
+}
 
 /// The heads of all lists: one block of memory, which takes 21632 bytes. Contracts see the heads alone.
 ///
@@ -78,11 +107,11 @@ impl<A: Allocator> Table<A> {
         })
     }
 
-    /// Each list is empty from now on.
+    /// Each list is empty from now on. Writes the heads of marked lists alone.
     pub fn clear(&mut self)
         ensures { (k : ℕ) → is_used_at self.new k ≡ false }
     {
-        self.heads.fill(BLANK);
+        blank_marked(&mut self.heads, &self.marks);
         self.marks = Marks::none();
         self.emptied = LISTS;
     }
@@ -134,7 +163,10 @@ impl<A: Allocator> Table<A> {
         ensures lows { (k : ℕ) → low_of self.new k ≡ low_of self.old k }
     {
         self.heads[number].first = first;
-        if first.number == NO_SLOT && self.emptied != number {
+        if first.number != NO_SLOT {
+            return;
+        }
+        if self.emptied != number {
             let before = self.emptied;
             self.emptied = number;
             if before < LISTS && self.heads[before].first.number == NO_SLOT {

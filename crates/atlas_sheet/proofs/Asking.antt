@@ -1,7 +1,8 @@
 -- One sprite that asks for a place.
-use Rattle.std.proofs.Common.{◌≡◌, ◌+◌, ◌-◌, ◌/◌, ◌%◌, ◌≤◌, ℕ, Bool, false, not, ◌&&◌, eqb, List, ◌∷◌, ◌++◌, All, ap, sym, subst, ◌∙◌, Option, Some, None, arith}
+use Rattle.std.proofs.Common.{◌≡◌, ◌+◌, ◌-◌, ◌/◌, ◌%◌, ◌≤◌, ℕ, Bool, false, not, ◌&&◌, eqb, List, ◌∷◌, ◌++◌, All, ap, sym, subst, ◌∙◌, Option, Some, None, IfSome, is_some, arith}
 use Rattle.std.specs.List.{count_by}
 use Rattle.std.proofs.Math.Nat.{add-mul-mod_self_right}
+use Rattle.std.proofs.lemmas.Bool.{false≢true}
 use Rattle.std.proofs.lemmas.Bool.Decides.{nat_tests}
 use Rattle.std.proofs.lemmas.List.Elements.{All-cons, All-head, All-tail, All-contains, All-weaker}
 use Rattle.guillotiere.specs.declared.Size.{Size}
@@ -9,14 +10,14 @@ use Rattle.guillotiere.specs.declared.Rectangle.{Rectangle}
 use Rattle.guillotiere.specs.Boxes.{Sides, Box, Axis, IsInside, IsPositive, IsWithin, box_sides, covers}
 use Rattle.atlas_model.specs.Boxes.Axis.{Horizontal, Vertical}
 use Rattle.atlas_model.specs.Cuts.{cut_axis, split_along, leftover_along}
-use Rattle.guillotiere.specs.Choice.{Options, rounded, up}
+use Rattle.guillotiere.specs.Choice.{HasNoRoom, Options, rounded, up}
 use Rattle.guillotiere.specs.Simple.{SimpleState, SimplyGrants, IsGuarded, is_kept, kept_rest}
 use Rattle.guillotiere.proofs.ChoiceLemmas.Rounding.{up_least}
 use Rattle.guillotiere.proofs.TreeLemmas.TreeBasics.{one_if}
 use Rattle.guillotiere.proofs.ListLemmas.Counting.{count_by-cons, count_by-append}
 use Rattle.atlas_model.proofs.SimpleLemmas.SimpleGrants.{count-none, none-count, kept_le}
 use Rattle.atlas_sheet.specs.declared.options.Spacing.{Spacing}
-use Rattle.atlas_sheet.specs.Sheets.{FindsPlace, IsOnGrid}
+use Rattle.atlas_sheet.specs.Sheets.{FindsPlace, IsOnGrid, asked_sides}
 
 -- A granted box has room for the sides that were asked for.
 pub granted_room : (old new : SimpleState) (s : Sides) (box : Box) → IsPositive old.options.alignment
@@ -36,6 +37,17 @@ pub keeps_options : (spacing : Spacing) (old new : SimpleState) (sprite : Size) 
     → FindsPlace spacing old sprite found new → new.options ≡ old.options
 keeps_options spacing old new sprite None step = ap (λ s. s.options) step.1
 keeps_options spacing old new sprite (Some place) step = step.1.options
+
+-- A size that found no place finds none as long as nothing is granted.
+pub refused_now : (spacing : Spacing) (old new : SimpleState) (sprite : Size) (found : Option Rectangle)
+    (refused : Option Size)
+    → FindsPlace spacing old sprite found new → IfSome refused (λ s. (s ≡ sprite) × (found ≡ None))
+    → IfSome refused (λ s. HasNoRoom new.free new.options (asked_sides spacing.padding s))
+refused_now spacing old new sprite found None step is = tt
+refused_now spacing old new sprite None (Some s) step is =
+    subst (λ (t : SimpleState). HasNoRoom t.free t.options (asked_sides spacing.padding s)) (sym step.1)
+    (subst (λ (z : Size). HasNoRoom old.free old.options (asked_sides spacing.padding z)) (sym is.0) step.0)
+refused_now spacing old new sprite (Some place) (Some s) step is = absurd (false≢true (sym (ap is_some is.1)))
 
 pub keeps_positive : (spacing : Spacing) (old new : SimpleState) (sprite : Size) (found : Option Rectangle)
     → FindsPlace spacing old sprite found new → IsPositive old.options.alignment → IsPositive new.options.alignment

@@ -1,7 +1,7 @@
 -- Sprites in groups on several sheets.
 use Rattle.std.specs.Prelude.{◌≡◌, ◌≢◌, ℕ, ◌==◌, ◌⊎◌, if◌then◌else◌, Bool, true, false, List, [], ◌∷◌, ◌++◌}
 use Rattle.std.specs.Prelude.{length, map, replicate, take, ◌+◌, ◌-◌, All, Option, Some, None, is_none, is_some}
-use Rattle.std.specs.Prelude.{IfSome, IsSome}
+use Rattle.std.specs.Prelude.{◌<◌, IfSome, IsNone, IsSome, slice_index_or}
 use Rattle.std.specs.List.{AllZip, count_by}
 use Rattle.guillotiere.specs.declared.Size.{Size}
 use Rattle.guillotiere.specs.Boxes.{Sides}
@@ -66,6 +66,11 @@ without_group group groups = map (λ g. if is_in group g then None else g) group
 -- One of the sprites is in this group.
 abbrev pub HasMember : (group : ℕ) → List (Option ℕ) → Type 0
 HasMember group groups = All (λ g. g ≢ Some group) groups → ⊥
+
+-- The group of the first sprite that is in one.
+abbrev pub IsFirstGroup : (group : ℕ) → List (Option ℕ) → Type 0
+IsFirstGroup group groups =
+    (k : ℕ) × (k < length groups) × (slice_index_or groups k None ≡ Some group) × All IsNone (take k groups)
 
 -- A row says the same of each sprite of a group.
 abbrev pub SaysOf : (whether : ℕ → Bool) → Option ℕ → Bool → Type 0

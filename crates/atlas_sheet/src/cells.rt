@@ -21,7 +21,8 @@ use std::alloc::Allocator;
 fn whole_cells(side: i32, cell: i32) -> i32
     requires side { 0 < natural side }
     requires cell { 0 < natural cell }
-    ensures { natural result * natural cell ≤ natural side }
+    ensures fit { natural result * natural cell ≤ natural side }
+    ensures most { natural side < natural result * natural cell + natural cell }
 {
     (side as u32 / cell as u32) as i32
 }
@@ -30,7 +31,8 @@ fn whole_cells(side: i32, cell: i32) -> i32
 fn cells_for(side: i32, cell: i32) -> i32
     requires side { 0 < natural side }
     requires cell { 0 < natural cell }
-    ensures { natural side ≤ natural result * natural cell }
+    ensures enough { natural side ≤ natural result * natural cell }
+    ensures least { natural result * natural cell < natural side + natural cell }
 {
     ((side as u32 - 1) / cell as u32 + 1) as i32
 }

@@ -6,7 +6,7 @@ ghost use Rattle.atlas_sheet.specs.declared.error.SheetError.TheVariants.{Memory
 ghost use Rattle.atlas_sheet.specs.declared.ways.TheConstants.{WAYS};
 ghost use Rattle.atlas_sheet.specs.Allowances.{IsAllowed};
 ghost use Rattle.atlas_sheet.specs.Dense.{IsNoLargerThanWays, NoWayFinds};
-ghost use Rattle.atlas_sheet.specs.Grouping.{AreChosen, HasMember, IsClosed, IsGroupPage, is_in, members, picked, spread};
+ghost use Rattle.atlas_sheet.specs.Grouping.{AreChosen, HasMember, IsClosed, IsFirstGroup, IsGroupPage, is_in, members, picked, spread};
 ghost use Rattle.atlas_sheet.specs.Lying.{IsArranged, IsShown};
 ghost use Rattle.atlas_sheet.specs.Settings.{CanPack, spacing_of};
 
@@ -19,6 +19,7 @@ use crate::packing::packed;
 use crate::placed::Placed;
 use crate::search::greatest_sheet;
 use crate::sheets::{Filled, best_filled, filled_of};
+use crate::slots::{asks, is_over, slot_pixels, slots_of};
 use guillotiere::Size;
 use std::alloc::{Allocator, Global};
 
@@ -167,6 +168,7 @@ fn spread<A: Allocator>(
 /// The first group of a sprite.
 pub fn first_group(groups: &[Option<usize>]) -> Option<usize>
     ensures some { IfSome result (λ group. HasMember group groups.now) }
+    ensures first { IfSome result (λ group. IsFirstGroup group groups.now) }
     ensures none { IfNone result (All IsNone groups.now) }
 {
     for number in groups {
@@ -264,7 +266,24 @@ fn with_group<A: Allocator + Copy>(
     }
 }
 
-// With each other group that the sheet takes, in the order of their first sprites.
+// How many pixels of the greatest sheet the sprites don't take where the row says so.
+fn room_beside<A: Allocator>(
+    alloc: A,
+    row: &[bool],
+    sprites: &[Size],
+    options: &SheetOptions,
+) -> Result<u64, SheetError>
+    requires good { CanPack options.now sprites.now }
+    requires long { length row.now ≡ length sprites.now }
+    ensures unless { IsOkUnless result Memory }
+{
+    let some = picked(alloc, row, sprites)?;
+    let room = pixels_of(greatest_sheet(options.allowed));
+    Ok(room.saturating_sub(sprite_pixels(&some)))
+}
+
+// With each other group that the sheet takes, in the order of their first sprites. Each is asked for once, and one with more
+// pixels than are left isn't tried.
 fn with_groups<A: Allocator + Copy>(
     alloc: A,
     sprites: &[Size],
@@ -278,12 +297,18 @@ fn with_groups<A: Allocator + Copy>(
     ensures chosen { IfOk result (AreChosen options.now sprites.now groups.now) }
     ensures unless { IsOkUnless result Memory }
 {
+    let slots = slots_of(alloc, groups)?;
+    let pixels = slot_pixels(alloc, &slots, sprites)?;
+    let mut asked = vec![in alloc; false; slots.len()]?;
+    let mut room = room_beside(alloc, &first.row, sprites, options)?;
     let mut chosen = first;
     for (number, place) in groups.iter().enumerate() {
         if let Some(group) = place {
-            let is_new = !groups[..number].contains(place);
-            if is_new && !chosen.row[number] {
+            let slot = slots[number];
+            let is_new = asks(&mut asked, slot);
+            if is_new && !chosen.row[number] && !is_over(&pixels, slot, room) {
                 chosen = with_group(alloc, sprites, groups, options, *group, chosen)?;
+                room = room_beside(alloc, &chosen.row, sprites, options)?;
             }
         }
     }

@@ -1,11 +1,11 @@
 //! Sheets that are packed with no guillotine cuts.
-ghost use Rattle.std.specs.List.{AllZip};
-ghost use Rattle.std.specs.Prelude.{◌≡◌, ◌<◌, ◌≤◌, false, length, map, All, IfErr, IfNone, IfOk, IfSome, IsOkUnless, IsSome};
+ghost use Rattle.std.specs.List.{AllZip, sum_by};
+ghost use Rattle.std.specs.Prelude.{◌≡◌, ◌<◌, ◌↔◌, false, length, map, min, All, IfErr, IfNone, IfOk, IfSome, IsOkUnless, IsSome};
 ghost use Rattle.std.specs.Prelude.{IsTrue, MatchOption, Some};
 ghost use Rattle.guillotiere.specs.Boxes.{AreDisjoint, IsPositive, IsWithin, box_sides};
 ghost use Rattle.guillotiere.specs.Pixels.{box_of, natural, sides_of};
 ghost use Rattle.atlas_sheet.specs.declared.error.SheetError.TheVariants.{Memory};
-ghost use Rattle.atlas_sheet.specs.Allowances.{IsAllowed, IsRow, IsUsable, pixels};
+ghost use Rattle.atlas_sheet.specs.Allowances.{IsAllowed, IsGreatest, IsRow, IsUsable, pixels};
 ghost use Rattle.atlas_sheet.specs.Dense.{AreAllPlaced, ArePaddedApart, IsNoLargerThanWays, IsWholeSheet, NoWayFinds};
 ghost use Rattle.atlas_sheet.specs.Lying.{areas_of, placed_area};
 ghost use Rattle.atlas_sheet.specs.Orders.{IsOrder};
@@ -68,7 +68,9 @@ pub fn pixels_of(size: Size) -> u64
 }
 
 /// How many pixels the sprites have together, but at most 2^64 - 1.
-pub fn sprite_pixels(sprites: &[Size]) -> u64 {
+pub fn sprite_pixels(sprites: &[Size]) -> u64
+    ensures { result ≡ min (sum_by (λ s. pixels (sides_of s)) sprites.now) 18446744073709551615 }
+{
     let mut area: u64 = 0;
     for sprite in sprites {
         area = area.saturating_add(pixels_of(*sprite));
@@ -108,7 +110,7 @@ fn sheet_of<A: Allocator + Copy>(
 
 // Whether each sprite has a place.
 fn all_placed(placed: &[Option<Placed>]) -> bool
-    ensures { IsTrue result → All IsSome placed.now }
+    ensures { IsTrue result ↔ All IsSome placed.now }
 {
     placed.iter().all(|place| place.is_some())
 }
@@ -141,7 +143,7 @@ fn dense_at<A: Allocator + Copy>(
 
 // Whether a sheet has fewer pixels than the best one, if there is one.
 fn is_smaller<A: Allocator>(size: Size, best: &Option<Sheet<A>>) -> bool
-    ensures { IsTrue result → IfSome best.now (λ sheet. pixels (sides_of size) ≤ pixels (sides_of sheet.size)) }
+    ensures { IsTrue result ↔ IfSome best.now (λ sheet. pixels (sides_of size) < pixels (sides_of sheet.size)) }
 {
     match best {
         None => true,
@@ -233,6 +235,8 @@ fn next_size<A: Allocator>(
     requires best { IfSome best.now (IsWholeSheet options.now sprites.now) }
     ensures allowed { IfSome result (λ size. IsAllowed options.now.allowed (sides_of size)) }
     ensures positive { IfSome result (λ size. IsPositive (sides_of size)) }
+    ensures first { IfNone best.now (IfSome result (λ size. IsGreatest options.now.allowed (sides_of size))) }
+    ensures some { IfNone best.now (IsSome result) }
 {
     match best {
         None => Some(greatest_sheet(options.allowed)),

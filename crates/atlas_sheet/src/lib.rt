@@ -20,6 +20,7 @@ mod places;
 mod random;
 mod search;
 mod sheets;
+mod slots;
 mod trials;
 mod turnings;
 mod ways;

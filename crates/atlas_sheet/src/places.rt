@@ -1,7 +1,8 @@
 //! Places for sprites, one after another.
-ghost use Rattle.std.specs.Prelude.{◌≡◌, ◌+◌, ◌-◌, ◌<◌, ◌≤◌, max, length, pos, All, IfNone, IfOk, IfSome, IsOkUnless};
+ghost use Rattle.std.specs.Prelude.{◌≡◌, ◌+◌, ◌-◌, ◌<◌, ◌≤◌, max, length, pos, All, IfNone, IfOk, IfSome, IsOkUnless, None};
 ghost use Rattle.std.specs.Prelude.{OnOk};
 ghost use Rattle.guillotiere.specs.Boxes.{IsPositive, box_at};
+ghost use Rattle.guillotiere.specs.Choice.{HasNoRoom};
 ghost use Rattle.guillotiere.specs.Pixels.{box_of, natural, sides_of};
 ghost use Rattle.guillotiere.specs.Simple.{simple_start};
 ghost use Rattle.guillotiere.specs.SimpleStored.{simple_state_of};
@@ -134,6 +135,37 @@ fn place<A: Allocator + Copy>(
     Ok(Some(inset(area, sprite, spacing.padding)))
 }
 
+// Asks for a place for a sprite, if it hasn't the size that found none just before.
+fn place_unless<A: Allocator + Copy>(
+    packer: &mut SimpleAtlasAllocator<A>,
+    sprite: Size,
+    spacing: Spacing,
+    refused: Option<Size>,
+) -> Result<Option<Rectangle>, SheetError>
+    requires packable { IsPackable spacing sprite }
+    requires aligned { IsPositive (simple_state_of packer.old).options.alignment }
+    requires refused { IfSome refused (λ s. HasNoRoom (simple_state_of packer.old).free
+        (simple_state_of packer.old).options (asked_sides spacing.padding s)) }
+    ensures step { IfOk result (λ found.
+        FindsPlace spacing (simple_state_of packer.old) sprite found (simple_state_of packer.new)) }
+    ensures unless { IsOkUnless result Memory }
+{
+    if refused == Some(sprite) {
+        return Ok(None);
+    }
+    place(packer, sprite, spacing)
+}
+
+// The size that found no place, if it found none.
+fn refused_by(sprite: Size, found: Option<Rectangle>) -> Option<Size>
+    ensures { IfSome result (λ s. (s ≡ sprite) × (found ≡ None)) }
+{
+    match found {
+        Some(_) => None,
+        None => Some(sprite),
+    }
+}
+
 // Numbered sprites ask one after another; what each finds is written at its number.
 fn find_in<A: Allocator + Copy>(
     packer: &mut SimpleAtlasAllocator<A>,
@@ -149,8 +181,11 @@ fn find_in<A: Allocator + Copy>(
         (FindPlaces spacing (simple_state_of packer.old) (with_places places.new order.now)) }
     ensures unless { IsOkUnless result Memory }
 {
+    let mut refused = None;
     for sprite in order {
-        places[sprite.0] = place(packer, sprite.1, spacing)?;
+        let found = place_unless(packer, sprite.1, spacing, refused)?;
+        places[sprite.0] = found;
+        refused = refused_by(sprite.1, found);
     }
     Ok(())
 }

@@ -97,6 +97,20 @@ impl<A: Allocator + Copy> SimpleAtlasAllocator<A> {
         })
     }
 
+    /// A copy: the whole stored value is equal, entries and lists included, and so are its answers to later calls, except
+    /// where memory is refused. `Memory` is the only error.
+    pub fn clone(&self) -> Result<Self, AtlasError>
+        ensures unless { IsOkUnless result AtlasError.Memory }
+        ensures equal { IfOk result (λ it. it ≡ self.now) }
+    {
+        let boxes = self.boxes.copy()?;
+        Ok(SimpleAtlasAllocator {
+            boxes,
+            size: self.size,
+            options: self.options.copy(),
+        })
+    }
+
     /// Grants a request: the box of the rounded size at the `min` of the free box that is picked. None if the size is
     /// empty, if a rounded side passes 2147483647, or if the rounded size fits no free box; then no memory is asked
     /// for. The only error is `Memory`, if more entries would be used than there are and memory for them is refused.

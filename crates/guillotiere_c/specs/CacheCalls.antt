@@ -1,8 +1,9 @@
 -- What a call does with a cache that has keys of 64 bits.
-use Rattle.std.specs.Prelude.{◌≡◌, ◌≢◌, ◌↔◌, ◌<◌, ℕ, length, IfErr, IfSome, IsSome, Option, None, Some, Result, Ok}
+use Rattle.std.specs.Prelude.{◌≡◌, ◌≢◌, ◌↔◌, ◌<◌, ℕ, length, map, IfErr, IfSome, IsSome, Option, None, Some, Result, Ok}
 use Rattle.std.specs.Prelude.{nat_eq}
 use Rattle.guillotiere.specs.declared.Size.{Size}
 use Rattle.guillotiere.specs.Pixels.{size_of}
+use Rattle.guillotiere.specs.Stored.{state_of}
 use Rattle.atlas_cache.specs.declared.error.CacheError.{CacheError}
 use Rattle.atlas_cache.specs.declared.inserted.Inserted.{Inserted}
 use Rattle.atlas_cache.specs.declared.inserted.Inserted.TheVariants.{Placed, Held, FrameFull, NeverFits}
@@ -14,6 +15,7 @@ use Rattle.atlas_cache.specs.Clearing.{TellsChanges, Trims}
 use Rattle.atlas_cache.specs.Counting.{one_more}
 use Rattle.atlas_cache.specs.Refusals.{IsRefusedNew}
 use Rattle.atlas_cache.specs.Relocating.{Repacks}
+use Rattle.atlas_cache.specs.Reserving.{UseAtMost}
 use Rattle.atlas_cache.specs.Shrinking.{Shrinks}
 use Rattle.atlas_cache.specs.Telling.{Tells}
 use Rattle.atlas_cache.specs.Walking.{ShowsOlder}
@@ -70,3 +72,9 @@ pub record IsRepacking (page : ℕ) (f g : Followed) : Type 0 where
   pub there : page < length f.cache.pages
   pub repacks : Repacks page f.changes g.changes f.cache g.cache
   pub told : TellsChanges nat_eq f.changes g.changes f.cache g.cache
+
+-- The pages have the states that they had, and none uses more slots; nothing else changes.
+pub record KeepsStates (f g : Followed) : Type 0 where
+  pub states : map state_of g.cache.pages ≡ map state_of f.cache.pages
+  pub slots : UseAtMost 0 f.cache.pages g.cache.pages
+  pub rest : g ≡ record f { cache = record f.cache { pages = g.cache.pages } }

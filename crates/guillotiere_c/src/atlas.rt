@@ -11,7 +11,7 @@ ghost use Rattle.guillotiere_c.specs.Calls.{GainsMemory, HoldsAtlas, HoldsReserv
 ghost use Rattle.guillotiere_c.specs.Numbers.{allocator_options_in, options_in, corners_in, sides_in, size_in};
 ghost use Rattle.guillotiere_c.specs.Statuses.{plain_reply, request_reply};
 
-use crate::atlas_handle::AtlasHandle;
+use crate::atlas_handle::{AtlasHandle, AtlasReader};
 use crate::plain::{
     BAD_CALL, DONE, EMPTY, MEMORY, NO_ROOM, NOT_LIVE, PlainAllocation, PlainAreas, PlainOptions,
     PlainRectangle, PlainSize, PlainSlots, SLOTS, options_for, plain_allocation, plain_options,
@@ -20,7 +20,8 @@ use crate::plain::{
 use guillotiere::{AllocId, AtlasAllocator, size2};
 use std::alloc::Global;
 
-/// Grants a request. `DONE`, and then the id and its rectangle are in `granted`; `NO_ROOM`, `SLOTS` or `MEMORY`.
+/// Asks for a box of this size, rounded up by the options. `DONE`: `granted` has its id and its rectangle, which overlaps no
+/// other live box. `NO_ROOM` if the size is empty or fits no free box; `SLOTS`; `MEMORY`; `EMPTY`.
 #[unsafe(no_mangle)]
 pub extern "C" fn guillotiere_atlas_allocate(
     alloc: Global,
@@ -54,7 +55,7 @@ pub extern "C" fn guillotiere_atlas_allocate(
     }
 }
 
-/// Frees the box of an id. `DONE`, or `NOT_LIVE`.
+/// Frees the box of a live id: it joins the free space next to it. Takes no memory. `DONE`; `NOT_LIVE`; `EMPTY`.
 #[unsafe(no_mangle)]
 pub extern "C" fn guillotiere_atlas_deallocate(
     alloc: Global,
@@ -77,27 +78,24 @@ pub extern "C" fn guillotiere_atlas_deallocate(
     status_of_done(answer)
 }
 
-/// The rectangle of a live id. `DONE`, and then it is in `found`; `NOT_LIVE`.
+/// The rectangle of a live id. `DONE`: it is in `found`. `NOT_LIVE`; `EMPTY`.
 #[unsafe(no_mangle)]
 pub extern "C" fn guillotiere_atlas_get(
-    alloc: Global,
-    atlas: &mut AtlasHandle,
+    atlas: &AtlasReader,
     id: u32,
     found: &mut PlainRectangle,
 ) -> u32
-    ensures live { IsSome atlas.old.kept → HoldsAtlas atlas.old.kept (λ s. (result ≡ DONE) ↔ IsLive s id) }
-    ensures rectangle { IsSome atlas.old.kept → result ≡ DONE → HoldsAtlas atlas.old.kept
+    ensures live { IsSome atlas.now.kept → HoldsAtlas atlas.now.kept (λ s. (result ≡ DONE) ↔ IsLive s id) }
+    ensures rectangle { IsSome atlas.now.kept → result ≡ DONE → HoldsAtlas atlas.now.kept
         (λ s. Some (corners_in found.new) ≡ option_map rectangle_of (live_box s id)) }
     ensures refused { result ≢ DONE → found.new ≡ found.old }
-    ensures same { atlas.new.kept ≡ atlas.old.kept }
-    ensures empty { IsNone atlas.old.kept → result ≡ EMPTY }
+    ensures empty { IsNone atlas.now.kept → result ≡ EMPTY }
 {
     if !atlas.holds() {
         return EMPTY;
     }
-    let held = atlas.take(alloc);
+    let held = atlas.lent();
     let rectangle = held.get(AllocId::deserialize(id));
-    atlas.put(held);
     match rectangle {
         Some(rectangle) => {
             *found = plain_rectangle(rectangle);
@@ -107,8 +105,8 @@ pub extern "C" fn guillotiere_atlas_get(
     }
 }
 
-/// Makes the atlas larger; every live id keeps its rectangle. `DONE`; `BAD_CALL` if a side shrinks; `SLOTS` or
-/// `MEMORY`.
+/// Makes the atlas larger; every live id keeps its rectangle. `DONE`; `BAD_CALL` if a side shrinks; `SLOTS`; `MEMORY`;
+/// `EMPTY`.
 #[unsafe(no_mangle)]
 pub extern "C" fn guillotiere_atlas_grow(
     alloc: Global,
@@ -138,55 +136,43 @@ pub extern "C" fn guillotiere_atlas_grow(
     status_of_done(answer)
 }
 
-/// Whether the atlas may be grown to this size: no side shrinks. False of a handle that holds nothing.
+/// Whether the atlas may be grown to this size, in pixels: no side shrinks. False of a handle that holds nothing.
 #[unsafe(no_mangle)]
 pub extern "C" fn guillotiere_atlas_can_grow_to(
-    alloc: Global,
-    atlas: &mut AtlasHandle,
+    atlas: &AtlasReader,
     width: i32,
     height: i32,
 ) -> bool
-    ensures fits { IsSome atlas.old.kept → HoldsAtlas atlas.old.kept
+    ensures fits { IsSome atlas.now.kept → HoldsAtlas atlas.now.kept
         (λ s. IsTrue result ↔ Fits s.size (sides_in width height)) }
-    ensures same { atlas.new.kept ≡ atlas.old.kept }
-    ensures empty { IsNone atlas.old.kept → IsFalse result }
+    ensures empty { IsNone atlas.now.kept → IsFalse result }
 {
     if !atlas.holds() {
         return false;
     }
-    let held = atlas.take(alloc);
-    let can_grow = held.can_grow_to(size2(width, height));
-    atlas.put(held);
-    can_grow
+    let held = atlas.lent();
+    held.can_grow_to(size2(width, height))
 }
 
-/// Whether a request of this size has room: then `guillotiere_atlas_allocate` grants it, slots and memory aside; else
-/// it answers `NO_ROOM`. False of a handle that holds nothing.
+/// Whether a request of this size, in pixels, has room: then `guillotiere_atlas_allocate` grants it, slots and memory aside;
+/// else it answers `NO_ROOM`. Takes one search and no memory. False of a handle that holds nothing.
 #[unsafe(no_mangle)]
-pub extern "C" fn guillotiere_atlas_can_fit(
-    alloc: Global,
-    atlas: &mut AtlasHandle,
-    width: i32,
-    height: i32,
-) -> bool
-    ensures room { IsSome atlas.old.kept → HoldsAtlas atlas.old.kept
+pub extern "C" fn guillotiere_atlas_can_fit(atlas: &AtlasReader, width: i32, height: i32) -> bool
+    ensures room { IsSome atlas.now.kept → HoldsAtlas atlas.now.kept
         (λ s. IsTrue result ↔ HasRoom (free_in s) s.options (sides_in width height)) }
-    ensures same { atlas.new.kept ≡ atlas.old.kept }
-    ensures empty { IsNone atlas.old.kept → IsFalse result }
+    ensures empty { IsNone atlas.now.kept → IsFalse result }
 {
     if !atlas.holds() {
         return false;
     }
-    let held = atlas.take(alloc);
-    let can_fit = held.can_fit(size2(width, height));
-    atlas.put(held);
-    can_fit
+    let held = atlas.lent();
+    held.can_fit(size2(width, height))
 }
 
-/// Takes memory for so many slots in addition to those that are used; nothing else changes. `DONE`; `SLOTS` if more
-/// slots would be used than the limit allows; `MEMORY`. A grant uses at most 4 more slots, a growth at most 3, a
-/// freeing none, and while there is memory for them the answer isn't `MEMORY`. The memory stays until the atlas is
-/// rearranged or freed.
+/// Takes memory for this many slots beyond those in use; nothing else changes. While there is memory for 4 more slots no
+/// request is answered `MEMORY`, and for 3 no growth; a request uses at most 4, a growth at most 3, a freeing none. The
+/// memory stays until the atlas is rearranged or freed, and a copy has none of it.
+/// `DONE`; `SLOTS` if more slots would be used than the limit allows; `MEMORY`; `EMPTY`.
 #[unsafe(no_mangle)]
 pub extern "C" fn guillotiere_atlas_reserve(
     alloc: Global,
@@ -212,7 +198,7 @@ pub extern "C" fn guillotiere_atlas_reserve(
     status_of_done(answer)
 }
 
-/// Starts again at the present size, options and limit: one free rectangle, no id live. Always `DONE`.
+/// Starts again at the present size, options and limit: one free box, no id live. Takes no memory. `DONE`; `EMPTY`.
 #[unsafe(no_mangle)]
 pub extern "C" fn guillotiere_atlas_clear(alloc: Global, atlas: &mut AtlasHandle) -> u32
     ensures step { IsSome atlas.old.kept → IsHeldStep atlas.old.kept Clear (plain_reply result) atlas.new.kept }
@@ -230,8 +216,8 @@ pub extern "C" fn guillotiere_atlas_clear(alloc: Global, atlas: &mut AtlasHandle
     status_of_done(answer)
 }
 
-/// Starts again at this size and with these options; the limit stays. `DONE`; `BAD_CALL` if the size is empty or the
-/// options aren't valid.
+/// Starts again at this size and with these options; the limit stays. Takes no memory.
+/// `DONE`; `BAD_CALL` if a side isn't above 0 or the options aren't valid; `EMPTY`.
 #[unsafe(no_mangle)]
 pub extern "C" fn guillotiere_atlas_reset(
     alloc: Global,
@@ -262,111 +248,84 @@ pub extern "C" fn guillotiere_atlas_reset(
     status_of_done(answer)
 }
 
-/// The size of the atlas, in pixels. `DONE`.
+/// The size of the atlas. `DONE`; `EMPTY`.
 #[unsafe(no_mangle)]
-pub extern "C" fn guillotiere_atlas_size(
-    alloc: Global,
-    atlas: &mut AtlasHandle,
-    size: &mut PlainSize,
-) -> u32
-    ensures size { IsSome atlas.old.kept → HoldsAtlas atlas.old.kept (λ s. size_in size.new ≡ size_of s.size) }
-    ensures done { IsSome atlas.old.kept → result ≡ DONE }
-    ensures same { atlas.new.kept ≡ atlas.old.kept }
-    ensures empty { IsNone atlas.old.kept → (result ≡ EMPTY) × (size.new ≡ size.old) }
+pub extern "C" fn guillotiere_atlas_size(atlas: &AtlasReader, size: &mut PlainSize) -> u32
+    ensures size { IsSome atlas.now.kept → HoldsAtlas atlas.now.kept (λ s. size_in size.new ≡ size_of s.size) }
+    ensures done { IsSome atlas.now.kept → result ≡ DONE }
+    ensures empty { IsNone atlas.now.kept → (result ≡ EMPTY) × (size.new ≡ size.old) }
 {
     if !atlas.holds() {
         return EMPTY;
     }
-    let held = atlas.take(alloc);
+    let held = atlas.lent();
     *size = plain_size(held.size());
-    atlas.put(held);
     DONE
 }
 
-/// The options of the atlas. `DONE`.
+/// The options of the atlas. `DONE`; `EMPTY`.
 #[unsafe(no_mangle)]
-pub extern "C" fn guillotiere_atlas_options(
-    alloc: Global,
-    atlas: &mut AtlasHandle,
-    options: &mut PlainOptions,
-) -> u32
-    ensures options { IsSome atlas.old.kept → HoldsAtlas atlas.old.kept
+pub extern "C" fn guillotiere_atlas_options(atlas: &AtlasReader, options: &mut PlainOptions) -> u32
+    ensures options { IsSome atlas.now.kept → HoldsAtlas atlas.now.kept
         (λ s. allocator_options_in options.new ≡ allocator_options_of s.options) }
-    ensures done { IsSome atlas.old.kept → result ≡ DONE }
-    ensures same { atlas.new.kept ≡ atlas.old.kept }
-    ensures empty { IsNone atlas.old.kept → (result ≡ EMPTY) × (options.new ≡ options.old) }
+    ensures done { IsSome atlas.now.kept → result ≡ DONE }
+    ensures empty { IsNone atlas.now.kept → (result ≡ EMPTY) × (options.new ≡ options.old) }
 {
     if !atlas.holds() {
         return EMPTY;
     }
-    let held = atlas.take(alloc);
+    let held = atlas.lent();
     *options = plain_options(held.options());
-    atlas.put(held);
     DONE
 }
 
-/// How many slots are used, the most that were used at once since the last start, and how many may be used. `DONE`.
+/// The counts of slots. `DONE`; `EMPTY`.
 #[unsafe(no_mangle)]
-pub extern "C" fn guillotiere_atlas_slots(
-    alloc: Global,
-    atlas: &mut AtlasHandle,
-    slots: &mut PlainSlots,
-) -> u32
-    ensures used { IsSome atlas.old.kept → HoldsAtlas atlas.old.kept (λ s. slots.new.used ≡ used_in s) }
-    ensures kept { IsSome atlas.old.kept → HoldsAtlas atlas.old.kept (λ s. slots.new.kept ≡ s.kept) }
-    ensures limit { IsSome atlas.old.kept → HoldsAtlas atlas.old.kept (λ s. slots.new.limit ≡ s.limit) }
-    ensures done { IsSome atlas.old.kept → result ≡ DONE }
-    ensures same { atlas.new.kept ≡ atlas.old.kept }
-    ensures empty { IsNone atlas.old.kept → (result ≡ EMPTY) × (slots.new ≡ slots.old) }
+pub extern "C" fn guillotiere_atlas_slots(atlas: &AtlasReader, slots: &mut PlainSlots) -> u32
+    ensures used { IsSome atlas.now.kept → HoldsAtlas atlas.now.kept (λ s. slots.new.used ≡ used_in s) }
+    ensures kept { IsSome atlas.now.kept → HoldsAtlas atlas.now.kept (λ s. slots.new.kept ≡ s.kept) }
+    ensures limit { IsSome atlas.now.kept → HoldsAtlas atlas.now.kept (λ s. slots.new.limit ≡ s.limit) }
+    ensures done { IsSome atlas.now.kept → result ≡ DONE }
+    ensures empty { IsNone atlas.now.kept → (result ≡ EMPTY) × (slots.new ≡ slots.old) }
 {
     if !atlas.holds() {
         return EMPTY;
     }
-    let held = atlas.take(alloc);
+    let held = atlas.lent();
     *slots = plain_slots(held.slots());
-    atlas.put(held);
     DONE
 }
 
-/// The area of all live and of all free rectangles, in unit squares: together that of the atlas. `DONE`.
+/// The areas of all live and of all free boxes, in one pass over the slots. `DONE`; `EMPTY`.
 #[unsafe(no_mangle)]
-pub extern "C" fn guillotiere_atlas_areas(
-    alloc: Global,
-    atlas: &mut AtlasHandle,
-    areas: &mut PlainAreas,
-) -> u32
-    ensures allocated { IsSome atlas.old.kept → HoldsAtlas atlas.old.kept
+pub extern "C" fn guillotiere_atlas_areas(atlas: &AtlasReader, areas: &mut PlainAreas) -> u32
+    ensures allocated { IsSome atlas.now.kept → HoldsAtlas atlas.now.kept
         (λ s. areas.new.allocated ≡ sum_by (λ g. area g.box) (live_in s)) }
-    ensures free { IsSome atlas.old.kept → HoldsAtlas atlas.old.kept
+    ensures free { IsSome atlas.now.kept → HoldsAtlas atlas.now.kept
         (λ s. areas.new.free ≡ sum_by area (free_in s)) }
-    ensures done { IsSome atlas.old.kept → result ≡ DONE }
-    ensures same { atlas.new.kept ≡ atlas.old.kept }
-    ensures empty { IsNone atlas.old.kept → (result ≡ EMPTY) × (areas.new ≡ areas.old) }
+    ensures done { IsSome atlas.now.kept → result ≡ DONE }
+    ensures empty { IsNone atlas.now.kept → (result ≡ EMPTY) × (areas.new ≡ areas.old) }
 {
     if !atlas.holds() {
         return EMPTY;
     }
-    let held = atlas.take(alloc);
+    let held = atlas.lent();
     *areas = PlainAreas {
         allocated: held.allocated_area(),
         free: held.free_area(),
     };
-    atlas.put(held);
     DONE
 }
 
 /// Whether no id is live; also true of a handle that holds nothing.
 #[unsafe(no_mangle)]
-pub extern "C" fn guillotiere_atlas_is_empty(alloc: Global, atlas: &mut AtlasHandle) -> bool
-    ensures live { IsSome atlas.old.kept → HoldsAtlas atlas.old.kept (λ s. IsTrue result ↔ (live_in s ≡ [])) }
-    ensures same { atlas.new.kept ≡ atlas.old.kept }
-    ensures empty { IsNone atlas.old.kept → IsTrue result }
+pub extern "C" fn guillotiere_atlas_is_empty(atlas: &AtlasReader) -> bool
+    ensures live { IsSome atlas.now.kept → HoldsAtlas atlas.now.kept (λ s. IsTrue result ↔ (live_in s ≡ [])) }
+    ensures empty { IsNone atlas.now.kept → IsTrue result }
 {
     if !atlas.holds() {
         return true;
     }
-    let held = atlas.take(alloc);
-    let is_empty = held.is_empty();
-    atlas.put(held);
-    is_empty
+    let held = atlas.lent();
+    held.is_empty()
 }

@@ -8,6 +8,7 @@ use guillotiere::AtlasAllocator;
 use std::alloc::Global;
 use std::marker::Model;
 use std::mem::replace;
+use std::ptr::null_mut;
 
 /// A place for an atlas: it holds one, or nothing, and then it is null.
 #[repr(C)]
@@ -27,9 +28,7 @@ impl AtlasHandle {
     pub fn none() -> AtlasHandle
         ensures { result.kept ≡ None }
     {
-        AtlasHandle {
-            at: std::ptr::null_mut(),
-        }
+        AtlasHandle { at: null_mut() }
     }
 
     /// Drops a handle. Requires that it holds nothing, so that nothing is lost.
@@ -87,5 +86,36 @@ impl AtlasHandle {
         atlas.prove_sound();
         let empty = replace(self, AtlasHandle::close(hold(atlas)));
         AtlasHandle::forget(empty);
+    }
+}
+
+/// The same place for a call that only reads: what lies at the pointer is lent to it, and any number of such calls may run
+/// at once.
+#[repr(C)]
+pub struct AtlasReader {
+    at: *const u8,
+    pub ghost kept: { Option AtlasValue },
+}
+
+impl Model for AtlasReader {
+    ghost use Rattle.guillotiere_c.specs.Keeping.{lends, atlas_row};
+
+    ghost also_owns = { λ h. lends atlas_row h.kept h.at };
+}
+
+impl AtlasReader {
+    /// Whether it holds an atlas.
+    pub fn holds(&self) -> bool
+        ensures { result ≡ is_some self.now.kept }
+    {
+        !self.at.is_null()
+    }
+
+    /// The atlas. Requires that it holds one.
+    pub fn lent(&self) -> &AtlasAllocator
+        requires { IsSome self.now.kept }
+        ensures { self.now.kept ≡ Some result.now }
+    {
+        unsafe { &*(self.at as *const AtlasAllocator) }
     }
 }

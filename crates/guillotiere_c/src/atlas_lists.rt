@@ -16,7 +16,7 @@ ghost use Rattle.guillotiere_c.specs.Rearrangings.{AreBothWritten};
 ghost use Rattle.guillotiere_c.specs.Statuses.{plain_reply};
 ghost use Rattle.guillotiere_c.specs.Writing.{IsWritten};
 
-use crate::atlas_handle::AtlasHandle;
+use crate::atlas_handle::{AtlasHandle, AtlasReader};
 use crate::plain::{
     BAD_CALL, DONE, EMPTY, MEMORY, NOT_LIVE, PlainAllocation, PlainChange, PlainChangeCount,
     PlainRectangle, SHORT, status_of, status_of_done,
@@ -25,28 +25,25 @@ use crate::writing::{write_allocations, write_changes, write_rectangles};
 use guillotiere::{AllocId, AtlasError, ChangeList, size2};
 use std::alloc::Global;
 
-/// Writes the live ids with their rectangles, by rising number of the slot, as many as there is room for, and into
-/// `count` how many there are. `DONE` or `MEMORY`.
+/// Writes the live boxes, by rising slot, which is the low 24 bits of the id: as many as there is room for, and into `count`
+/// how many there are. What `found` has after them stays. `DONE`; `MEMORY`; `EMPTY`.
 #[unsafe(no_mangle)]
 pub extern "C" fn guillotiere_atlas_live(
-    alloc: Global,
-    atlas: &mut AtlasHandle,
+    atlas: &AtlasReader,
     found: &mut [PlainAllocation],
     count: &mut usize,
 ) -> u32
-    ensures list { result ≡ DONE → HoldsAtlas atlas.old.kept (λ s. (list : List Granted) × AreGrants s list
+    ensures list { result ≡ DONE → HoldsAtlas atlas.now.kept (λ s. (list : List Granted) × AreGrants s list
         × (count.new ≡ length list) × IsWritten allocation_in list found.old found.new) }
-    ensures same { atlas.new.kept ≡ atlas.old.kept }
     ensures refused { result ≢ DONE → (found.new ≡ found.old) × (count.new ≡ count.old) }
-    ensures memory { result ≢ DONE → IsSome atlas.old.kept → result ≡ MEMORY }
-    ensures empty { IsNone atlas.old.kept → result ≡ EMPTY }
+    ensures memory { result ≢ DONE → IsSome atlas.now.kept → result ≡ MEMORY }
+    ensures empty { IsNone atlas.now.kept → result ≡ EMPTY }
 {
     if !atlas.holds() {
         return EMPTY;
     }
-    let held = atlas.take(alloc);
+    let held = atlas.lent();
     let list = held.allocations();
-    atlas.put(held);
     let Ok(list) = list else {
         return MEMORY;
     };
@@ -55,28 +52,24 @@ pub extern "C" fn guillotiere_atlas_live(
     DONE
 }
 
-/// Writes the free rectangles, in an order that is left open, as many as there is room for, and into `count` how many
-/// there are. `DONE` or `MEMORY`.
+/// The same of the free boxes, in an order that is left open.
 #[unsafe(no_mangle)]
 pub extern "C" fn guillotiere_atlas_free_boxes(
-    alloc: Global,
-    atlas: &mut AtlasHandle,
+    atlas: &AtlasReader,
     found: &mut [PlainRectangle],
     count: &mut usize,
 ) -> u32
-    ensures list { result ≡ DONE → HoldsAtlas atlas.old.kept (λ s. (list : List Area) × AreFreeAreas s list
+    ensures list { result ≡ DONE → HoldsAtlas atlas.now.kept (λ s. (list : List Area) × AreFreeAreas s list
         × (count.new ≡ length list) × IsWritten corners_in list found.old found.new) }
-    ensures same { atlas.new.kept ≡ atlas.old.kept }
     ensures refused { result ≢ DONE → (found.new ≡ found.old) × (count.new ≡ count.old) }
-    ensures memory { result ≢ DONE → IsSome atlas.old.kept → result ≡ MEMORY }
-    ensures empty { IsNone atlas.old.kept → result ≡ EMPTY }
+    ensures memory { result ≢ DONE → IsSome atlas.now.kept → result ≡ MEMORY }
+    ensures empty { IsNone atlas.now.kept → result ≡ EMPTY }
 {
     if !atlas.holds() {
         return EMPTY;
     }
-    let held = atlas.take(alloc);
+    let held = atlas.lent();
     let list = held.free_rectangles();
-    atlas.put(held);
     let Ok(list) = list else {
         return MEMORY;
     };
@@ -161,10 +154,10 @@ pub extern "C" fn guillotiere_atlas_rearrange(
     }
 }
 
-/// Repacks what is live into an empty atlas of this size, the largest first, and lists what moved and what found no
-/// room; the ids of the latter are no longer live, and all former ids are void. Each array has room for as many as
-/// there are used slots, else the answer is `SHORT`. `DONE`; `BAD_CALL` if the size is empty; `SHORT`, `SLOTS` or
-/// `MEMORY`.
+/// Repacks what is live into an empty atlas of this size, the largest first; options and limit stay. All former ids are void.
+/// `changes` gets what was placed, `failures` what found no room and is no longer live, `count` how many of each. Both arrays
+/// must have room for as many as there are used slots (`guillotiere_atlas_slots`), else the answer is `SHORT`.
+/// `DONE`; `BAD_CALL` if a side isn't above 0; `SHORT`; `SLOTS`; `MEMORY`; `EMPTY`.
 #[unsafe(no_mangle)]
 pub extern "C" fn guillotiere_atlas_resize_and_rearrange(
     alloc: Global,
@@ -224,8 +217,8 @@ fn ids_of(alloc: Global, numbers: &[u32]) -> Result<Vec<AllocId>, AtlasError>
     Ok(ids)
 }
 
-/// Frees the boxes of the ids of a list. `DONE`; `NOT_LIVE` if one of them isn't live or is in the list twice;
-/// `MEMORY`, as the list is copied first.
+/// Frees the boxes of a list of ids, all or none. `DONE`; `NOT_LIVE` if one isn't live or is listed twice; `MEMORY`, as the
+/// list is copied first; `EMPTY`.
 #[unsafe(no_mangle)]
 pub extern "C" fn guillotiere_atlas_deallocate_all(
     alloc: Global,

@@ -7,98 +7,78 @@ ghost use Rattle.guillotiere_c.specs.CacheNumbers.{cache_options_in, counts_in};
 ghost use Rattle.guillotiere_c.specs.Following.{HoldsCache};
 ghost use Rattle.guillotiere_c.specs.Numbers.{size_in};
 
-use crate::cache_handle::CacheHandle;
+use crate::cache_handle::CacheReader;
 use crate::plain::{DONE, EMPTY, MEMORY, NO_PAGE, PlainAreas, PlainSize, plain_size};
 use crate::plain_cache::{PlainCacheOptions, PlainCounts, plain_cache_options, plain_counts};
 use guillotiere::size2;
-use std::alloc::Global;
 
-/// How many keys are held. `DONE`.
+/// How many keys are held. `DONE`; `EMPTY`.
 #[unsafe(no_mangle)]
-pub extern "C" fn guillotiere_cache_len(
-    alloc: Global,
-    cache: &mut CacheHandle,
-    len: &mut usize,
-) -> u32
-    ensures len { IsSome cache.old.kept → HoldsCache cache.old.kept (λ f. len.new ≡ length f.cache.entries) }
-    ensures done { IsSome cache.old.kept → result ≡ DONE }
-    ensures same { cache.new.kept ≡ cache.old.kept }
-    ensures empty { IsNone cache.old.kept → (result ≡ EMPTY) × (len.new ≡ len.old) }
+pub extern "C" fn guillotiere_cache_len(cache: &CacheReader, len: &mut usize) -> u32
+    ensures len { IsSome cache.now.kept → HoldsCache cache.now.kept (λ f. len.new ≡ length f.cache.entries) }
+    ensures done { IsSome cache.now.kept → result ≡ DONE }
+    ensures empty { IsNone cache.now.kept → (result ≡ EMPTY) × (len.new ≡ len.old) }
 {
     if !cache.holds() {
         return EMPTY;
     }
-    let held = cache.take(alloc);
+    let held = cache.lent();
     *len = held.len();
-    cache.put(held);
     DONE
 }
 
-/// How many numbers keys had so far, since the cache was made or cleared: the number of each place is below. `DONE`.
+/// How many numbers keys have had since the cache was made or cleared: the number of each place is below this. The numbers of
+/// keys that are gone are reused before new ones are given out, so there are never more than there ever were keys at once,
+/// and what a caller keeps of each key fits an array. `DONE`; `EMPTY`.
 #[unsafe(no_mangle)]
-pub extern "C" fn guillotiere_cache_numbers(
-    alloc: Global,
-    cache: &mut CacheHandle,
-    numbers: &mut u32,
-) -> u32
-    ensures numbers { IsSome cache.old.kept → HoldsCache cache.old.kept (λ f. numbers.new ≡ f.cache.numbers) }
-    ensures done { IsSome cache.old.kept → result ≡ DONE }
-    ensures same { cache.new.kept ≡ cache.old.kept }
-    ensures empty { IsNone cache.old.kept → (result ≡ EMPTY) × (numbers.new ≡ numbers.old) }
+pub extern "C" fn guillotiere_cache_numbers(cache: &CacheReader, numbers: &mut u32) -> u32
+    ensures numbers { IsSome cache.now.kept → HoldsCache cache.now.kept (λ f. numbers.new ≡ f.cache.numbers) }
+    ensures done { IsSome cache.now.kept → result ≡ DONE }
+    ensures empty { IsNone cache.now.kept → (result ≡ EMPTY) × (numbers.new ≡ numbers.old) }
 {
     if !cache.holds() {
         return EMPTY;
     }
-    let held = cache.take(alloc);
+    let held = cache.lent();
     *numbers = held.numbers();
-    cache.put(held);
     DONE
 }
 
-/// How many pages there are. `DONE`.
+/// How many pages there are. `DONE`; `EMPTY`.
 #[unsafe(no_mangle)]
-pub extern "C" fn guillotiere_cache_page_count(
-    alloc: Global,
-    cache: &mut CacheHandle,
-    pages: &mut u32,
-) -> u32
-    ensures pages { IsSome cache.old.kept → HoldsCache cache.old.kept (λ f. pages.new ≡ length f.cache.pages) }
-    ensures done { IsSome cache.old.kept → result ≡ DONE }
-    ensures same { cache.new.kept ≡ cache.old.kept }
-    ensures empty { IsNone cache.old.kept → (result ≡ EMPTY) × (pages.new ≡ pages.old) }
+pub extern "C" fn guillotiere_cache_page_count(cache: &CacheReader, pages: &mut u32) -> u32
+    ensures pages { IsSome cache.now.kept → HoldsCache cache.now.kept (λ f. pages.new ≡ length f.cache.pages) }
+    ensures done { IsSome cache.now.kept → result ≡ DONE }
+    ensures empty { IsNone cache.now.kept → (result ≡ EMPTY) × (pages.new ≡ pages.old) }
 {
     if !cache.holds() {
         return EMPTY;
     }
-    let held = cache.take(alloc);
+    let held = cache.lent();
     *pages = held.pages();
-    cache.put(held);
     DONE
 }
 
-/// The size of a page, in pixels. Pages are counted from 0. `DONE`; `NO_PAGE`.
+/// The size of a page, counted from 0. `DONE`; `NO_PAGE`; `EMPTY`.
 #[unsafe(no_mangle)]
 pub extern "C" fn guillotiere_cache_page_size(
-    alloc: Global,
-    cache: &mut CacheHandle,
+    cache: &CacheReader,
     page: u32,
     size: &mut PlainSize,
 ) -> u32
-    ensures size { result ≡ DONE → HoldsCache cache.old.kept
+    ensures size { result ≡ DONE → HoldsCache cache.now.kept
         (λ f. slice_get (page_sizes f.cache.pages) page ≡ Some (size_in size.new)) }
-    ensures none { result ≡ NO_PAGE → HoldsCache cache.old.kept
+    ensures none { result ≡ NO_PAGE → HoldsCache cache.now.kept
         (λ f. slice_get (page_sizes f.cache.pages) page ≡ None) }
-    ensures unless { IsSome cache.old.kept → result ≢ DONE → result ≡ NO_PAGE }
-    ensures same { cache.new.kept ≡ cache.old.kept }
+    ensures unless { IsSome cache.now.kept → result ≢ DONE → result ≡ NO_PAGE }
     ensures unwritten { result ≢ DONE → size.new ≡ size.old }
-    ensures empty { IsNone cache.old.kept → result ≡ EMPTY }
+    ensures empty { IsNone cache.now.kept → result ≡ EMPTY }
 {
     if !cache.holds() {
         return EMPTY;
     }
-    let held = cache.take(alloc);
+    let held = cache.lent();
     let found = held.page_size(page);
-    cache.put(held);
     match found {
         Some(found) => {
             *size = plain_size(found);
@@ -108,34 +88,32 @@ pub extern "C" fn guillotiere_cache_page_size(
     }
 }
 
-/// The areas of a page, in pixels: of its entries, with their padding and what alignment added, and of what is free.
-/// Pages are counted from 0. `DONE`; `NO_PAGE`.
+/// The areas of a page, counted from 0: that of its keys, with their padding and what the alignment added, and that which is
+/// free; together that of the page. Takes one pass over the slots of the page. A page with much that is free, from which keys
+/// are evicted all the same, is worth a repacking. `DONE`; `NO_PAGE`; `EMPTY`.
 #[unsafe(no_mangle)]
 pub extern "C" fn guillotiere_cache_areas(
-    alloc: Global,
-    cache: &mut CacheHandle,
+    cache: &CacheReader,
     page: u32,
     areas: &mut PlainAreas,
 ) -> u32
-    ensures allocated { result ≡ DONE → HoldsCache cache.old.kept
+    ensures allocated { result ≡ DONE → HoldsCache cache.now.kept
         (λ f. slice_get (live_by_page f.cache.pages) page ≡ Some areas.new.allocated) }
-    ensures free { result ≡ DONE → HoldsCache cache.old.kept
+    ensures free { result ≡ DONE → HoldsCache cache.now.kept
         (λ f. slice_get (free_by_page f.cache.pages) page ≡ Some areas.new.free) }
-    ensures none { result ≡ NO_PAGE → HoldsCache cache.old.kept
+    ensures none { result ≡ NO_PAGE → HoldsCache cache.now.kept
         (λ f. (slice_get (live_by_page f.cache.pages) page ≡ None)
         ⊎ (slice_get (free_by_page f.cache.pages) page ≡ None)) }
-    ensures unless { IsSome cache.old.kept → result ≢ DONE → result ≡ NO_PAGE }
-    ensures same { cache.new.kept ≡ cache.old.kept }
+    ensures unless { IsSome cache.now.kept → result ≢ DONE → result ≡ NO_PAGE }
     ensures unwritten { result ≢ DONE → areas.new ≡ areas.old }
-    ensures empty { IsNone cache.old.kept → result ≡ EMPTY }
+    ensures empty { IsNone cache.now.kept → result ≡ EMPTY }
 {
     if !cache.holds() {
         return EMPTY;
     }
-    let held = cache.take(alloc);
+    let held = cache.lent();
     let live = held.live_area(page);
     let free = held.free_area(page);
-    cache.put(held);
     let Some(allocated) = live else {
         return NO_PAGE;
     };
@@ -146,33 +124,32 @@ pub extern "C" fn guillotiere_cache_areas(
     DONE
 }
 
-/// The area of a page, in pixels, that is free in rectangles which have no room for an entry of this size, with its padding
-/// and rounded up to the alignment. Pages are counted from 0. `DONE`; `NO_PAGE`; `MEMORY`.
+/// Of the area of a page that is free, what lies in free boxes which have no room for a key of this size, with its padding
+/// and rounded up to the alignment; a side below 0 counts as 0. Asked with the size of a usual key it says how fragmented the
+/// page is: where much is of no use, it is time to repack it. Takes memory for a list of the page's free boxes.
+/// `DONE`; `NO_PAGE`; `MEMORY`; `EMPTY`.
 #[unsafe(no_mangle)]
 pub extern "C" fn guillotiere_cache_unusable_area(
-    alloc: Global,
-    cache: &mut CacheHandle,
+    cache: &CacheReader,
     page: u32,
     width: i32,
     height: i32,
     area: &mut u64,
 ) -> u32
-    ensures area { result ≡ DONE → HoldsCache cache.old.kept (λ f. slice_get
+    ensures area { result ≡ DONE → HoldsCache cache.now.kept (λ f. slice_get
         (unusable_by_page f.cache.options (record { width = width; height = height }) f.cache.pages) page
         ≡ Some area.new) }
-    ensures none { result ≡ NO_PAGE → HoldsCache cache.old.kept (λ f. slice_get
+    ensures none { result ≡ NO_PAGE → HoldsCache cache.now.kept (λ f. slice_get
         (unusable_by_page f.cache.options (record { width = width; height = height }) f.cache.pages) page ≡ None) }
-    ensures unless { IsSome cache.old.kept → result ≢ DONE → result ≢ NO_PAGE → result ≡ MEMORY }
-    ensures same { cache.new.kept ≡ cache.old.kept }
+    ensures unless { IsSome cache.now.kept → result ≢ DONE → result ≢ NO_PAGE → result ≡ MEMORY }
     ensures unwritten { result ≢ DONE → area.new ≡ area.old }
-    ensures empty { IsNone cache.old.kept → result ≡ EMPTY }
+    ensures empty { IsNone cache.now.kept → result ≡ EMPTY }
 {
     if !cache.holds() {
         return EMPTY;
     }
-    let held = cache.take(alloc);
+    let held = cache.lent();
     let found = held.unusable_area(page, size2(width, height));
-    cache.put(held);
     match found {
         Ok(Some(found)) => {
             *area = found;
@@ -183,45 +160,36 @@ pub extern "C" fn guillotiere_cache_unusable_area(
     }
 }
 
-/// The options with which the cache was made. `DONE`.
+/// The options with which the cache was made. `DONE`; `EMPTY`.
 #[unsafe(no_mangle)]
 pub extern "C" fn guillotiere_cache_options_of(
-    alloc: Global,
-    cache: &mut CacheHandle,
+    cache: &CacheReader,
     options: &mut PlainCacheOptions,
 ) -> u32
-    ensures options { IsSome cache.old.kept → HoldsCache cache.old.kept
+    ensures options { IsSome cache.now.kept → HoldsCache cache.now.kept
         (λ f. cache_options_in options.new ≡ f.cache.options) }
-    ensures done { IsSome cache.old.kept → result ≡ DONE }
-    ensures same { cache.new.kept ≡ cache.old.kept }
-    ensures empty { IsNone cache.old.kept → (result ≡ EMPTY) × (options.new ≡ options.old) }
+    ensures done { IsSome cache.now.kept → result ≡ DONE }
+    ensures empty { IsNone cache.now.kept → (result ≡ EMPTY) × (options.new ≡ options.old) }
 {
     if !cache.holds() {
         return EMPTY;
     }
-    let held = cache.take(alloc);
+    let held = cache.lent();
     *options = plain_cache_options(held.options());
-    cache.put(held);
     DONE
 }
 
-/// How often `guillotiere_cache_get` found its key and how often it didn't, and how many keys were evicted. `DONE`.
+/// The counts since the cache was made. `DONE`; `EMPTY`.
 #[unsafe(no_mangle)]
-pub extern "C" fn guillotiere_cache_statistics(
-    alloc: Global,
-    cache: &mut CacheHandle,
-    counts: &mut PlainCounts,
-) -> u32
-    ensures counts { IsSome cache.old.kept → HoldsCache cache.old.kept (λ f. counts_in counts.new ≡ f.cache.counts) }
-    ensures done { IsSome cache.old.kept → result ≡ DONE }
-    ensures same { cache.new.kept ≡ cache.old.kept }
-    ensures empty { IsNone cache.old.kept → (result ≡ EMPTY) × (counts.new ≡ counts.old) }
+pub extern "C" fn guillotiere_cache_statistics(cache: &CacheReader, counts: &mut PlainCounts) -> u32
+    ensures counts { IsSome cache.now.kept → HoldsCache cache.now.kept (λ f. counts_in counts.new ≡ f.cache.counts) }
+    ensures done { IsSome cache.now.kept → result ≡ DONE }
+    ensures empty { IsNone cache.now.kept → (result ≡ EMPTY) × (counts.new ≡ counts.old) }
 {
     if !cache.holds() {
         return EMPTY;
     }
-    let held = cache.take(alloc);
+    let held = cache.lent();
     *counts = plain_counts(held.statistics());
-    cache.put(held);
     DONE
 }

@@ -7,6 +7,7 @@ use crate::held::{Held, hold, release};
 use std::alloc::Global;
 use std::marker::Model;
 use std::mem::replace;
+use std::ptr::null_mut;
 
 /// A place for a cache: it holds one, or nothing, and then it is null.
 #[repr(C)]
@@ -26,9 +27,7 @@ impl CacheHandle {
     pub fn none() -> CacheHandle
         ensures { result.kept ≡ None }
     {
-        CacheHandle {
-            at: std::ptr::null_mut(),
-        }
+        CacheHandle { at: null_mut() }
     }
 
     /// Drops a handle. Requires that it holds nothing, so that nothing is lost.
@@ -84,5 +83,36 @@ impl CacheHandle {
     {
         let empty = replace(self, CacheHandle::close(hold(cache)));
         CacheHandle::forget(empty);
+    }
+}
+
+/// The same place for a call that only reads: what lies at the pointer is lent to it, and any number of such calls may run
+/// at once.
+#[repr(C)]
+pub struct CacheReader {
+    at: *const u8,
+    pub ghost kept: { Option Followed },
+}
+
+impl Model for CacheReader {
+    ghost use Rattle.guillotiere_c.specs.Keeping.{lends, cache_row};
+
+    ghost also_owns = { λ h. lends cache_row h.kept h.at };
+}
+
+impl CacheReader {
+    /// Whether it holds a cache.
+    pub fn holds(&self) -> bool
+        ensures { result ≡ is_some self.now.kept }
+    {
+        !self.at.is_null()
+    }
+
+    /// The cache. Requires that it holds one.
+    pub fn lent(&self) -> &FollowedCache
+        requires { IsSome self.now.kept }
+        ensures { self.now.kept ≡ Some result.now }
+    {
+        unsafe { &*(self.at as *const FollowedCache) }
     }
 }

@@ -1,13 +1,14 @@
-//! The exports that walk along the keys of a cache in the order of their use, and the one that takes memory for more.
-ghost use Rattle.std.specs.Prelude.{◌≡◌, ◌≢◌, IsNone, IsSome, IsSomeAnd, Some, option_map};
+//! The exports that walk along the keys of a cache in the order of their use, and those that take memory beforehand.
+ghost use Rattle.std.specs.Prelude.{◌≡◌, ◌≢◌, IsNone, IsSome, IsSomeAnd, None, Some, option_map};
 ghost use Rattle.atlas_cache.specs.Caches.{with_reserve};
 ghost use Rattle.atlas_cache.specs.Walking.{first_entry, keyed, last_entry};
-ghost use Rattle.guillotiere_c.specs.CacheCalls.{IsOlder};
+ghost use Rattle.atlas_cache.specs.Reserving.{HaveSlots};
+ghost use Rattle.guillotiere_c.specs.CacheCalls.{IsOlder, KeepsStates};
 ghost use Rattle.guillotiere_c.specs.CacheNumbers.{keyed_answer};
 ghost use Rattle.guillotiere_c.specs.Following.{GoesOver, HoldsCache};
 
-use crate::cache_handle::CacheHandle;
-use crate::plain::{DONE, EMPTY, MEMORY, NOT_HELD};
+use crate::cache_handle::{CacheHandle, CacheReader};
+use crate::plain::{DONE, EMPTY, MEMORY, NOT_HELD, SLOTS};
 use crate::plain_cache::{PlainPlace, plain_place, status_of_cache_error};
 use atlas_cache::Place;
 use std::alloc::Global;
@@ -27,80 +28,72 @@ fn write_keyed(found: Option<(u64, Place)>, key: &mut u64, place: &mut PlainPlac
     }
 }
 
-/// The most recently used key, and its place; it doesn't count as a use. `DONE`; `NOT_HELD` if no key is held.
+/// The most recently used key, and its place; it doesn't count as a use. `DONE`; `NOT_HELD` if no key is held; `EMPTY`.
 #[unsafe(no_mangle)]
 pub extern "C" fn guillotiere_cache_newest(
-    alloc: Global,
-    cache: &mut CacheHandle,
+    cache: &CacheReader,
     key: &mut u64,
     place: &mut PlainPlace,
 ) -> u32
-    ensures newest { IsSome cache.old.kept → IsSomeAnd (keyed_answer result key.new place.new) (λ found.
-        HoldsCache cache.old.kept (λ f. found
+    ensures newest { IsSome cache.now.kept → IsSomeAnd (keyed_answer result key.new place.new) (λ found.
+        HoldsCache cache.now.kept (λ f. found
         ≡ option_map (keyed f.cache.options.padding) (first_entry f.cache.entries))) }
-    ensures same { cache.new.kept ≡ cache.old.kept }
     ensures unwritten { result ≢ DONE → (key.new ≡ key.old) × (place.new ≡ place.old) }
-    ensures empty { IsNone cache.old.kept → result ≡ EMPTY }
+    ensures empty { IsNone cache.now.kept → result ≡ EMPTY }
 {
     if !cache.holds() {
         return EMPTY;
     }
-    let held = cache.take(alloc);
+    let held = cache.lent();
     let found = held.newest();
-    cache.put(held);
     write_keyed(found, key, place)
 }
 
-/// The least recently used key, and its place; it doesn't count as a use. `DONE`; `NOT_HELD` if no key is held.
+/// The least recently used key, and its place; it doesn't count as a use. `DONE`; `NOT_HELD` if no key is held; `EMPTY`.
 #[unsafe(no_mangle)]
 pub extern "C" fn guillotiere_cache_oldest(
-    alloc: Global,
-    cache: &mut CacheHandle,
+    cache: &CacheReader,
     key: &mut u64,
     place: &mut PlainPlace,
 ) -> u32
-    ensures oldest { IsSome cache.old.kept → IsSomeAnd (keyed_answer result key.new place.new) (λ found.
-        HoldsCache cache.old.kept (λ f. found
+    ensures oldest { IsSome cache.now.kept → IsSomeAnd (keyed_answer result key.new place.new) (λ found.
+        HoldsCache cache.now.kept (λ f. found
         ≡ option_map (keyed f.cache.options.padding) (last_entry f.cache.entries))) }
-    ensures same { cache.new.kept ≡ cache.old.kept }
     ensures unwritten { result ≢ DONE → (key.new ≡ key.old) × (place.new ≡ place.old) }
-    ensures empty { IsNone cache.old.kept → result ≡ EMPTY }
+    ensures empty { IsNone cache.now.kept → result ≡ EMPTY }
 {
     if !cache.holds() {
         return EMPTY;
     }
-    let held = cache.take(alloc);
+    let held = cache.lent();
     let found = held.oldest();
-    cache.put(held);
     write_keyed(found, key, place)
 }
 
-/// The key that was used next before this one, and its place; it doesn't count as a use. `DONE`; `NOT_HELD` if this one
-/// is the least recently used, or isn't held.
+/// The next less recently used key, and its place; this doesn't count as a use. From the newest key on, this gives each key
+/// once. `DONE`: it is in `older`. `NOT_HELD` if `key` is the least recently used, or isn't held; `EMPTY`.
 #[unsafe(no_mangle)]
 pub extern "C" fn guillotiere_cache_older(
-    alloc: Global,
-    cache: &mut CacheHandle,
+    cache: &CacheReader,
     key: u64,
     older: &mut u64,
     place: &mut PlainPlace,
 ) -> u32
-    ensures older { IsSome cache.old.kept → IsSomeAnd (keyed_answer result older.new place.new) (λ found.
-        HoldsCache cache.old.kept (λ f. IsOlder key found f.cache)) }
-    ensures same { cache.new.kept ≡ cache.old.kept }
+    ensures older { IsSome cache.now.kept → IsSomeAnd (keyed_answer result older.new place.new) (λ found.
+        HoldsCache cache.now.kept (λ f. IsOlder key found f.cache)) }
     ensures unwritten { result ≢ DONE → (older.new ≡ older.old) × (place.new ≡ place.old) }
-    ensures empty { IsNone cache.old.kept → result ≡ EMPTY }
+    ensures empty { IsNone cache.now.kept → result ≡ EMPTY }
 {
     if !cache.holds() {
         return EMPTY;
     }
-    let held = cache.take(alloc);
+    let held = cache.lent();
     let found = held.older(key);
-    cache.put(held);
     write_keyed(found, older, place)
 }
 
-/// Takes memory for so many more keys; nothing else changes, and nothing at all with `MEMORY`. `DONE`; `MEMORY`.
+/// Takes memory for this many more keys; nothing else changes. An insertion also takes slots of pages and room for changes:
+/// for these there are the next two calls. `DONE`; `MEMORY`; `EMPTY`.
 #[unsafe(no_mangle)]
 pub extern "C" fn guillotiere_cache_reserve(
     alloc: Global,
@@ -118,6 +111,58 @@ pub extern "C" fn guillotiere_cache_reserve(
     }
     let mut held = cache.take(alloc);
     let answer = held.reserve(additional);
+    cache.put(held);
+    match answer {
+        Ok(()) => DONE,
+        Err(error) => status_of_cache_error(error),
+    }
+}
+
+/// Makes sure that this many slots are in reserve on each page. An insertion that neither adds a page nor grows one uses at
+/// most 4 of each page; a page that is added later has none in reserve, one that grows uses up to 3, and one that is repacked
+/// may have none.
+/// `DONE`; `SLOTS` if those of a page don't suffice; `MEMORY`; `EMPTY`. The pages before the one that was refused have theirs
+/// all the same.
+#[unsafe(no_mangle)]
+pub extern "C" fn guillotiere_cache_reserve_slots(
+    alloc: Global,
+    cache: &mut CacheHandle,
+    additional: u32,
+) -> u32
+    ensures ready { result ≡ DONE → HoldsCache cache.new.kept (λ f. HaveSlots additional f.cache.pages) }
+    ensures keeps { IsSome cache.old.kept → GoesOver cache.old.kept cache.new.kept KeepsStates }
+    ensures unless { IsSome cache.old.kept → result ≢ DONE → result ≢ SLOTS → result ≡ MEMORY }
+    ensures empty { IsNone cache.old.kept → (result ≡ EMPTY) × (cache.new.kept ≡ None) }
+{
+    if !cache.holds() {
+        return EMPTY;
+    }
+    let mut held = cache.take(alloc);
+    let answer = held.reserve_slots(additional);
+    cache.put(held);
+    match answer {
+        Ok(()) => DONE,
+        Err(error) => status_of_cache_error(error),
+    }
+}
+
+/// Takes memory for this many changes besides those that wait to be handed over; nothing else changes. `DONE`; `MEMORY`;
+/// `EMPTY`.
+#[unsafe(no_mangle)]
+pub extern "C" fn guillotiere_cache_reserve_changes(
+    alloc: Global,
+    cache: &mut CacheHandle,
+    additional: usize,
+) -> u32
+    ensures same { cache.new.kept ≡ cache.old.kept }
+    ensures unless { IsSome cache.old.kept → result ≢ DONE → result ≡ MEMORY }
+    ensures empty { IsNone cache.old.kept → result ≡ EMPTY }
+{
+    if !cache.holds() {
+        return EMPTY;
+    }
+    let mut held = cache.take(alloc);
+    let answer = held.reserve_changes(additional);
     cache.put(held);
     match answer {
         Ok(()) => DONE,

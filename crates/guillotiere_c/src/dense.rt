@@ -33,12 +33,10 @@ fn found(
     Ok(sheet)
 }
 
-/// Packs sprites as `guillotiere_pack` does, or into a smaller sheet with no guillotine cuts, in which none is turned, as
-/// `atlas_sheet::pack_dense` finds it; and writes where each of them lies, in the order of the sprites, and the size of the
-/// sheet. `DONE`; `NO_ROOM` if no order that was tried packs them into the greatest sheet that is allowed; `BAD_CALL` if the
-/// sheets are of no kind, or the padding is above 65535; `SHORT` if there is room for fewer places than sprites;
-/// `EMPTY_SHEET`, `EMPTY_RANGE`, `EMPTY_ALIGNMENT`; `EMPTY_SPRITE` and `GREAT_SPRITE` of the sprite whose number is written
-/// then; `MEMORY`.
+/// Packs as `guillotiere_pack`, and then tries smaller sheets of those allowed, laid out without guillotine cuts: each
+/// sprite, the highest first, as high up as it can lie, and there as far left. The sheet never has more pixels than that of
+/// `guillotiere_pack`; in one that has fewer no sprite is turned. It may find a sheet where `guillotiere_pack` finds none. It
+/// takes longer. All else as `guillotiere_pack`.
 #[unsafe(no_mangle)]
 pub extern "C" fn guillotiere_pack_dense(
     alloc: Global,

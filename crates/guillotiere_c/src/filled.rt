@@ -42,11 +42,9 @@ fn unplaced(places: &[Option<Placed>]) -> usize
     left
 }
 
-/// Places sprites in the greatest sheet that is allowed, as many pixels of them as `atlas_sheet::fill` finds room for, and
-/// writes a place or none for each, in the order of the sprites, how many have none, and the size of the sheet. `DONE`;
-/// `BAD_CALL` if the sheets are of no kind, or the padding is above 65535; `SHORT` if there is room for fewer places than
-/// sprites; `EMPTY_SHEET`, `EMPTY_RANGE`, `EMPTY_ALIGNMENT`; `EMPTY_SPRITE` and `GREAT_SPRITE` of the sprite whose number
-/// is written then; `MEMORY`.
+/// Places sprites in the greatest sheet that is allowed, as many pixels of them as it finds room for. `DONE`, even if not all
+/// of them have a place: `places` has a place or none for each, in the order of the sprites, `left` how many have none, and
+/// `size` the sheet's size. Never `NO_ROOM`; else as `guillotiere_pack`.
 #[unsafe(no_mangle)]
 pub extern "C" fn guillotiere_fill(
     alloc: Global,

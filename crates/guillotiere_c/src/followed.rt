@@ -7,11 +7,12 @@ ghost use Rattle.atlas_cache.specs.Caches.{place_for, with_reserve};
 ghost use Rattle.atlas_cache.specs.Clearing.{Clears};
 ghost use Rattle.atlas_cache.specs.Counting.{one_more};
 ghost use Rattle.atlas_cache.specs.Repacking.{free_by_page, live_by_page};
+ghost use Rattle.atlas_cache.specs.Reserving.{HaveSlots};
 ghost use Rattle.atlas_cache.specs.Rooms.{page_sizes, IsRefusal};
 ghost use Rattle.atlas_cache.specs.Usable.{unusable_by_page};
 ghost use Rattle.atlas_cache.specs.Walking.{first_entry, keyed, last_entry};
 ghost use Rattle.guillotiere_c.specs.CacheCalls.{IsGet, IsInsert, IsOlder, IsRemoval, IsRepacking};
-ghost use Rattle.guillotiere_c.specs.CacheCalls.{IsShrinking, IsTrim};
+ghost use Rattle.guillotiere_c.specs.CacheCalls.{IsShrinking, IsTrim, KeepsStates};
 ghost use Rattle.guillotiere_c.specs.Following.{new_cache};
 
 use atlas_cache::{
@@ -264,6 +265,25 @@ impl FollowedCache {
         ensures unless { IsOkUnless result Memory }
     {
         self.cache.reserve(additional)
+    }
+
+    /// As `TextureCache::reserve_slots`.
+    pub fn reserve_slots(&mut self, additional: u32) -> Result<(), CacheError>
+        ensures ready { OnOk result (HaveSlots additional self.new.cache.pages) }
+        ensures keeps { KeepsStates self.old self.new }
+        ensures errors { IfErr result IsRefusal }
+    {
+        self.cache.reserve_slots(additional)
+    }
+
+    /// Takes memory for so many changes besides those that weren't handed over; nothing else changes. `Memory` if it is refused.
+    pub fn reserve_changes(&mut self, additional: usize) -> Result<(), CacheError>
+        ensures same { self.new ≡ self.old }
+        ensures unless { IsOkUnless result Memory }
+    {
+        drop_taken(&mut self.changes, &mut self.taken);
+        self.changes.reserve(additional)?;
+        Ok(())
     }
 
     /// As `TextureCache::statistics`.

@@ -8,8 +8,10 @@ ghost use Rattle.guillotiere.specs.States.{started};
 ghost use Rattle.guillotiere_c.specs.Calls.{HoldsAtlas, StoreEqual};
 ghost use Rattle.guillotiere_c.specs.Numbers.{options_in, sides_in};
 
-use crate::atlas_handle::AtlasHandle;
-use crate::plain::{BAD_CALL, DONE, EMPTY, MEMORY, MOST_SLOTS, PlainOptions, options_for};
+use crate::atlas_handle::{AtlasHandle, AtlasReader};
+use crate::plain::{
+    BAD_CALL, DONE, EMPTY, MEMORY, MOST_SLOTS, OCCUPIED, PlainOptions, options_for,
+};
 use guillotiere::{AllocatorOptions, AtlasAllocator, DEFAULT_OPTIONS, size2};
 use std::alloc::Global;
 
@@ -29,10 +31,10 @@ fn start(
         → ⊥ }
     ensures refused { result ≢ DONE → atlas.new.kept ≡ atlas.old.kept }
     ensures memory { result ≢ DONE → result ≢ BAD_CALL → IsNone atlas.old.kept → result ≡ MEMORY }
-    ensures full { IsSome atlas.old.kept → result ≡ EMPTY }
+    ensures full { IsSome atlas.old.kept → result ≡ OCCUPIED }
 {
     if atlas.holds() {
-        return EMPTY;
+        return OCCUPIED;
     }
     let is_limit = 1 <= limit && limit <= MOST_SLOTS;
     if width <= 0 || height <= 0 || !options.is_valid() || !is_limit {
@@ -51,8 +53,8 @@ fn start(
     }
 }
 
-/// Makes an atlas of this size with the default options, where the handle holds nothing. `DONE`; `BAD_CALL` if the
-/// size is empty; `MEMORY`; `EMPTY` if the handle holds an atlas already.
+/// Makes an atlas with the default options, where the handle holds nothing.
+/// `DONE`; `BAD_CALL` if a side isn't above 0; `MEMORY`; `OCCUPIED` if the handle holds an atlas already.
 #[unsafe(no_mangle)]
 pub extern "C" fn guillotiere_atlas_new(
     alloc: Global,
@@ -65,7 +67,7 @@ pub extern "C" fn guillotiere_atlas_new(
     ensures refused { result ≢ DONE → atlas.new.kept ≡ atlas.old.kept }
     ensures bad { result ≡ BAD_CALL → IsPositive (sides_in width height) → ⊥ }
     ensures memory { result ≢ DONE → result ≢ BAD_CALL → IsNone atlas.old.kept → result ≡ MEMORY }
-    ensures full { IsSome atlas.old.kept → result ≡ EMPTY }
+    ensures full { IsSome atlas.old.kept → result ≡ OCCUPIED }
 {
     start(alloc, width, height, &DEFAULT_OPTIONS, MOST_SLOTS, atlas)
 }
@@ -84,13 +86,13 @@ pub extern "C" fn guillotiere_atlas_with_options(
     ensures refused { result ≢ DONE → atlas.new.kept ≡ atlas.old.kept }
     ensures bad { result ≡ BAD_CALL → IsPositive (sides_in width height) × AreValid (options_in options.now) → ⊥ }
     ensures memory { result ≢ DONE → result ≢ BAD_CALL → IsNone atlas.old.kept → result ≡ MEMORY }
-    ensures full { IsSome atlas.old.kept → result ≡ EMPTY }
+    ensures full { IsSome atlas.old.kept → result ≡ OCCUPIED }
 {
     let options = options_for(options);
     start(alloc, width, height, &options, MOST_SLOTS, atlas)
 }
 
-/// The same with a limit on the slots that are used at once. `BAD_CALL` also if it isn't from 1 to `MOST_SLOTS`.
+/// The same with a limit on the slots that are used at once. `BAD_CALL` also if it isn't from 1 to `GUILLOTIERE_MOST_SLOTS`.
 #[unsafe(no_mangle)]
 pub extern "C" fn guillotiere_atlas_with_slot_limit(
     alloc: Global,
@@ -107,13 +109,13 @@ pub extern "C" fn guillotiere_atlas_with_slot_limit(
         → IsPositive (sides_in width height) × AreValid (options_in options.now) × (1 ≤ limit) × (limit ≤ MOST_SLOTS)
         → ⊥ }
     ensures memory { result ≢ DONE → result ≢ BAD_CALL → IsNone atlas.old.kept → result ≡ MEMORY }
-    ensures full { IsSome atlas.old.kept → result ≡ EMPTY }
+    ensures full { IsSome atlas.old.kept → result ≡ OCCUPIED }
 {
     let options = options_for(options);
     start(alloc, width, height, &options, limit, atlas)
 }
 
-/// Frees an atlas, with all that it takes; the handle holds nothing then.
+/// Frees an atlas, with all its memory; the handle holds nothing then. Of a handle that holds nothing: does nothing.
 #[unsafe(no_mangle)]
 pub extern "C" fn guillotiere_atlas_free(alloc: Global, atlas: &mut AtlasHandle)
     ensures { atlas.new.kept ≡ None }
@@ -124,27 +126,28 @@ pub extern "C" fn guillotiere_atlas_free(alloc: Global, atlas: &mut AtlasHandle)
     let _held = atlas.take(alloc);
 }
 
-/// Makes a copy that shares nothing with the atlas, where the second handle holds nothing. `DONE`; `MEMORY`; `EMPTY` if
-/// the first handle holds nothing or the second one something.
+/// Makes a copy that shares nothing with the atlas, where `copy` holds nothing: it answers later calls as the atlas does,
+/// except where memory is refused. `DONE`; `MEMORY`; `EMPTY` if `atlas` holds nothing; `OCCUPIED` if `copy` holds something.
 #[unsafe(no_mangle)]
 pub extern "C" fn guillotiere_atlas_clone(
     alloc: Global,
-    atlas: &mut AtlasHandle,
+    atlas: &AtlasReader,
     copy: &mut AtlasHandle,
 ) -> u32
-    ensures equal { result ≡ DONE → StoreEqual copy.new.kept atlas.old.kept }
-    ensures same { atlas.new.kept ≡ atlas.old.kept }
+    ensures equal { result ≡ DONE → StoreEqual copy.new.kept atlas.now.kept }
     ensures refused { result ≢ DONE → copy.new.kept ≡ copy.old.kept }
-    ensures memory { result ≢ DONE → IsSome atlas.old.kept → IsNone copy.old.kept → result ≡ MEMORY }
-    ensures empty { IsNone atlas.old.kept → result ≡ EMPTY }
-    ensures full { IsSome copy.old.kept → result ≡ EMPTY }
+    ensures memory { result ≢ DONE → IsSome atlas.now.kept → IsNone copy.old.kept → result ≡ MEMORY }
+    ensures empty { IsNone atlas.now.kept → result ≡ EMPTY }
+    ensures full { IsSome atlas.now.kept → IsSome copy.old.kept → result ≡ OCCUPIED }
 {
-    if !atlas.holds() || copy.holds() {
+    if !atlas.holds() {
         return EMPTY;
     }
-    let held = atlas.take(alloc);
+    if copy.holds() {
+        return OCCUPIED;
+    }
+    let held = atlas.lent();
     let made = held.clone();
-    atlas.put(held);
     let Ok(made) = made else {
         return MEMORY;
     };

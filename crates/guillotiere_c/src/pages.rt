@@ -31,11 +31,13 @@ fn found(
     Ok(pages)
 }
 
-/// Packs all sprites into as few sheets as `atlas_sheet::pack_pages` finds. Writes where each of them lies, in the order of
-/// the sprites; the sizes of the sheets, as many as there is room for; and into `count` how many sheets there are, at most
-/// as many as sprites. `DONE`; `NO_ROOM` if a sprite is too large for an empty sheet; `BAD_CALL` if the sheets are of no
-/// kind, or the padding is above 65535; `SHORT` if there is room for fewer places than sprites; `EMPTY_SHEET`,
-/// `EMPTY_RANGE`, `EMPTY_ALIGNMENT`; `EMPTY_SPRITE` and `GREAT_SPRITE` of the sprite whose number is written then; `MEMORY`.
+/// Packs all sprites into as few sheets as are found: the greatest of those allowed gets what `guillotiere_fill` places
+/// there, the same is done with the sprites that are left, and the last of them get as small a sheet as `guillotiere_pack`
+/// finds. For each sheet `effort` changes of the order are tried. `DONE`: `places` has where each sprite lies, in the order
+/// of the sprites, `count` how many sheets there are, at most as many as sprites, and `sizes` their sizes, as many as there
+/// is room for; what the arrays have after that stays. No two places on one sheet overlap, and no sheet is empty. There may
+/// be no sprites: then there are no sheets.
+/// `NO_ROOM` if a sprite is too large for an empty sheet; else as `guillotiere_pack`.
 #[unsafe(no_mangle)]
 pub extern "C" fn guillotiere_pack_pages(
     alloc: Global,

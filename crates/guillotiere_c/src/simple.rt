@@ -14,13 +14,13 @@ ghost use Rattle.guillotiere_c.specs.SimpleCalls.{HoldsSimple, IsHeldSimpleStep,
 ghost use Rattle.guillotiere_c.specs.SimpleStatuses.{plain_answer, request_answer};
 ghost use Rattle.guillotiere.specs.SimpleStored.{simple_state_of};
 
-use crate::atlas_handle::AtlasHandle;
+use crate::atlas_handle::AtlasReader;
 use crate::plain::{
-    BAD_CALL, DONE, EMPTY, MEMORY, NO_ROOM, PlainOptions, PlainRectangle, PlainSize, PlainSlots,
-    options_for, plain_options, plain_rectangle, plain_size, plain_slots, status_of,
+    BAD_CALL, DONE, EMPTY, MEMORY, NO_ROOM, OCCUPIED, PlainOptions, PlainRectangle, PlainSize,
+    PlainSlots, options_for, plain_options, plain_rectangle, plain_size, plain_slots, status_of,
     status_of_done,
 };
-use crate::simple_handle::SimpleHandle;
+use crate::simple_handle::{SimpleHandle, SimpleReader};
 use guillotiere::{
     AllocatorOptions, AtlasError, DEFAULT_OPTIONS, Rectangle, SimpleAtlasAllocator, Size, size2,
 };
@@ -39,10 +39,10 @@ fn start(
     ensures bad { result ≡ BAD_CALL → IsPositive (sides_in width height) × AreValid (options_of options.now) → ⊥ }
     ensures refused { result ≢ DONE → simple.new.kept ≡ simple.old.kept }
     ensures memory { result ≢ DONE → result ≢ BAD_CALL → IsNone simple.old.kept → result ≡ MEMORY }
-    ensures full { IsSome simple.old.kept → result ≡ EMPTY }
+    ensures full { IsSome simple.old.kept → result ≡ OCCUPIED }
 {
     if simple.holds() {
-        return EMPTY;
+        return OCCUPIED;
     }
     if width <= 0 || height <= 0 || !options.is_valid() {
         return BAD_CALL;
@@ -60,8 +60,8 @@ fn start(
     }
 }
 
-/// Makes a simple allocator of this size with the default options, where the handle holds nothing. `DONE`; `BAD_CALL`
-/// if the size is empty; `MEMORY`; `EMPTY` if the handle holds one already.
+/// Makes a simple allocator with the default options, where the handle holds nothing.
+/// `DONE`; `BAD_CALL` if a side isn't above 0; `MEMORY`; `OCCUPIED` if the handle holds one already.
 #[unsafe(no_mangle)]
 pub extern "C" fn guillotiere_simple_new(
     alloc: Global,
@@ -74,7 +74,7 @@ pub extern "C" fn guillotiere_simple_new(
     ensures bad { result ≡ BAD_CALL → IsPositive (sides_in width height) → ⊥ }
     ensures refused { result ≢ DONE → simple.new.kept ≡ simple.old.kept }
     ensures memory { result ≢ DONE → result ≢ BAD_CALL → IsNone simple.old.kept → result ≡ MEMORY }
-    ensures full { IsSome simple.old.kept → result ≡ EMPTY }
+    ensures full { IsSome simple.old.kept → result ≡ OCCUPIED }
 {
     start(alloc, width, height, &DEFAULT_OPTIONS, simple)
 }
@@ -93,13 +93,13 @@ pub extern "C" fn guillotiere_simple_with_options(
     ensures bad { result ≡ BAD_CALL → IsPositive (sides_in width height) × AreValid (options_in options.now) → ⊥ }
     ensures refused { result ≢ DONE → simple.new.kept ≡ simple.old.kept }
     ensures memory { result ≢ DONE → result ≢ BAD_CALL → IsNone simple.old.kept → result ≡ MEMORY }
-    ensures full { IsSome simple.old.kept → result ≡ EMPTY }
+    ensures full { IsSome simple.old.kept → result ≡ OCCUPIED }
 {
     let options = options_for(options);
     start(alloc, width, height, &options, simple)
 }
 
-/// Frees a simple allocator, with all that it takes; the handle holds nothing then.
+/// Frees a simple allocator, with all its memory; the handle holds nothing then.
 #[unsafe(no_mangle)]
 pub extern "C" fn guillotiere_simple_free(alloc: Global, simple: &mut SimpleHandle)
     ensures { simple.new.kept ≡ None }
@@ -122,7 +122,8 @@ fn request(simple: &mut SimpleAtlasAllocator, size: Size) -> Result<Option<Recta
     simple.allocate(size)
 }
 
-/// Grants a request. `DONE`, and then the rectangle is in `granted`; `NO_ROOM` or `MEMORY`.
+/// Asks for a box of this size, rounded up by the options. `DONE`: its rectangle is in `granted`. `NO_ROOM` if the size is
+/// empty or fits no free box; `MEMORY`; `EMPTY`.
 #[unsafe(no_mangle)]
 pub extern "C" fn guillotiere_simple_allocate(
     alloc: Global,
@@ -154,7 +155,7 @@ pub extern "C" fn guillotiere_simple_allocate(
     }
 }
 
-/// Makes the allocator larger. `DONE`; `BAD_CALL` if a side shrinks; `MEMORY`.
+/// Makes the allocator larger. `DONE`; `BAD_CALL` if a side shrinks; `MEMORY`; `EMPTY`.
 #[unsafe(no_mangle)]
 pub extern "C" fn guillotiere_simple_grow(
     alloc: Global,
@@ -182,29 +183,25 @@ pub extern "C" fn guillotiere_simple_grow(
     status_of_done(answer)
 }
 
-/// Whether the allocator may be grown to this size: no side shrinks. False of a handle that holds nothing.
+/// Whether the allocator may be grown to this size, in pixels: no side shrinks. False of a handle that holds nothing.
 #[unsafe(no_mangle)]
 pub extern "C" fn guillotiere_simple_can_grow_to(
-    alloc: Global,
-    simple: &mut SimpleHandle,
+    simple: &SimpleReader,
     width: i32,
     height: i32,
 ) -> bool
-    ensures fits { IsSome simple.old.kept → HoldsSimple simple.old.kept
+    ensures fits { IsSome simple.now.kept → HoldsSimple simple.now.kept
         (λ s. IsTrue result ↔ Fits s.size (sides_in width height)) }
-    ensures same { simple.new.kept ≡ simple.old.kept }
-    ensures empty { IsNone simple.old.kept → IsFalse result }
+    ensures empty { IsNone simple.now.kept → IsFalse result }
 {
     if !simple.holds() {
         return false;
     }
-    let held = simple.take(alloc);
-    let can_grow = held.can_grow_to(size2(width, height));
-    simple.put(held);
-    can_grow
+    let held = simple.lent();
+    held.can_grow_to(size2(width, height))
 }
 
-/// Starts again with one free box of the allocator's size. Always `DONE`.
+/// Starts again with one free box of the allocator's size. Takes no memory. `DONE`; `EMPTY`.
 #[unsafe(no_mangle)]
 pub extern "C" fn guillotiere_simple_clear(alloc: Global, simple: &mut SimpleHandle) -> u32
     ensures step { IsSome simple.old.kept → IsHeldSimpleStep simple.old.kept Clear (plain_answer result)
@@ -222,8 +219,8 @@ pub extern "C" fn guillotiere_simple_clear(alloc: Global, simple: &mut SimpleHan
     status_of_done(answer)
 }
 
-/// Starts again at this size and with these options. `DONE`; `BAD_CALL` if the size is empty or the options aren't
-/// valid.
+/// Starts again at this size and with these options. Takes no memory.
+/// `DONE`; `BAD_CALL` if a side isn't above 0 or the options aren't valid; `EMPTY`.
 #[unsafe(no_mangle)]
 pub extern "C" fn guillotiere_simple_reset(
     alloc: Global,
@@ -253,21 +250,20 @@ pub extern "C" fn guillotiere_simple_reset(
     status_of_done(answer)
 }
 
-/// Takes over an atlas's size, its options and its free rectangles, so that what is live there is never granted. The
-/// atlas stays as it is. `DONE` or `MEMORY`; `EMPTY` if one of the handles holds nothing.
+/// Takes over an atlas's size, options and free boxes, so that it never grants what is live there. The atlas stays as it is.
+/// `DONE`; `MEMORY`; `EMPTY` if one of the handles holds nothing.
 #[unsafe(no_mangle)]
 pub extern "C" fn guillotiere_simple_init_from_allocator(
     alloc: Global,
     simple: &mut SimpleHandle,
-    atlas: &mut AtlasHandle,
+    atlas: &AtlasReader,
 ) -> u32
-    ensures step { IsSome simple.old.kept → IsSome atlas.old.kept
-        → IsHeldStart simple.old.kept atlas.old.kept (plain_answer result) simple.new.kept }
+    ensures step { IsSome simple.old.kept → IsSome atlas.now.kept
+        → IsHeldStart simple.old.kept atlas.now.kept (plain_answer result) simple.new.kept }
     ensures kept { IsSome simple.old.kept → HoldsSimple simple.new.kept IsSimple }
-    ensures same { atlas.new.kept ≡ atlas.old.kept }
     ensures refused { result ≢ DONE → simple.new.kept ≡ simple.old.kept }
     ensures empty { IsNone simple.old.kept → result ≡ EMPTY }
-    ensures no_source { IsNone atlas.old.kept → result ≡ EMPTY }
+    ensures no_source { IsNone atlas.now.kept → result ≡ EMPTY }
 {
     if !simple.holds() {
         return EMPTY;
@@ -277,93 +273,73 @@ pub extern "C" fn guillotiere_simple_init_from_allocator(
         simple.put(held);
         return EMPTY;
     }
-    let source = atlas.take(alloc);
-    let answer = held.init_from_allocator(&source);
-    atlas.put(source);
+    let source = atlas.lent();
+    let answer = held.init_from_allocator(source);
     simple.put(held);
     status_of_done(answer)
 }
 
-/// The size of the allocator, in pixels. `DONE`.
+/// The size of the allocator. `DONE`; `EMPTY`.
 #[unsafe(no_mangle)]
-pub extern "C" fn guillotiere_simple_size(
-    alloc: Global,
-    simple: &mut SimpleHandle,
-    size: &mut PlainSize,
-) -> u32
-    ensures size { IsSome simple.old.kept → HoldsSimple simple.old.kept (λ s. size_in size.new ≡ size_of s.size) }
-    ensures done { IsSome simple.old.kept → result ≡ DONE }
-    ensures same { simple.new.kept ≡ simple.old.kept }
-    ensures empty { IsNone simple.old.kept → (result ≡ EMPTY) × (size.new ≡ size.old) }
+pub extern "C" fn guillotiere_simple_size(simple: &SimpleReader, size: &mut PlainSize) -> u32
+    ensures size { IsSome simple.now.kept → HoldsSimple simple.now.kept (λ s. size_in size.new ≡ size_of s.size) }
+    ensures done { IsSome simple.now.kept → result ≡ DONE }
+    ensures empty { IsNone simple.now.kept → (result ≡ EMPTY) × (size.new ≡ size.old) }
 {
     if !simple.holds() {
         return EMPTY;
     }
-    let held = simple.take(alloc);
+    let held = simple.lent();
     *size = plain_size(held.size());
-    simple.put(held);
     DONE
 }
 
-/// The options of the allocator. `DONE`.
+/// The options of the allocator. `DONE`; `EMPTY`.
 #[unsafe(no_mangle)]
 pub extern "C" fn guillotiere_simple_options(
-    alloc: Global,
-    simple: &mut SimpleHandle,
+    simple: &SimpleReader,
     options: &mut PlainOptions,
 ) -> u32
-    ensures options { IsSome simple.old.kept → HoldsSimple simple.old.kept
+    ensures options { IsSome simple.now.kept → HoldsSimple simple.now.kept
         (λ s. allocator_options_in options.new ≡ allocator_options_of s.options) }
-    ensures done { IsSome simple.old.kept → result ≡ DONE }
-    ensures same { simple.new.kept ≡ simple.old.kept }
-    ensures empty { IsNone simple.old.kept → (result ≡ EMPTY) × (options.new ≡ options.old) }
+    ensures done { IsSome simple.now.kept → result ≡ DONE }
+    ensures empty { IsNone simple.now.kept → (result ≡ EMPTY) × (options.new ≡ options.old) }
 {
     if !simple.holds() {
         return EMPTY;
     }
-    let held = simple.take(alloc);
+    let held = simple.lent();
     *options = plain_options(held.options());
-    simple.put(held);
     DONE
 }
 
-/// How many entries are used, one for each free box, how many there are, and how many there may be: 4,294,967,295.
-/// `DONE`.
+/// The counts of entries, one of which each free box takes. `DONE`; `EMPTY`.
 #[unsafe(no_mangle)]
-pub extern "C" fn guillotiere_simple_slots(
-    alloc: Global,
-    simple: &mut SimpleHandle,
-    slots: &mut PlainSlots,
-) -> u32
-    ensures used { IfSome simple.old.kept (λ v. slots.new.used ≡ used_entries v) }
-    ensures kept { IfSome simple.old.kept (λ v. slots.new.kept ≡ kept_entries v) }
-    ensures limit { IsSome simple.old.kept → slots.new.limit ≡ 4294967295 }
-    ensures done { IsSome simple.old.kept → result ≡ DONE }
-    ensures same { simple.new.kept ≡ simple.old.kept }
-    ensures empty { IsNone simple.old.kept → (result ≡ EMPTY) × (slots.new ≡ slots.old) }
+pub extern "C" fn guillotiere_simple_slots(simple: &SimpleReader, slots: &mut PlainSlots) -> u32
+    ensures used { IfSome simple.now.kept (λ v. slots.new.used ≡ used_entries v) }
+    ensures kept { IfSome simple.now.kept (λ v. slots.new.kept ≡ kept_entries v) }
+    ensures limit { IsSome simple.now.kept → slots.new.limit ≡ 4294967295 }
+    ensures done { IsSome simple.now.kept → result ≡ DONE }
+    ensures empty { IsNone simple.now.kept → (result ≡ EMPTY) × (slots.new ≡ slots.old) }
 {
     if !simple.holds() {
         return EMPTY;
     }
-    let held = simple.take(alloc);
+    let held = simple.lent();
     *slots = plain_slots(held.slots());
-    simple.put(held);
     DONE
 }
 
 /// Whether one free box has the allocator's size; also true of a handle that holds nothing.
 #[unsafe(no_mangle)]
-pub extern "C" fn guillotiere_simple_is_empty(alloc: Global, simple: &mut SimpleHandle) -> bool
-    ensures free { IsSome simple.old.kept → HoldsSimple simple.old.kept
+pub extern "C" fn guillotiere_simple_is_empty(simple: &SimpleReader) -> bool
+    ensures free { IsSome simple.now.kept → HoldsSimple simple.now.kept
         (λ s. IsTrue result ↔ Any (λ b. box_sides b ≡ s.size) s.free) }
-    ensures same { simple.new.kept ≡ simple.old.kept }
-    ensures empty { IsNone simple.old.kept → IsTrue result }
+    ensures empty { IsNone simple.now.kept → IsTrue result }
 {
     if !simple.holds() {
         return true;
     }
-    let held = simple.take(alloc);
-    let is_empty = held.is_empty();
-    simple.put(held);
-    is_empty
+    let held = simple.lent();
+    held.is_empty()
 }

@@ -8,6 +8,7 @@ use guillotiere::SimpleAtlasAllocator;
 use std::alloc::Global;
 use std::marker::Model;
 use std::mem::replace;
+use std::ptr::null_mut;
 
 /// A place for a simple allocator: it holds one, or nothing, and then it is null.
 #[repr(C)]
@@ -27,9 +28,7 @@ impl SimpleHandle {
     pub fn none() -> SimpleHandle
         ensures { result.kept ≡ None }
     {
-        SimpleHandle {
-            at: std::ptr::null_mut(),
-        }
+        SimpleHandle { at: null_mut() }
     }
 
     /// Drops a handle. Requires that it holds nothing, so that nothing is lost.
@@ -88,5 +87,36 @@ impl SimpleHandle {
         let _size = simple.size();
         let empty = replace(self, SimpleHandle::close(hold(simple)));
         SimpleHandle::forget(empty);
+    }
+}
+
+/// The same place for a call that only reads: what lies at the pointer is lent to it, and any number of such calls may run
+/// at once.
+#[repr(C)]
+pub struct SimpleReader {
+    at: *const u8,
+    pub ghost kept: { Option SimpleValue },
+}
+
+impl Model for SimpleReader {
+    ghost use Rattle.guillotiere_c.specs.Keeping.{lends, simple_row};
+
+    ghost also_owns = { λ h. lends simple_row h.kept h.at };
+}
+
+impl SimpleReader {
+    /// Whether it holds an allocator.
+    pub fn holds(&self) -> bool
+        ensures { result ≡ is_some self.now.kept }
+    {
+        !self.at.is_null()
+    }
+
+    /// The allocator. Requires that it holds one.
+    pub fn lent(&self) -> &SimpleAtlasAllocator
+        requires { IsSome self.now.kept }
+        ensures { self.now.kept ≡ Some result.now }
+    {
+        unsafe { &*(self.at as *const SimpleAtlasAllocator) }
     }
 }

@@ -1,6 +1,6 @@
 //! The crates of the repository: what crates.txt says of them, and where each goes.
 use crate::fault::Fault;
-use crate::rules::Place;
+use crate::rules::{condition_of, Place};
 use std::collections::{BTreeMap, BTreeSet};
 use std::fs;
 use std::path::{Path, PathBuf};
@@ -32,6 +32,8 @@ const KIT: [&str; 1] = ["thiserror"];
 pub struct Crates {
     pub all: Vec<Crate>,
     pub library: BTreeSet<String>,
+    /// The laws of all sources, by their names.
+    pub laws: BTreeSet<String>,
 }
 
 impl Crates {
@@ -64,7 +66,8 @@ impl Crates {
             });
         }
         let library = library_of(&all);
-        Ok(Crates { all, library })
+        let laws = BTreeSet::new();
+        Ok(Crates { all, library, laws })
     }
 
     /// Those that are erased.
@@ -80,6 +83,7 @@ impl Crates {
             name: of.name.clone(),
             is_library: self.library.contains(&of.name),
             library: self.library.clone(),
+            laws: self.laws.clone(),
         }
     }
 
@@ -101,7 +105,7 @@ impl Crates {
     pub fn library_root(&self) -> String {
         let mut text = String::from(LIBRARY_HEAD);
         for name in &self.library {
-            text.push_str(&format!("pub mod {};\n", name));
+            text.push_str(&format!("{}pub mod {};\n", condition_of(name), name));
         }
         text
     }
@@ -118,15 +122,21 @@ impl Crates {
                 "\n[lib]\nname = \"guillotiere\"\ncrate-type = [\"staticlib\", \"cdylib\"]\ndoc = false\n",
             );
         }
-        let support = if of.is_static_library {
-            "\"raw\", \"std\""
+        let (features, support) = if of.is_static_library {
+            (
+                ", default-features = false, features = [\"cache\", \"sheet\"]",
+                "\"raw\"",
+            )
         } else {
-            "\"std\""
+            ("", "\"std\"")
         };
         text.push_str("\n[dependencies]\n");
         let needs_core = of.needs.iter().any(|n| self.library.contains(n));
         if needs_core {
-            text.push_str("wollemigo-core = { path = \"../../core\" }\n");
+            text.push_str(&format!(
+                "wollemigo-core = {{ path = \"../../core\"{} }}\n",
+                features
+            ));
         }
         text.push_str(&format!(
             "wollemigo-support = {{ path = \"../../support\", features = [{}] }}\n",
@@ -143,12 +153,22 @@ impl Crates {
                 need, folder, need
             ));
         }
+        if of.is_static_library {
+            text.push_str(STATIC_FEATURES);
+        }
         if is_program {
             text.push_str("\n[dev-dependencies]\nstored = { path = \"../../stored\" }\n");
         }
         text
     }
 }
+
+/// A library for C is built with Rust's `std`, or without it, over C's memory alone.
+const STATIC_FEATURES: &str = "
+[features]
+default = [\"std\"]
+std = [\"wollemigo-core/std\", \"wollemigo-support/std\"]
+";
 
 const LIBRARY_HEAD: &str = "\
 // Written by rust/erase from crates.txt: don't edit.
@@ -157,6 +177,18 @@ const LIBRARY_HEAD: &str = "\
 #![no_std]
 #![forbid(unsafe_code)]
 #![allow(dead_code, unused_imports, unused_labels, unused_variables)]
+// How the proved sources say it.
+#![allow(
+    clippy::incompatible_msrv,
+    clippy::manual_find,
+    clippy::manual_flatten,
+    clippy::manual_range_contains,
+    clippy::match_like_matches_macro,
+    clippy::needless_range_loop,
+    clippy::new_without_default,
+    clippy::should_implement_trait,
+    clippy::too_many_arguments
+)]
 
 ";
 

@@ -4,6 +4,7 @@
 //! moves none. What it doesn't know stops it, and nothing is written then.
 pub mod crates;
 pub mod fault;
+pub mod interface;
 pub mod layout;
 pub mod lexer;
 pub mod rules;

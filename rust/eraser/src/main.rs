@@ -1,17 +1,22 @@
 //! Writes the plain Rust that the proved sources give, or compares it with what stands there.
 use eraser::fault::Fault;
+use eraser::interface::Interface;
 use eraser::tree::Tree;
-use std::path::PathBuf;
+use std::path::{Path, PathBuf};
 use std::process::ExitCode;
 
 const USAGE: &str = "\
-erase           writes rust/core/src and rust/erased as the sources in crates/ give them
+erase           writes rust/core/src, rust/erased, and what is written of the exports for C, as the sources in crates/ give them
 erase --check   says whether they are so; the last line is 'N passed, M failed'
-erase --count   says how often each rule was applied";
+erase --count   says how often each rule was applied
+erase --interface   lists what the library for C offers, and says whether the files that are written of it are so";
 
 fn run(words: &[String]) -> Result<bool, Fault> {
     let rust = PathBuf::from(env!("CARGO_MANIFEST_DIR")).join("..");
     let root = rust.join("..");
+    if matches!(words, [word] if word == "--interface") {
+        return list_interface(&root, &rust);
+    }
     let tree = Tree::made(&root)?;
     match words {
         [] => {
@@ -43,10 +48,28 @@ fn run(words: &[String]) -> Result<bool, Fault> {
     }
 }
 
+fn list_interface(root: &Path, rust: &Path) -> Result<bool, Fault> {
+    let interface = Interface::read(root)?;
+    println!("{}", interface.lines());
+    let mut is_so = true;
+    for (path, text) in interface.files(root)?.0 {
+        if std::fs::read_to_string(rust.join(&path)).ok().as_ref() != Some(&text) {
+            eprintln!(
+                "{}: differs from what the exports give",
+                eraser::tree::shown(&path)
+            );
+            is_so = false;
+        }
+    }
+    Ok(is_so)
+}
+
 fn main() -> ExitCode {
     let words: Vec<String> = std::env::args().skip(1).collect();
     let is_known = matches!(words.as_slice(), [] | [_])
-        && words.iter().all(|w| w == "--check" || w == "--count");
+        && words
+            .iter()
+            .all(|w| matches!(w.as_str(), "--check" | "--count" | "--interface"));
     if !is_known {
         eprintln!("{}", USAGE);
         return ExitCode::from(2);

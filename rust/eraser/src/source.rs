@@ -45,6 +45,10 @@ impl<'a> Source<'a> {
         self.code.len()
     }
 
+    pub fn is_empty(&self) -> bool {
+        self.code.is_empty()
+    }
+
     pub fn token(&self, i: usize) -> Token {
         self.all[self.code[i]]
     }
@@ -200,6 +204,17 @@ impl<'a> Source<'a> {
         });
     }
 
+    /// Cuts the tokens from `i` on and before `j`, and the space behind them.
+    pub fn cut_with_space(&mut self, i: usize, j: usize) {
+        let last = self.code[j - 1];
+        let behind = self.all.get(last + 1).filter(|t| t.kind == Kind::Space);
+        self.edits.push(Edit {
+            start: self.token(i).start,
+            end: behind.map_or(self.all[last].end, |space| space.end),
+            put: String::new(),
+        });
+    }
+
     /// Cuts an item with the comments right above it.
     pub fn cut_item(&mut self, i: usize, j: usize) {
         let (start, end) = (self.comments_above(i), self.token(j - 1).end);
@@ -208,6 +223,37 @@ impl<'a> Source<'a> {
             end,
             put: String::new(),
         });
+    }
+
+    /// Rule 17: cuts `(docs/..)` in the comments, with the space before it, also where that begins a line of the comment.
+    pub fn cut_references(&mut self) {
+        let mut at = 0;
+        while let Some(found) = self.text[at..].find("(docs/") {
+            let start = at + found;
+            at = start + 1;
+            let is_comment = self
+                .all
+                .iter()
+                .any(|t| t.kind == Kind::Comment && t.start <= start && start < t.end);
+            let end = match self.text[start..].find(')') {
+                Some(length) if is_comment => start + length + 1,
+                _ => continue,
+            };
+            let is_cut = self.edits.iter().any(|e| e.start <= start && end <= e.end);
+            if !is_cut {
+                let before = self.text[..start].trim_end();
+                let before = ["///", "//!", "//"]
+                    .iter()
+                    .find_map(|mark| before.strip_suffix(mark))
+                    .unwrap_or(before);
+                self.count(17);
+                self.edits.push(Edit {
+                    start: before.trim_end().len(),
+                    end,
+                    put: String::new(),
+                });
+            }
+        }
     }
 
     pub fn count(&mut self, rule: u32) {

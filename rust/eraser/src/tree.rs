@@ -1,6 +1,9 @@
 //! All that the sources of a repository give: files by their paths below rust/.
 use crate::crates::{Crate, Crates};
 use crate::fault::Fault;
+use crate::interface::{Interface, EXPORTS};
+use crate::rules::laws_of;
+use crate::source::Source;
 use crate::{erased, layout};
 use std::collections::{BTreeMap, BTreeSet};
 use std::fs;
@@ -28,7 +31,8 @@ struct Job<'a> {
 impl Tree {
     /// Erases all sources of the repository at `root`.
     pub fn made(root: &Path) -> Result<Tree, Fault> {
-        let crates = Crates::read(root)?;
+        let mut crates = Crates::read(root)?;
+        crates.laws = laws(root, &crates)?;
         let mut jobs = Vec::new();
         let mut tree = Tree::default();
         tree.files
@@ -53,11 +57,28 @@ impl Tree {
                 }
             }
         }
-        tree.erase_all(root, &crates, jobs)?;
+        let texts = match root.join("crates").join(EXPORTS).is_dir() {
+            true => tree.add_interface(root)?,
+            false => String::new(),
+        };
+        tree.erase_all(root, &crates, &texts, jobs)?;
         Ok(tree)
     }
 
-    fn erase_all(&mut self, root: &Path, crates: &Crates, jobs: Vec<Job<'_>>) -> Result<(), Fault> {
+    /// Adds what is written of the exports for C. Gives the texts of statuses.
+    fn add_interface(&mut self, root: &Path) -> Result<String, Fault> {
+        let (files, texts) = Interface::read(root)?.files(root)?;
+        self.files.extend(files);
+        Ok(texts)
+    }
+
+    fn erase_all(
+        &mut self,
+        root: &Path,
+        crates: &Crates,
+        texts: &str,
+        jobs: Vec<Job<'_>>,
+    ) -> Result<(), Fault> {
         let jobs = Mutex::new(jobs);
         let made = Mutex::new(Ok(&mut *self));
         thread::scope(|scope| {
@@ -67,11 +88,13 @@ impl Tree {
                         Ok(Some(job)) => job,
                         _ => return,
                     };
-                    let done = erase_one(root, crates, &job);
+                    let done = erase_one(root, crates, texts, &job);
                     if let Ok(mut made) = made.lock() {
                         match (&mut *made, done) {
                             (Ok(tree), Ok((text, counts))) => {
-                                tree.files.insert(crates.target(job.of, &job.file), text);
+                                if !is_of_laws(&job.file) {
+                                    tree.files.insert(crates.target(job.of, &job.file), text);
+                                }
                                 for (rule, n) in counts {
                                     *tree.counts.entry(rule).or_insert(0) += n;
                                 }
@@ -103,12 +126,12 @@ impl Tree {
                         .count()
                         + 1;
                     found.push(format!(
-                        "rust/{}:{}: differs from what its source gives",
-                        path.display(),
+                        "{}:{}: differs from what its source gives",
+                        shown(path),
                         line
                     ));
                 }
-                Err(_) => found.push(format!("rust/{}: isn't there", path.display())),
+                Err(_) => found.push(format!("{}: isn't there", shown(path))),
             }
         }
         for path in there(rust)? {
@@ -146,18 +169,50 @@ impl Tree {
     }
 }
 
+/// A path below rust/, or beside it, as it is in the repository.
+pub fn shown(path: &Path) -> String {
+    match path.strip_prefix("..") {
+        Ok(beside) => beside.display().to_string(),
+        Err(_) => format!("rust/{}", path.display()),
+    }
+}
+
+/// Whether a source has nothing but laws: then no module is left of it.
+fn is_of_laws(file: &Path) -> bool {
+    file.file_stem().map_or(false, |name| name == "laws")
+}
+
+/// The laws of all sources, by their names.
+fn laws(root: &Path, crates: &Crates) -> Result<BTreeSet<String>, Fault> {
+    let mut found = BTreeSet::new();
+    for of in crates.erased() {
+        let folder = root.join("crates").join(&of.name).join("src");
+        for file in sources(&folder)? {
+            let name = format!("crates/{}/src/{}", of.name, file.display());
+            let text = fs::read_to_string(folder.join(&file))
+                .map_err(|e| Fault::of(&name, &e.to_string()))?;
+            found.extend(laws_of(&Source::new(&name, &text)?)?);
+        }
+    }
+    Ok(found)
+}
+
 fn erase_one(
     root: &Path,
     crates: &Crates,
+    texts: &str,
     job: &Job<'_>,
 ) -> Result<(String, BTreeMap<u32, usize>), Fault> {
     let name = format!("crates/{}/src/{}", job.of.name, job.file.display());
     let text = fs::read_to_string(&job.path).map_err(|e| Fault::of(&name, &e.to_string()))?;
     let (text, counts) = erased(&name, &text, &crates.place(job.of))?;
+    if is_of_laws(&job.file) && !Source::new(&name, &text)?.is_empty() {
+        return Err(Fault::of(&name, "something that is no law"));
+    }
     let is_root = job.file == Path::new("lib.rt") || job.file == Path::new("main.rt");
     let mut whole = format!("// Erased from {} by rust/erase: don't edit.\n", name);
     if is_root && !crates.library.contains(&job.of.name) {
-        whole.push_str(&with_head(&text, job.of.is_static_library));
+        whole.push_str(&with_head(&text, job.of.is_static_library, texts));
     } else {
         whole.push_str(&text);
     }
@@ -165,20 +220,27 @@ fn erase_one(
 }
 
 /// The text of a root file with the attributes of its crate, behind its documentation.
-fn with_head(text: &str, is_static_library: bool) -> String {
+fn with_head(text: &str, is_static_library: bool, texts: &str) -> String {
     let is_head = |line: &&str| line.starts_with("//!");
     let documentation: Vec<&str> = text.lines().take_while(is_head).collect();
     let rest: Vec<&str> = text.lines().skip(documentation.len()).collect();
-    let safe = if is_static_library {
-        ""
+    let (first, last) = if is_static_library {
+        (
+            "#![cfg_attr(not(feature = \"std\"), no_std)]\n",
+            format!(
+                "\nwollemigo_support::library_for_c! {{\n    guillotiere_set_memory, guillotiere_status_text,\n{}}}\n",
+                texts
+            ),
+        )
     } else {
-        "#![forbid(unsafe_code)]\n"
+        ("#![forbid(unsafe_code)]\n", String::new())
     };
     format!(
-        "{}\n{}#![allow(dead_code, unused_imports, unused_labels, unused_variables)]\n\n{}\n",
+        "{}\n{}#![allow(dead_code, unused_imports, unused_labels, unused_variables)]\n\n{}\n{}",
         documentation.join("\n"),
-        safe,
-        rest.join("\n")
+        first,
+        rest.join("\n"),
+        last
     )
 }
 

@@ -8,6 +8,7 @@ fn erased(text: &str) -> Result<String, Fault> {
         name: "uses".to_string(),
         is_library: false,
         library: Default::default(),
+        laws: Default::default(),
     };
     eraser::erased("a.rt", text, &place).map(|(text, _)| text)
 }
@@ -53,6 +54,26 @@ fn a_source_of_an_unknown_form_is_named() {
             "a.rt:1: an impl of Drop",
         ),
         ("fn f() -> Drop {}\n", "a.rt:1: Drop in an unknown place"),
+        (
+            "fn law()\n    ensures { a }\n{\n}\nmod other {\n    fn law() {\n        go(1);\n    }\n}\n",
+            "a.rt:6: a function with the name of a law",
+        ),
+        (
+            "fn f() {\n    prove_page(next());\n}\n",
+            "a.rt:2: a law that is given what is computed there",
+        ),
+        (
+            "fn prove_it(&mut self) {}\n",
+            "a.rt:1: a function with the name of a law",
+        ),
+        (
+            "fn prove_it() -> u32 {\n    1\n}\n",
+            "a.rt:1: a function with the name of a law",
+        ),
+        (
+            "pub extern \"C\" fn f(a: &u32) -> usize {\n    0\n}\n",
+            "a.rt:1: an export whose result has no value for a null pointer",
+        ),
         (
             "fn f() {\n    invariant { a };\n}\n",
             "a.rt:2: a word of the prover in an unknown place",

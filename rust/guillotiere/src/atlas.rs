@@ -53,10 +53,18 @@ impl AtlasAllocator {
 
     /// An atlas of this size with `DEFAULT_OPTIONS`: one free rectangle.
     ///
+    /// ```
+    /// use guillotiere::{size2, AtlasAllocator};
+    ///
+    /// let atlas = AtlasAllocator::new(size2(1024, 512));
+    /// assert!(atlas.is_empty());
+    /// ```
+    ///
     /// # Panics
     ///
     /// If a side is below 1, or memory runs out.
     #[track_caller]
+    #[must_use]
     pub fn new(size: Size) -> Self {
         expected(AtlasAllocator::try_new(size))
     }
@@ -68,10 +76,19 @@ impl AtlasAllocator {
 
     /// The same with these options.
     ///
+    /// ```
+    /// use guillotiere::{size2, AllocatorOptions, AtlasAllocator};
+    ///
+    /// let options = AllocatorOptions { alignment: size2(4, 4), ..AllocatorOptions::default() };
+    /// let atlas = AtlasAllocator::with_options(size2(1024, 512), &options);
+    /// assert_eq!(atlas.options(), options);
+    /// ```
+    ///
     /// # Panics
     ///
     /// Where `new` does, and if a side of the alignment is below 1 or the small threshold is above the large one.
     #[track_caller]
+    #[must_use]
     pub fn with_options(size: Size, options: &AllocatorOptions) -> Self {
         expected(AtlasAllocator::try_with_options(size, options))
     }
@@ -104,26 +121,31 @@ impl AtlasAllocator {
     }
 
     /// The size of the atlas, in pixels.
+    #[must_use]
     pub fn size(&self) -> Size {
         convert::size(self.atlas.size())
     }
 
     /// The options of the atlas.
+    #[must_use]
     pub fn options(&self) -> AllocatorOptions {
         convert::options(&self.atlas.options())
     }
 
     /// Whether no id is live.
+    #[must_use]
     pub fn is_empty(&self) -> bool {
         self.atlas.is_empty()
     }
 
     /// How many slots are used, the most that were used at once since the last start, and how many may be used.
+    #[must_use]
     pub fn slots(&self) -> SlotCount {
         convert::slots(self.atlas.slots())
     }
 
     /// The areas of all live and of all free rectangles, in unit squares. Two passes over the slots.
+    #[must_use]
     pub fn areas(&self) -> Areas {
         Areas {
             allocated: self.atlas.allocated_area(),
@@ -132,7 +154,18 @@ impl AtlasAllocator {
     }
 
     /// The rectangle of a live id; None for every other id.
+    ///
+    /// ```
+    /// use guillotiere::{size2, AtlasAllocator};
+    ///
+    /// let mut atlas = AtlasAllocator::new(size2(64, 64));
+    /// let glyph = atlas.allocate(size2(20, 60)).unwrap();
+    /// assert_eq!(atlas.get(glyph.id), Some(glyph.rectangle));
+    /// atlas.deallocate(glyph.id);
+    /// assert_eq!(atlas.get(glyph.id), None);
+    /// ```
     #[inline]
+    #[must_use]
     pub fn get(&self, id: AllocId) -> Option<Rectangle> {
         let found = self.atlas.get(convert::library_id(id))?;
         Some(convert::rectangle(&found))
@@ -141,9 +174,19 @@ impl AtlasAllocator {
     /// Asks for a rectangle of this size. None if a side is below 1, or the size, rounded up to the alignment, fits no
     /// free rectangle.
     ///
+    /// ```
+    /// use guillotiere::{size2, AtlasAllocator};
+    ///
+    /// let mut atlas = AtlasAllocator::new(size2(64, 64));
+    /// assert!(atlas.allocate(size2(64, 40)).is_some());
+    /// assert!(atlas.allocate(size2(64, 40)).is_none()); // no room
+    /// assert!(atlas.allocate(size2(0, 40)).is_none()); // nothing to place
+    /// ```
+    ///
     /// # Panics
     ///
     /// If memory or slots run out.
+    #[must_use = "the rectangle is taken until its id is freed"]
     #[track_caller]
     #[inline]
     pub fn allocate(&mut self, requested_size: Size) -> Option<Allocation> {
@@ -165,6 +208,14 @@ impl AtlasAllocator {
 
     /// Whether a request of this size has room: then `allocate` grants it, slots and memory aside; otherwise it
     /// answers None. Takes one search, and no memory.
+    ///
+    /// ```
+    /// use guillotiere::{size2, AtlasAllocator};
+    ///
+    /// let atlas = AtlasAllocator::new(size2(64, 64));
+    /// assert!(atlas.can_fit(size2(64, 64)) && !atlas.can_fit(size2(65, 1)));
+    /// ```
+    #[must_use]
     pub fn can_fit(&self, requested_size: Size) -> bool {
         self.atlas.can_fit(convert::library_size(requested_size))
     }
@@ -173,6 +224,15 @@ impl AtlasAllocator {
     /// more slots no request is refused memory, and for 3 no growth; a request uses at most 4, a growth at most 3, a
     /// freeing none. The memory stays until the atlas is rearranged or dropped, and a copy has none of it. An error is
     /// `Slots` or `Memory`.
+    ///
+    /// ```
+    /// use guillotiere::{size2, AtlasAllocator};
+    ///
+    /// let mut atlas = AtlasAllocator::new(size2(64, 64));
+    /// atlas.try_reserve(4)?; // the next request takes no memory for slots
+    /// assert!(atlas.allocate(size2(20, 60)).is_some());
+    /// # Ok::<(), guillotiere::AtlasError>(())
+    /// ```
     pub fn try_reserve(&mut self, additional: u32) -> Result<(), AtlasError> {
         self.atlas.reserve(additional)?;
         let slots = self.atlas.slots();
@@ -181,6 +241,15 @@ impl AtlasAllocator {
     }
 
     /// Frees the rectangle of a live id. Takes no memory.
+    ///
+    /// ```
+    /// use guillotiere::{size2, AtlasAllocator};
+    ///
+    /// let mut atlas = AtlasAllocator::new(size2(64, 64));
+    /// let glyph = atlas.allocate(size2(64, 40)).unwrap();
+    /// atlas.deallocate(glyph.id);
+    /// assert!(atlas.can_fit(size2(64, 64))); // what is free was joined
+    /// ```
     ///
     /// # Panics
     ///
@@ -198,6 +267,17 @@ impl AtlasAllocator {
     }
 
     /// Frees the rectangles of a list of ids, all or none. `NotLive` if one isn't live or is listed twice; `Memory`.
+    ///
+    /// ```
+    /// use guillotiere::{size2, AtlasAllocator};
+    ///
+    /// let mut atlas = AtlasAllocator::new(size2(64, 64));
+    /// let ids: Vec<_> = (0..3).map(|_| atlas.allocate(size2(8, 8)).unwrap().id).collect();
+    /// assert!(atlas.try_deallocate_all(&[ids[0], ids[0]]).is_err()); // listed twice: nothing goes
+    /// atlas.try_deallocate_all(&ids)?;
+    /// assert!(atlas.is_empty());
+    /// # Ok::<(), guillotiere::AtlasError>(())
+    /// ```
     pub fn try_deallocate_all(&mut self, ids: &[AllocId]) -> Result<(), AtlasError> {
         let mut library_ids = Vec::new();
         library_ids
@@ -208,6 +288,15 @@ impl AtlasAllocator {
     }
 
     /// Starts again at the present size and options; no id is live then. Takes no memory.
+    ///
+    /// ```
+    /// use guillotiere::{size2, AtlasAllocator};
+    ///
+    /// let mut atlas = AtlasAllocator::new(size2(64, 64));
+    /// let glyph = atlas.allocate(size2(20, 60)).unwrap();
+    /// atlas.clear();
+    /// assert!(atlas.is_empty() && atlas.get(glyph.id).is_none());
+    /// ```
     pub fn clear(&mut self) {
         expected(self.atlas.clear().map_err(AtlasError::from));
     }
@@ -234,6 +323,16 @@ impl AtlasAllocator {
 
     /// Makes the atlas larger; every live id keeps its rectangle.
     ///
+    /// ```
+    /// use guillotiere::{size2, AtlasAllocator};
+    ///
+    /// let mut atlas = AtlasAllocator::new(size2(64, 64));
+    /// let glyph = atlas.allocate(size2(64, 64)).unwrap();
+    /// atlas.grow(size2(128, 64));
+    /// assert_eq!(atlas[glyph.id], glyph.rectangle); // nothing moved
+    /// assert!(atlas.can_fit(size2(64, 64)));
+    /// ```
+    ///
     /// # Panics
     ///
     /// If a side shrinks, or memory or slots run out.
@@ -251,11 +350,21 @@ impl AtlasAllocator {
     }
 
     /// Whether `grow` may be called with this size: no side shrinks.
+    #[must_use]
     pub fn can_grow_to(&self, new_size: Size) -> bool {
         self.atlas.can_grow_to(convert::library_size(new_size))
     }
 
     /// `resize_and_rearrange` at the present size.
+    ///
+    /// ```
+    /// use guillotiere::{size2, AtlasAllocator};
+    ///
+    /// let mut atlas = AtlasAllocator::new(size2(64, 64));
+    /// let small = atlas.allocate(size2(8, 8)).unwrap();
+    /// let list = atlas.rearrange();
+    /// assert_eq!((list.changes[0].old, list.failures.len()), (small, 0));
+    /// ```
     ///
     /// # Panics
     ///
@@ -271,6 +380,15 @@ impl AtlasAllocator {
     }
 
     /// Repacks what is allocated into an empty atlas of this size, the largest first; all former ids are void.
+    ///
+    /// ```
+    /// use guillotiere::{size2, AtlasAllocator};
+    ///
+    /// let mut atlas = AtlasAllocator::new(size2(64, 64));
+    /// let _ = atlas.allocate(size2(8, 8));
+    /// let list = atlas.resize_and_rearrange(size2(4, 4));
+    /// assert_eq!(list.failures.len(), 1); // it is no longer live
+    /// ```
     ///
     /// # Panics
     ///

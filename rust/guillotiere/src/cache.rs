@@ -1,5 +1,5 @@
 //! Rectangles under keys in pages, which are textures or the layers of a texture array: pages are added and grow as they
-//! are needed, and at their limit the least recently used keys go. The crate `guillotiere` has nothing of the kind.
+//! are needed, and at their limit the least recently used keys go. Needs the feature `cache`, which is on by default.
 //!
 //! ```
 //! use guillotiere::cache::{CacheChange, CacheOptions, Inserted, TextureCache};
@@ -16,7 +16,7 @@
 //! glyphs.begin_frame();
 //! let place = loop {
 //!     let inserted = glyphs.insert('g', size2(20, 30))?;
-//!     while let Some(change) = glyphs.next_change() {
+//!     for change in glyphs.drain_changes() {
 //!         match change {
 //!             CacheChange::PageAdded { page, size } => println!("make texture {page} of {size:?} pixels"),
 //!             CacheChange::PageGrown { page, size } => println!("make texture {page} larger: {size:?}"),
@@ -41,276 +41,85 @@
 //! assert_eq!(glyphs.get('g'), place);
 //! # Ok::<(), guillotiere::cache::CacheError>(())
 //! ```
-use crate::{convert, AllocatorOptions, Rectangle, Size};
+//!
+//! # Keys and values of other kinds
+//!
+//! Keys are `Copy`, since a page's changes repeat them. A program whose keys are names numbers them, and keeps what belongs to an entry
+//! in a list at the number of its place:
+//!
+//! ```
+//! use guillotiere::cache::{CacheOptions, Inserted, TextureCache};
+//! use guillotiere::size2;
+//! use std::collections::HashMap;
+//!
+//! let mut names: HashMap<String, u32> = HashMap::new();
+//! let mut advances: Vec<f32> = Vec::new(); // a value for each entry, by its number
+//! let mut icons: TextureCache<u32> = TextureCache::new(&CacheOptions::new(size2(64, 64))).unwrap();
+//!
+//! let next = names.len() as u32;
+//! let key = *names.entry("arrow".to_string()).or_insert(next);
+//! if let Inserted::Placed(place) = icons.insert(key, size2(16, 16))? {
+//!     advances.resize(icons.numbers() as usize, 0.0);
+//!     advances[place.number as usize] = 17.5;
+//! }
+//! let place = icons.get(names["arrow"]).unwrap(); // names are looked up as any `HashMap` does, by `&str`
+//! assert_eq!(advances[place.number as usize], 17.5);
+//! # Ok::<(), guillotiere::cache::CacheError>(())
+//! ```
+use crate::{convert, Size};
 use core::fmt;
 use core::hash::{BuildHasher, Hash};
 use wollemigo_core::atlas_cache as library;
 pub use wollemigo_core::atlas_cache::entries::DefaultHasher;
 use wollemigo_support::alloc::Global;
-use wollemigo_support::vec::Vec as LibraryVec;
 
-/// How a cache is made. Lengths are in pixels.
-#[derive(Copy, Clone, Debug, PartialEq, Eq, Hash)]
-pub struct CacheOptions {
-    /// The size of a new page; it isn't empty.
-    pub page: Size,
-    /// The size up to which pages grow; neither side is less than that of `page`. The layers of a texture array have one
-    /// size: for those it is that of `page`.
-    pub largest_page: Size,
-    /// The most pages; at least 1.
-    pub pages: u32,
-    /// The width of the border on all four sides of an entry; at least 0.
-    pub padding: i32,
-    /// The options of each page's atlas; they are valid.
-    pub atlas: AllocatorOptions,
-}
+mod changes;
+mod options;
+mod values;
+mod walks;
 
-/// Where an entry lies, in pixels. A blank entry, that of a key with an empty size, lies on no page: both of its rectangles
-/// are empty.
-#[derive(Copy, Clone, Debug, PartialEq)]
-pub struct Place {
-    /// The number of the entry. It stays until the entry is gone, and no other entry has it meanwhile; the numbers of
-    /// entries that are gone are given out again before new ones, so what a caller keeps of each entry fits a list.
-    pub number: u32,
-    /// The page, counted from 0; of a blank entry 0, also where there is no page yet.
-    pub page: u32,
-    /// The rectangle with its padding, which no other entry of the page overlaps. Its border shows what lay there
-    /// before: clear it.
-    pub rectangle: Rectangle,
-    /// The rectangle that has the sides that were asked for: the padding lies to its left and above it. To its right
-    /// and below it, `rectangle` has the padding as well, and more where an alignment rounds up.
-    pub inner: Rectangle,
-}
-
-/// What an insertion answers.
-#[derive(Copy, Clone, Debug, PartialEq)]
-pub enum Inserted {
-    /// The key is new, and this is its place: its pixels are to be written there. A blank one has none: its place is empty.
-    Placed(Place),
-    /// The key was held, and this is its place still, with the pixels that were written there.
-    Held(Place),
-    /// All pages allowed exist, at their largest, this frame used each entry on them, and no page has room: draw what this
-    /// frame has, begin a new one, and insert again.
-    FrameFull,
-    /// The size, with the padding on all sides and rounded up to the alignment, exceeds the largest page.
-    NeverFits,
-}
-
-impl Inserted {
-    /// The place that was given, whether the key is new or was held; None if none was.
-    pub fn place(self) -> Option<Place> {
-        match self {
-            Inserted::Placed(place) | Inserted::Held(place) => Some(place),
-            Inserted::FrameFull | Inserted::NeverFits => None,
-        }
-    }
-}
-
-/// What a call did.
-#[derive(Copy, Clone, Debug, PartialEq)]
-pub enum CacheChange<K = u64> {
-    /// There is a new page, the last one: make a texture of this size.
-    PageAdded {
-        /// Its number, counted from 0.
-        page: u32,
-        /// Its size, in pixels.
-        size: Size,
-    },
-    /// A page has this size from now on, and nothing on it moved: make its texture larger.
-    PageGrown {
-        /// Its number, counted from 0.
-        page: u32,
-        /// Its size, in pixels.
-        size: Size,
-    },
-    /// A key is gone.
-    Evicted {
-        /// The key.
-        key: K,
-        /// Where it was.
-        place: Place,
-    },
-    /// A key moved, by a repacking: copy `from.rectangle`, out of a copy of the page as it was before, to `to.rectangle`.
-    Moved {
-        /// The key.
-        key: K,
-        /// Where it was.
-        from: Place,
-        /// Where it is.
-        to: Place,
-    },
-    /// The last page, which had nothing on it, is gone: drop its texture.
-    PageRemoved {
-        /// The page, counted from 0.
-        page: u32,
-    },
-}
-
-/// How often a cache had what it was asked for. A count that reaches 2^64 - 1 stays there.
-#[derive(Copy, Clone, Debug, PartialEq, Eq)]
-pub struct Counts {
-    /// The calls of `get` that found their key.
-    pub hits: u64,
-    /// The calls of `get` that didn't.
-    pub misses: u64,
-    /// The entries that were evicted: by an insertion, a trim or a repacking.
-    pub evictions: u64,
-}
-
-/// Why a call was refused.
-#[derive(Copy, Clone, Debug, PartialEq, Eq, Hash)]
-#[non_exhaustive]
-pub enum CacheError {
-    /// A request for memory was refused.
-    Memory,
-    /// All 4,294,967,295 numbers of entries are in use.
-    Numbers,
-    /// The slots of a page's atlas don't suffice.
-    Slots,
-    /// The key is held with another size.
-    OtherSize,
-}
-
-impl fmt::Display for CacheError {
-    fn fmt(&self, f: &mut fmt::Formatter<'_>) -> fmt::Result {
-        f.write_str(match self {
-            CacheError::Memory => "memory was refused",
-            CacheError::Numbers => "no number is left for an entry",
-            CacheError::Slots => "no slot is left on a page",
-            CacheError::OtherSize => "the key is held with another size",
-        })
-    }
-}
-
-#[cfg(feature = "std")]
-impl std::error::Error for CacheError {}
-
-impl From<library::CacheError> for CacheError {
-    fn from(error: library::CacheError) -> CacheError {
-        match error {
-            library::CacheError::Memory => CacheError::Memory,
-            library::CacheError::Numbers => CacheError::Numbers,
-            library::CacheError::Slots => CacheError::Slots,
-            library::CacheError::OtherSize => CacheError::OtherSize,
-        }
-    }
-}
-
-/// What is wrong with the options of a cache: the first of these that is so, in this order.
-#[derive(Copy, Clone, Debug, PartialEq, Eq, Hash)]
-#[non_exhaustive]
-pub enum OptionsError {
-    /// A side of `page` is below 1.
-    EmptyPage,
-    /// A side of `largest_page` is less than that of `page`.
-    LargestPage,
-    /// `pages` is 0.
-    NoPages,
-    /// `padding` is below 0.
-    Padding,
-    /// A side of the alignment of `atlas` is below 1, or its thresholds are out of order.
-    Atlas,
-    /// Not even a size of 1 by 1, with the padding and rounded up to the alignment, fits `largest_page`.
-    NothingFits,
-}
-
-impl fmt::Display for OptionsError {
-    fn fmt(&self, f: &mut fmt::Formatter<'_>) -> fmt::Result {
-        f.write_str(match self {
-            OptionsError::EmptyPage => "a side of a new page is below 1",
-            OptionsError::LargestPage => "the largest page is smaller than a new one",
-            OptionsError::NoPages => "no pages are allowed",
-            OptionsError::Padding => "the padding is below 0",
-            OptionsError::Atlas => "the options of the atlas are not valid",
-            OptionsError::NothingFits => "nothing fits the largest page with its padding",
-        })
-    }
-}
-
-#[cfg(feature = "std")]
-impl std::error::Error for OptionsError {}
-
-impl From<library::OptionsError> for OptionsError {
-    fn from(error: library::OptionsError) -> OptionsError {
-        match error {
-            library::OptionsError::EmptyPage => OptionsError::EmptyPage,
-            library::OptionsError::LargestPage => OptionsError::LargestPage,
-            library::OptionsError::NoPages => OptionsError::NoPages,
-            library::OptionsError::Padding => OptionsError::Padding,
-            library::OptionsError::Atlas => OptionsError::Atlas,
-            library::OptionsError::NothingFits => OptionsError::NothingFits,
-        }
-    }
-}
-
-fn library_options(options: &CacheOptions) -> library::CacheOptions {
-    library::CacheOptions {
-        page: convert::library_size(options.page),
-        largest_page: convert::library_size(options.largest_page),
-        pages: options.pages,
-        padding: options.padding,
-        atlas: convert::library_options(&options.atlas),
-    }
-}
-
-fn place_of(place: library::Place) -> Place {
-    Place {
-        number: place.number,
-        page: place.page,
-        rectangle: convert::rectangle(&place.rectangle),
-        inner: convert::rectangle(&place.inner),
-    }
-}
-
-fn inserted_of(inserted: library::Inserted) -> Inserted {
-    match inserted {
-        library::Inserted::Placed(place) => Inserted::Placed(place_of(place)),
-        library::Inserted::Held(place) => Inserted::Held(place_of(place)),
-        library::Inserted::FrameFull => Inserted::FrameFull,
-        library::Inserted::NeverFits => Inserted::NeverFits,
-    }
-}
-
-fn keyed<K>(found: (K, library::Place)) -> (K, Place) {
-    (found.0, place_of(found.1))
-}
-
-fn change_of<K>(change: library::CacheChange<K>) -> CacheChange<K> {
-    match change {
-        library::CacheChange::PageAdded { page, size } => CacheChange::PageAdded {
-            page,
-            size: convert::size(size),
-        },
-        library::CacheChange::PageGrown { page, size } => CacheChange::PageGrown {
-            page,
-            size: convert::size(size),
-        },
-        library::CacheChange::Evicted { key, place } => CacheChange::Evicted {
-            key,
-            place: place_of(place),
-        },
-        library::CacheChange::Moved { key, from, to } => CacheChange::Moved {
-            key,
-            from: place_of(from),
-            to: place_of(to),
-        },
-        library::CacheChange::PageRemoved { page } => CacheChange::PageRemoved { page },
-    }
-}
+pub use self::changes::Changes;
+use self::changes::Waiting;
+use self::options::library_options;
+pub use self::options::{CacheOptions, OptionsError};
+use self::values::{inserted_of, keyed, place_of};
+pub use self::values::{CacheChange, CacheError, Counts, Inserted, Place};
+pub use self::walks::{Iter, Keys};
 
 /// Rectangles under keys in pages, which are textures or the layers of a texture array.
 ///
-/// What a call did to keys and pages waits in the cache until `next_change` hands it over. The default hasher is
+/// What a call did to keys and pages waits in the cache until `drain_changes` or `next_change` hands it over. The default hasher is
 /// fast, and its seed is fixed: for keys that a stranger picks, give another one (`with_hasher`).
+///
+/// ```
+/// use guillotiere::cache::{CacheOptions, TextureCache};
+/// use guillotiere::size2;
+///
+/// let mut glyphs = TextureCache::new(&CacheOptions::new(size2(64, 64))).unwrap();
+/// glyphs.begin_frame();
+/// let inserted = glyphs.insert('g', size2(10, 20))?;
+/// for change in glyphs.drain_changes() {
+///     println!("follow {:?}", change);
+/// }
+/// assert_eq!(glyphs.get('g'), inserted.place());
+/// # Ok::<(), guillotiere::cache::CacheError>(())
+/// ```
 pub struct TextureCache<K: Copy + Eq + Hash = u64, S: BuildHasher = DefaultHasher> {
     cache: library::TextureCache<K, S, Global>,
-    changes: LibraryVec<library::CacheChange<K>, Global>,
-    // How many of the changes were handed over.
-    handed: usize,
+    waiting: Waiting<K>,
 }
 
 impl<K: Copy + Eq + Hash> TextureCache<K> {
     /// No pages and no entries. Takes no memory. An error says what is wrong with the options.
+    ///
+    /// ```
+    /// use guillotiere::cache::{CacheOptions, TextureCache};
+    /// use guillotiere::size2;
+    ///
+    /// let layers = CacheOptions { pages: 8, padding: 1, ..CacheOptions::new(size2(1024, 1024)) };
+    /// let glyphs: TextureCache<(u32, char)> = TextureCache::new(&layers).unwrap();
+    /// assert!(glyphs.is_empty());
+    /// ```
     pub fn new(options: &CacheOptions) -> Result<Self, OptionsError> {
         let cache = library::TextureCache::new(Global, library_options(options))?;
         Ok(TextureCache::over(cache))
@@ -321,12 +130,21 @@ impl<K: Copy + Eq + Hash, S: BuildHasher> TextureCache<K, S> {
     fn over(cache: library::TextureCache<K, S, Global>) -> Self {
         TextureCache {
             cache,
-            changes: LibraryVec::new(Global),
-            handed: 0,
+            waiting: Waiting::new(),
         }
     }
 
     /// The same, with a hasher for the keys.
+    ///
+    /// ```
+    /// use guillotiere::cache::{CacheOptions, TextureCache};
+    /// use guillotiere::size2;
+    /// use std::collections::hash_map::RandomState;
+    ///
+    /// let options = CacheOptions::new(size2(1024, 1024));
+    /// let mut glyphs = TextureCache::with_hasher(&options, RandomState::new()).unwrap();
+    /// assert!(glyphs.insert("from a stranger", size2(10, 20)).is_ok());
+    /// ```
     pub fn with_hasher(options: &CacheOptions, hasher: S) -> Result<Self, OptionsError> {
         let cache = library::TextureCache::with_hasher(Global, library_options(options), hasher)?;
         Ok(TextureCache::over(cache))
@@ -334,16 +152,40 @@ impl<K: Copy + Eq + Hash, S: BuildHasher> TextureCache<K, S> {
 
     /// Begins a new frame: what isn't used in it may be evicted. Until the first call no key is evicted for another: all that is held
     /// counts as used in the current frame.
+    ///
+    /// ```
+    /// use guillotiere::cache::{CacheOptions, Inserted, TextureCache};
+    /// use guillotiere::size2;
+    ///
+    /// let mut glyphs = TextureCache::new(&CacheOptions::new(size2(64, 64))).unwrap();
+    /// let _ = glyphs.insert('a', size2(64, 64))?;
+    /// assert_eq!(glyphs.insert('b', size2(64, 64))?, Inserted::FrameFull); // 'a' is used in this frame
+    /// glyphs.begin_frame();
+    /// assert!(glyphs.insert('b', size2(64, 64))?.place().is_some());
+    /// # Ok::<(), guillotiere::cache::CacheError>(())
+    /// ```
     pub fn begin_frame(&mut self) {
         self.cache.begin_frame()
     }
 
     /// The place of a key, which is used in this frame from now on; None if it isn't held. Counts a hit or a miss.
+    ///
+    /// ```
+    /// use guillotiere::cache::{CacheOptions, TextureCache};
+    /// use guillotiere::size2;
+    ///
+    /// let mut glyphs = TextureCache::new(&CacheOptions::new(size2(64, 64))).unwrap();
+    /// assert_eq!(glyphs.get('g'), None);
+    /// let inserted = glyphs.insert('g', size2(10, 20))?;
+    /// assert_eq!(glyphs.get('g'), inserted.place());
+    /// # Ok::<(), guillotiere::cache::CacheError>(())
+    /// ```
     pub fn get(&mut self, key: K) -> Option<Place> {
         self.cache.get(&key).map(place_of)
     }
 
     /// The place of a key; None if it isn't held. It doesn't count as a use.
+    #[must_use]
     pub fn peek(&self, key: K) -> Option<Place> {
         self.cache.peek(&key).map(place_of)
     }
@@ -356,30 +198,89 @@ impl<K: Copy + Eq + Hash, S: BuildHasher> TextureCache<K, S> {
     /// least recently used entry that lies on a page and that this frame didn't use is evicted; and so on.
     ///
     /// A new key with an empty size, of which a side is 0 or below, becomes a blank entry: `Placed` with a place that is
-    /// empty. It takes no room, so no page changes and nothing is evicted for it, nor is it ever evicted for another key.
+    /// empty. It takes no room, so no page changes and nothing is evicted for it, nor is it ever evicted for another key: it stays until
+    /// `trim`, `remove` or `clear`, and takes the memory of an entry. The first eviction that meets it passes it, and none after that
+    /// until it is used. Where many of them come, as one for each space of a text under a key of its own, call `trim` now and then, or
+    /// give all of them one key.
     ///
-    /// What was done to other keys and to pages is reported by `next_change`, also after `FrameFull` and after an error: follow
+    /// What was done to other keys and to pages is reported by `drain_changes`, also after `FrameFull` and after an error: follow
     /// it before the place is used.
+    ///
+    /// ```
+    /// use guillotiere::cache::{CacheOptions, TextureCache};
+    /// use guillotiere::size2;
+    ///
+    /// let mut glyphs = TextureCache::new(&CacheOptions::new(size2(64, 64))).unwrap();
+    /// let glyph = glyphs.insert('g', size2(10, 20))?.place().unwrap();
+    /// let space = glyphs.insert(' ', size2(0, 0))?.place().unwrap();
+    /// assert!(!glyph.inner.is_empty() && space.inner.is_empty());
+    /// # Ok::<(), guillotiere::cache::CacheError>(())
+    /// ```
     pub fn insert(&mut self, key: K, size: Size) -> Result<Inserted, CacheError> {
         let size = convert::library_size(size);
-        let inserted = self.cache.insert(key, size, &mut self.changes)?;
-        Ok(inserted_of(inserted))
+        self.reporting(|cache, changes| cache.insert(key, size, changes))
+            .map(inserted_of)
     }
 
     /// Removes a key, and gives the place that it had; None if it isn't held. No change reports it.
+    ///
+    /// ```
+    /// use guillotiere::cache::{CacheOptions, TextureCache};
+    /// use guillotiere::size2;
+    ///
+    /// let mut glyphs = TextureCache::new(&CacheOptions::new(size2(64, 64))).unwrap();
+    /// let inserted = glyphs.insert('g', size2(10, 20))?;
+    /// assert_eq!(glyphs.remove('g'), inserted.place());
+    /// assert!(glyphs.is_empty());
+    /// # Ok::<(), guillotiere::cache::CacheError>(())
+    /// ```
     pub fn remove(&mut self, key: K) -> Option<Place> {
         self.cache.remove(&key).map(place_of)
     }
 
-    /// The first change that wasn't handed over yet, which is handed over now; None if there is none.
+    /// The changes of one call: the first of which some weren't handed over yet. None are left of it when what this returns is dropped.
+    ///
+    /// Calls that had nothing to report are passed over. Where several calls come before their changes are followed, each is followed by
+    /// a drain of its own, until one is empty; so the pixels that a `repack` moves are copied out of the page as that call found it.
+    ///
+    /// ```
+    /// use guillotiere::cache::{CacheChange, CacheOptions, TextureCache};
+    /// use guillotiere::size2;
+    ///
+    /// let mut glyphs = TextureCache::new(&CacheOptions::new(size2(64, 64))).unwrap();
+    /// let _ = glyphs.insert('a', size2(10, 20))?;
+    /// let _ = glyphs.insert('b', size2(10, 20))?;
+    /// glyphs.repack(0)?;
+    /// let added = CacheChange::PageAdded { page: 0, size: size2(64, 64) };
+    /// assert!(glyphs.drain_changes().eq([added])); // of the first insertion
+    /// assert_eq!(glyphs.drain_changes().len(), 2); // of the repacking: the second insertion had none
+    /// assert_eq!(glyphs.drain_changes().len(), 0);
+    /// # Ok::<(), guillotiere::cache::CacheError>(())
+    /// ```
+    pub fn drain_changes(&mut self) -> Changes<'_, K> {
+        Changes::of_the_first_call(&mut self.waiting)
+    }
+
+    /// The first change that wasn't handed over yet, of whichever call, which is handed over now; None if there is none. It doesn't say
+    /// where the changes of a call end, so follow them before the next `repack`, or take `drain_changes`.
+    #[must_use = "a change is handed over once"]
     pub fn next_change(&mut self) -> Option<CacheChange<K>> {
-        let change = *self.changes.as_slice().get(self.handed)?;
-        self.handed += 1;
-        if self.handed == self.changes.len() {
-            self.changes.clear();
-            self.handed = 0;
-        }
-        Some(change_of(change))
+        self.waiting.next()
+    }
+
+    // A call that reports what it does, also where it ends with an error.
+    #[inline]
+    fn reporting<T>(
+        &mut self,
+        call: impl FnOnce(
+            &mut library::TextureCache<K, S, Global>,
+            &mut library::Changes<K>,
+        ) -> Result<T, library::CacheError>,
+    ) -> Result<T, CacheError> {
+        self.waiting.begin()?;
+        let answer = call(&mut self.cache, &mut self.waiting.changes);
+        self.waiting.end();
+        Ok(answer?)
     }
 
     /// Removes all keys; the pages stay. No change reports it, and the changes that weren't handed over stay.
@@ -388,22 +289,52 @@ impl<K: Copy + Eq + Hash, S: BuildHasher> TextureCache<K, S> {
     }
 
     /// Evicts the keys that weren't used for at least this many frames, each reported by a change, the least recently used first.
+    ///
+    /// ```
+    /// use guillotiere::cache::{CacheChange, CacheOptions, TextureCache};
+    /// use guillotiere::size2;
+    ///
+    /// let mut glyphs = TextureCache::new(&CacheOptions::new(size2(64, 64))).unwrap();
+    /// let _ = glyphs.insert('a', size2(10, 20))?;
+    /// glyphs.begin_frame();
+    /// let _ = glyphs.insert('b', size2(10, 20))?;
+    /// glyphs.trim(1)?; // what this frame didn't use
+    /// assert!(glyphs.keys().eq(['b']));
+    /// # Ok::<(), guillotiere::cache::CacheError>(())
+    /// ```
     pub fn trim(&mut self, frames: u64) -> Result<(), CacheError> {
-        Ok(self.cache.trim(frames, &mut self.changes)?)
+        self.reporting(|cache, changes| cache.trim(frames, changes))
     }
 
     /// Removes the pages after the last one with a key, each reported by a change, the last one first; the others stay, with
     /// their sizes, and so do all keys. After `clear` all pages go.
     pub fn shrink(&mut self) -> Result<(), CacheError> {
-        Ok(self.cache.shrink(&mut self.changes)?)
+        self.reporting(|cache, changes| cache.shrink(changes))
     }
 
     /// Repacks the keys of a page, the largest first, and among equal areas the most recently used, so that what is free
     /// comes together. Returns whether there is such a page. Each of its keys is reported by a change, as moved, even if it stays,
     /// or as evicted, where it found no room. A place that a key moves to can overlap one that a later change moves from: copy
     /// all pixels from the page as it was.
+    ///
+    /// ```
+    /// use guillotiere::cache::{CacheChange, CacheOptions, TextureCache};
+    /// use guillotiere::size2;
+    ///
+    /// let mut glyphs = TextureCache::new(&CacheOptions::new(size2(64, 64))).unwrap();
+    /// let _ = glyphs.insert('g', size2(10, 20))?;
+    /// while glyphs.drain_changes().len() > 0 {}
+    /// assert!(glyphs.repack(0)?);
+    /// let before = "a copy of the page";
+    /// for change in glyphs.drain_changes() {
+    ///     if let CacheChange::Moved { from, to, .. } = change {
+    ///         println!("copy {:?} of {} to {:?}", from.rectangle, before, to.rectangle);
+    ///     }
+    /// }
+    /// # Ok::<(), guillotiere::cache::CacheError>(())
+    /// ```
     pub fn repack(&mut self, page: u32) -> Result<bool, CacheError> {
-        Ok(self.cache.repack(page, &mut self.changes)?)
+        self.reporting(|cache, changes| cache.repack(page, changes))
     }
 
     /// The area of a page, in pixels, that is free in rectangles which have no room for an entry of this size, with its
@@ -421,57 +352,102 @@ impl<K: Copy + Eq + Hash, S: BuildHasher> TextureCache<K, S> {
     }
 
     /// How many numbers entries have had since the cache was made or cleared: each entry's number is below this.
+    #[must_use]
     pub fn numbers(&self) -> u32 {
         self.cache.numbers()
     }
 
     /// How many keys are held.
+    #[must_use]
     pub fn len(&self) -> usize {
         self.cache.len()
     }
 
     /// Whether there are none.
+    #[must_use]
     pub fn is_empty(&self) -> bool {
         self.cache.is_empty()
     }
 
+    /// Whether a key is held. It doesn't count as a use.
+    #[must_use]
+    pub fn contains_key(&self, key: K) -> bool {
+        self.cache.peek(&key).is_some()
+    }
+
+    /// The keys with their places, the most recently used first. A step takes one look-up, and doesn't count as a use.
+    ///
+    /// ```
+    /// use guillotiere::cache::{CacheOptions, TextureCache};
+    /// use guillotiere::size2;
+    ///
+    /// let mut glyphs = TextureCache::new(&CacheOptions::new(size2(64, 64))).unwrap();
+    /// for glyph in ['a', 'b', 'c'] {
+    ///     let _ = glyphs.insert(glyph, size2(10, 20))?;
+    /// }
+    /// glyphs.get('a');
+    /// assert!(glyphs.keys().eq(['a', 'c', 'b']));
+    /// assert!(glyphs.iter().all(|(_, place)| place.page == 0));
+    /// # Ok::<(), guillotiere::cache::CacheError>(())
+    /// ```
+    #[must_use]
+    pub fn iter(&self) -> Iter<'_, K, S> {
+        Iter::of(self)
+    }
+
+    /// The keys, the most recently used first. A step takes one look-up, and doesn't count as a use.
+    #[must_use]
+    pub fn keys(&self) -> Keys<'_, K, S> {
+        Keys {
+            entries: self.iter(),
+        }
+    }
+
     /// The most recently used key, and its place. It doesn't count as a use.
+    #[must_use]
     pub fn newest(&self) -> Option<(K, Place)> {
         self.cache.newest().map(keyed)
     }
 
     /// The least recently used key, and its place. It doesn't count as a use.
+    #[must_use]
     pub fn oldest(&self) -> Option<(K, Place)> {
         self.cache.oldest().map(keyed)
     }
 
     /// The next less recently used key, and its place. It doesn't count as a use.
+    #[must_use]
     pub fn older(&self, key: K) -> Option<(K, Place)> {
         self.cache.older(&key).map(keyed)
     }
 
     /// How many pages there are.
+    #[must_use]
     pub fn pages(&self) -> u32 {
         self.cache.pages()
     }
 
     /// The size of a page, in pixels; None if there is no such page.
+    #[must_use]
     pub fn page_size(&self, page: u32) -> Option<Size> {
         self.cache.page_size(page).map(convert::size)
     }
 
     /// The area of all entries of a page together, with their padding and what alignment added, in unit squares; None
     /// if there is no such page.
+    #[must_use]
     pub fn live_area(&self, page: u32) -> Option<u64> {
         self.cache.live_area(page)
     }
 
     /// The area of a page that no entry takes, in unit squares; None if there is no such page.
+    #[must_use]
     pub fn free_area(&self, page: u32) -> Option<u64> {
         self.cache.free_area(page)
     }
 
     /// The options with which the cache was made.
+    #[must_use]
     pub fn options(&self) -> CacheOptions {
         let options = self.cache.options();
         CacheOptions {
@@ -484,6 +460,7 @@ impl<K: Copy + Eq + Hash, S: BuildHasher> TextureCache<K, S> {
     }
 
     /// The counts since the cache was made.
+    #[must_use]
     pub fn statistics(&self) -> Counts {
         let counts = self.cache.statistics();
         Counts {

@@ -1,10 +1,21 @@
 //! Why a call of an allocator can't be made, or was refused.
 use core::fmt;
 use wollemigo_core::guillotiere as library;
+#[cfg(feature = "recording")]
 use wollemigo_core::guillotiere_recording::RecordingError;
 use wollemigo_core::guillotiere_total::CallError;
 
 /// Which condition of a call fails, or why the call was refused. After an error everything is as before the call.
+///
+/// ```
+/// use guillotiere::{size2, AtlasAllocator, AtlasError};
+///
+/// let mut atlas = AtlasAllocator::new(size2(64, 64));
+/// match atlas.try_grow(size2(32, 99)) {
+///     Err(AtlasError::Shrinks) => assert_eq!(atlas.size(), size2(64, 64)), // as before
+///     other => panic!("{:?}", other),
+/// }
+/// ```
 #[derive(Copy, Clone, Debug, PartialEq, Eq, Hash)]
 #[non_exhaustive]
 pub enum AtlasError {
@@ -57,6 +68,7 @@ impl From<library::AtlasError> for AtlasError {
     }
 }
 
+#[cfg(feature = "recording")]
 impl From<RecordingError> for AtlasError {
     fn from(error: RecordingError) -> AtlasError {
         match error {

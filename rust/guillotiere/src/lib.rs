@@ -1,10 +1,34 @@
-//! An allocator of rectangles inside one large texture, with the names of the crate `guillotiere` 0.7.0. A program that
-//! uses that crate changes one line of its Cargo.toml. The package is in no registry yet: give the path from there to
-//! your clone of the repository, or `git = "URL"` in place of `path`:
+//! Rectangles inside textures: glyphs, icons and sprites that share one texture, or the layers of a few.
 //!
-//! ```toml
-//! guillotiere = { package = "wollemigo", path = "CLONE/rust/guillotiere" }
+//! | you have | take |
+//! |---|---|
+//! | things under keys, such as glyphs, of which more come than a texture holds | [`cache::TextureCache`]: it adds pages, lets them grow, and evicts what wasn't used |
+//! | rectangles that you ask for and give back yourself | [`AtlasAllocator`] |
+//! | rectangles for one frame, all dropped at once | [`SimpleAtlasAllocator`] |
+//! | all sprites known beforehand | [`sheet::pack`]: the smallest sheet that is found |
+//! | an allocator that is to be kept in a file | [`recording::RecordingAllocator`] |
+//!
+//! A cache of glyphs, with what its program follows:
+//!
 //! ```
+//! # #[cfg(feature = "cache")] {
+//! use guillotiere::cache::{CacheOptions, Inserted, TextureCache};
+//! use guillotiere::size2;
+//!
+//! let options = CacheOptions { pages: 4, padding: 1, ..CacheOptions::new(size2(512, 512)) };
+//! let mut glyphs = TextureCache::new(&options).unwrap();
+//! glyphs.begin_frame();
+//! let inserted = glyphs.insert('g', size2(20, 30)).unwrap();
+//! for change in glyphs.drain_changes() {
+//!     println!("make or enlarge a texture, or copy pixels: {:?}", change);
+//! }
+//! if let Inserted::Placed(place) = inserted {
+//!     println!("write the glyph into {:?} of texture {}", place.inner, place.page);
+//! }
+//! # }
+//! ```
+//!
+//! Boxes of an atlas, asked for and given back:
 //!
 //! ```
 //! use guillotiere::*;
@@ -16,41 +40,102 @@
 //! assert_eq!(atlas[other.id], other.rectangle);
 //! ```
 //!
-//! All work is done by `wollemigo-core`, which is the text of proved sources with its contracts removed. Nothing is
-//! decided here: values are turned into those of euclid, and errors into panics. Whether a call is allowed is tested by
-//! `guillotiere_total`, which comes from the same sources.
+//! # When to take it, and when not
 //!
-//! A call panics where that of the crate does, and if memory or slots run out; the text says which condition failed. Each
-//! such call has a `try_` form that returns the error as a value; after an error everything is as before. This crate's
-//! README.md has a table of what else differs from the crate.
+//! An atlas is cut in two, again and again, by lines from border to border (guillotine cuts), and what is given back joins the free
+//! space next to it at once. So it suits boxes of many sizes that come and go. It isn't the right thing where
 //!
-//! The crate `guillotiere` has no [`sheet`] and no [`cache`], and its recorder doesn't compile; here [`recording`] is one.
+//! - all boxes have one size: a grid and a list of free cells is smaller and faster;
+//! - boxes are only added, and the last few percent of the texture count: [`sheet::pack_dense`] is fuller;
+//! - coordinates are no `i32`, or a box may be turned while others come and go.
 //!
-//! Features: `std` (default), with `std::error::Error` for the errors and with `dump_svg`; `serialization`, with serde
-//! for [`AllocId`] and [`AllocatorOptions`], and for an allocator by its [`recording`]. Without `std` this crate uses
-//! only `core` and `alloc`; euclid has features of its own.
+//! # What calls cost
+//!
+//! | call | its time grows by |
+//! |---|---|
+//! | [`AtlasAllocator::new`] | nothing; it takes 21,672 bytes |
+//! | [`allocate`](AtlasAllocator::allocate), [`can_fit`](AtlasAllocator::can_fit) | the free boxes of about the same sides as the one that is taken; boxes are listed by 52 bands of their widths and 52 of their heights, so it is slowest where very many free boxes have one size |
+//! | [`deallocate`](AtlasAllocator::deallocate) | the slots that go where free space is joined, each of which goes once |
+//! | `atlas[id]`, [`get`](AtlasAllocator::get), [`size`](AtlasAllocator::size), [`is_empty`](AtlasAllocator::is_empty) | nothing |
+//! | [`allocations`](AtlasAllocator::allocations), [`free_rectangles`](AtlasAllocator::free_rectangles), the `for_each` calls, [`areas`](AtlasAllocator::areas), `clone` | the most slots that were used at once |
+//! | [`grow`](AtlasAllocator::grow) | the boxes and groups along the first cut |
+//! | [`rearrange`](AtlasAllocator::rearrange), [`resize_and_rearrange`](AtlasAllocator::resize_and_rearrange) | sorting all live boxes, and a request for each |
+//! | [`clear`](AtlasAllocator::clear), [`reset`](AtlasAllocator::reset) | nothing |
+//! | `get`, `peek`, `contains_key` of a cache, `insert` of a key that is held | one look-up |
+//! | `insert` of a new key | a request to each page, until one has room, but for pages that refused a size no larger and haven't changed since; if none has room, an eviction and one more request, again and again |
+//! | an eviction | a freeing; it passes each blank key that is older than the key that goes (see `insert`) once, and not again until it is used |
+//! | `remove`, `begin_frame` of a cache | one look-up, and a freeing; nothing |
+//! | `iter`, `keys` of a cache | a look-up for each key |
+//! | `drain_changes` | the changes |
+//! | `trim` | the keys that go |
+//! | `repack` | all keys, and the sorting of those on that page |
+//! | `unusable_area` | the slots of that page |
+//! | `sheet::pack`, `fill` and the others | a request for each sprite, times the ways and sheets that are tried, times `effort` |
+//!
+//! # Limits
+//!
+//! - Sides of an atlas, and of requests once they are rounded up to the alignment, go up to 2,147,483,647 pixels.
+//! - An atlas has 16,777,216 slots at most ([`MOST_SLOTS`]): one for each live box, each free box and each group of boxes between cuts.
+//! - The id of a freed box is given out again once its slot was taken 256 times, and may be at once after `clear`, `reset` or a
+//!   rearrangement: don't keep ids of what is freed.
+//! - Memory, where pointers have 64 bits: 21,672 bytes for an atlas, 56 for each slot. That was 97 bytes a live box among 65,536
+//!   equal tiles, 209 among 5,320 glyphs after a million calls, and 331 for each of 35,532 entries of a cache. It stays until the
+//!   atlas is dropped or rearranged.
+//! - A cache has up to 4,294,967,295 entries.
+//!
+//! # Errors
+//!
+//! After an error everything is as it was before the call, also where memory is refused; of a cache, what it did before the error is
+//! among its changes. Calls with a `try_` in their names return errors as values, and so do those of a cache and of sheets; the others
+//! panic, and the text says which condition failed.
+//!
+//! # Features
+//!
+//! | feature | what it switches on |
+//! |---|---|
+//! | `std` (default) | `std::error::Error` for the errors; [`dump_svg`], [`dump_into_svg`] |
+//! | `cache`, `sheet`, `recording` (default) | the modules of these names |
+//! | `serialization` | serde for [`AllocId`] and [`AllocatorOptions`], for an allocator by its [`recording`], and for what euclid has |
+//! | `libm` | euclid's feature of this name |
+//!
+//! Without `std` this crate and those below it use only `core` and `alloc`.
+//!
+//! # What is proved
+//!
+//! All work is done by `wollemigo-core`, which is the text of proved sources with its contracts removed: each call of those sources
+//! meets its contract. That the text means the same without them is tested, not proved. Here nothing is decided: values are turned
+//! into those of euclid, and errors into panics. There is no unsafe code here or in the two packages below.
+//!
+//! # From the crate `guillotiere`
+//!
+//! This crate has the names of the crate `guillotiere` 0.7.0, so a program that uses it changes one line of its Cargo.toml. The README of
+//! this package has a table of what behaves differently.
 #![forbid(unsafe_code)]
 #![warn(missing_docs)]
 #![cfg_attr(not(feature = "std"), no_std)]
 
 extern crate alloc;
 pub extern crate euclid;
-#[cfg(feature = "serde")]
+#[cfg(feature = "serialization")]
 pub extern crate serde;
 
 mod atlas;
+#[cfg(feature = "cache")]
 pub mod cache;
 mod convert;
 mod error;
+#[cfg(feature = "recording")]
 pub mod recording;
-#[cfg(feature = "serde")]
+#[cfg(feature = "serialization")]
 mod serialization;
+#[cfg(feature = "sheet")]
 pub mod sheet;
 mod shown;
 mod simple;
 #[cfg(feature = "std")]
 mod svg;
 mod values;
+mod walks;
 
 pub use crate::atlas::AtlasAllocator;
 pub use crate::error::AtlasError;
@@ -61,10 +146,16 @@ pub use crate::values::{
     AllocId, Allocation, AllocatorOptions, Areas, Change, ChangeList, Point, Rectangle, Size,
     SlotCount, DEFAULT_OPTIONS, MOST_SLOTS,
 };
+pub use crate::walks::{Allocations, FreeRectangles};
 pub use euclid::{point2, size2};
 pub use wollemigo_core::guillotiere::NodeKind;
 
+// That rustc says so where an answer is dropped that is needed.
+#[cfg(all(doctest, feature = "cache", feature = "sheet", feature = "recording"))]
+#[doc = include_str!("../tests/dropped.md")]
+mod dropped {}
+
 // The example of the page.
-#[cfg(doctest)]
+#[cfg(all(doctest, feature = "cache"))]
 #[doc = include_str!("../README.md")]
 mod readme {}

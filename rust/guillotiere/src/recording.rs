@@ -1,5 +1,5 @@
-//! Persistence: an allocator that records its calls, and recordings that can be kept and taken up again. The recorder of
-//! the crate `guillotiere` 0.7.0 doesn't compile; this one has names of its own.
+//! Persistence: an allocator that records its calls, and recordings that can be kept and taken up again. Needs the feature `recording`,
+//! which is on by default.
 //!
 //! The ids of an [`AtlasAllocator`](crate::AtlasAllocator) depend on its slots, and when slots are read from a file no
 //! one can say whether calls led to them. So what is kept is the list of calls with their answers, a [`Recording`]:
@@ -49,12 +49,26 @@ use wollemigo_core::guillotiere_recording as library;
 use wollemigo_core::guillotiere_total::{recording as total, CallError};
 use wollemigo_support::alloc::Global;
 
+mod events;
+
 /// An allocator that hands out names in place of ids, and records each of its calls that isn't refused. Rectangles lie
 /// where an [`AtlasAllocator`](crate::AtlasAllocator) would place them.
 ///
 /// A call panics where that of an `AtlasAllocator` does, and has a `try_` form that returns the error as a value; after
 /// an error everything is as before, and nothing was recorded. Each call that is recorded takes memory for its event,
 /// freeing too.
+///
+/// ```
+/// use guillotiere::recording::RecordingAllocator;
+/// use guillotiere::size2;
+///
+/// let mut atlas = RecordingAllocator::new(size2(64, 64));
+/// let glyph = atlas.allocate(size2(20, 60)).unwrap();
+/// let small = atlas.allocate(size2(4, 4)).unwrap();
+/// assert_eq!((glyph.id.serialize(), small.id.serialize()), (0, 1)); // names
+/// let _ = atlas.rearrange();
+/// assert_eq!(atlas.allocations()[1].id, small.id); // the same after a rearranging
+/// ```
 pub struct RecordingAllocator {
     session: library::RecordingAllocator<Global>,
 }
@@ -66,6 +80,7 @@ impl RecordingAllocator {
     ///
     /// If a side is below 1, or memory runs out.
     #[track_caller]
+    #[must_use]
     pub fn new(size: Size) -> Self {
         expected(RecordingAllocator::try_new(size))
     }
@@ -81,6 +96,7 @@ impl RecordingAllocator {
     ///
     /// Where `new` does, and if a side of the alignment is below 1 or the small threshold is above the large one.
     #[track_caller]
+    #[must_use]
     pub fn with_options(size: Size, options: &AllocatorOptions) -> Self {
         expected(RecordingAllocator::try_with_options(size, options))
     }
@@ -92,17 +108,27 @@ impl RecordingAllocator {
         Ok(RecordingAllocator { session })
     }
 
+    /// A copy that shares nothing with this one, and goes on by itself: with the same rectangles under the same names, and the same
+    /// recording. `Memory` is the only error.
+    pub fn try_clone(&self) -> Result<Self, AtlasError> {
+        let session = self.session.clone()?;
+        Ok(RecordingAllocator { session })
+    }
+
     /// The size of the atlas, in pixels.
+    #[must_use]
     pub fn size(&self) -> Size {
         convert::size(self.session.size())
     }
 
     /// The options of the atlas.
+    #[must_use]
     pub fn options(&self) -> AllocatorOptions {
         convert::options(&self.session.options())
     }
 
     /// How many slots are used, the most that were used at once since the last start, and how many may be used.
+    #[must_use]
     pub fn slots(&self) -> SlotCount {
         convert::slots(self.session.slots())
     }
@@ -113,6 +139,7 @@ impl RecordingAllocator {
     /// # Panics
     ///
     /// If memory or slots run out, or all 4294967296 names were given.
+    #[must_use = "the rectangle is taken until its name is freed"]
     #[track_caller]
     pub fn allocate(&mut self, requested_size: Size) -> Option<Allocation> {
         expected(self.try_allocate(requested_size))
@@ -128,6 +155,7 @@ impl RecordingAllocator {
 
     /// Whether a request of this size has room: then `allocate` grants it, names, slots and memory aside; otherwise it
     /// answers None. Takes one search, and no memory.
+    #[must_use]
     pub fn can_fit(&self, requested_size: Size) -> bool {
         self.session.can_fit(convert::library_size(requested_size))
     }
@@ -172,6 +200,7 @@ impl RecordingAllocator {
     }
 
     /// Whether `grow` may be called with this size: no side shrinks.
+    #[must_use]
     pub fn can_grow_to(&self, new_size: Size) -> bool {
         self.session.can_grow_to(convert::library_size(new_size))
     }
@@ -258,6 +287,7 @@ impl RecordingAllocator {
     ///
     /// If memory runs out.
     #[track_caller]
+    #[must_use]
     pub fn allocations(&self) -> Vec<Allocation> {
         expected(self.try_allocations())
     }
@@ -265,7 +295,7 @@ impl RecordingAllocator {
     /// `allocations` with the error as a value: `Memory`.
     pub fn try_allocations(&self) -> Result<Vec<Allocation>, AtlasError> {
         let found = self.session.allocations()?;
-        convert::listed(found.as_slice(), convert::allocation)
+        events::listed(found.as_slice(), convert::allocation)
     }
 
     /// A copy of what is recorded so far.
@@ -274,6 +304,7 @@ impl RecordingAllocator {
     ///
     /// If memory runs out.
     #[track_caller]
+    #[must_use]
     pub fn recording(&self) -> Recording {
         expected(self.try_recording())
     }
@@ -286,13 +317,20 @@ impl RecordingAllocator {
             .try_reserve_exact(recorded.events().len())
             .map_err(|_| AtlasError::Memory)?;
         for event in recorded.events() {
-            events.push(convert::event(event)?);
+            events.push(events::event(event)?);
         }
         Ok(Recording {
             size: convert::size(recorded.size()),
             options: convert::options(&recorded.options()),
             events,
         })
+    }
+}
+
+impl Clone for RecordingAllocator {
+    #[track_caller]
+    fn clone(&self) -> Self {
+        expected(self.try_clone())
     }
 }
 
@@ -306,8 +344,17 @@ impl fmt::Debug for RecordingAllocator {
     }
 }
 
-/// One call that wasn't refused, with its answer. Every id in it is a name; lengths are in pixels.
-#[derive(Clone, Debug, PartialEq)]
+/// One call that wasn't refused, with its answer. Every id in it is a name; lengths are in pixels. These are all its variants.
+///
+/// ```
+/// use guillotiere::recording::{Event, RecordingAllocator};
+/// use guillotiere::size2;
+///
+/// let mut atlas = RecordingAllocator::new(size2(64, 64));
+/// atlas.grow(size2(128, 64));
+/// assert_eq!(atlas.recording().events, [Event::Grow(size2(128, 64))]);
+/// ```
+#[derive(Clone, Debug, PartialEq, Eq, Hash)]
 pub enum Event {
     /// A request of this size, and what it was granted; None if it had no room.
     Allocate(Size, Option<Allocation>),
@@ -347,7 +394,7 @@ pub enum Event {
 /// assert_eq!((atlas.recording().events.len(), anew.recording().events.len()), (3, 1));
 /// # assert_eq!(anew.allocations()[0].rectangle.size(), second.rectangle.size());
 /// ```
-#[derive(Clone, Debug, PartialEq)]
+#[derive(Clone, Debug, PartialEq, Eq, Hash)]
 pub struct Recording {
     /// The size of the atlas when it was new, in pixels.
     pub size: Size,
@@ -364,7 +411,7 @@ impl Recording {
         let options = convert::library_options(&self.options);
         let mut recorder = total::recorder(Global, convert::library_size(self.size), &options)?;
         for event in &self.events {
-            let event = convert::library_event(event).map_err(|_| ResumeError::Memory)?;
+            let event = events::library_event(event).map_err(|_| ResumeError::Memory)?;
             recorder.record(event).map_err(|_| ResumeError::Memory)?;
         }
         let session = recorder.finish().resume()?;
@@ -373,6 +420,15 @@ impl Recording {
 }
 
 /// Why a recording isn't resumed. Events are counted from 0.
+///
+/// ```
+/// use guillotiere::recording::{Event, RecordingAllocator, ResumeError};
+/// use guillotiere::size2;
+///
+/// let mut kept = RecordingAllocator::new(size2(64, 64)).recording();
+/// kept.events.push(Event::Grow(size2(32, 64)));
+/// assert_eq!(kept.resume().err(), Some(ResumeError::BadEvent(0))); // it shrinks
+/// ```
 #[derive(Copy, Clone, Debug, PartialEq, Eq, Hash)]
 #[non_exhaustive]
 pub enum ResumeError {

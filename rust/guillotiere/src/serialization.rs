@@ -9,6 +9,7 @@ use serde::de::{
 };
 use serde::ser::{Serialize, SerializeStruct, Serializer};
 
+#[cfg(feature = "recording")]
 mod recordings;
 
 impl Serialize for AllocId {

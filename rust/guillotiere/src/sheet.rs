@@ -1,5 +1,5 @@
 //! Sheets of sprites that are known beforehand: all of them in the smallest sheet or in several, or as many as one sheet takes.
-//! The crate `guillotiere` has nothing of the kind.
+//! Needs the feature `sheet`, which is on by default.
 //!
 //! ```
 //! use guillotiere::sheet::{pack, Allowed, SheetOptions};
@@ -18,7 +18,18 @@ use wollemigo_core::atlas_sheet as library;
 use wollemigo_core::guillotiere::Size as LibrarySize;
 use wollemigo_support::alloc::Global;
 
-/// Which sheets are allowed, in pixels.
+/// Which sheets are allowed, in pixels. These are all kinds.
+///
+/// ```
+/// use guillotiere::sheet::{pack, Allowed, SheetOptions};
+/// use guillotiere::size2;
+///
+/// let one = SheetOptions::new(Allowed::One(size2(64, 64)));
+/// assert_eq!(pack(&[size2(60, 60)], &one)?.unwrap().size, size2(64, 64));
+/// let powers = SheetOptions::new(Allowed::Powers { greatest: 64 });
+/// assert_eq!(pack(&[size2(60, 9)], &powers)?.unwrap().size, size2(64, 16));
+/// # Ok::<(), guillotiere::sheet::SheetError>(())
+/// ```
 #[derive(Copy, Clone, Debug, PartialEq, Eq, Hash)]
 pub enum Allowed {
     /// This size alone.
@@ -44,7 +55,18 @@ pub enum Allowed {
     },
 }
 
-/// The rules for a sheet, and how long a better one is looked for.
+/// The rules for a sheet, and how long a better one is looked for. These are all fields: a program may write them out, or begin with
+/// [`SheetOptions::new`]. There is no default, since no sheet is the right one for all.
+///
+/// ```
+/// use guillotiere::sheet::{pack, Allowed, SheetOptions};
+/// use guillotiere::size2;
+///
+/// let squares = SheetOptions::new(Allowed::Squares { least: 1, greatest: 4096 });
+/// let options = SheetOptions { padding: 2, ..squares };
+/// assert_eq!(pack(&[size2(60, 60)], &options)?.unwrap().size, size2(64, 64));
+/// # Ok::<(), guillotiere::sheet::SheetError>(())
+/// ```
 #[derive(Copy, Clone, Debug, PartialEq, Eq, Hash)]
 pub struct SheetOptions {
     /// Which sheets are allowed. `fill` takes the greatest of them.
@@ -64,6 +86,7 @@ pub struct SheetOptions {
 
 impl SheetOptions {
     /// These sheets, no padding, alignment 1 in both directions, no turning, no changes of the order.
+    #[must_use]
     pub fn new(allowed: Allowed) -> Self {
         SheetOptions {
             allowed,
@@ -77,7 +100,18 @@ impl SheetOptions {
 }
 
 /// Where a sprite lies in a sheet.
-#[derive(Copy, Clone, Debug, PartialEq)]
+///
+/// ```
+/// use guillotiere::sheet::{pack, Allowed, SheetOptions};
+/// use guillotiere::size2;
+///
+/// let options = SheetOptions { turn: true, ..SheetOptions::new(Allowed::One(size2(64, 16))) };
+/// let sheet = pack(&[size2(16, 64)], &options)?.unwrap();
+/// assert!(sheet.places[0].turned);
+/// assert_eq!(sheet.places[0].area.size(), size2(64, 16));
+/// # Ok::<(), guillotiere::sheet::SheetError>(())
+/// ```
+#[derive(Copy, Clone, Debug, PartialEq, Eq, Hash)]
 pub struct Placed {
     /// Its place, in pixels, without the padding.
     pub area: Rectangle,
@@ -86,7 +120,17 @@ pub struct Placed {
 }
 
 /// A sheet that takes all sprites.
-#[derive(Clone, Debug, PartialEq)]
+///
+/// ```
+/// use guillotiere::sheet::{pack, Allowed, SheetOptions};
+/// use guillotiere::size2;
+///
+/// let squares = SheetOptions::new(Allowed::Squares { least: 1, greatest: 99 });
+/// let sheet = pack(&[size2(8, 8); 4], &squares)?.unwrap();
+/// assert_eq!((sheet.size, sheet.places.len(), sheet.used_area), (size2(16, 16), 4, 256));
+/// # Ok::<(), guillotiere::sheet::SheetError>(())
+/// ```
+#[derive(Clone, Debug, PartialEq, Eq, Hash)]
 pub struct Sheet {
     /// The size of the sheet, in pixels.
     pub size: Size,
@@ -97,7 +141,16 @@ pub struct Sheet {
 }
 
 /// A filled sheet.
-#[derive(Clone, Debug, PartialEq)]
+///
+/// ```
+/// use guillotiere::sheet::{fill, Allowed, SheetOptions};
+/// use guillotiere::size2;
+///
+/// let filled = fill(&[size2(16, 16), size2(8, 8)], &SheetOptions::new(Allowed::One(size2(16, 16))))?;
+/// assert!(filled.places[0].is_some() && filled.places[1].is_none());
+/// # Ok::<(), guillotiere::sheet::SheetError>(())
+/// ```
+#[derive(Clone, Debug, PartialEq, Eq, Hash)]
 pub struct Filled {
     /// The size of the sheet, in pixels.
     pub size: Size,
@@ -108,7 +161,17 @@ pub struct Filled {
 }
 
 /// A place on one of several sheets.
-#[derive(Copy, Clone, Debug, PartialEq)]
+///
+/// ```
+/// use guillotiere::sheet::{pack_pages, Allowed, SheetOptions};
+/// use guillotiere::size2;
+///
+/// let one = SheetOptions::new(Allowed::One(size2(16, 16)));
+/// let pages = pack_pages(&[size2(16, 16); 2], &one)?.unwrap();
+/// assert_eq!((pages.places[0].page, pages.places[1].page), (0, 1));
+/// # Ok::<(), guillotiere::sheet::SheetError>(())
+/// ```
+#[derive(Copy, Clone, Debug, PartialEq, Eq, Hash)]
 pub struct OnPage {
     /// The number of the sheet, counted from 0.
     pub page: usize,
@@ -117,7 +180,17 @@ pub struct OnPage {
 }
 
 /// Sheets that take all sprites together.
-#[derive(Clone, Debug, PartialEq)]
+///
+/// ```
+/// use guillotiere::sheet::{pack_pages, Allowed, SheetOptions};
+/// use guillotiere::size2;
+///
+/// let squares = SheetOptions::new(Allowed::Squares { least: 1, greatest: 16 });
+/// let pages = pack_pages(&[size2(16, 16), size2(16, 16), size2(4, 4)], &squares)?.unwrap();
+/// assert_eq!(pages.sizes, [size2(16, 16), size2(16, 16), size2(4, 4)]);
+/// # Ok::<(), guillotiere::sheet::SheetError>(())
+/// ```
+#[derive(Clone, Debug, PartialEq, Eq, Hash)]
 pub struct Pages {
     /// The size of each sheet, in pixels. By `pack_pages` each but the last is the greatest that is allowed.
     pub sizes: Vec<Size>,
@@ -126,6 +199,15 @@ pub struct Pages {
 }
 
 /// Why there is no sheet.
+///
+/// ```
+/// use guillotiere::sheet::{pack, Allowed, SheetError, SheetOptions};
+/// use guillotiere::size2;
+///
+/// let one = SheetOptions::new(Allowed::One(size2(16, 16)));
+/// let sprites = [size2(4, 4), size2(0, 4)];
+/// assert_eq!(pack(&sprites, &one), Err(SheetError::EmptySprite(1)));
+/// ```
 #[derive(Copy, Clone, Debug, PartialEq, Eq, Hash)]
 #[non_exhaustive]
 pub enum SheetError {
@@ -210,13 +292,40 @@ fn placed(placed: &library::Placed) -> Placed {
 }
 
 /// Packs all sprites into the smallest sheet of those allowed that is found; None where not even the greatest took them
-/// all. `crates/atlas_sheet/README.md` says what is tried.
+/// all.
+///
+/// Without effort five orders of the sprites are tried (by area, height, smaller side, larger side, height times larger side, each
+/// with the largest first), each with two choices among free places; with `turn` all this as the sprites are, all as wide as they can
+/// lie, and all as high. With effort the best order is changed a little, that many times, and a change stays if it leaves no more
+/// pixels without a place.
+///
+/// ```
+/// use guillotiere::sheet::{pack, Allowed, SheetOptions};
+/// use guillotiere::size2;
+///
+/// let squares = SheetOptions::new(Allowed::Squares { least: 1, greatest: 99 });
+/// let sheet = pack(&[size2(16, 8); 2], &squares)?.unwrap();
+/// assert_eq!(sheet.size, size2(16, 16));
+/// assert!(pack(&[size2(100, 8)], &squares)?.is_none());
+/// # Ok::<(), guillotiere::sheet::SheetError>(())
+/// ```
 pub fn pack(sprites: &[Size], options: &SheetOptions) -> Result<Option<Sheet>, SheetError> {
     pack_telling(sprites, options, |_| {})
 }
 
 /// `pack`, and calls `told` with the size of each sheet that takes all sprites as soon as it is found, smaller and
 /// smaller ones. The last is the size of the sheet.
+///
+/// ```
+/// use guillotiere::sheet::{pack_telling, Allowed, SheetOptions};
+/// use guillotiere::size2;
+///
+/// let squares = SheetOptions::new(Allowed::Squares { least: 1, greatest: 99 });
+/// let mut last = None;
+/// let sheet = pack_telling(&[size2(8, 8); 4], &squares, |size| last = Some(size))?.unwrap();
+/// assert_eq!(last, Some(sheet.size));
+/// # Ok::<(), guillotiere::sheet::SheetError>(())
+/// ```
 pub fn pack_telling(
     sprites: &[Size],
     options: &SheetOptions,
@@ -230,6 +339,16 @@ pub fn pack_telling(
 
 /// The sheet of `pack`, or a smaller one laid out without guillotine cuts, which is fuller as a rule, and the more so the more
 /// sprites there are. It never has more pixels than that of `pack`. In a smaller one no sprite is turned.
+///
+/// ```
+/// use guillotiere::sheet::{pack_dense, Allowed, SheetOptions};
+/// use guillotiere::size2;
+///
+/// let squares = SheetOptions::new(Allowed::Squares { least: 1, greatest: 99 });
+/// let sheet = pack_dense(&[size2(8, 8); 4], &squares)?.unwrap();
+/// assert_eq!(sheet.size, size2(16, 16));
+/// # Ok::<(), guillotiere::sheet::SheetError>(())
+/// ```
 pub fn pack_dense(sprites: &[Size], options: &SheetOptions) -> Result<Option<Sheet>, SheetError> {
     let sprites = library_sizes(sprites)?;
     converted(library::pack_dense(Global, &sprites, &library_options(options))?)
@@ -249,6 +368,16 @@ fn converted(found: Option<library::Sheet>) -> Result<Option<Sheet>, SheetError>
 }
 
 /// Fills the greatest sheet that is allowed with as many pixels of sprites as are found to fit.
+///
+/// ```
+/// use guillotiere::sheet::{fill, Allowed, SheetOptions};
+/// use guillotiere::size2;
+///
+/// let one = SheetOptions::new(Allowed::One(size2(16, 16)));
+/// let filled = fill(&[size2(16, 8); 3], &one)?;
+/// assert_eq!(filled.places.iter().flatten().count(), 2); // the third has no room
+/// # Ok::<(), guillotiere::sheet::SheetError>(())
+/// ```
 pub fn fill(sprites: &[Size], options: &SheetOptions) -> Result<Filled, SheetError> {
     let filled = library::fill(Global, &library_sizes(sprites)?, &library_options(options))?;
     Ok(Filled {
@@ -261,6 +390,17 @@ pub fn fill(sprites: &[Size], options: &SheetOptions) -> Result<Filled, SheetErr
 /// Packs all sprites into as few sheets as are found: on each what `fill` places there of the sprites that are left, and the
 /// last of them in as small a sheet as `pack` finds. No sheet is empty; with no sprites there is no sheet. None only where a sprite
 /// is too large for an empty sheet.
+///
+/// ```
+/// use guillotiere::sheet::{pack_pages, Allowed, SheetOptions};
+/// use guillotiere::size2;
+///
+/// let one = SheetOptions::new(Allowed::One(size2(16, 16)));
+/// let pages = pack_pages(&[size2(16, 8); 3], &one)?.unwrap();
+/// assert_eq!(pages.sizes.len(), 2);
+/// assert!(pack_pages(&[size2(17, 8)], &one)?.is_none()); // too large for any sheet
+/// # Ok::<(), guillotiere::sheet::SheetError>(())
+/// ```
 pub fn pack_pages(sprites: &[Size], options: &SheetOptions) -> Result<Option<Pages>, SheetError> {
     let (sprites, options) = (library_sizes(sprites)?, library_options(options));
     converted_pages(library::pack_pages(Global, &sprites, &options)?)

@@ -32,6 +32,7 @@ impl SimpleAtlasAllocator {
     ///
     /// If a side is below 1, or memory runs out.
     #[track_caller]
+    #[must_use]
     pub fn new(size: Size) -> Self {
         expected(SimpleAtlasAllocator::try_new(size))
     }
@@ -47,6 +48,7 @@ impl SimpleAtlasAllocator {
     ///
     /// Where `new` does, and if a side of the alignment is below 1 or the small threshold is above the large one.
     #[track_caller]
+    #[must_use]
     pub fn with_options(size: Size, options: &AllocatorOptions) -> Self {
         expected(SimpleAtlasAllocator::try_with_options(size, options))
     }
@@ -58,22 +60,42 @@ impl SimpleAtlasAllocator {
         Ok(SimpleAtlasAllocator { simple })
     }
 
+    /// A copy that shares nothing with this one, and goes on by itself. `Memory` is the only error.
+    ///
+    /// ```
+    /// use guillotiere::{size2, SimpleAtlasAllocator};
+    ///
+    /// let mut frame = SimpleAtlasAllocator::new(size2(256, 256));
+    /// let _ = frame.allocate(size2(256, 40)); // what each frame has
+    /// let mut this_frame = frame.try_clone()?;
+    /// assert_eq!(this_frame.allocate(size2(60, 20)), frame.allocate(size2(60, 20)));
+    /// # Ok::<(), guillotiere::AtlasError>(())
+    /// ```
+    pub fn try_clone(&self) -> Result<Self, AtlasError> {
+        let simple = self.simple.clone()?;
+        Ok(SimpleAtlasAllocator { simple })
+    }
+
     /// The size of the allocator, in pixels.
+    #[must_use]
     pub fn size(&self) -> Size {
         convert::size(self.simple.size())
     }
 
     /// The options of the allocator.
+    #[must_use]
     pub fn options(&self) -> AllocatorOptions {
         convert::options(&self.simple.options())
     }
 
     /// How many entries are used, one for each free rectangle, how many there are, and how many there may be.
+    #[must_use]
     pub fn slots(&self) -> SlotCount {
         convert::slots(self.simple.slots())
     }
 
     /// Whether one free rectangle has the allocator's size.
+    #[must_use]
     pub fn is_empty(&self) -> bool {
         self.simple.is_empty()
     }
@@ -81,9 +103,20 @@ impl SimpleAtlasAllocator {
     /// Asks for a rectangle of this size. None if a side is below 1, or the size, rounded up to the alignment, fits no
     /// free rectangle.
     ///
+    /// ```
+    /// use guillotiere::{size2, SimpleAtlasAllocator};
+    ///
+    /// let mut frame = SimpleAtlasAllocator::new(size2(256, 256));
+    /// while let Some(rectangle) = frame.allocate(size2(60, 20)) {
+    ///     println!("draw into {:?}", rectangle);
+    /// }
+    /// frame.clear(); // the next frame begins
+    /// ```
+    ///
     /// # Panics
     ///
     /// If memory runs out.
+    #[must_use = "the rectangle is taken until the allocator starts again"]
     #[track_caller]
     #[inline]
     pub fn allocate(&mut self, requested_size: Size) -> Option<Rectangle> {
@@ -143,6 +176,7 @@ impl SimpleAtlasAllocator {
     }
 
     /// Whether `grow` may be called with this size: no side shrinks.
+    #[must_use]
     pub fn can_grow_to(&self, new_size: Size) -> bool {
         self.simple.can_grow_to(convert::library_size(new_size))
     }
@@ -160,6 +194,13 @@ impl SimpleAtlasAllocator {
     /// `init_from_allocator` with the error as a value: `Memory`.
     pub fn try_init_from_allocator(&mut self, src: &AtlasAllocator) -> Result<(), AtlasError> {
         Ok(self.simple.init_from_allocator(src.library())?)
+    }
+}
+
+impl Clone for SimpleAtlasAllocator {
+    #[track_caller]
+    fn clone(&self) -> Self {
+        expected(self.try_clone())
     }
 }
 

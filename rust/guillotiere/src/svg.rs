@@ -4,7 +4,19 @@ use std::fmt::Write as _;
 use std::io::{Result, Write};
 use std::string::String;
 
-/// Writes a drawing of the atlas: a rectangle for each free and for each live one, in colours of their own.
+/// Writes a drawing of the atlas: a rectangle for each free and for each live one, in colours of their own. Needs the feature `std`,
+/// which is on by default.
+///
+/// ```
+/// use guillotiere::{dump_svg, size2, AtlasAllocator};
+///
+/// let mut atlas = AtlasAllocator::new(size2(64, 64));
+/// let _ = atlas.allocate(size2(20, 60));
+/// let mut drawing = Vec::new();
+/// dump_svg(&atlas, &mut drawing)?;
+/// assert!(drawing.starts_with(b"<svg"));
+/// # Ok::<(), std::io::Error>(())
+/// ```
 pub fn dump_svg(atlas: &AtlasAllocator, output: &mut dyn Write) -> Result<()> {
     let size = atlas.size();
     writeln!(
@@ -17,7 +29,18 @@ pub fn dump_svg(atlas: &AtlasAllocator, output: &mut dyn Write) -> Result<()> {
 }
 
 /// The same without the beginning and the end of the document, moved and scaled so that it fills `rect`, if that is
-/// given.
+/// given. Needs the feature `std`, which is on by default.
+///
+/// ```
+/// use guillotiere::{dump_into_svg, point2, size2, AtlasAllocator, Rectangle};
+///
+/// let atlas = AtlasAllocator::new(size2(64, 64));
+/// let place = Rectangle { min: point2(10, 10), max: point2(20, 20) };
+/// let mut drawing = Vec::new();
+/// dump_into_svg(&atlas, Some(&place), &mut drawing)?;
+/// assert!(drawing.starts_with(b"    <rect x=\"10\" y=\"10\" width=\"10\""));
+/// # Ok::<(), std::io::Error>(())
+/// ```
 pub fn dump_into_svg(
     atlas: &AtlasAllocator,
     rect: Option<&Rectangle>,

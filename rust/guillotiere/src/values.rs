@@ -12,26 +12,47 @@ pub type Rectangle = euclid::default::Box2D<i32>;
 /// The greatest limit on the slots of an atlas, and that of an atlas without a limit of its own.
 pub const MOST_SLOTS: u32 = wollemigo_core::guillotiere::MOST_SLOTS;
 
-/// The id of an allocated rectangle. One that was freed may be issued again, for another rectangle.
+/// The id of an allocated rectangle. One that was freed may be issued again, for another rectangle. Ids are ordered by their numbers,
+/// which tells nothing of the rectangles.
+///
+/// ```
+/// use guillotiere::{size2, AllocId, AtlasAllocator};
+///
+/// let mut atlas = AtlasAllocator::new(size2(64, 64));
+/// let id = atlas.allocate(size2(20, 60)).unwrap().id;
+/// let number = id.serialize(); // for a table of one's own
+/// assert_eq!(AllocId::deserialize(number), id);
+/// ```
 #[repr(C)]
-#[derive(Copy, Clone, Debug, PartialEq, Eq, Hash)]
+#[derive(Copy, Clone, Debug, PartialEq, Eq, PartialOrd, Ord, Hash)]
 pub struct AllocId(pub(crate) u32);
 
 impl AllocId {
     /// The number of the id.
     #[inline]
+    #[must_use]
     pub fn serialize(&self) -> u32 {
         self.0
     }
 
     /// The id of a number. Every number is accepted; whether the id is live is for the atlas to say.
     #[inline]
+    #[must_use]
     pub fn deserialize(bytes: u32) -> Self {
         AllocId(bytes)
     }
 }
 
-/// How an allocator rounds requests and distinguishes small, medium and large ones.
+/// How an allocator rounds requests and distinguishes small, medium and large ones. These are all fields: a program may write them out.
+///
+/// ```
+/// use guillotiere::{size2, AllocatorOptions, AtlasAllocator, DEFAULT_OPTIONS};
+///
+/// let options = AllocatorOptions { alignment: size2(16, 8), ..DEFAULT_OPTIONS };
+/// let mut atlas = AtlasAllocator::with_options(size2(128, 128), &options);
+/// let glyph = atlas.allocate(size2(17, 7)).unwrap();
+/// assert_eq!(glyph.rectangle.size(), size2(32, 8));
+/// ```
 #[repr(C)]
 #[derive(Copy, Clone, Debug, PartialEq, Eq, Hash)]
 pub struct AllocatorOptions {
@@ -45,7 +66,7 @@ pub struct AllocatorOptions {
 
 /// Alignment (1, 1), thresholds 32 and 256.
 pub const DEFAULT_OPTIONS: AllocatorOptions = AllocatorOptions {
-    // By its fields, since `size2` of euclid 0.20 isn't a `const fn`.
+    // By its fields: in euclid 0.20, which stands in for 0.22 where that is missing, `size2` is no `const fn`.
     alignment: Size {
         width: 1,
         height: 1,
@@ -62,8 +83,17 @@ impl Default for AllocatorOptions {
 }
 
 /// An allocated rectangle and its id.
+///
+/// ```
+/// use guillotiere::{point2, size2, Allocation, AtlasAllocator};
+///
+/// let mut atlas = AtlasAllocator::new(size2(64, 64));
+/// let Allocation { id, rectangle } = atlas.allocate(size2(20, 60)).unwrap();
+/// assert_eq!((rectangle.min, rectangle.max), (point2(0, 0), point2(20, 60)));
+/// atlas.deallocate(id);
+/// ```
 #[repr(C)]
-#[derive(Copy, Clone, Debug, PartialEq)]
+#[derive(Copy, Clone, Debug, PartialEq, Eq, Hash)]
 pub struct Allocation {
     /// The id by which it is freed.
     pub id: AllocId,
@@ -71,9 +101,19 @@ pub struct Allocation {
     pub rectangle: Rectangle,
 }
 
-/// A rectangle that was placed anew: under its former id, and under the id that it has now.
+/// A rectangle that was placed anew: under its former id, and under the id that it has now. [`ChangeList`] shows how it is followed.
+///
+/// ```
+/// use guillotiere::{size2, AtlasAllocator};
+///
+/// let mut atlas = AtlasAllocator::new(size2(64, 64));
+/// let small = atlas.allocate(size2(10, 10)).unwrap();
+/// let change = atlas.rearrange().changes[0];
+/// assert_eq!(change.old, small);
+/// assert_eq!(atlas[change.new.id], change.new.rectangle);
+/// ```
 #[repr(C)]
-#[derive(Copy, Clone, Debug, PartialEq)]
+#[derive(Copy, Clone, Debug, PartialEq, Eq, Hash)]
 pub struct Change {
     /// What it was; this id is void.
     pub old: Allocation,
@@ -82,7 +122,27 @@ pub struct Change {
 }
 
 /// What a rearrangement placed anew, and what found no room and is no longer live.
-#[derive(Clone, Debug, PartialEq)]
+///
+/// ```
+/// use guillotiere::{size2, AtlasAllocator};
+/// use std::collections::HashMap;
+///
+/// let mut atlas = AtlasAllocator::new(size2(64, 64));
+/// let mut names = HashMap::new(); // what a program keeps by ids
+/// names.insert(atlas.allocate(size2(60, 30)).unwrap().id, "wide");
+/// names.insert(atlas.allocate(size2(10, 10)).unwrap().id, "small");
+///
+/// let list = atlas.resize_and_rearrange(size2(60, 32));
+/// let mut after = HashMap::new();
+/// for change in &list.changes {
+///     println!("copy {:?} to {:?}", change.old.rectangle, change.new.rectangle);
+///     after.insert(change.new.id, names[&change.old.id]);
+/// }
+/// let gone: Vec<&str> = list.failures.iter().map(|failure| names[&failure.id]).collect();
+/// assert_eq!((after.len(), gone), (1, vec!["small"]));
+/// ```
+#[must_use = "what isn't followed is lost: former ids are void, and failures have no place"]
+#[derive(Clone, Debug, Default, PartialEq, Eq, Hash)]
 pub struct ChangeList {
     /// What was placed anew, in the order in which it was.
     pub changes: Vec<Change>,
@@ -93,17 +153,22 @@ pub struct ChangeList {
 impl ChangeList {
     /// Two empty lists.
     pub fn empty() -> Self {
-        ChangeList {
-            changes: Vec::new(),
-            failures: Vec::new(),
-        }
+        ChangeList::default()
     }
 }
 
 /// How many slots an atlas uses, the most that it used at once since its last start, and how many it may use. Of a
 /// simple allocator: its entries, one for each free rectangle, how many there are, used and unused, and how many there
 /// may be.
-#[derive(Copy, Clone, Debug, PartialEq, Eq)]
+///
+/// ```
+/// use guillotiere::{size2, AtlasAllocator, MOST_SLOTS};
+///
+/// let atlas = AtlasAllocator::new(size2(64, 64));
+/// let slots = atlas.slots();
+/// assert_eq!((slots.used, slots.kept, slots.limit), (1, 1, MOST_SLOTS)); // one free rectangle
+/// ```
+#[derive(Copy, Clone, Debug, PartialEq, Eq, Hash)]
 pub struct SlotCount {
     /// How many are used.
     pub used: u32,
@@ -114,7 +179,16 @@ pub struct SlotCount {
 }
 
 /// The areas of all live and of all free rectangles of an atlas, in unit squares: together its own.
-#[derive(Copy, Clone, Debug, PartialEq, Eq)]
+///
+/// ```
+/// use guillotiere::{size2, AtlasAllocator};
+///
+/// let mut atlas = AtlasAllocator::new(size2(64, 64));
+/// let _ = atlas.allocate(size2(20, 60));
+/// let areas = atlas.areas();
+/// assert_eq!((areas.allocated, areas.free), (20 * 60, 64 * 64 - 20 * 60));
+/// ```
+#[derive(Copy, Clone, Debug, PartialEq, Eq, Hash)]
 pub struct Areas {
     /// That of all live rectangles.
     pub allocated: u64,

@@ -1,4 +1,5 @@
 //! Rectangles under keys.
+#![cfg(feature = "cache")]
 use guillotiere::cache::*;
 use guillotiere::*;
 
@@ -97,7 +98,7 @@ fn keys_go() {
                 || change == CacheChange::Evicted { key: 8, place }
         );
     }
-    cache.insert(9, size2(2, 3)).unwrap();
+    let _ = cache.insert(9, size2(2, 3)).unwrap();
     assert_eq!((cache.len(), cache.is_empty()), (1, false));
     assert_eq!((cache.repack(0), cache.repack(9)), (Ok(true), Ok(false)));
     assert!(
@@ -133,9 +134,9 @@ fn blank_keys() {
     assert_eq!((cache.next_change(), cache.pages()), (None, 0));
     assert_eq!(cache.insert(1, size2(0, 9)), Ok(Inserted::Held(place)));
     assert_eq!(cache.insert(1, size2(1, 9)), Err(CacheError::OtherSize));
-    cache.insert(2, size2(16, 32)).unwrap();
+    let _ = cache.insert(2, size2(16, 32)).unwrap();
     cache.begin_frame();
-    cache.insert(3, size2(16, 32)).unwrap();
+    let _ = cache.insert(3, size2(16, 32)).unwrap();
     assert_eq!((cache.get(1), cache.get(2)), (Some(place), None));
     cache.trim(0).unwrap();
     assert!(cache.is_empty());
@@ -146,11 +147,11 @@ fn numbers_are_dense() {
     let mut cache = TextureCache::new(&one_page()).unwrap();
     let number = |cache: &TextureCache, key| cache.peek(key).unwrap().number;
     for key in 0..3 {
-        cache.insert(key, size2(1, 1)).unwrap();
+        let _ = cache.insert(key, size2(1, 1)).unwrap();
         assert_eq!(number(&cache, key), key as u32);
     }
     cache.remove(1);
-    cache.insert(9, size2(1, 1)).unwrap();
+    let _ = cache.insert(9, size2(1, 1)).unwrap();
     assert_eq!((number(&cache, 9), number(&cache, 2)), (1, 2));
     assert_eq!(cache.numbers(), 3);
 }
@@ -222,7 +223,7 @@ fn pages_at_the_end_that_hold_nothing_go() {
     };
     let mut cache = TextureCache::new(&options).unwrap();
     for key in [1, 2, 3] {
-        cache.insert(key, size2(16, 16)).unwrap();
+        let _ = cache.insert(key, size2(16, 16)).unwrap();
     }
     while cache.next_change().is_some() {}
     cache.remove(1);
@@ -243,8 +244,112 @@ fn pages_at_the_end_that_hold_nothing_go() {
 #[test]
 fn free_area_of_no_use() {
     let mut cache = TextureCache::new(&one_page()).unwrap();
-    cache.insert(7, size2(8, 16)).unwrap();
+    let _ = cache.insert(7, size2(8, 16)).unwrap();
     assert_eq!(cache.unusable_area(0, size2(9, 9)), Ok(Some(128)));
     assert_eq!(cache.unusable_area(0, size2(8, 16)), Ok(Some(0)));
     assert_eq!(cache.unusable_area(1, size2(8, 16)), Ok(None));
+}
+
+// A renderer that copies by one picture of the page for each call has the right pixels, also where two repackings came before.
+#[test]
+fn changes_of_two_calls_are_not_mixed() {
+    let mut cache = TextureCache::new(&CacheOptions::new(size2(64, 64))).unwrap();
+    let mut page = vec![0; 64 * 64];
+    for (key, side) in (1..).zip([9, 23, 14, 5, 31]) {
+        let place = cache.insert(key, size2(side, 7)).unwrap().place().unwrap();
+        for at in points(place.rectangle) {
+            page[at] = key;
+        }
+    }
+    assert_eq!(cache.drain_changes().len(), 1);
+    assert_eq!(cache.repack(0), Ok(true));
+    assert!(cache.remove(2).is_some());
+    assert_eq!(cache.repack(0), Ok(true));
+    let mut moved = Vec::new();
+    loop {
+        let before = page.clone();
+        let changes = cache.drain_changes();
+        moved.push(changes.len());
+        if changes.len() == 0 {
+            break;
+        }
+        for change in changes {
+            match change {
+                CacheChange::Moved { from, to, .. } => {
+                    for (old, new) in points(from.rectangle).zip(points(to.rectangle)) {
+                        page[new] = before[old];
+                    }
+                }
+                other => panic!("{:?}", other),
+            }
+        }
+    }
+    assert_eq!(moved, [5, 4, 0]);
+    for (key, place) in &cache {
+        assert!(points(place.rectangle).all(|at| page[at] == key));
+    }
+}
+
+#[test]
+fn a_drain_hands_over_all_of_one_call() {
+    let mut cache = TextureCache::new(&CacheOptions::new(size2(16, 16))).unwrap();
+    for key in 1..=3 {
+        let _ = cache.insert(key, size2(4, 4)).unwrap();
+    }
+    cache.repack(0).unwrap();
+    cache.trim(0).unwrap();
+    cache.shrink().unwrap();
+    assert!(matches!(
+        cache.next_change(),
+        Some(CacheChange::PageAdded { page: 0, .. })
+    ));
+    assert!(matches!(
+        cache.next_change(),
+        Some(CacheChange::Moved { .. })
+    ));
+    let rest = cache.drain_changes();
+    assert_eq!((rest.len(), rest.size_hint()), (2, (2, Some(2))));
+    drop(rest);
+    let evicted: Vec<u64> = cache
+        .drain_changes()
+        .map(|change| match change {
+            CacheChange::Evicted { key, .. } => key,
+            other => panic!("{:?}", other),
+        })
+        .collect();
+    assert_eq!(evicted, [1, 2, 3]);
+    let last: Vec<CacheChange> = cache.drain_changes().collect();
+    assert_eq!(last, [CacheChange::PageRemoved { page: 0 }]);
+    assert_eq!(cache.drain_changes().next(), None);
+    assert_eq!(cache.next_change(), None);
+}
+
+#[test]
+fn keys_by_their_use() {
+    let mut cache = TextureCache::new(&one_page()).unwrap();
+    for key in 1..=4 {
+        let _ = cache.insert(key, size2(1, 1)).unwrap();
+    }
+    cache.get(2);
+    let keys: Vec<u64> = cache.keys().collect();
+    assert_eq!(keys, [2, 4, 3, 1]);
+    assert_eq!((cache.iter().len(), cache.keys().len()), (4, 4));
+    for (key, place) in &cache {
+        assert_eq!(
+            (cache.peek(key), cache.contains_key(key)),
+            (Some(place), true)
+        );
+    }
+    assert!(!cache.contains_key(5));
+    let mut entries = cache.iter();
+    entries.next();
+    assert_eq!(entries.size_hint(), (3, Some(3)));
+    assert_eq!(format!("{:?}", cache.keys()), "[2, 4, 3, 1]");
+    cache.clear();
+    assert_eq!((cache.iter().next(), cache.keys().next()), (None, None));
+}
+
+fn points(area: Rectangle) -> impl Iterator<Item = usize> {
+    (area.min.y..area.max.y)
+        .flat_map(move |y| (area.min.x..area.max.x).map(move |x| (y * 64 + x) as usize))
 }

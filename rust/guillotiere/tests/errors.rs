@@ -232,3 +232,22 @@ fn a_copy_shares_nothing() {
     drop(atlas);
     assert!(copy.allocate(size2(64, 64)).is_some());
 }
+
+// In a corner of 100 by 100 lie 20 by 60; below them is room for 20 by 40.
+#[test]
+fn a_copy_of_a_simple_allocator_shares_nothing() {
+    let mut simple = SimpleAtlasAllocator::new(size2(100, 100));
+    assert!(simple.allocate(size2(20, 60)).is_some());
+    let mut copy = simple.clone();
+    let below = Rectangle {
+        min: point2(0, 60),
+        max: point2(20, 100),
+    };
+    assert_eq!(simple.allocate(size2(20, 40)), Some(below));
+    simple.reset(size2(8, 8), &DEFAULT_OPTIONS);
+    assert_eq!(
+        (copy.size(), copy.options()),
+        (size2(100, 100), DEFAULT_OPTIONS)
+    );
+    assert_eq!(copy.allocate(size2(20, 40)), Some(below));
+}

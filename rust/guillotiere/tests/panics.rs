@@ -1,4 +1,5 @@
 //! What a panic says: which condition of the call failed.
+#![cfg(feature = "recording")]
 use guillotiere::recording::RecordingAllocator;
 use guillotiere::*;
 use std::panic::{catch_unwind, AssertUnwindSafe};

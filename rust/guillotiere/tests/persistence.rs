@@ -1,5 +1,5 @@
 //! serde of recordings, and of allocators by them: the form, and what is read but not taken.
-#![cfg(feature = "serde")]
+#![cfg(all(feature = "serialization", feature = "recording"))]
 
 mod tree;
 
@@ -67,8 +67,8 @@ fn session() -> RecordingAllocator {
     assert_eq!(atlas.allocate(size2(1, 1)), None);
     atlas.grow(size2(10, 25));
     atlas.deallocate(first.id);
-    atlas.rearrange();
-    atlas.resize_and_rearrange(size2(9, 9));
+    let _ = atlas.rearrange();
+    let _ = atlas.resize_and_rearrange(size2(9, 9));
     atlas
 }
 

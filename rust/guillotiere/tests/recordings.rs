@@ -1,4 +1,5 @@
 //! Recording allocators and their recordings: names, events, and what isn't resumed.
+#![cfg(feature = "recording")]
 use guillotiere::recording::{Event, Recording, RecordingAllocator, ResumeError};
 use guillotiere::*;
 
@@ -33,8 +34,8 @@ fn column() -> RecordingAllocator {
     assert_eq!(atlas.allocate(size2(1, 1)), None);
     atlas.deallocate(AllocId::deserialize(1));
     atlas.grow(size2(100, 400));
-    atlas.rearrange();
-    atlas.resize_and_rearrange(size2(100, 100));
+    let _ = atlas.rearrange();
+    let _ = atlas.resize_and_rearrange(size2(100, 100));
     atlas
 }
 
@@ -205,4 +206,24 @@ fn errors_name_the_event() {
     assert_eq!(ResumeError::Slots.to_string(), "no slot is left");
     assert_eq!(ResumeError::Memory.to_string(), "memory was refused");
     assert_eq!(AtlasError::Names.to_string(), "no name is left");
+}
+
+// A copy has the names and the recording, gives the next name by itself, and frees its own.
+#[test]
+fn a_copy_goes_on_by_itself() {
+    let mut atlas = RecordingAllocator::new(size2(100, 300));
+    let first = atlas.allocate(size2(100, 100)).unwrap();
+    let copy = atlas.clone();
+    assert_eq!(copy.recording(), atlas.recording());
+    atlas.deallocate(first.id);
+    assert_eq!(copy.allocations(), [first]);
+    let mut copies = [copy.try_clone().unwrap(), copy];
+    for each in &mut copies {
+        let second = each.allocate(size2(100, 200)).unwrap();
+        assert_eq!(second, named(1, area(0, 100, 100, 300)));
+        assert_eq!(each.allocations(), [first, second]);
+        assert_eq!(each.recording().events.len(), 2);
+    }
+    assert_eq!(atlas.recording().events.len(), 2);
+    assert!(atlas.allocations().is_empty());
 }

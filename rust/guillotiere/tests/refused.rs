@@ -1,4 +1,5 @@
 //! Each request for memory refused in turn: a call that gives an error leaves everything as it was.
+#![cfg(all(feature = "cache", feature = "sheet", feature = "recording"))]
 use guillotiere::cache::{CacheError, CacheOptions, TextureCache};
 use guillotiere::recording::{RecordingAllocator, ResumeError};
 use guillotiere::sheet::{fill, pack, Allowed, SheetError, SheetOptions};
@@ -276,4 +277,38 @@ fn a_cache_stays_where_memory_is_refused() {
         assert_eq!(cache.get(key), Some(place));
     }
     assert!(cache.len() < 20 && cache.pages() == 2);
+}
+
+// What a call answers as soon as its requests are granted, of which there are at least so many; before that it says this.
+fn granted_in_the_end<T, E: PartialEq + std::fmt::Debug>(
+    least: usize,
+    call: impl Fn() -> Result<T, E>,
+    refusal: E,
+) -> T {
+    let mut requests = 0;
+    loop {
+        match granting(requests, &call) {
+            Ok(answer) => {
+                assert!(requests >= least);
+                return answer;
+            }
+            Err(error) => assert_eq!(error, refusal),
+        }
+        requests += 1;
+    }
+}
+
+#[test]
+fn copies_are_refused() {
+    let mut simple = SimpleAtlasAllocator::new(size2(9, 9));
+    assert!(simple.allocate(size2(9, 9)).is_some());
+    // Its list of free rectangles is empty, and takes room for one all the same.
+    let mut copy = granted_in_the_end(2, || simple.try_clone(), AtlasError::Memory);
+    assert_eq!(copy.allocate(size2(1, 1)), None);
+    granting(0, || copy.clear());
+    assert!(copy.is_empty());
+    let atlas = recorded(RECORDED_CALLS.len());
+    let copy = granted_in_the_end(4, || atlas.try_clone(), AtlasError::Memory);
+    assert_eq!(copy.recording(), atlas.recording());
+    assert_eq!(copy.allocations(), atlas.allocations());
 }

@@ -1,12 +1,12 @@
 //! serde of ids and options, as a format sees them: an id is a newtype of a number, options are a struct.
-#![cfg(feature = "serde")]
+#![cfg(feature = "serialization")]
 
 use guillotiere::serde::de::value::{Error, MapDeserializer, SeqDeserializer};
 use guillotiere::serde::de::{Deserialize, Deserializer, IntoDeserializer, Visitor};
 use guillotiere::serde::ser::{
     Error as _, Impossible, Serialize, SerializeStruct, SerializeTuple, Serializer,
 };
-use guillotiere::{serde, size2, AllocId, AllocatorOptions};
+use guillotiere::{serde, size2, AllocId, AllocatorOptions, Point, Rectangle, Size};
 use std::fmt::Display;
 
 #[derive(Clone, Copy, Debug, PartialEq)]
@@ -252,4 +252,19 @@ fn options_are_read_in_any_order() {
         assert!(read(&missing.map(Clone::clone)).is_err());
     }
     assert!(read(&[&alignment, &small, &large, &small].map(Clone::clone)).is_err());
+}
+
+// What a program keeps in a struct of its own: the feature switches on that of euclid.
+#[test]
+fn what_euclid_has_is_written_and_read() {
+    fn goes_both_ways<T: Serialize + for<'de> Deserialize<'de>>() {}
+    goes_both_ways::<Point>();
+    goes_both_ways::<Size>();
+    goes_both_ways::<Vec<Rectangle>>();
+    let mut tokens = Vec::new();
+    Size::new(16, 8).serialize_into(&mut tokens);
+    assert_eq!(
+        tokens,
+        [Token::Tuple(2), Token::Number(16), Token::Number(8)]
+    );
 }

@@ -1,4 +1,5 @@
 //! Sheets of sprites that are known beforehand.
+#![cfg(feature = "sheet")]
 use guillotiere::sheet::*;
 use guillotiere::*;
 

@@ -64,7 +64,8 @@ CASES = [
     ('three words', GOOD, ['F', 'O', 'x'], 2, [r".*'x'.*"]),
     ('unknown', GOOD, ['F', 'O', '--forms', 'css'], 2, [r".*'--forms'.*; did you mean --form\?"]),
     ('unlike all', GOOD, ['F', 'O', '--qqq'], 2, [r"(?!.*did you mean).*'--qqq'.*"]),
-    ('form', GOOD, ['F', 'O', '--form', 'unity'], 2, [r".*'unity'.*"]),
+    ('form', GOOD, ['F', 'O', '--form', 'spine'], 2, [r".*'spine'.*"]),
+    ('hidden form', GOOD, ['F', 'O', '--form', 'template'], 2, [r".*'template'.*"]),
     ('forms', GOOD, ['F', 'O', '--form', 'libgdk'], 2, [r".*'libgdk'.*; did you mean libgdx\?"]),
     ('padding', GOOD, ['F', 'O', '--padding', '65536'], 2, [r'.*65536.*']),
     ('extrude', GOOD, ['F', 'O', '--extrude', 'x'], 2, [r".*'x'.*"]),
@@ -77,7 +78,16 @@ CASES = [
     ('kinds', GOOD, ['F', 'O', '--square', '--power-of-two'], 2, [r'.*cannot be used with.*']),
     ('greatest', GOOD, ['F', 'O', '--greatest', '0'], 2, [r'--least is below 1, or --greatest below it']),
     ('page', GOOD, ['F', 'O', '--page'], 2, [r'--page needs --form css']),
-    ('turn', GOOD, ['F', 'O', '--turn', '--form', 'godot'], 2, [r"--turn can't be used with --form godot: .*"]),
+    ('turn', GOOD, ['F', 'O', '--turn', '--form', 'godot'], 2, [r"--turn can't be used with --form godot or godot3: .*"]),
+    *(('turn ' + form, GOOD, ['F', 'O', '--turn', '--form', form], 2, [r"--turn can't be used with --form " + line])
+      for form, line in (('godot3', 'godot or godot3: .*'), ('unity', 'unity: .*'))),
+    ('filter', GOOD, ['F', 'O', '--filter', 'nearest'], 2, [r'--filter and --wrap need --form libgdx or libgdx-new']),
+    ('no template', GOOD, ['F', 'O', '--template', 'none.json.tera'], 1, [r'none\.json\.tera: ' + NOT_THERE]),
+    ('template and form', GOOD, ['F', 'O', '--template', 'x.json.tera', '--form', 'css'], 2, [r'.*cannot be used with.*']),
+    ('bad template', {**GOOD, 'x.json.tera': b'{{ pages'}, ['F', 'O', '--template', 'F/x.json.tera'], 1,
+     [r'x\.json\.tera: Failed to parse .*']),
+    ('nothing of this name', {**GOOD, 'x.json.tera': b'{{ pager }}'}, ['F', 'O', '--template', 'F/x.json.tera'], 1,
+     [r'x\.json\.tera: Failed to render .*: Variable `pager` not found .*']),
     *(('name ' + out, GOOD, ['F', out], 2, [r'OUT is the name of the sheet, without its ending'])
       for out in ('O/', 'O/.', 'O/..', 'O/./', 'O/.png', 'O/..png')),
     ('OUT not UTF-8', GOOD, ['F', 'O/a\udcff'], 2, [r"OUT isn't UTF-8"]),
@@ -88,9 +98,10 @@ CASES = [
     ('a file', GOOD, ['F/a.png', 'O'], 1, [r".*a\.png: it isn't a folder"]),
     ('nowhere', GOOD, ['F', 'O/none/sheet'], 1, [r'.*none: there is no such folder to write to']),
     ('unwritable', GOOD, ['F', '/proc/sheet'], 1, [r"/proc/sheet\.png: it can't be written there: .*"]),
-    ('empty', {'x.txt': b''}, ['F', 'O'], 1, [r'.*it contains no PNG, JPEG or WebP']),
+    ('empty', {'x.txt': b''}, ['F', 'O'], 1, [r'.*it contains no picture that is read']),
     ('bad files', {**GOOD, 'c.png': b'no', 'd.jpg': b'\xff\xd8\xff\xe0', 'e.png': WHOLE[:-30], 'f.webp': b'RIFF....WEBP'}, ['F', 'O'], 1,
-     [r'.*c\.png: not a PNG, JPEG or WebP', *(r'.*%s: the file is damaged \(.+\)' % name for name in (r'd\.jpg', r'e\.png', r'f\.webp'))]),
+     [r'.*c\.png: not a PNG, JPEG, WebP, GIF, BMP, TIFF or TGA',
+      *(r'.*%s: the file is damaged \(.+\)' % name for name in (r'd\.jpg', r'e\.png', r'f\.webp'))]),
     ('checksum', {'a.png': WHOLE[:40] + bytes([WHOLE[40] ^ 1]) + WHOLE[41:]}, ['F', 'O'], 1,
      [r'.*a\.png: the file is damaged \(CRC error: .*\)']),
     ('no sides', {'a.png': b'\x89PNG\r\n\x1a\n' + chunk(b'IHDR', bytes(8) + b'\x08\0\0\0\0')}, ['F', 'O'], 1, [r'.*a\.png: .*']),
@@ -101,7 +112,6 @@ CASES = [
     ('link to nowhere', {**GOOD, 'c.png': Link(b'none.png')}, ['F', 'O'], 1, [r'.*/c\.png: ' + NOT_THERE]),
     ('links in a loop', {**GOOD, 'c.png': Link(b'd.png'), 'd.png': Link(b'c.png')}, ['F', 'O'], 1,
      [r'.*/%s\.png: Too many levels of symbolic links .*' % name for name in 'cd']),
-    ('link to above', {**GOOD, 'new/up': Link(b'..')}, ['F', 'O'], 1, [r'File system loop found: .*/new/up points to an ancestor .*/in']),
     ('not UTF-8', {**GOOD, b'\xff.png': WHOLE}, ['F', 'O'], 1, [r".*its name isn't UTF-8"]),
     ('control', {**GOOD, 'x\ny.png': WHOLE}, ['F', 'O'], 1, [r'.*x\\ny\.png.*its name has a control character']),
     ('same name', {'a.png': WHOLE, 'a.jpg': WHOLE}, ['F', 'O', '--drop-extension'], 1, [r'.*a\.jpg and .*a\.png have the same name.*']),
@@ -113,12 +123,27 @@ CASES = [
     ('too large', {**GOOD, 'c.png': png(100, 3), 'd.png': png(3, 64)}, ['F', 'O', '--size', '64', '64'], 3,
      [r"c\.png: 100x3 with padding 1 doesn't fit a sheet of 64x64", r"d\.png: 3x64 .*"]),
     ('no room', {'%d.png' % n: png(30, 30, n) for n in range(9)}, ['F', 'O', '--size', '64', '64', '--pages', '2'], 3,
-     [r'2 sheets don\'t take all pictures, 64x64 at most: \d\.png found no place; more --pages, a larger sheet or --leave-out would help']),
+     [r'2 sheets don\'t take all pictures, 64x64 at most: \d\.png found no place; --pages 3, a larger sheet or --leave-out would do']),
     ('no room for groups', {'%d/%d.png' % (n // 3, n): png(30, 30, n) for n in range(9)},
      ['F', 'O', '--size', '64', '64', '--pages', '2', '--group'], 3,
-     [r'2 sheets don\'t take all pictures, .* more --pages, a larger sheet, --leave-out, or no --group may help']),
+     [r'2 sheets don\'t take all pictures, .*; --pages 3, a larger sheet or --leave-out would do']),
     ('no room in one', {'%d/%d.png' % (n // 3, n): png(30, 30, n) for n in range(9)}, ['F', 'O', '--size', '64', '64', '--group'], 3,
-     [r'one sheet doesn\'t take all pictures, .* more --pages, a larger sheet or --leave-out would help']),
+     [r'one sheet doesn\'t take all pictures, .*; --pages 3 without --group, a larger sheet or --leave-out would do']),
+    ('much too few', {'%d.png' % n: png(30, 30, n) for n in range(41)}, ['F', 'O', '--size', '64', '64', '--pages', '9'], 3,
+     [r'9 sheets don\'t take all pictures, .*; --pages 11, a larger sheet or --leave-out would do']),
+    ('memory', GOOD, ['F', 'O', '--memory', '1.5G'], 2, [r'.*memory is a whole number of bytes, or of K, M or G, as 500M.*']),
+    ('much memory', {'%d.png' % n: png(512, 512, n) for n in range(4)}, ['F', 'O', '--memory', '3M'], 3,
+     [r'the pictures take 4\.0M at four bytes a pixel, and --memory allows 3\.0M']),
+    ('great sheet', GOOD, ['F', 'O', '--size', '1024', '1024', '--memory', '3M'], 3,
+     [r'the pictures and the sheets take 4\.0M at four bytes a pixel, and --memory allows 3\.0M']),
+    ('greater sheet', GOOD, ['F', 'O', '--size', '65536', '65536', '--memory', '8G'], 3, [r'.* take 16\.0G at .*']),
+    ('pattern', GOOD, ['F', 'O', '--exclude', 'a[b'], 2, [r"--exclude: error parsing glob 'a\[b': .*"]),
+    ('all excluded', GOOD, ['F', 'O', '--exclude', '*.png'], 1, [r'.*it contains no picture that is read']),
+    ('border and alignment', GOOD, ['F', 'O', '--border', '0', '--align', '4', '4'], 2, [r'.*cannot be used with.*']),
+    ('no room at all', GOOD, ['F', 'O', '--size', '8', '8', '--border', '5'], 3,
+     [r"[ab]\.png: \dx\d with padding 1 and border 5 doesn't fit a sheet of 8x8"] * 2),
+    ('all too large', GOOD, ['F', 'O', '--size', '4', '4', '--leave-out'], 3,
+     [r"[ab]\.png: \dx\d with padding 1 doesn't fit a sheet of 4x4"] * 2),
     ('a folder', GOOD, ['F', 'O'], 1, [r'.*sheet\.json: it is a folder']),
     ('a folder for the picture', GOOD, ['F', 'O'], 1, [r'.*sheet\.png: it is a folder']),
 ]
@@ -258,31 +283,130 @@ def wait_for(has_come, seconds=30):
     return False
 
 
+class Watch:
+    """A run that follows its folder."""
+
+    def __init__(self, room, *more):
+        self.room, self.errors = room, open(room + '/errors', 'w+')
+        words = [PROGRAM, room + '/in', room + '/sheet', '--watch', *more]
+        self.running = subprocess.Popen(words, stdout=subprocess.DEVNULL, stderr=self.errors)
+
+    def text(self):
+        path = self.room + '/sheet.json'
+        return open(path).read() if os.path.exists(path) else ''
+
+    def lines(self):
+        return open(self.room + '/errors').read().splitlines()
+
+    def stamps(self):
+        return [os.stat(self.room + '/' + name).st_mtime_ns for name in ('sheet.json', 'sheet.png')]
+
+    def __enter__(self):
+        return self
+
+    def __exit__(self, *_):
+        self.running.terminate()
+        self.running.wait()
+        self.errors.close()
+
+
 def watched():
     """The sheet follows its folder; while a file is bad the last sheet stays."""
     with tempfile.TemporaryDirectory() as room:
         put(room + '/in', GOOD)
-        json = room + '/sheet.json'
-        errors = open(room + '/errors', 'w+')
-        running = subprocess.Popen([PROGRAM, room + '/in', room + '/sheet', '--watch'], stdout=subprocess.DEVNULL, stderr=errors)
-        try:
-            def text():
-                return open(json).read() if os.path.exists(json) else ''
-            check('watch: first', wait_for(lambda: '"b.png"' in text()))
+        with Watch(room) as watch:
+            check('watch: first', wait_for(lambda: '"b.png"' in watch.text()))
             put(room + '/in', {'new/c.png': png(5, 6)})
-            check('watch: a new one', wait_for(lambda: '"new/c.png"' in text()))
+            check('watch: a new one', wait_for(lambda: '"new/c.png"' in watch.text()))
             put(room + '/in', {'new/d.png': b'bad'})
-            check('watch: a bad one', wait_for(lambda: 'd.png: not a PNG' in open(room + '/errors').read()) and '"new/c.png"' in text())
+            is_told = wait_for(lambda: any('d.png: not a PNG' in line for line in watch.lines()))
+            check('watch: a bad one', is_told and '"new/c.png"' in watch.text())
             os.remove(room + '/in/new/d.png')
             os.remove(room + '/in/a.png')
-            check('watch: one less', wait_for(lambda: '"a.png"' not in text()) and running.poll() is None)
-            lines = open(room + '/errors').read().splitlines()
+            check('watch: one less', wait_for(lambda: '"a.png"' not in watch.text()) and watch.running.poll() is None)
+            lines = watch.lines()
             time.sleep(1)
-            check('watch: rests', open(room + '/errors').read().splitlines() == lines)
-        finally:
-            running.terminate()
-            running.wait()
-            errors.close()
+            check('watch: rests', watch.lines() == lines)
+
+
+def replaced():
+    """A folder that is removed and made again is followed as before, each time, also where one is moved to its place."""
+    with tempfile.TemporaryDirectory() as room:
+        put(room + '/in', GOOD)
+        with Watch(room) as watch:
+            check('replaced: first', wait_for(lambda: '"b.png"' in watch.text()))
+            for number in range(2):
+                shutil.rmtree(room + '/in')
+                is_told = wait_for(lambda: sum('in: No such file' in line for line in watch.lines()) == number + 1)
+                check('replaced: removed', is_told and watch.text() and watch.running.poll() is None, watch.lines())
+                put(room + '/in', {'new%d.png' % number: png(5, 6)})
+                check('replaced: made again', wait_for(lambda: '"new%d.png"' % number in watch.text()), watch.lines())
+                put(room + '/in', {'more%d.png' % number: png(6, 6)})
+                check('replaced: followed', wait_for(lambda: '"more%d.png"' % number in watch.text()), watch.lines())
+            put(room + '/other', {'other.png': png(7, 6)})
+            os.rename(room + '/in', room + '/away')
+            os.rename(room + '/other', room + '/in')
+            check('replaced: another', wait_for(lambda: '"other.png"' in watch.text()), watch.lines())
+
+
+def unmoved():
+    """What doesn't count changes nothing: other files, hidden and excluded ones, and a touch."""
+    with tempfile.TemporaryDirectory() as room:
+        put(room + '/in', GOOD)
+        with Watch(room, '--exclude', '*_old.png') as watch:
+            check('unmoved: first', wait_for(lambda: '"b.png"' in watch.text()))
+            time.sleep(0.5)
+            before = watch.stamps()
+            put(room + '/in', {'x.txt': b'text', '.hidden.png': b'bad', 'a_old.png': b'bad', '.git/a.png': b'bad'})
+            os.utime(room + '/in/a.png')
+            os.remove(room + '/in/x.txt')
+            time.sleep(1.5)
+            check('unmoved: untouched', watch.stamps() == before and watch.lines() == [], watch.lines())
+            put(room + '/in', {'anchors.txt': b'a.png 0.5 0.5\n'})
+            check('unmoved: anchors count', wait_for(lambda: '"anchor"' in watch.text()))
+
+
+def checked():
+    """Up to date or not, by status; nothing is written."""
+    with tempfile.TemporaryDirectory() as room:
+        put(room + '/in', GOOD)
+        os.mkdir(room + '/out')
+
+        def told(status, *names):
+            before = written(room + '/out')
+            done = run([room + '/in', room + '/out/sheet', '--check'])
+            lines = [line.split('/out/')[1] for line in done.stderr.splitlines()]
+            check('checked: %d' % status, (done.returncode, lines, done.stdout, before)
+                  == (status, ["%s: it isn't up to date" % name for name in names], '', written(room + '/out')), (done.returncode, lines))
+        told(5, 'sheet.png', 'sheet.json')
+        run([room + '/in', room + '/out/sheet'])
+        told(0)
+        put(room + '/in', {'x.txt': b''})
+        os.utime(room + '/in/a.png')
+        told(0)
+        put(room + '/in', {'a.png': png(8, 8, 9)})
+        told(5, 'sheet.png')
+        run([room + '/in', room + '/out/sheet'])
+        told(0)
+        os.remove(room + '/out/sheet.json')
+        told(5, 'sheet.json')
+
+
+def printed():
+    """The manual page has each word and no fault of troff's; shells take what completes the words."""
+    told = run(['--help']).stdout
+    switches = set(re.findall(r'^ +(?:-\w, )?(--[a-z-]+)', told, re.M)) - {'--help', '--version'}
+    page = run(['--man']).stdout
+    check('printed: all words', len(switches) > 40 and not {each for each in switches if each.replace('-', r'\-') not in page}, switches)
+    check('printed: alone', run(['--man', 'F', 'O']).returncode == 2)
+    with tempfile.TemporaryDirectory() as room:
+        put(room, {'page.1': page.encode(), 'words': run(['--completions', 'bash']).stdout.encode()})
+        if shutil.which('man') and shutil.which('groff'):
+            done = subprocess.run(['man', '--warnings', '-l', room + '/page.1'], stdout=subprocess.PIPE, stderr=subprocess.PIPE, text=True,
+                                  env=dict(os.environ, MANPAGER='cat'))
+            check('printed: troff', done.returncode == 0 and done.stderr == '' and 'EXIT STATUS' in done.stdout, done.stderr)
+        done = subprocess.run(['bash', '-n', room + '/words'], stderr=subprocess.PIPE, text=True)
+        check('printed: bash', done.returncode == 0 and '--power-of-two' in open(room + '/words').read(), done.stderr)
 
 
 for each in CASES:
@@ -292,6 +416,10 @@ told()
 no_space()
 no_permission()
 devices()
+printed()
 watched()
+replaced()
+unmoved()
+checked()
 print('%d passed, %d failed' % (Count.passed, Count.failed))
 sys.exit(1 if Count.failed else 0)

@@ -41,11 +41,11 @@ def fill(folder, count=200, seed=1):
             save(folder, 'again/' + name, picture)
 
 
-def originals(folder):
-    """The pictures by name, as Pillow reads them."""
+def originals(folder, ending=''):
+    """The pictures by name, as Pillow reads them; of files with this ending."""
     found = {}
     for inside, _, names in os.walk(folder):
-        for name in names:
+        for name in [name for name in names if name.endswith(ending)]:
             path = os.path.join(inside, name)
             with Image.open(path) as picture:
                 found[os.path.relpath(path, folder)] = picture.convert('RGBA')

@@ -2,6 +2,7 @@
 that an engine is given, and gives the pictures by name, each of the size that it had in its own file."""
 import json
 import os
+import plistlib
 import re
 import xml.etree.ElementTree
 
@@ -95,15 +96,31 @@ def libgdx(path):
             assert [str(side) for side in sheet.size] == told['size'] and told['format'] == ['RGBA8888']
         else:
             told, place = fields(lines, place)
-            found[line.strip()] = gdx_region(sheet, told)
+            index = int(told.get('index', ['-1'])[0])
+            found[line.strip() if index == -1 else (line.strip(), index)] = gdx_region(sheet, told)
+    return found
+
+
+def gdx_nines(path):
+    """The sides `left, right, top, bottom` of `split` and `pad` of each region that has them."""
+    with open(path, encoding='utf-8') as file:
+        lines = file.read().split('\n')
+    found = {}
+    for line in lines:
+        if line and ':' not in line:
+            name = line
+        elif line.strip().startswith(('split:', 'pad:')):
+            found.setdefault(name, {})[line.split(':')[0].strip()] = [int(value) for value in line.split(':')[1].split(',')]
     return found
 
 
 def gdx_region(sheet, told):
-    """The sides are those before turning; a turned region lies counter-clockwise; offsets are from the lower left corner."""
-    (x, y), (wide, high), (whole_wide, whole_high), (left, bottom) = (
-        [int(value) for value in told[key]] for key in ('xy', 'size', 'orig', 'offset'))
-    if told['rotate'] == ['true']:
+    """The sides are those before turning; a turned region lies counter-clockwise; offsets are from the lower left corner. The new form
+    has `bounds` and `offsets`, and leaves out what is usual."""
+    told = {key: values if key == 'rotate' else [int(value) for value in values] for key, values in told.items()}
+    x, y, wide, high = told.get('bounds') or told['xy'] + told['size']
+    left, bottom, whole_wide, whole_high = told.get('offsets') or told.get('offset', [0, 0]) + told.get('orig', [wide, high])
+    if told.get('rotate') in (['true'], ['90']):
         part = sheet.crop((x, y, x + high, y + wide)).transpose(Image.ROTATE_270)
     else:
         part = sheet.crop((x, y, x + wide, y + high))
@@ -166,12 +183,18 @@ def sections(text):
 
 
 def godot(path):
-    """SpriteFrames: of each animation the texture of its first frame, an AtlasTexture: `region` of `atlas`, put at the position
-    of `margin` into a picture that the size of `margin` makes larger."""
+    """Of each animation the texture of its first frame."""
+    return {name: frames[0] for name, (_, frames) in godot_animations(path).items()}
+
+
+def godot_animations(path):
+    """SpriteFrames: of each animation its speed and the textures of its frames, each an AtlasTexture: `region` of `atlas`, put at the
+    position of `margin` into a picture that the size of `margin` makes larger."""
     sheets, textures, found = {}, {}, {}
     with open(path, encoding='utf-8') as file:
         parts = list(sections(file.read()))
-    assert parts[0][0] == 'gd_resource' and parts[0][1]['type'] == 'SpriteFrames' and parts[0][1]['format'] == 3
+    assert parts[0][0] == 'gd_resource' and parts[0][1]['type'] == 'SpriteFrames' and parts[0][1]['format'] in (2, 3)
+    is_three = parts[0][1]['format'] == 2
     assert parts[0][1]['load_steps'] == len(parts) - 1
     for kind, heads, body in parts[1:]:
         if kind == 'ext_resource':
@@ -184,7 +207,10 @@ def godot(path):
             textures[heads['id']] = put(part, (wide + wider, high + higher), (left, top))
         else:
             for animation in body['animations']:
-                found[animation['name']] = textures[animation['frames'][0]['texture'][1][0]]
+                assert animation['name'] not in found and animation['loop'] == 'true'
+                assert is_three or all(frame['duration'] == 1 for frame in animation['frames'])
+                shown = [textures[(frame if is_three else frame['texture'])[1][0]] for frame in animation['frames']]
+                found[animation['name']] = (animation['speed'], shown)
     return found
 
 
@@ -206,6 +232,30 @@ def starling(path):
     return found
 
 
+def cocos(path):
+    """The property lists OUT.plist or OUT-0.plist ..: the sides are those before turning clockwise; `sourceColorRect` is where the rest
+    lies in the picture, and `offset` how far its middle is from the picture's, upwards."""
+    found = {}
+    for each in numbered(path):
+        with open(each, 'rb') as file:
+            data = plistlib.load(file)
+        sheet = opened(each, data['metadata']['textureFileName'])
+        assert data['metadata']['format'] == 2 and numbers(data['metadata']['size']) == list(sheet.size)
+        for name, told in data['frames'].items():
+            (x, y, wide, high), (left, top, wide_, high_) = numbers(told['frame']), numbers(told['sourceColorRect'])
+            size = numbers(told['sourceSize'])
+            assert (wide, high) == (wide_, high_)
+            assert numbers(told['offset']) == [left + wide / 2 - size[0] / 2, -(top + high / 2 - size[1] / 2)]
+            part = sheet.crop((x, y, x + (high if told['rotated'] else wide), y + (wide if told['rotated'] else high)))
+            found[name] = put(part.transpose(Image.ROTATE_90) if told['rotated'] else part, tuple(map(int, size)), (int(left), int(top)))
+    return found
+
+
+def numbers(text):
+    """Those of {1,2} or {{1,2},{3,4}}."""
+    return [float(number) for number in re.findall(r'-?[0-9.]+', text)]
+
+
 def numbered(path):
     """The file itself, or where it is -0 of several, all of them."""
     if '-0' not in os.path.basename(path):
@@ -218,7 +268,8 @@ def numbered(path):
 
 
 READERS = {'json-hash': (json_hash, '.json', True), 'json-array': (json_array, '.json', True), 'phaser': (phaser, '.json', False),
-           'libgdx': (libgdx, '.atlas', False), 'godot': (godot, '.tres', False), 'starling': (starling, '.xml', True)}
+           'libgdx': (libgdx, '.atlas', False), 'libgdx-new': (libgdx, '.atlas', False), 'godot': (godot, '.tres', False),
+           'godot3': (godot, '.tres', False), 'starling': (starling, '.xml', True), 'cocos': (cocos, '.plist', True)}
 
 
 def read(form, out, suffix=''):

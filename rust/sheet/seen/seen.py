@@ -12,7 +12,6 @@ import shutil
 import subprocess
 import sys
 import tempfile
-import traceback
 import urllib.parse
 import zlib
 
@@ -23,51 +22,12 @@ sys.path[:0] = [HERE, os.path.join(ROOT, 'web')]
 import browsers  # noqa: E402
 import icons  # noqa: E402
 import readers  # noqa: E402
-from PIL import Image, ImageChops  # noqa: E402
+from common import compare, difference, end, frames, run, test  # noqa: E402
+from PIL import Image  # noqa: E402
 
-PROGRAM = os.path.abspath(sys.argv[1]) if len(sys.argv) == 2 else sys.exit(__doc__)
 THEMES = ['/usr/share/icons/Tango', '/usr/share/icons/Adwaita/24x24', '/usr/share/icons/Adwaita/48x48']
 GAMMA = (b'gAMA', (45455).to_bytes(4, 'big'))
 PRIMARIES = (b'cHRM', b''.join(number.to_bytes(4, 'big') for number in (31270, 32900, 64000, 33000, 30000, 60000, 15000, 6000)))
-
-
-class Count:
-    """Of the tests."""
-    passed = failed = 0
-
-
-def test(what, check, *words):
-    try:
-        check(*words)
-        Count.passed += 1
-    except Exception:  # noqa: BLE001
-        Count.failed += 1
-        print('%s: failed\n%s' % (what, traceback.format_exc()))
-
-
-def run(*words, status=0, **more):
-    done = subprocess.run([PROGRAM] + list(words), stdout=subprocess.PIPE, stderr=subprocess.PIPE, text=True, **more)
-    assert done.returncode == status, (words, done.returncode, done.stdout, done.stderr)
-    return done
-
-
-def clean(picture):
-    """With no colour where nothing is seen."""
-    mask = picture.getchannel('A').point(lambda alpha: 255 if alpha else 0)
-    return Image.composite(picture, Image.new('RGBA', picture.size), mask)
-
-
-def difference(one, other):
-    """The greatest of two pictures of the same size."""
-    return max(most for _, most in ImageChops.difference(one, other).getextrema())
-
-
-def compare(found, originals, is_trimmed, most=0):
-    assert found.keys() == originals.keys(), sorted(found.keys() ^ originals.keys())[:5]
-    for name, original in originals.items():
-        assert found[name].size == original.size, (name, found[name].size, original.size)
-        pair = (clean(found[name]), clean(original)) if is_trimmed else (found[name], original)
-        assert difference(*pair) <= most, name
 
 
 WAYS = {'plain': [], 'full': ['--trim', '--extrude', '2', '--turn', '--effort', '50'],
@@ -77,7 +37,7 @@ WAYS = {'plain': [], 'full': ['--trim', '--extrude', '2', '--turn', '--effort', 
 
 def form(name, way, folder, originals, room):
     out = os.path.join(room, '%s %s' % (name, way))
-    words = [word for word in WAYS[way] if name != 'godot' or word != '--turn']
+    words = [word for word in WAYS[way] if name not in ('godot', 'godot3') or word != '--turn']
     done = run(folder, out, '--form', name, *words)
     lines = done.stderr.splitlines()
     assert bool(lines) == ('--effort' in words)
@@ -88,11 +48,6 @@ def form(name, way, folder, originals, room):
     if way == 'full' and name == 'json-hash':
         with open(out + '.json') as file:
             assert any(told['rotated'] for told in json.load(file)['frames'].values())
-
-
-def frames(out):
-    with open(out + '.json', encoding='utf-8') as file:
-        return json.load(file)['frames']
 
 
 def equal_once(folder, room):
@@ -155,7 +110,7 @@ def grouped(folder, room):
     for more in ([], ['--dense'], ['--turn', '--trim', '--padding', '3'], ['--form', 'phaser']):
         for words, is_group in (([], False), (['--group'], True)):
             out = os.path.join(room, ' '.join(['grouped sheets', *more, *words]))
-            done = run(to, out, '--size', '210', '210', '--pages', '20', *more, *words)
+            done = run(to, out, '--size', '210', '210', '--pages', '20', '--no-animations', *more, *words)
             assert len(done.stdout.splitlines()) > 2, done.stdout
             form = 'phaser' if more[:1] == ['--form'] else 'json-hash'
             compare(readers.read(form, out), originals, '--trim' in more)
@@ -166,7 +121,7 @@ def grouped(folder, room):
                 assert done.stderr == ''
     out = os.path.join(room, 'parted')
     for more, at in (([], ''), (['--scale', '0.9'], ' at scale 0.9')):
-        done = run(to, out, '--size', '170', '170', '--pages', '20', '--group', *more)
+        done = run(to, out, '--size', '170', '170', '--pages', '20', '--group', '--no-animations', *more)
         parted = [inside for inside, each in sorted(sheets_of_folders(out, at and '@0.9x').items()) if inside and len(each) > 1]
         line = "guillotiere-sheet: folder %s is split%s: it doesn't fit on one sheet of 170x170\n"
         assert parted and len(parted) < 6 and done.stderr == ''.join(line % (inside, at) for inside in parted), (parted, done.stderr)
@@ -186,10 +141,46 @@ def sheets_of_folders(out, suffix=''):
     return found
 
 
+def bled(room):
+    """A filter between pixels, with straight alpha, shows the colour of the sprite alone around it, whatever its file has there."""
+    folder = os.path.join(room, 'bled')
+    for number, hidden in enumerate([(0, 0, 0, 0), (255, 255, 255, 0)]):
+        picture = Image.new('RGBA', (20, 20), hidden)
+        picture.paste((200, 100 + number, 50, 255), (6, 7, 12, 15))
+        picture.putpixel((8, 9), hidden)
+        icons.save(folder, '%d.png' % number, picture)
+    originals = icons.originals(folder)
+    out = os.path.join(room, 'bled sheet')
+    for more, far, padding in ((['--trim'], 1, 2), (['--trim', '--bleed', '3'], 3, 6), (['--bleed', '2'], 2, 1),
+                               (['--trim', '--bleed', '0'], 0, 2), ([], 0, 1), (['--trim', '--turn', '--extrude', '1'], 1, 3)):
+        run(folder, out, '--padding', str(padding), *more)
+        compare(readers.read('json-hash', out), originals, far > 0 or '--trim' in more)
+        with Image.open(out + '.png') as sheet:
+            for name, told in frames(out).items():
+                around(sheet, told['frame'], originals[name], far, '--trim' in more)
+
+
+def around(sheet, box, original, far, is_trimmed):
+    """The pixels around the visible square of a sprite."""
+    wide, high = (6, 8)
+    x, y = (box['x'], box['y']) if is_trimmed else (box['x'] + 6, box['y'] + 7)
+    if box['w'] != wide and is_trimmed:
+        wide, high = high, wide
+    colour = original.getpixel((6, 7))[:3]
+    for step in range(1, far + 1):
+        for place in ((x - step, y), (x + wide - 1 + step, y + high - 1), (x, y - step), (x + wide - 1, y + high - 1 + step)):
+            assert sheet.getpixel(place)[:3] == colour, (place, sheet.getpixel(place))
+    if far == 0 and is_trimmed:
+        assert sheet.getpixel((x - 1, y)) == (0, 0, 0, 0)
+
+
 def premultiplied(folder, originals, room):
     out = os.path.join(room, 'premultiplied')
     run(folder, out, '--premultiply', '--form', 'libgdx')
-    for name, picture in readers.read('libgdx', out).items():
+    with open(out + '.atlas', encoding='utf-8') as file:
+        assert 'pma' not in file.read()
+    run(folder, out, '--premultiply', '--form', 'libgdx-new')
+    for name, picture in readers.read('libgdx-new', out).items():
         given, got = (list(each.getdata()) for each in (originals[name], picture))
         wanted = [tuple((2 * colour * pixel[3] + 255) // 510 for colour in pixel[:3]) + (pixel[3],) for pixel in given]
         assert got == wanted, name
@@ -240,26 +231,18 @@ def as_srgb(value):
     return 255 * (12.92 * light if light <= 0.0031308 else 1.055 * light ** (1 / 2.4) - 0.055)
 
 
-TABLE = [round(as_srgb(value)) for value in range(256)] * 3 + list(range(256))
-
-
 def theme(folder, room):
-    """A real theme, in each form, trimmed. Where some of its pictures have gAMA and others none, it is applied."""
+    """A real theme, in each form, trimmed. Some of its pictures may have gAMA and others none: the numbers stay."""
     copy = copied(folder, room)
     originals = icons.originals(copy)
-    chunks = {name: icons.chunks(os.path.join(copy, name)) for name in originals}
-    assert {each.get(b'gAMA') for each in chunks.values()} <= {None, GAMMA[1]}
-    if any(b'gAMA' in each for each in chunks.values()) and not all(b'gAMA' in each for each in chunks.values()):
-        is_applied = {name: b'gAMA' in each and b'cHRM' in each for name, each in chunks.items()}
-        originals = {name: picture.point(TABLE) if is_applied[name] else picture for name, picture in originals.items()}
     for name in readers.READERS:
         out = os.path.join(room, 'theme ' + name)
-        run(copy, out, '--form', name, '--trim')
+        assert run(copy, out, '--form', name, '--trim').stderr == ''
         compare(readers.read(name, out), originals, True)
 
 
 def others(room):
-    """JPEG, WebP, 16 bits a sample, interlaced and transparent by a colour; files of other kinds and hidden ones are skipped."""
+    """JPEG, WebP, 16 bits a sample, which are rounded, and transparent by a colour; files of other kinds and hidden ones are skipped."""
     folder = os.path.join(room, 'others')
     picture = Image.effect_mandelbrot((40, 30), (-2, -1, 1, 1), 50).convert('RGB')
     icons.save(folder, 'a.jpg', picture, quality=95, subsampling=0)
@@ -271,6 +254,10 @@ def others(room):
         file.write(icons.png(2, 1, 16, 6, [bytes([1, 255, 2, 0, 3, 7, 255, 255, 9, 9, 8, 8, 7, 7, 0, 1])]))
     with open(os.path.join(folder, 'e.png'), 'wb') as file:
         file.write(icons.png(2, 1, 8, 2, [bytes([1, 2, 3, 4, 5, 6])], [(b'tRNS', bytes([0, 4, 0, 5, 0, 6]))]))
+    with open(os.path.join(folder, 'f.png'), 'wb') as file:
+        file.write(icons.png(256, 256, 16, 0, [b''.join((256 * y + x).to_bytes(2, 'big') for x in range(256)) for y in range(256)]))
+    with open(os.path.join(folder, 'g.png'), 'wb') as file:
+        file.write(icons.png(2, 1, 16, 0, [bytes([255, 255, 255, 254])], [(b'tRNS', bytes([255, 255]))]))
     for name in ('notes.txt', '.hidden.png', '.folder/broken.png'):
         os.makedirs(os.path.dirname(os.path.join(folder, name)), exist_ok=True)
         with open(os.path.join(folder, name), 'w') as file:
@@ -278,18 +265,22 @@ def others(room):
     out = os.path.join(room, 'others sheet')
     run(folder, out)
     found = readers.read('json-hash', out)
-    assert sorted(found) == ['a.jpg', 'b.webp', 'c.JPEG', 'd.png', 'e.png']
+    assert sorted(found) == ['a.jpg', 'b.webp', 'c.JPEG', 'd.png', 'e.png', 'f.png', 'g.png']
     for name, most in (('a.jpg', 3), ('b.webp', 0), ('c.JPEG', 3)):
         with Image.open(os.path.join(folder, name)) as original:
             assert difference(found[name], original.convert('RGBA')) <= most, name
-    assert list(found['d.png'].getdata()) == [(1, 2, 3, 255), (9, 8, 7, 0)]
+    assert list(found['d.png'].getdata()) == [(2, 2, 3, 255), (9, 8, 7, 0)]
+    nearest = [(2 * value * 255 + 65535) // (2 * 65535) for value in range(1 << 16)]
+    assert list(found['f.png'].getchannel('G').getdata()) == nearest and found['f.png'].getextrema()[3] == (255, 255)
+    assert list(found['g.png'].getdata()) == [(255, 255, 255, 0), (255, 255, 255, 255)]
     assert list(found['e.png'].getdata()) == [(1, 2, 3, 255), (4, 5, 6, 0)]
     run(folder, out, '--drop-extension', '--form', 'libgdx')
-    assert sorted(readers.read('libgdx', out)) == ['a', 'b', 'c', 'd', 'e']
+    assert sorted(readers.read('libgdx', out)) == ['a', 'b', 'c', 'd', 'e', 'f', 'g']
 
 
 def colours(room):
-    """Chunks that all have stay, with the numbers as they are; else gAMA beside cHRM is applied, and a line says so."""
+    """Numbers stay, whatever the files say. Where it is asked for, chunks that all have stay too; else gAMA beside cHRM is applied, and
+    each picture that it changes is named."""
     folder = os.path.join(room, 'colours')
     os.makedirs(folder)
     row = bytes(value for step in range(256) for value in (step, 255 - step, step, 255))
@@ -302,33 +293,35 @@ def colours(room):
     for more in ([GAMMA], [GAMMA, PRIMARIES], [profile], [(b'sRGB', b'\2')]):
         write('a.png', *more)
         write('b.png', *more)
-        assert run(folder, out).stderr == ''
+        kept(folder, out, {'a.png': row, 'b.png': row})
+        assert run(folder, out, '--manage-colours').stderr == ''
         sheet = icons.chunks(out + '.png')
         assert {name: sheet.get(name) for name in (b'gAMA', b'cHRM', b'iCCP', b'sRGB') if name in sheet} == dict(more)
         assert readers.read('json-hash', out)['a.png'].tobytes() == row
     write('b.png')
     for more, is_applied in (([PRIMARIES, GAMMA], True), ([GAMMA], False), ([profile], False)):
         write('a.png', *more)
-        told = run(folder, out).stderr
-        assert told.startswith('guillotiere-sheet: colours differ: a.png: ') and told.count('\n') == 1, told
-        assert told.endswith('gAMA is applied, so its numbers change: the sheet is sRGB\n' if is_applied else "aren't applied; the values are taken as sRGB\n")
+        write('c.png', *more)
+        told = run(folder, out, '--manage-colours').stderr.splitlines()
+        end = 'gAMA is applied, so its numbers change: the sheet is sRGB' if is_applied else "aren't applied; the values are taken as sRGB"
+        assert len(told) == 2 and all(line.endswith(end) for line in told), told
+        assert [line.split(': ')[2] for line in told] == ['a.png', 'c.png'], told
         found = readers.read('json-hash', out)
         sheet = icons.chunks(out + '.png')
         assert not {b'gAMA', b'cHRM', b'iCCP'} & sheet.keys() and sheet[b'sRGB'] == b'\0'
         assert found['b.png'].tobytes() == row
         for value in range(256):
             assert abs(found['a.png'].getpixel((value, 0))[0] - (as_srgb(value) if is_applied else value)) <= 0.5001
-        kept(folder, out, {'a.png': row, 'b.png': row})
-    write('b.png', PRIMARIES, GAMMA)
-    write('a.png', PRIMARIES, GAMMA)
-    kept(folder, out, {'a.png': row, 'b.png': row})
+        kept(folder, out, {'a.png': row, 'b.png': row, 'c.png': row})
 
 
 def kept(folder, out, rows):
-    """With --keep-numbers the numbers stay, the sheet has no chunk of colours, and nothing is told."""
-    assert run(folder, out, '--keep-numbers').stderr == ''
-    assert not {b'gAMA', b'cHRM', b'iCCP', b'sRGB'} & icons.chunks(out + '.png').keys()
-    assert {name: picture.tobytes() for name, picture in readers.read('json-hash', out).items()} == rows
+    """The numbers stay in each form, the sheet has no chunk of colours, and nothing is told; --keep-numbers says the same."""
+    for form in readers.READERS:
+        for more in ([], ['--keep-numbers']):
+            assert run(folder, out, '--form', form, *more).stderr == ''
+            assert not {b'gAMA', b'cHRM', b'iCCP', b'sRGB'} & icons.chunks(out + '.png').keys()
+            assert {name: picture.tobytes() for name, picture in readers.read(form, out).items()} == rows
 
 
 def screenshot(chromium, page, size, room):
@@ -342,10 +335,10 @@ def screenshot(chromium, page, size, room):
         return picture.convert('RGB')
 
 
-def css(chromium, folder, way, room, most=0):
+def css(chromium, folder, way, room, most=0, more=()):
     """A screenshot of the page beside one of the pictures themselves in the same lines."""
     out = os.path.join(room, 'css' + way)
-    run(folder, out, '--form', 'css', '--page', *WAYS[way])
+    run(folder, out, '--form', 'css', '--page', *WAYS[way], *more)
     with open(out + '.html', encoding='utf-8') as file:
         text = file.read()
     names = sorted(icons.originals(folder))
@@ -378,6 +371,7 @@ def all_tests(room):
     test('extruded', extruded, folder, room)
     test('dense', dense, folder, originals, room)
     test('grouped', grouped, folder, room)
+    test('bled', bled, room)
     test('premultiplied', premultiplied, folder, originals, room)
     test('scaled', scaled, folder, originals, room)
     test('other kinds', others, room)
@@ -395,9 +389,9 @@ def all_tests(room):
         test('css, ' + way, css, chromium, folder, way, room)
     # Where gAMA is applied the browser rounds once, and the sheet as well. Browsers apply it beside cHRM alone.
     for name, more in (('gAMA', [GAMMA]), ('gAMA and cHRM', [GAMMA, PRIMARIES])):
-        test('css, ' + name, css, chromium, mixed(folder, more, room), 'plain', room, 1)
+        test('css, ' + name, css, chromium, mixed(folder, more, room), 'plain', room, 1, ['--manage-colours'])
     if os.path.isdir(THEMES[0]):
-        test('css, ' + THEMES[0], css, chromium, copied(THEMES[0], room), 'full', room, 1)
+        test('css, ' + THEMES[0], css, chromium, copied(THEMES[0], room), 'full', room, 1, ['--manage-colours'])
 
 
 def mixed(folder, more, room):
@@ -415,5 +409,4 @@ def mixed(folder, more, room):
 
 with tempfile.TemporaryDirectory() as temporary:
     all_tests(temporary)
-print('%d passed, %d failed' % (Count.passed, Count.failed))
-sys.exit(1 if Count.failed else 0)
+end()

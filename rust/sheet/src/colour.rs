@@ -1,4 +1,4 @@
-//! What the files say of colours: kept where all say the same, and applied where they differ.
+//! What the files say of colours, where it is asked for: kept where all say the same, and applied where they differ.
 use crate::picture::Picture;
 
 /// A chunk of a PNG: its name and its data.
@@ -19,6 +19,7 @@ pub struct Settled {
     pub notes: Vec<String>,
 }
 
+const APPLIED: &str = "gAMA is applied, so its numbers change: the sheet is sRGB";
 const PASSED_OVER: &str = "iCCP, other primaries in cHRM, and gAMA without cHRM aren't applied; the values are taken as sRGB";
 
 impl Colour {
@@ -112,44 +113,24 @@ pub fn settle(found: &mut [(String, Picture, Colour)]) -> Settled {
             notes: Vec::new(),
         };
     }
-    let mut applied = Vec::new();
-    let mut passed_over = Vec::new();
+    let (mut applied, mut passed_over) = (Vec::new(), Vec::new());
     for (name, picture, colour) in found.iter_mut() {
         match colour.meaning() {
             Meaning::Srgb => {}
             Meaning::Gamma(gamma) => {
                 apply(picture, gamma);
-                applied.push(name.as_str());
+                applied.push(format!("colours differ: {}: {}", name, APPLIED));
             }
-            Meaning::Other => passed_over.push(name.as_str()),
+            Meaning::Other => {
+                passed_over.push(format!("colours differ: {}: {}", name, PASSED_OVER));
+            }
         }
     }
-    let note = |names: &[&str], what: &str| match names {
-        [] => None,
-        [name] => Some(format!("colours differ: {}: {}", name, what)),
-        [name, more @ ..] => Some(format!(
-            "colours differ: {} and {} more: {}",
-            name,
-            more.len(),
-            what
-        )),
-    };
-    let notes = [
-        note(&applied, &applied_to(applied.len())),
-        note(&passed_over, PASSED_OVER),
-    ];
+    applied.append(&mut passed_over);
     Settled {
         chunks: vec![(*b"sRGB", vec![0])],
-        notes: notes.into_iter().flatten().collect(),
+        notes: applied,
     }
-}
-
-fn applied_to(count: usize) -> String {
-    let whose = if count == 1 { "its" } else { "their" };
-    format!(
-        "gAMA is applied, so {} numbers change: the sheet is sRGB",
-        whose
-    )
 }
 
 // Brings red, green and blue to sRGB: a number v of 0 to 1 stands for the light v to the power of 1 / gamma.
@@ -232,12 +213,11 @@ mod tests {
     }
 
     #[test]
-    fn counts_those_that_change() {
+    fn names_all_that_change() {
         let both: [(&[u8; 4], &[u8]); 2] = [(b"cHRM", &primaries()), GAMMA];
         let mut found = [one("a", &both), one("b", &both), one("c", &[])];
-        let notes = settle(&mut found).notes;
-        let note = "colours differ: a and 1 more: gAMA is applied, so their numbers change: the sheet is sRGB";
-        assert_eq!(notes, [note]);
+        let note = |name: &str| format!("colours differ: {}: {}", name, super::APPLIED);
+        assert_eq!(settle(&mut found).notes, ["a", "b"].map(note));
     }
 
     #[test]
@@ -250,13 +230,8 @@ mod tests {
             one("d", &[GAMMA]),
         ];
         let notes = settle(&mut found).notes;
-        assert_eq!(
-            notes,
-            [format!(
-                "colours differ: a and 2 more: {}",
-                super::PASSED_OVER
-            )]
-        );
+        let note = |name: &str| format!("colours differ: {}: {}", name, super::PASSED_OVER);
+        assert_eq!(notes, ["a", "c", "d"].map(note));
         assert_eq!(found[3].1.pixels[0], [0, 20, 128, 255]);
     }
 }

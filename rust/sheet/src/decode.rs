@@ -1,27 +1,76 @@
 //! Pictures from the bytes of their files.
 use crate::colour::Colour;
 use crate::picture::{Picture, Pixel};
+use crate::webp;
 use image::{ImageError, ImageFormat};
 use std::fmt::Display;
 use std::io::Cursor;
+use std::path::Path;
 
 const PNG: [u8; 8] = [0x89, b'P', b'N', b'G', 13, 10, 26, 10];
-// More than any sheet has.
-const GREATEST: usize = 1 << 31;
-const TOO_LARGE: &str = "it is too large";
+/// At four bytes a pixel, more than a picture may have.
+pub const GREATEST: usize = 1 << 31;
+pub const NO_MEMORY: &str = "there is no memory for it";
+pub const TOO_LARGE: &str = "it is too large";
+
+/// Whether a file is a TGA, which has no bytes that tell it, by its ending.
+pub fn is_targa(path: &Path) -> bool {
+    path.extension()
+        .map_or(false, |ending| ending.eq_ignore_ascii_case("tga"))
+}
+
+// By the first bytes.
+fn format(path: &Path, bytes: &[u8]) -> Option<ImageFormat> {
+    let begins: [(&[u8], ImageFormat); 6] = [
+        (&[0xff, 0xd8, 0xff], ImageFormat::Jpeg),
+        (b"GIF87a", ImageFormat::Gif),
+        (b"GIF89a", ImageFormat::Gif),
+        (b"BM", ImageFormat::Bmp),
+        (b"II\x2a\0", ImageFormat::Tiff),
+        (b"MM\0\x2a", ImageFormat::Tiff),
+    ];
+    let known = begins.iter().find(|(begin, _)| bytes.starts_with(begin));
+    if bytes.starts_with(b"RIFF") && bytes.get(8..12) == Some(b"WEBP") {
+        Some(ImageFormat::WebP)
+    } else {
+        let targa = Some(ImageFormat::Tga).filter(|_| is_targa(path));
+        known.map(|(_, format)| *format).or(targa)
+    }
+}
+
+// Whether a file says something of its colours by a profile.
+fn has_profile(format: ImageFormat, bytes: &[u8]) -> bool {
+    let mark: &[u8] = match format {
+        ImageFormat::Jpeg => b"ICC_PROFILE\0",
+        ImageFormat::WebP => b"ICCP",
+        _ => return false,
+    };
+    bytes.windows(mark.len()).any(|window| window == mark)
+}
 
 /// A picture and what its file says of colours, or why there is none.
-pub fn decoded(bytes: &[u8]) -> Result<(Picture, Colour), String> {
+pub fn decoded(path: &Path, bytes: &[u8]) -> Result<(Picture, Colour), String> {
     if bytes.starts_with(&PNG) {
         return Ok((from_png(bytes)?, Colour::of_png(bytes)));
     }
-    let (format, profile): (_, &[u8]) = if bytes.starts_with(&[0xff, 0xd8, 0xff]) {
-        (ImageFormat::Jpeg, b"ICC_PROFILE\0")
-    } else if bytes.starts_with(b"RIFF") && bytes.get(8..12) == Some(b"WEBP") {
-        (ImageFormat::WebP, b"ICCP")
-    } else {
-        return Err("not a PNG, JPEG or WebP".to_string());
+    let format = format(path, bytes).ok_or("not a PNG, JPEG, WebP, GIF, BMP, TIFF or TGA")?;
+    let colour = Colour::of_others(has_profile(format, bytes));
+    let first = Some(bytes)
+        .filter(|_| format == ImageFormat::WebP)
+        .and_then(webp::first);
+    let picture = match first {
+        None => by_library(format, bytes)?,
+        Some(first) => {
+            let frame = by_library(format, &first.file)?;
+            first
+                .put(&frame)
+                .ok_or("the file is damaged (its first frame lies outside)")?
+        }
     };
+    Ok((non_empty(picture)?, colour))
+}
+
+fn by_library(format: ImageFormat, bytes: &[u8]) -> Result<Picture, String> {
     let mut limits = image::io::Limits::default();
     limits.max_alloc = Some(GREATEST as u64);
     let mut reader = image::io::Reader::with_format(Cursor::new(bytes), format);
@@ -31,14 +80,12 @@ pub fn decoded(bytes: &[u8]) -> Result<(Picture, Colour), String> {
         ImageError::Limits(_) => TOO_LARGE.to_string(),
         error => one_line(&error.to_string()),
     })?;
-    let has_profile = bytes.windows(profile.len()).any(|window| window == profile);
     let rgba = pixels.into_rgba8();
-    let picture = Picture {
+    Ok(Picture {
         width: rgba.width(),
         height: rgba.height(),
         pixels: rgba.pixels().map(|pixel| pixel.0).collect(),
-    };
-    Ok((non_empty(picture)?, Colour::of_others(has_profile)))
+    })
 }
 
 fn one_line(text: &str) -> String {
@@ -60,7 +107,7 @@ fn non_empty(picture: Picture) -> Result<Picture, String> {
 fn from_png(bytes: &[u8]) -> Result<Picture, String> {
     let limits = png::Limits { bytes: GREATEST };
     let mut decoder = png::Decoder::new_with_limits(bytes, limits);
-    decoder.set_transformations(png::Transformations::normalize_to_color8());
+    decoder.set_transformations(png::Transformations::EXPAND);
     let told = |error: png::DecodingError| match error {
         png::DecodingError::Format(_) | png::DecodingError::IoError(_) => damaged(&error),
         png::DecodingError::LimitsExceeded => TOO_LARGE.to_string(),
@@ -70,14 +117,32 @@ fn from_png(bytes: &[u8]) -> Result<Picture, String> {
     if reader.output_buffer_size() > GREATEST {
         return Err(TOO_LARGE.to_string());
     }
-    let mut buffer = vec![0; reader.output_buffer_size()];
+    let mut buffer = Vec::new();
+    let no_memory = |_| NO_MEMORY.to_string();
+    buffer
+        .try_reserve_exact(reader.output_buffer_size())
+        .map_err(no_memory)?;
+    buffer.resize(reader.output_buffer_size(), 0);
     let info = reader.next_frame(&mut buffer).map_err(told)?;
-    let samples = &buffer[..info.buffer_size()];
+    buffer.truncate(info.buffer_size());
+    if info.bit_depth == png::BitDepth::Sixteen {
+        buffer = eight_bits(&buffer);
+    }
     non_empty(Picture {
         width: info.width,
         height: info.height,
-        pixels: pixels(samples, info.color_type)?,
+        pixels: pixels(&buffer, info.color_type)?,
     })
+}
+
+// Samples of sixteen bits, rounded.
+fn eight_bits(samples: &[u8]) -> Vec<u8> {
+    let rounded =
+        |two: &[u8]| (u32::from(u16::from_be_bytes([two[0], two[1]])) * 255 + 32767) / 65535;
+    samples
+        .chunks_exact(2)
+        .map(|two| rounded(two) as u8)
+        .collect()
 }
 
 fn pixels(samples: &[u8], kind: png::ColorType) -> Result<Vec<Pixel>, String> {

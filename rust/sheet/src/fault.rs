@@ -11,6 +11,9 @@ pub const ROOM: u8 = 3;
 /// A sheet was written, and not all pictures are in it.
 pub const LEFT_OUT: u8 = 4;
 
+/// The files aren't as they would be written.
+pub const STALE: u8 = 5;
+
 /// What is told on standard error, a line each, and the program's status.
 #[derive(Debug)]
 pub struct Fault {

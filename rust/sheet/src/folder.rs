@@ -1,81 +1,223 @@
-//! The pictures of a folder.
-use crate::colour::Colour;
-use crate::decode::decoded;
+//! The pictures of a folder: which files they are, and what is left out of them.
 use crate::fault::{Fault, FILES};
-use crate::picture::Picture;
-use std::panic;
+use crate::nine;
+use globset::{Glob, GlobBuilder, GlobSet, GlobSetBuilder};
 use std::path::{Path, PathBuf};
-use std::thread;
 use walkdir::{DirEntry, WalkDir};
 
-const ENDINGS: [&str; 4] = ["png", "jpg", "jpeg", "webp"];
+/// Of pictures that are read.
+pub const ENDINGS: [&str; 9] = [
+    "png", "jpg", "jpeg", "webp", "gif", "bmp", "tga", "tif", "tiff",
+];
+// Of pictures that aren't read.
+const OTHERS: [&str; 26] = [
+    "svg", "psd", "psb", "ico", "avif", "exr", "hdr", "qoi", "aseprite", "ase", "dds", "ktx",
+    "ktx2", "pnm", "ppm", "pgm", "pbm", "pam", "heic", "heif", "jxl", "jp2", "xcf", "kra", "pcx",
+    "apng",
+];
 
-/// A name, the pixels, and what the file says of colours.
-pub type Found = (String, Picture, Colour);
+/// A file by its name, which is its path in the folder with `/` between its parts.
+pub type Named = (String, PathBuf);
 
-/// Whether a file is read, by its ending.
-fn is_picture(path: &Path) -> bool {
+/// The files of the pictures, in the order of their names' bytes, and a line for each that is left out without being asked for.
+pub struct Listed {
+    pub files: Vec<Named>,
+    pub notes: Vec<String>,
+}
+
+/// Files and folders by patterns like those of a shell.
+pub struct Patterns {
+    names: GlobSet,
+    paths: GlobSet,
+}
+
+impl Patterns {
+    /// A pattern without `/` is that of a file's or a folder's own name, wherever it lies; another one that of its path in the folder.
+    pub fn new(patterns: &[String]) -> Result<Patterns, globset::Error> {
+        let (paths, names): (Vec<&String>, Vec<&String>) =
+            patterns.iter().partition(|pattern| pattern.contains('/'));
+        Ok(Patterns {
+            names: set(&names)?,
+            paths: set(&paths)?,
+        })
+    }
+
+    /// Whether one is like the path in the folder.
+    pub fn has(&self, inside: &Path) -> bool {
+        let name = inside.file_name().map(Path::new).unwrap_or(inside);
+        self.names.is_match(name) || self.paths.is_match(inside)
+    }
+}
+
+fn glob(pattern: &str) -> Result<Glob, globset::Error> {
+    GlobBuilder::new(pattern).literal_separator(true).build()
+}
+
+fn set(patterns: &[&String]) -> Result<GlobSet, globset::Error> {
+    let mut set = GlobSetBuilder::new();
+    for pattern in patterns {
+        set.add(glob(pattern)?);
+    }
+    set.build()
+}
+
+fn has_ending(path: &Path, endings: &[&str]) -> bool {
     let ending = path
         .extension()
         .and_then(|ending| ending.to_str())
         .map(str::to_ascii_lowercase);
-    ending.map_or(false, |ending| ENDINGS.contains(&ending.as_str()))
+    ending.map_or(false, |ending| endings.contains(&ending.as_str()))
 }
 
-fn is_shown(entry: &DirEntry) -> bool {
-    entry.depth() == 0 || !entry.file_name().to_string_lossy().starts_with('.')
+/// Whether a file is read, by its ending.
+pub fn is_picture(path: &Path) -> bool {
+    has_ending(path, &ENDINGS)
 }
 
-// What is told of a place that can't be walked: of a link to nowhere, nothing, but where a picture is meant.
-fn told(error: &walkdir::Error) -> Option<String> {
-    let is_meant = |path: &Path| is_picture(path) || path.is_dir();
-    let is_fault = error.loop_ancestor().is_some() || error.path().map_or(true, is_meant);
-    is_fault.then(|| error.to_string())
+fn is_hidden(entry: &DirEntry) -> bool {
+    entry.depth() > 0 && entry.file_name().to_string_lossy().starts_with('.')
 }
 
-/// The files of the pictures by name, in the order of the names' bytes.
-pub fn files(folder: &Path, drop_extension: bool) -> Result<Vec<(String, PathBuf)>, Fault> {
+// A folder for `target`, the one that the sheets are written to, can only be a link.
+fn is_target(entry: &DirEntry, target: &Path) -> bool {
+    entry.depth() > 0
+        && entry.file_type().is_dir()
+        && entry
+            .path()
+            .canonicalize()
+            .map_or(false, |path| path == target)
+}
+
+/// Walks a folder.
+struct Walk<'a> {
+    folder: &'a Path,
+    target: &'a Path,
+    excluded: &'a Patterns,
+    drop_extension: bool,
+    files: Vec<Named>,
+    notes: Vec<String>,
+    faults: Vec<String>,
+}
+
+impl Walk<'_> {
+    fn leave_out(&mut self, path: &Path, why: &str) {
+        self.notes
+            .push(format!("{}: {}; left out", path.display(), why));
+    }
+
+    /// Takes what was found, and says whether to go into it, if it is a folder.
+    fn take(&mut self, entry: &DirEntry) -> bool {
+        let path = entry.path();
+        if is_hidden(entry)
+            || self
+                .excluded
+                .has(path.strip_prefix(self.folder).unwrap_or(path))
+        {
+            return false;
+        }
+        if is_target(entry, self.target) {
+            self.leave_out(path, "it leads to the folder of the sheets");
+            return false;
+        }
+        if entry.file_type().is_dir() {
+            return true;
+        }
+        if has_ending(path, &OTHERS) {
+            self.leave_out(path, "pictures of this kind aren't read");
+        } else if is_picture(path) && !entry.file_type().is_file() {
+            self.leave_out(path, "it isn't a file");
+        } else if is_picture(path) {
+            match name_of(self.folder, path, self.drop_extension) {
+                Ok(name) => self.files.push((name, path.to_path_buf())),
+                Err(line) => self.faults.push(line),
+            }
+        }
+        true
+    }
+
+    /// Of a link to nowhere nothing is told, but where a picture is meant.
+    fn fail(&mut self, error: &walkdir::Error) {
+        let is_meant = |path: &Path| is_picture(path) || path.is_dir();
+        match error.path() {
+            Some(path) if error.loop_ancestor().is_some() => {
+                self.leave_out(path, "it leads to a folder that it lies in");
+            }
+            Some(path) if !is_meant(path) => {}
+            _ => self.faults.push(error.to_string()),
+        }
+    }
+
+    fn go(&mut self) {
+        let mut walk = WalkDir::new(self.folder).follow_links(true).into_iter();
+        while let Some(entry) = walk.next() {
+            match entry {
+                Ok(entry) => {
+                    if !self.take(&entry) && entry.file_type().is_dir() {
+                        walk.skip_current_dir();
+                    }
+                }
+                Err(error) => self.fail(&error),
+            }
+        }
+        self.files.sort();
+        for pair in self.files.windows(2).filter(|pair| pair[0].0 == pair[1].0) {
+            let (first, second) = (pair[0].1.display(), pair[1].1.display());
+            let what = "have the same name without their endings";
+            self.faults
+                .push(format!("{} and {} {}", first, second, what));
+        }
+        self.faults.sort();
+        self.notes.sort();
+    }
+}
+
+/// The files of the pictures. `target` is the folder that the sheets are written to.
+pub fn files(
+    folder: &Path,
+    target: &Path,
+    excluded: &Patterns,
+    drop_extension: bool,
+) -> Result<Listed, Fault> {
     if !folder.is_dir() {
         return Err(Fault::file(folder, "it isn't a folder"));
     }
-    let (mut found, mut lines) = (Vec::new(), Vec::new());
-    let walk = WalkDir::new(folder).follow_links(true).into_iter();
-    for entry in walk.filter_entry(is_shown) {
-        match entry {
-            Ok(entry) if entry.file_type().is_dir() || !is_picture(entry.path()) => {}
-            Ok(entry) => match name_of(folder, entry.path(), drop_extension) {
-                Ok(name) => found.push((name, entry.into_path())),
-                Err(line) => lines.push(line),
-            },
-            Err(error) => lines.extend(told(&error)),
-        }
+    let mut walk = Walk {
+        folder,
+        target,
+        excluded,
+        drop_extension,
+        files: Vec::new(),
+        notes: Vec::new(),
+        faults: Vec::new(),
+    };
+    walk.go();
+    if walk.files.is_empty() && walk.faults.is_empty() {
+        walk.notes.push(format!(
+            "{}: it contains no picture that is read",
+            folder.display()
+        ));
+        walk.faults.append(&mut walk.notes);
     }
-    found.sort();
-    for pair in found.windows(2).filter(|pair| pair[0].0 == pair[1].0) {
-        let (first, second) = (pair[0].1.display(), pair[1].1.display());
-        let what = "have the same name without their endings";
-        lines.push(format!("{} and {} {}", first, second, what));
-    }
-    if found.is_empty() && lines.is_empty() {
-        return Err(Fault::file(folder, "it contains no PNG, JPEG or WebP"));
-    }
-    if !lines.is_empty() {
-        lines.sort();
-        return Err(Fault {
-            status: FILES,
-            lines,
+    if walk.faults.is_empty() {
+        return Ok(Listed {
+            files: walk.files,
+            notes: walk.notes,
         });
     }
-    Ok(found)
+    Err(Fault {
+        status: FILES,
+        lines: walk.faults,
+    })
 }
 
-// The path in the folder, with `/` between its parts.
 fn name_of(folder: &Path, path: &Path, drop_extension: bool) -> Result<String, String> {
     let inside = path.strip_prefix(folder).unwrap_or(path);
-    let inside = if drop_extension {
-        inside.with_extension("")
-    } else {
-        inside.to_path_buf()
+    // A nine-patch loses its .9.
+    let inside = match (nine::is_nine(path), drop_extension) {
+        (true, true) => inside.with_extension("").with_extension(""),
+        (true, false) => inside.with_extension("").with_extension("png"),
+        (false, true) => inside.with_extension(""),
+        (false, false) => inside.to_path_buf(),
     };
     let parts: Option<Vec<&str>> = inside.iter().map(|part| part.to_str()).collect();
     match parts.map(|parts| parts.join("/")) {
@@ -84,52 +226,5 @@ fn name_of(folder: &Path, path: &Path, drop_extension: bool) -> Result<String, S
             Err(format!("{:?}: its name has a control character", path))
         }
         Some(name) => Ok(name),
-    }
-}
-
-// A reader of pictures that panics has met a file that it can't read.
-fn read(path: &Path) -> Result<(Picture, Colour), String> {
-    let told = |why: String| format!("{}: {}", path.display(), why);
-    let bytes = std::fs::read(path).map_err(|error| told(error.to_string()))?;
-    let panicked = |_| Err("it can't be read".to_string());
-    panic::catch_unwind(|| decoded(&bytes))
-        .unwrap_or_else(panicked)
-        .map_err(told)
-}
-
-/// All pictures, read by as many threads as the machine has processors. All that can't be read are named.
-pub fn pictures(folder: &Path, drop_extension: bool) -> Result<Vec<Found>, Fault> {
-    let files = files(folder, drop_extension)?;
-    let threads = thread::available_parallelism().map_or(1, usize::from);
-    let each = (files.len() + threads - 1) / threads;
-    let read_all =
-        |files: &[(String, PathBuf)]| files.iter().map(|(_, path)| read(path)).collect::<Vec<_>>();
-    let hook = panic::take_hook();
-    panic::set_hook(Box::new(|_| {}));
-    let results = thread::scope(|scope| {
-        let running: Vec<_> = files
-            .chunks(each)
-            .map(|files| scope.spawn(move || read_all(files)))
-            .collect();
-        let ended = running
-            .into_iter()
-            .map(|thread| thread.join().unwrap_or_default());
-        ended.flatten().collect::<Vec<_>>()
-    });
-    panic::set_hook(hook);
-    let (mut found, mut lines) = (Vec::new(), Vec::new());
-    for ((name, _), result) in files.into_iter().zip(results) {
-        match result {
-            Ok((picture, colour)) => found.push((name, picture, colour)),
-            Err(line) => lines.push(line),
-        }
-    }
-    if lines.is_empty() {
-        Ok(found)
-    } else {
-        Err(Fault {
-            status: FILES,
-            lines,
-        })
     }
 }

@@ -1,21 +1,38 @@
 //! Packs a folder of pictures into sheets that engines load.
+mod anchor;
+mod animation;
 mod colour;
 mod decode;
 mod fault;
 mod folder;
 mod forms;
+mod head;
+mod man;
+mod memory;
+mod nine;
 mod output;
 mod packing;
 mod picture;
+mod png_file;
+mod progress;
+mod reading;
+mod room;
 mod scale;
+mod search;
+mod set;
 mod sheet;
+mod stop;
 mod watch;
+mod webp;
 mod words;
 
 use colour::Settled;
-use fault::{Fault, LEFT_OUT, WORDS};
-use sheet::{Built, Sheet};
-use std::path::PathBuf;
+use fault::{Fault, FILES, LEFT_OUT, WORDS};
+use folder::{Named, Patterns};
+use progress::Progress;
+use set::Target;
+use sheet::{Built, Sprite};
+use std::path::{Path, PathBuf};
 use std::process::ExitCode;
 use std::thread;
 use words::Words;
@@ -66,7 +83,13 @@ fn lines(built: &Built) -> Vec<String> {
 }
 
 // The bytes of all pictures, each by a thread of its own.
-fn encoded(built: &[Built], chunks: &[colour::Chunk]) -> Result<Vec<forms::File>, Fault> {
+fn encoded(
+    built: &[Built],
+    chunks: &[colour::Chunk],
+    is_small: bool,
+) -> Result<Vec<forms::File>, Fault> {
+    let count = built.iter().map(|one| one.pictures.len()).sum();
+    let shown = Progress::counted("encoding", count);
     thread::scope(|scope| {
         let mut running = Vec::new();
         for (page, picture) in built
@@ -75,7 +98,7 @@ fn encoded(built: &[Built], chunks: &[colour::Chunk]) -> Result<Vec<forms::File>
         {
             running.push((
                 page.image.clone(),
-                scope.spawn(move || output::png(picture, chunks)),
+                scope.spawn(move || png_file::bytes(picture, chunks, is_small)),
             ));
         }
         let mut files = Vec::new();
@@ -83,8 +106,8 @@ fn encoded(built: &[Built], chunks: &[colour::Chunk]) -> Result<Vec<forms::File>
             let bytes = thread
                 .join()
                 .unwrap_or_else(|_| Err("it can't be written as a PNG".to_string()));
-            let bytes =
-                bytes.map_err(|why| Fault::new(fault::FILES, format!("{}: {}", name, why)))?;
+            let bytes = bytes.map_err(|why| set::unmade(&name, why))?;
+            shown.step();
             files.push((name, bytes));
         }
         Ok(files)
@@ -94,27 +117,114 @@ fn encoded(built: &[Built], chunks: &[colour::Chunk]) -> Result<Vec<forms::File>
 /// Reads the folder, packs, and writes.
 pub fn run(words: &Words) -> Result<Done, Fault> {
     check_folders(words)?;
-    let mut found = folder::pictures(&words.folder, words.drop_extension)?;
-    let names: Vec<&str> = found.iter().map(|one| one.0.as_str()).collect();
-    forms::check_names(words.form, words.stem(), &names)?;
-    let settled = if words.keep_numbers {
-        Settled::default()
+    let target = Target::new(words.target(), words.stem());
+    if words.check {
+        return run_alone(words, &target);
+    }
+    target.alone(|| run_alone(words, &target))
+}
+
+/// All that is read, and what is told of it.
+struct Read {
+    sprites: Vec<Sprite>,
+    settled: Settled,
+    notes: Vec<String>,
+    left_out: Vec<String>,
+}
+
+// Without the lines of nine-patches.
+fn sprite(
+    found: reading::Found,
+    path: &Path,
+    anchor: Option<anchor::Anchor>,
+) -> Result<Sprite, String> {
+    let (name, picture, _) = found;
+    let told = |why| format!("{}: {}", path.display(), why);
+    let (picture, nine) = if nine::is_nine(path) {
+        let (inner, nine) = nine::read(&picture).map_err(told)?;
+        (inner, Some(nine))
     } else {
-        colour::settle(&mut found)
+        (picture, None)
     };
-    let found: Vec<_> = found
-        .into_iter()
-        .map(|(name, picture, _)| (name, picture))
-        .collect();
+    Ok(Sprite {
+        name,
+        picture,
+        anchor,
+        nine,
+    })
+}
+
+fn sprites(
+    files: Vec<Named>,
+    words: &Words,
+    notes: &mut Vec<String>,
+) -> Result<(Vec<Sprite>, Settled), Fault> {
+    let anchors = anchor::anchors(&words.folder, &files, words.anchor, notes)?;
+    let paths: Vec<PathBuf> = files.iter().map(|(_, path)| path.clone()).collect();
+    if let Some(path) = paths.iter().find(|path| words.turn && nine::is_nine(path)) {
+        let line = format!(
+            "{}: --turn can't be used with a nine-patch: engines don't turn it",
+            path.display()
+        );
+        return Err(Fault::new(WORDS, line));
+    }
+    let mut found = reading::pictures(files)?;
+    let settled = if words.manage_colours {
+        colour::settle(&mut found)
+    } else {
+        Settled::default()
+    };
+    let (mut sprites, mut lines) = (Vec::new(), Vec::new());
+    for ((found, path), anchor) in found.into_iter().zip(&paths).zip(anchors) {
+        match sprite(found, path, anchor) {
+            Ok(sprite) => sprites.push(sprite),
+            Err(line) => lines.push(line),
+        }
+    }
+    if lines.is_empty() {
+        Ok((sprites, settled))
+    } else {
+        Err(Fault {
+            status: FILES,
+            lines,
+        })
+    }
+}
+
+fn read(words: &Words) -> Result<Read, Fault> {
+    room::check_size(words)?;
+    let refused = |error| Fault::new(WORDS, format!("--exclude: {}", error));
+    let excluded = Patterns::new(&words.exclude).map_err(refused)?;
+    let to = words.target();
+    let to = to.canonicalize().map_err(|error| Fault::file(&to, error))?;
+    let listed = folder::files(&words.folder, &to, &excluded, words.drop_extension)?;
+    let names: Vec<&str> = listed.files.iter().map(|one| one.0.as_str()).collect();
+    forms::check_names(words.form, words.stem(), &names)?;
+    let mut notes = listed.notes;
+    let (files, left_out) = reading::checked(listed.files, words)?;
+    let (sprites, settled) = sprites(files, words, &mut notes)?;
+    notes.extend(settled.notes.iter().cloned());
+    notes.extend(forms::lost(words.form, &sprites));
+    Ok(Read {
+        sprites,
+        settled,
+        notes,
+        left_out,
+    })
+}
+
+fn run_alone(words: &Words, target: &Target) -> Result<Done, Fault> {
+    let style = words.style()?;
+    let read = read(words)?;
     let mut done = Done {
         files: Vec::new(),
         lines: Vec::new(),
-        notes: settled.notes,
-        has_left_out: false,
+        notes: read.notes,
+        has_left_out: !read.left_out.is_empty(),
     };
     let mut all = Vec::new();
     for scale in &words.scale {
-        let built = sheet::built(&found, *scale, words)?;
+        let built = sheet::built(&read.sprites, *scale, words)?;
         let suffix = scale.suffix();
         done.has_left_out |= !built.left_out.is_empty();
         done.notes.extend(built.parted.iter().cloned());
@@ -122,18 +232,26 @@ pub fn run(words: &Words) -> Result<Done, Fault> {
             built
                 .left_out
                 .iter()
+                .chain(&read.left_out)
                 .map(|name| format!("left out of {}{}: {}", words.stem(), suffix, name)),
         );
+        done.notes.extend(forms::split(words.form, &built.sheet));
         done.lines.extend(lines(&built));
         all.push(built);
     }
-    let mut files = encoded(&all, &settled.chunks)?;
+    let mut files = encoded(&all, &read.settled.chunks, words.compress)?;
     for Built { sheet, .. } in &all {
-        files.extend(forms::files(words.form, sheet as &Sheet, words.page));
+        // The first file of several may name the others.
+        files.extend(forms::files(&style, sheet)?.into_iter().rev());
     }
-    let target = words.target();
-    output::write(&target, &files)?;
-    done.files = files.iter().map(|(name, _)| target.join(name)).collect();
+    if words.check {
+        target.check(&files)?;
+        done.lines.clear();
+        return Ok(done);
+    }
+    target.write(&files)?;
+    let folder = words.target();
+    done.files = files.iter().map(|(name, _)| folder.join(name)).collect();
     Ok(done)
 }
 
@@ -173,6 +291,7 @@ fn main() -> ExitCode {
         Ok(words) => words,
         Err(fault) => return ExitCode::from(tell_fault(&fault)),
     };
+    stop::listen();
     if words.watch {
         return ExitCode::from(told(&watch::watch(&words)));
     }

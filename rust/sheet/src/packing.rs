@@ -11,6 +11,8 @@ use guillotiere::Size;
 pub struct Pages {
     pub sizes: Vec<Size>,
     pub places: Vec<Option<Place>>,
+    /// So many sheets would take all sprites that fit one.
+    pub needed: usize,
 }
 
 /// How sprites are packed.
@@ -21,6 +23,8 @@ pub struct Ways {
     pub is_dense: bool,
     /// At most so many sheets.
     pub limit: usize,
+    /// How much farther from the border of a sheet a sprite lies than the padding says; below 0 it lies nearer.
+    pub inset: i32,
 }
 
 /// The greatest sheet that is allowed.
@@ -36,41 +40,159 @@ pub fn greatest(allowed: Allowed) -> Size {
     }
 }
 
+// Without what the inset takes of each side; none where nothing is left.
+fn inside(allowed: Allowed, inset: i32) -> Option<Allowed> {
+    let side = |side: i32| side - 2 * inset;
+    let least_one = |side: i32| Some(side).filter(|side| *side > 0);
+    Some(match allowed {
+        Allowed::One(size) => Allowed::One(Size::new(
+            least_one(side(size.width))?,
+            least_one(side(size.height))?,
+        )),
+        Allowed::Squares { least, greatest } => Allowed::Squares {
+            least: side(least).max(1),
+            greatest: least_one(side(greatest))?,
+        },
+        Allowed::Heights { width, greatest } => Allowed::Heights {
+            width: least_one(side(width))?,
+            greatest: least_one(side(greatest))?,
+        },
+        powers => powers,
+    })
+}
+
 /// Whether a sprite fits an empty sheet of the greatest size.
-pub fn fits(sprite: Size, options: &SheetOptions) -> bool {
+pub fn fits(sprite: Size, ways: &Ways) -> bool {
+    let room = match inside(Allowed::One(greatest(ways.options.allowed)), ways.inset) {
+        Some(room) => room,
+        None => return false,
+    };
     let alone = SheetOptions {
-        allowed: Allowed::One(greatest(options.allowed)),
+        allowed: room,
         effort: 0,
-        ..*options
+        ..ways.options
     };
     matches!(pack_pages(&[sprite], &alone), Ok(Some(_)))
+}
+
+// All sheets whose sides are powers of two, the smaller ones first, and of two with as many pixels the one that is nearer to a square.
+fn powers(greatest: i32) -> Vec<Size> {
+    let sides: Vec<i32> = (0..31)
+        .map(|power| 1 << power)
+        .filter(|side| *side <= greatest)
+        .collect();
+    let mut sizes: Vec<Size> = sides
+        .iter()
+        .flat_map(|width| sides.iter().map(move |height| Size::new(*width, *height)))
+        .collect();
+    sizes.sort_by_key(|size| (area(size), size.width.max(size.height), size.height));
+    sizes
+}
+
+// The ways inside of the inset; none where nothing is left.
+fn ways_inside(ways: &Ways, allowed: Allowed, limit: usize) -> Option<Ways> {
+    let options = SheetOptions {
+        allowed: inside(allowed, ways.inset)?,
+        ..ways.options
+    };
+    Some(Ways {
+        options,
+        limit,
+        ..*ways
+    })
+}
+
+// With an inset each power of two is tried as a size of its own, and of several sheets each has the greatest.
+fn powers_inset(
+    sprites: &[Size],
+    groups: &[Option<usize>],
+    ways: &Ways,
+    mut told: impl FnMut(Size),
+) -> Result<Option<Pages>, SheetError> {
+    let room = greatest(ways.options.allowed);
+    for size in powers(room.width) {
+        if let Some(one) = ways_inside(ways, Allowed::One(size), 1) {
+            if let Some(sheet) = one_sheet(sprites, &one, |_| told(size))? {
+                return Ok(Some(of_one(sheet)));
+            }
+        }
+    }
+    let several = ways_inside(ways, Allowed::One(room), ways.limit);
+    several
+        .map(|several| pages(sprites, groups, &several, |_| {}))
+        .transpose()
+}
+
+/// As `pages`, with the inset.
+pub fn pages_inset(
+    sprites: &[Size],
+    groups: &[Option<usize>],
+    ways: &Ways,
+    mut told: impl FnMut(Size),
+) -> Result<Pages, SheetError> {
+    let outside = |size: Size| Size::new(size.width + 2 * ways.inset, size.height + 2 * ways.inset);
+    let allowed = ways.options.allowed;
+    let found = if matches!(allowed, Allowed::Powers { .. }) && ways.inset != 0 {
+        powers_inset(sprites, groups, ways, told)?
+    } else {
+        let inside = ways_inside(ways, allowed, ways.limit);
+        let told = |size| told(outside(size));
+        inside
+            .map(|inside| pages(sprites, groups, &inside, told))
+            .transpose()?
+    };
+    let mut found = found.unwrap_or_else(|| Pages::none(sprites.len()));
+    found.sizes = found.sizes.into_iter().map(outside).collect();
+    for place in found.places.iter_mut().flatten() {
+        let area = &mut place.placed.area;
+        for corner in [&mut area.min, &mut area.max] {
+            corner.x += ways.inset;
+            corner.y += ways.inset;
+        }
+    }
+    Ok(found)
+}
+
+fn of_one(sheet: Sheet) -> Pages {
+    let place = |placed| Some(Place { page: 0, placed });
+    Pages {
+        sizes: vec![sheet.size],
+        places: sheet.places.into_iter().map(place).collect(),
+        needed: 1,
+    }
+}
+
+impl Pages {
+    /// No place for any.
+    pub fn none(count: usize) -> Pages {
+        Pages {
+            sizes: Vec::new(),
+            places: vec![None; count],
+            needed: 0,
+        }
+    }
 }
 
 /// All sprites in the smallest sheet that takes them, or one sheet of the greatest size after the other, the last as small as is
 /// found, and of these the first `limit`. A sprite that fits no empty sheet, or lies on a later one, has no place. `groups` has
 /// the number of each sprite's group, if it is in one: those of a group lie on one sheet, where one of the greatest size takes
-/// them all. `told` is called with the size of each sheet that takes all sprites, as soon as it is found.
-pub fn pages(
+/// them all. The inset isn't looked at. `told` is called with the size of each sheet that takes all sprites, as soon as it is found.
+fn pages(
     sprites: &[Size],
     groups: &[Option<usize>],
     ways: &Ways,
     told: impl FnMut(Size),
 ) -> Result<Pages, SheetError> {
-    let mut found = Pages {
-        sizes: Vec::new(),
-        places: vec![None; sprites.len()],
-    };
+    let mut found = Pages::none(sprites.len());
     if sprites.is_empty() || ways.limit == 0 {
         return Ok(found);
     }
     if let Some(sheet) = one_sheet(sprites, ways, told)? {
-        found.sizes.push(sheet.size);
-        let place = |placed| Some(Place { page: 0, placed });
-        found.places = sheet.places.into_iter().map(place).collect();
-        return Ok(found);
+        return Ok(of_one(sheet));
     }
+    let alone = Ways { inset: 0, ..*ways };
     let numbers: Vec<usize> = (0..sprites.len())
-        .filter(|number| fits(sprites[*number], &ways.options))
+        .filter(|number| fits(sprites[*number], &alone))
         .collect();
     let fitting: Vec<Size> = numbers.iter().map(|number| sprites[*number]).collect();
     let theirs: Vec<Option<usize>> = numbers.iter().map(|number| groups[*number]).collect();
@@ -79,6 +201,7 @@ pub fn pages(
             end_densely(&fitting, &ways.options, &mut packed)?;
         }
         found.sizes = packed.sizes;
+        found.needed = found.sizes.len();
         found.sizes.truncate(ways.limit);
         for (number, place) in numbers.iter().zip(packed.places) {
             found.places[*number] = Some(place).filter(|place| place.page < ways.limit);
@@ -205,6 +328,7 @@ mod tests {
             options: options(),
             is_dense: false,
             limit,
+            inset: 0,
         };
         pages(sprites, &vec![None; sprites.len()], &ways, |_| {}).unwrap()
     }
@@ -214,6 +338,7 @@ mod tests {
             options: SheetOptions::new(Allowed::Squares { least: 1, greatest }),
             is_dense: true,
             limit,
+            inset: 0,
         };
         let mut sizes = Vec::new();
         let none = vec![None; sprites.len()];
@@ -235,8 +360,16 @@ mod tests {
             }),
             size2(3, 9)
         );
-        assert!(fits(size2(62, 62), &options()));
-        assert!(!fits(size2(63, 1), &options()));
+        let ways = |inset| Ways {
+            options: options(),
+            is_dense: false,
+            limit: 1,
+            inset,
+        };
+        for (inset, side) in [(0, 62), (-1, 64), (2, 58), (31, 0)] {
+            assert!(side == 0 || fits(size2(side, side), &ways(inset)));
+            assert!(!fits(size2(side + 1, 1), &ways(inset)));
+        }
     }
 
     #[test]
@@ -261,6 +394,7 @@ mod tests {
             }),
             is_dense,
             limit: 3,
+            inset: 0,
         };
         let found = pages(sprites, groups, &ways, |_| {}).unwrap();
         let sheet = |place: &Option<Place>| place.map_or(9, |place| place.page);
@@ -288,6 +422,7 @@ mod tests {
             options: options(),
             is_dense: false,
             limit: 3,
+            inset: 0,
         };
         let mut sizes = Vec::new();
         let alone = pages(&[size2(14, 14)], &[None], &ways, |size| sizes.push(size)).unwrap();

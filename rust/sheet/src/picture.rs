@@ -1,5 +1,6 @@
 //! Pixels, and what is done with them.
 use crate::scale::Scale;
+use std::collections::TryReserveError;
 use std::hash::{Hash, Hasher};
 
 /// A pixel: red, green, blue and alpha.
@@ -44,13 +45,17 @@ impl Hash for Picture {
 }
 
 impl Picture {
-    /// Transparent black.
-    pub fn empty(width: u32, height: u32) -> Picture {
-        Picture {
+    /// Transparent black, if there is memory for it.
+    pub fn empty(width: u32, height: u32) -> Result<Picture, TryReserveError> {
+        let count = width as usize * height as usize;
+        let mut pixels = Vec::new();
+        pixels.try_reserve_exact(count)?;
+        pixels.resize(count, [0; 4]);
+        Ok(Picture {
             width,
             height,
-            pixels: vec![[0; 4]; width as usize * height as usize],
-        }
+            pixels,
+        })
     }
 
     pub fn at(&self, x: u32, y: u32) -> Pixel {
@@ -117,7 +122,8 @@ impl Picture {
 
     /// Each pixel the mean of those that it covers, weighted by how much of each and by alpha.
     pub fn scaled(&self, scale: Scale) -> Picture {
-        let (width, height) = (scale.of(self.width), scale.of(self.height));
+        let side = |pixels: u32| scale.of(pixels.into()) as u32;
+        let (width, height) = (side(self.width), side(self.height));
         let columns = Covered::all(self.width, width);
         let rows = Covered::all(self.height, height);
         let mut pixels = Vec::with_capacity(width as usize * height as usize);
@@ -173,6 +179,47 @@ impl Picture {
                 };
             }
         }
+    }
+
+    /// Gives transparent pixels the mean colour of those around them that have one, weighted by alpha, so many pixels far.
+    pub fn bleed(&mut self, far: u32) {
+        let mut has_colour: Vec<bool> = self.pixels.iter().map(|pixel| pixel[3] != 0).collect();
+        for _ in 0..far {
+            let filled = self.ring(&has_colour);
+            for (place, colour) in filled {
+                self.pixels[place][..3].copy_from_slice(&colour);
+                has_colour[place] = true;
+            }
+        }
+    }
+
+    // The colours of the pixels that have none and touch one that has.
+    fn ring(&self, has_colour: &[bool]) -> Vec<(usize, [u8; 3])> {
+        let width = self.width as usize;
+        let mut filled = Vec::new();
+        for (y, row) in has_colour.chunks_exact(width).enumerate() {
+            for (x, _) in row.iter().enumerate().filter(|(_, has)| !**has) {
+                let (mut sums, mut weights) = ([0u64; 3], 0u64);
+                for v in y.saturating_sub(1)..(y + 2).min(self.height as usize) {
+                    for u in x.saturating_sub(1)..(x + 2).min(width) {
+                        let place = v * width + u;
+                        if has_colour[place] {
+                            let pixel = self.pixels[place];
+                            // Those that got their colour in an earlier ring have no alpha.
+                            let weight = u64::from(pixel[3].max(1));
+                            weights += weight;
+                            for (sum, colour) in sums.iter_mut().zip(pixel) {
+                                *sum += weight * u64::from(colour);
+                            }
+                        }
+                    }
+                }
+                if weights > 0 {
+                    filled.push((y * width + x, sums.map(|sum| rounded(sum, weights))));
+                }
+            }
+        }
+        filled
     }
 
     /// Red, green and blue multiplied by alpha.
@@ -242,16 +289,16 @@ mod tests {
     #[test]
     fn draws_turned_and_extruded() {
         let sprite = picture(3, &[1, 2, 3, 4, 5, 6]);
-        let mut upright = Picture::empty(3, 2);
+        let mut upright = Picture::empty(3, 2).unwrap();
         upright.draw(&sprite, 0, 0, Lie::Upright, 0);
         assert_eq!(upright, sprite);
-        let mut clockwise = Picture::empty(2, 3);
+        let mut clockwise = Picture::empty(2, 3).unwrap();
         clockwise.draw(&sprite, 0, 0, Lie::Clockwise, 0);
         assert_eq!(values(&clockwise), [4, 1, 5, 2, 6, 3]);
-        let mut counter = Picture::empty(2, 3);
+        let mut counter = Picture::empty(2, 3).unwrap();
         counter.draw(&sprite, 0, 0, Lie::CounterClockwise, 0);
         assert_eq!(values(&counter), [3, 6, 2, 5, 1, 4]);
-        let mut extruded = Picture::empty(5, 4);
+        let mut extruded = Picture::empty(5, 4).unwrap();
         extruded.draw(&sprite, 1, 1, Lie::Upright, 1);
         let rows: [u8; 20] = [1, 1, 2, 3, 3, 1, 1, 2, 3, 3, 4, 4, 5, 6, 6, 4, 4, 5, 6, 6];
         assert_eq!(values(&extruded), rows);
@@ -272,6 +319,24 @@ mod tests {
     }
 
     #[test]
+    fn bleeds() {
+        let (red, blue, none) = ([200, 0, 0, 255], [0, 0, 100, 85], [9, 9, 9, 0]);
+        let mut one = Picture {
+            width: 5,
+            height: 1,
+            pixels: vec![red, none, blue, none, none],
+        };
+        one.bleed(1);
+        // Between both three parts of four are red.
+        assert_eq!(
+            one.pixels,
+            [red, [150, 0, 25, 0], blue, [0, 0, 100, 0], none]
+        );
+        one.bleed(2);
+        assert_eq!(one.pixels[4], [0, 0, 100, 0]);
+    }
+
+    #[test]
     fn premultiplies() {
         let mut one = Picture {
             width: 3,
@@ -287,7 +352,7 @@ mod tests {
 
     #[test]
     fn finds_what_is_visible() {
-        let mut one = Picture::empty(5, 4);
+        let mut one = Picture::empty(5, 4).unwrap();
         let first = Part {
             left: 0,
             top: 0,

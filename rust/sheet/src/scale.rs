@@ -19,8 +19,8 @@ impl Scale {
     }
 
     /// A side of a picture, rounded up.
-    pub fn of(self, side: u32) -> u32 {
-        ((u64::from(side) * self.ten_thousandths + 9_999) / 10_000) as u32
+    pub fn of(self, side: u64) -> u64 {
+        (side * self.ten_thousandths + 9_999) / 10_000
     }
 
     /// What follows the name of the sheet.

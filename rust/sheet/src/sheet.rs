@@ -1,13 +1,20 @@
 //! From pictures to sheets.
-use crate::fault::{Fault, ROOM};
+use crate::anchor::Anchor;
+use crate::animation::{animations, Animation};
+use crate::decode::NO_MEMORY;
+use crate::fault::{Fault, FILES, ROOM};
 use crate::forms;
+use crate::nine::Nine;
 use crate::output::note;
-use crate::packing::{fits, greatest, pages, Pages, Place, Ways};
+use crate::packing::{fits, greatest, Pages, Place};
 use crate::picture::{Lie, Part, Picture};
+use crate::progress::Progress;
+use crate::room::{check_memory, size, too_large};
 use crate::scale::Scale;
+use crate::search;
 use crate::words::Words;
-use guillotiere::sheet::{SheetError, SheetOptions};
-use guillotiere::{size2, Size};
+use guillotiere::sheet::SheetError;
+use guillotiere::Size;
 use std::collections::{BTreeMap, BTreeSet, HashMap};
 
 /// A sprite in a sheet. Sides and corners are in pixels.
@@ -22,6 +29,8 @@ pub struct Frame {
     pub kept: Part,
     /// The size of its picture.
     pub whole: (u32, u32),
+    pub anchor: Option<Anchor>,
+    pub nine: Option<Nine>,
 }
 
 impl Frame {
@@ -45,7 +54,7 @@ pub struct Page {
     pub image: String,
     pub width: u32,
     pub height: u32,
-    /// In the order of the names.
+    /// In the order of the names; those of an animation together, in the order of their numbers.
     pub frames: Vec<Frame>,
 }
 
@@ -57,6 +66,29 @@ pub struct Sheet {
     pub scale: Scale,
     pub is_premultiplied: bool,
     pub pages: Vec<Page>,
+    pub animations: Vec<Animation>,
+    /// Of the animations: so many pictures a second.
+    pub frame_rate: f64,
+}
+
+impl Sheet {
+    /// Of each frame of an animation: which one, and its number.
+    pub fn animated(&self) -> HashMap<&str, (&Animation, u64)> {
+        let mut animated = HashMap::new();
+        for one in &self.animations {
+            let frames = one.frames.iter();
+            animated.extend(frames.map(|(number, name)| (name.as_str(), (one, *number))));
+        }
+        animated
+    }
+}
+
+/// A picture that becomes a sprite.
+pub struct Sprite {
+    pub name: String,
+    pub picture: Picture,
+    pub anchor: Option<Anchor>,
+    pub nine: Option<Nine>,
 }
 
 /// All sheets of one scale, their pictures, the names that are left out, and a line for each folder that should lie on one sheet
@@ -92,13 +124,13 @@ fn folder_of(name: &str) -> Option<&str> {
 }
 
 // The number of the folder in which each picture lies, where those of a folder keep together; none of those in FOLDER itself.
-fn groups(found: &[(String, Picture)], words: &Words) -> Vec<Option<usize>> {
+fn groups(found: &[Sprite], words: &Words) -> Vec<Option<usize>> {
     if !keeps_together(words) {
         return vec![None; found.len()];
     }
     let mut numbers: HashMap<&str, usize> = HashMap::new();
-    let number = found.iter().map(|(name, _)| {
-        let folder = folder_of(name)?;
+    let number = found.iter().map(|one| {
+        let folder = folder_of(&one.name)?;
         let next = numbers.len();
         Some(*numbers.entry(folder).or_insert(next))
     });
@@ -106,19 +138,19 @@ fn groups(found: &[(String, Picture)], words: &Words) -> Vec<Option<usize>> {
 }
 
 // What is kept of each picture, each different one of a group once.
-fn kept(found: &[(String, Picture)], scale: Scale, words: &Words) -> (Vec<Known>, Vec<Stored>) {
+fn kept(found: &[Sprite], scale: Scale, words: &Words) -> (Vec<Known>, Vec<Stored>) {
     let mut known = Vec::new();
     let mut numbers: HashMap<(Option<usize>, Picture), usize> = HashMap::new();
-    for ((_, picture), group) in found.iter().zip(groups(found, words)) {
+    for (one, group) in found.iter().zip(groups(found, words)) {
         let smaller;
         let picture = if scale.is_one() {
-            picture
+            &one.picture
         } else {
-            smaller = picture.scaled(scale);
+            smaller = one.picture.scaled(scale);
             &smaller
         };
         let whole = (picture.width, picture.height);
-        let kept = if words.trim {
+        let kept = if words.trim && one.nine.is_none() {
             picture.visible()
         } else {
             picture.whole()
@@ -140,31 +172,24 @@ fn kept(found: &[(String, Picture)], scale: Scale, words: &Words) -> (Vec<Known>
     (known, stored.into_iter().map(|(_, one)| one).collect())
 }
 
-fn size(picture: &Picture, extrude: u16) -> Size {
-    let side = |pixels: u32| (pixels + 2 * u32::from(extrude)) as i32;
-    size2(side(picture.width), side(picture.height))
-}
-
 // Names each picture that no sheet takes.
 fn check_sizes(
     names: &[&str],
     known: &[Known],
     sizes: &[Size],
-    options: &SheetOptions,
+    words: &Words,
 ) -> Result<(), Fault> {
-    let room = greatest(options.allowed);
-    let too_large = names
+    if words.leave_out {
+        return Ok(());
+    }
+    let ways = words.ways();
+    let all = names
         .iter()
         .zip(known)
-        .filter(|(_, one)| !fits(sizes[one.stored], options));
-    let lines: Vec<String> = too_large
-        .map(|(name, one)| {
-            let size = sizes[one.stored];
-            format!(
-                "{}: {}x{} with padding {} doesn't fit a sheet of {}x{}",
-                name, size.width, size.height, options.padding, room.width, room.height
-            )
-        })
+        .map(|(name, one)| (name, sizes[one.stored]));
+    let lines: Vec<String> = all
+        .filter(|(_, size)| !fits(*size, &ways))
+        .map(|(name, size)| too_large(name, size, words))
         .collect();
     if lines.is_empty() {
         Ok(())
@@ -191,49 +216,53 @@ fn packed(
     scale: Scale,
     words: &Words,
 ) -> Result<Pages, Fault> {
-    let options = words.options();
-    let size = |one: &Stored| size(&one.picture, words.extrude);
+    let sides = |picture: &Picture| (picture.width.into(), picture.height.into());
+    let size = |one: &Stored| size(sides(&one.picture), words.extrude);
     let sizes: Vec<Size> = stored.iter().map(size).collect();
     let groups: Vec<Option<usize>> = stored.iter().map(|one| one.group).collect();
-    check_sizes(names, known, &sizes, &options)?;
+    check_sizes(names, known, &sizes, words)?;
     let refused = |error: SheetError| Fault::new(ROOM, error.to_string());
+    let shown = Progress::open("packing");
     // With an effort it may take long.
     let progress = |size: Size| {
-        if words.effort > 0 {
-            note(&format!(
-                "{}{}: so far a sheet of {}x{} takes all pictures",
-                words.stem(),
-                scale.suffix(),
-                size.width,
-                size.height
-            ));
+        if words.effort > 0 || words.time.is_some() {
+            let (stem, suffix, width, height) =
+                (words.stem(), scale.suffix(), size.width, size.height);
+            shown.aside(|| {
+                note(&format!(
+                    "{}{}: so far a sheet of {}x{} takes all pictures",
+                    stem, suffix, width, height
+                ))
+            });
         }
     };
-    let ways = Ways {
-        options,
-        is_dense: words.dense,
-        limit: words.limit(),
-    };
-    let pages = pages(&sizes, &groups, &ways, progress).map_err(refused)?;
+    let pages =
+        search::found(&sizes, &groups, &words.ways(), words.limits(), progress).map_err(refused)?;
+    drop(shown);
     let is_homeless = |one: &Known| pages.places[one.stored].is_none();
     let homeless = names.iter().zip(known).filter(|(_, one)| is_homeless(one));
     let homeless: Vec<&str> = homeless.map(|(name, _)| *name).collect();
     if homeless.is_empty() || words.leave_out && !pages.sizes.is_empty() {
         return Ok(pages);
     }
-    Err(no_room(&homeless, greatest(options.allowed), words))
+    Err(no_room(&homeless, pages.needed, words))
 }
 
-fn no_room(homeless: &[&str], room: Size, words: &Words) -> Fault {
+fn no_room(homeless: &[&str], needed: usize, words: &Words) -> Fault {
+    let room = greatest(words.options().allowed);
     let sheets = match words.limit() {
         1 => "one sheet doesn't take".to_string(),
         count => format!("{} sheets don't take", count),
     };
-    let help = if keeps_together(words) {
-        "more --pages, a larger sheet, --leave-out, or no --group may help"
-    } else {
-        "more --pages, a larger sheet or --leave-out would help"
+    // With no sheet at all there was no room for the largest.
+    let enough = match needed {
+        0 => String::new(),
+        count if words.group && !keeps_together(words) => {
+            format!("--pages {} without --group, ", count)
+        }
+        count => format!("--pages {}, ", count),
     };
+    let help = format!("{}a larger sheet or --leave-out would do", enough);
     let line = format!(
         "{} all pictures, {}x{} at most: {} found no place; {}",
         sheets,
@@ -310,9 +339,17 @@ fn corner(place: &Place, words: &Words) -> (u32, u32) {
     (corner.x as u32 + extrude, corner.y as u32 + extrude)
 }
 
-fn drawn(pages: &[Page], stored: &[Stored], packed: &Pages, words: &Words) -> Vec<Picture> {
-    let empty = |page: &Page| Picture::empty(page.width, page.height);
-    let mut pictures: Vec<Picture> = pages.iter().map(empty).collect();
+fn drawn(
+    pages: &[Page],
+    stored: &[Stored],
+    packed: &Pages,
+    words: &Words,
+) -> Result<Vec<Picture>, Fault> {
+    let empty = |page: &Page| {
+        let no_memory = |_| Fault::new(FILES, format!("{}: {}", page.image, NO_MEMORY));
+        Picture::empty(page.width, page.height).map_err(no_memory)
+    };
+    let mut pictures: Vec<Picture> = pages.iter().map(empty).collect::<Result<_, _>>()?;
     for (one, place) in stored.iter().zip(&packed.places) {
         if let Some(place) = place {
             let lie = if place.placed.turned {
@@ -324,40 +361,82 @@ fn drawn(pages: &[Page], stored: &[Stored], packed: &Pages, words: &Words) -> Ve
             pictures[place.page].draw(&one.picture, x, y, lie, u32::from(words.extrude));
         }
     }
+    let far = words.bleed();
+    pictures
+        .iter_mut()
+        .filter(|_| far > 0)
+        .for_each(|picture| picture.bleed(far));
     if words.premultiply {
         pictures.iter_mut().for_each(Picture::premultiply);
     }
-    pictures
+    Ok(pictures)
+}
+
+// Brings the frames of each animation together, in its order.
+fn sort_frames(pages: &mut [Page], animations: &[Animation]) {
+    let mut keys: HashMap<&str, (String, u64)> = HashMap::new();
+    for one in animations {
+        for (number, name) in &one.frames {
+            keys.insert(name, (one.whole.clone(), *number));
+        }
+    }
+    for page in pages {
+        let key = |frame: &Frame| match keys.get(frame.name.as_str()) {
+            Some((name, number)) => (name.clone(), *number),
+            None => (frame.name.clone(), 0),
+        };
+        page.frames.sort_by_cached_key(key);
+    }
+}
+
+fn frame(one: &Sprite, known: &Known, place: &Place, scale: Scale, words: &Words) -> Frame {
+    let (x, y) = corner(place, words);
+    Frame {
+        name: one.name.clone(),
+        x,
+        y,
+        is_turned: place.placed.turned,
+        kept: known.kept,
+        whole: known.whole,
+        anchor: one.anchor,
+        nine: one.nine.map(|nine| nine.scaled(scale)),
+    }
 }
 
 /// The sheets of one scale.
-pub fn built(found: &[(String, Picture)], scale: Scale, words: &Words) -> Result<Built, Fault> {
-    let names: Vec<&str> = found.iter().map(|(name, _)| name.as_str()).collect();
+pub fn built(found: &[Sprite], scale: Scale, words: &Words) -> Result<Built, Fault> {
+    let names: Vec<&str> = found.iter().map(|one| one.name.as_str()).collect();
     let (known, stored) = kept(found, scale, words);
     let packed = packed(&names, &known, &stored, scale, words)?;
+    check_memory(found, &packed.sizes, words)?;
     let mut pages = empty_pages(&packed, scale, words);
     let mut left_out = Vec::new();
-    for (name, one) in names.iter().zip(&known) {
-        if let Some(place) = &packed.places[one.stored] {
-            let (x, y) = corner(place, words);
-            pages[place.page].frames.push(Frame {
-                name: name.to_string(),
-                x,
-                y,
-                is_turned: place.placed.turned,
-                kept: one.kept,
-                whole: one.whole,
-            });
-        } else {
-            left_out.push(name.to_string());
+    for (sprite, one) in found.iter().zip(&known) {
+        match &packed.places[one.stored] {
+            Some(place) => pages[place.page]
+                .frames
+                .push(frame(sprite, one, place, scale, words)),
+            None => left_out.push(sprite.name.clone()),
         }
     }
-    let pictures = drawn(&pages, &stored, &packed, words);
+    let pictures = drawn(&pages, &stored, &packed, words)?;
+    let placed: Vec<&str> = pages
+        .iter()
+        .flat_map(|page| page.frames.iter().map(|frame| frame.name.as_str()))
+        .collect();
+    let animations = if words.no_animations {
+        Vec::new()
+    } else {
+        animations(&placed, words.stem())
+    };
+    sort_frames(&mut pages, &animations);
     let sheet = Sheet {
         stem: format!("{}{}", words.stem(), scale.suffix()),
         scale,
         is_premultiplied: words.premultiply,
         pages,
+        animations,
+        frame_rate: words.frame_rate,
     };
     Ok(Built {
         sheet,

@@ -1,15 +1,20 @@
 //! Sheets that follow their folder.
+use crate::anchor;
 use crate::fault::{Fault, FILES};
+use crate::folder::{self, Patterns};
 use crate::words::Words;
 use crate::{run, told, Done};
 use notify::event::{AccessKind, AccessMode, EventKind};
-use notify::{Event, RecursiveMode, Watcher};
-use std::path::PathBuf;
-use std::sync::mpsc::{channel, Receiver};
-use std::time::Duration;
+use notify::{Event, RecommendedWatcher, RecursiveMode, Watcher};
+use same_file::Handle;
+use std::path::{Path, PathBuf};
+use std::sync::mpsc::{channel, Receiver, RecvTimeoutError};
+use std::time::{Duration, SystemTime};
 
 // So long nothing changes before the folder is read.
 const QUIET: Duration = Duration::from_millis(150);
+// So often it is seen whether another folder has the name.
+const EACH: Duration = Duration::from_millis(400);
 
 // Reading a file is told too, and changes nothing.
 fn is_change(event: &notify::Result<Event>) -> bool {
@@ -20,29 +25,94 @@ fn is_change(event: &notify::Result<Event>) -> bool {
     }
 }
 
-// Waits for a change, and then until there is none for a while.
-fn wait(events: &Receiver<notify::Result<Event>>) -> Result<(), Fault> {
-    let ended = |_| Fault::new(FILES, "the folder can't be watched any longer");
-    while !is_change(&events.recv().map_err(ended)?) {}
-    while let Ok(event) = events.recv_timeout(QUIET) {
-        event
-            .as_ref()
-            .map_err(|error| Fault::new(FILES, error.to_string()))?;
-    }
-    Ok(())
+/// A folder that is watched, and which one it is. There is none while no folder has the name.
+struct Watched {
+    folder: Option<(RecommendedWatcher, Handle)>,
+    events: Receiver<notify::Result<Event>>,
 }
 
-/// Writes the sheets, and anew after each change, until the program is ended. Files of an earlier time that aren't written
-/// any more are removed. A fault is told, and the last sheets stay.
+impl Watched {
+    fn new(path: &Path) -> Watched {
+        let (sender, events) = channel();
+        let watch = || {
+            let mut watcher = notify::recommended_watcher(sender).ok()?;
+            let handle = Handle::from_path(path).ok()?;
+            watcher.watch(path, RecursiveMode::Recursive).ok()?;
+            Some((watcher, handle))
+        };
+        Watched {
+            folder: watch(),
+            events,
+        }
+    }
+
+    // Whether this is still the folder of the name.
+    fn is_there(&self, path: &Path) -> bool {
+        match &self.folder {
+            Some((_, handle)) => Handle::from_path(path).map_or(false, |there| there == *handle),
+            None => !path.is_dir(),
+        }
+    }
+
+    /// Waits until something may have changed, and then until nothing does for a while; false where it is another folder.
+    fn wait(&self, path: &Path) -> bool {
+        loop {
+            match self.events.recv_timeout(EACH) {
+                Ok(event) if is_change(&event) => break,
+                Ok(_) => {}
+                Err(RecvTimeoutError::Timeout) if self.is_there(path) => {}
+                Err(RecvTimeoutError::Timeout) => return false,
+                // Nothing is watched.
+                Err(RecvTimeoutError::Disconnected) if self.is_there(path) => {
+                    std::thread::sleep(EACH)
+                }
+                Err(RecvTimeoutError::Disconnected) => return false,
+            }
+        }
+        while self.events.recv_timeout(QUIET).is_ok() {}
+        self.is_there(path)
+    }
+}
+
+// What a run reads: files, with their sizes and times, and what is told of the folder.
+type Seen = (Vec<(PathBuf, u64, Option<SystemTime>)>, Vec<String>);
+
+fn seen(words: &Words) -> Seen {
+    let excluded = Patterns::new(&words.exclude);
+    let target = words.target();
+    let target = target.canonicalize().unwrap_or(target);
+    let listed = excluded
+        .map(|excluded| folder::files(&words.folder, &target, &excluded, words.drop_extension));
+    let (mut paths, lines) = match listed {
+        Ok(Ok(listed)) => (
+            listed.files.into_iter().map(|(_, path)| path).collect(),
+            listed.notes,
+        ),
+        Ok(Err(fault)) => (Vec::new(), fault.lines),
+        Err(error) => (Vec::new(), vec![error.to_string()]),
+    };
+    paths.push(words.folder.join(anchor::FILE));
+    let one = |path: PathBuf| {
+        let file = path.metadata().ok();
+        let time = file.as_ref().and_then(|file| file.modified().ok());
+        (path, file.map_or(0, |file| file.len()), time)
+    };
+    (paths.into_iter().map(one).collect(), lines)
+}
+
+/// Writes the sheets, and anew after each change of what is read, until the program is ended. Files of an earlier time that aren't written
+/// any more are removed. A fault is told, and the last sheets stay; where the folder is removed, they follow the next one of its name.
 pub fn watch(words: &Words) -> Result<Done, Fault> {
-    let (sender, events) = channel();
-    let refused = |error: notify::Error| Fault::file(&words.folder, error);
-    let mut watcher = notify::recommended_watcher(sender).map_err(refused)?;
-    watcher
-        .watch(&words.folder, RecursiveMode::Recursive)
-        .map_err(refused)?;
+    let mut watched = Watched::new(&words.folder);
+    if watched.folder.is_none() {
+        return Err(Fault::new(
+            FILES,
+            format!("{}: it can't be watched", words.folder.display()),
+        ));
+    }
     let mut earlier: Vec<PathBuf> = Vec::new();
     loop {
+        let before = seen(words);
         let done = run(words);
         told(&done);
         if let Ok(done) = done {
@@ -51,6 +121,11 @@ pub fn watch(words: &Words) -> Result<Done, Fault> {
             }
             earlier = done.files;
         }
-        wait(&events)?;
+        // What changed while it ran was told, and what doesn't count changes nothing.
+        while seen(words) == before {
+            if !watched.wait(&words.folder) {
+                watched = Watched::new(&words.folder);
+            }
+        }
     }
 }

@@ -1,13 +1,20 @@
 //! The words of the command line.
+use crate::anchor::Anchor;
 use crate::fault::{Fault, WORDS};
-use crate::forms::Form;
+use crate::forms::{self, Filter, Form, Style, Template, Wrap};
+use crate::man;
+use crate::memory::Bytes;
 use crate::output::say;
+use crate::packing::Ways;
 use crate::scale::Scale;
+use crate::search::Limits;
 use clap::error::{ContextKind, ErrorKind};
-use clap::Parser;
+use clap::{ArgMatches, CommandFactory, FromArgMatches, Parser};
+use clap_complete::Shell;
 use guillotiere::sheet::{Allowed, SheetOptions};
 use guillotiere::size2;
 use std::path::PathBuf;
+use std::time::Duration;
 
 // Of a side of a sheet.
 const GREATEST: i32 = 65536;
@@ -15,31 +22,50 @@ const GREATEST: i32 = 65536;
 const USAGE: &str = "guillotiere-sheet [OPTIONS] FOLDER OUT";
 
 const AFTER: &str = "\
-Status: 0 written; 1 a file can't be read or written; 2 wrong usage; 3 the pictures don't fit; 4 written, and some are left out.";
+Example: guillotiere-sheet icons game/icons --trim --power-of-two
+
+Status: 0 written; 1 a file can't be read or written; 2 wrong usage; 3 the pictures don't fit; 4 written, and some are left out; \
+5 with --check, the files aren't up to date; 130 ended by Ctrl-C.";
 
 /// Packs the pictures of a folder into sheets that engines load.
 #[derive(Parser, Debug)]
 #[command(name = "guillotiere-sheet", version, override_usage = USAGE, after_help = AFTER)]
 pub struct Words {
-    /// The folder whose pictures (.png, .jpg, .jpeg, .webp), with those of its subfolders, are the sprites; a name is a path in it
+    /// The folder whose pictures (.png, .jpg, .jpeg, .webp, .gif, .bmp, .tif, .tiff, .tga), with those of its subfolders, are the sprites;
+    /// a name is a path in it
     pub folder: PathBuf,
     /// OUT.png is the sheet, with the data file of --form next to it; with --pages the sheets are OUT-0.png, OUT-1.png ..
     pub out: PathBuf,
     /// What is written next to the pictures
     #[arg(long, value_enum, default_value_t = Form::JsonHash)]
     pub form: Form,
+    /// Writes what a template of Tera says: FILE is NAME.ENDING.tera, or NAME.each.ENDING.tera for a file for each sheet
+    #[arg(long, value_name = "FILE", conflicts_with = "form")]
+    pub template: Option<PathBuf>,
+    /// With --form libgdx and libgdx-new: how the engine reads between pixels; nearest for pixel art
+    #[arg(long, value_enum, default_value_t = Filter::Linear)]
+    pub filter: Filter,
+    /// With --form libgdx and libgdx-new: in which directions the engine repeats the sheet
+    #[arg(long, value_enum, default_value_t = Wrap::None)]
+    pub wrap: Wrap,
     /// Leaves out the transparent borders of the pictures
     #[arg(long)]
     pub trim: bool,
     /// Repeats the outermost pixels of each sprite N times around it
     #[arg(long, value_name = "N", default_value_t = 0)]
     pub extrude: u16,
+    /// Gives transparent pixels up to N pixels around what is seen its colours, so that filters show no dark fringe; 1 with --trim, else 0
+    #[arg(long, value_name = "N")]
+    pub bleed: Option<u16>,
     /// Multiplies red, green and blue by alpha
     #[arg(long)]
     pub premultiply: bool,
-    /// Keeps all pixel values, whatever the files say about colours; the sheets say nothing about these
-    #[arg(long)]
+    /// Keeps all pixel values, whatever the files say about colours; the sheets say nothing about these. This is the default
+    #[arg(long, conflicts_with = "manage_colours")]
     pub keep_numbers: bool,
+    /// Where all files say the same about colours, the sheets say it too; else gAMA is applied, and each picture that changes is named
+    #[arg(long)]
+    pub manage_colours: bool,
     /// Also sheets of smaller pictures: 1,0.5 writes OUT and OUT@0.5x
     #[arg(long, value_name = "S,..", value_delimiter = ',', default_value = "1")]
     pub scale: Vec<Scale>,
@@ -55,9 +81,12 @@ pub struct Words {
     /// Sprites may lie turned by 90 degrees
     #[arg(long)]
     pub turn: bool,
-    /// At least N pixels between two sprites, and between a sprite and the border
+    /// At least N pixels between two sprites, and without --border between a sprite and the border
     #[arg(long, value_name = "N", default_value_t = 1)]
     pub padding: u16,
+    /// At least N pixels between a sprite and the border, where that isn't the padding
+    #[arg(long, value_name = "N", conflicts_with = "align")]
+    pub border: Option<u16>,
     /// Each side of a sheet is a power of two
     #[arg(long)]
     pub power_of_two: bool,
@@ -82,13 +111,38 @@ pub struct Words {
     /// Tries N changes of the order for a smaller sheet; where one sheet takes all, each smaller one is reported
     #[arg(long, value_name = "N", default_value_t = 0)]
     pub effort: u32,
+    /// Tries changes of the order for N seconds at most, divided between the scales; with --effort it ends where that does
+    #[arg(long, value_name = "N", value_parser = seconds)]
+    pub time: Option<Duration>,
+    /// Ctrl-C ends the tries of --effort or --time, and what was found is written
+    #[arg(long)]
+    pub keep_best: bool,
+    /// Makes the pictures of the sheets as small as it can; it takes longer
+    #[arg(long)]
+    pub compress: bool,
     /// Where the random changes begin
     #[arg(long, value_name = "N", default_value_t = 0)]
     pub seed: u64,
     /// Writes the sheets even where they don't take all pictures, and names those that are left out
     #[arg(long)]
     pub leave_out: bool,
-    /// Names without .png, .jpg, .jpeg or .webp
+    /// Leaves out files and folders whose name or path in FOLDER is like PATTERN, as '*_old.png' or 'raw/**'
+    #[arg(long, value_name = "PATTERN")]
+    pub exclude: Vec<String>,
+    /// The pictures and the sheets may take so many bytes, at four a pixel: a number, or one of K, M or G; half of the machine's memory
+    #[arg(long, value_name = "N")]
+    pub memory: Option<Bytes>,
+    /// The point of each picture that lies where the engine puts it, in parts of its width and height from the upper left corner,
+    /// as 0.5,1; FOLDER/anchors.txt can have lines PATTERN X Y for single pictures
+    #[arg(long, value_name = "X,Y", allow_hyphen_values = true)]
+    pub anchor: Option<Anchor>,
+    /// Pictures whose names end in numbers make no animations
+    #[arg(long)]
+    pub no_animations: bool,
+    /// How many pictures of an animation are shown in a second
+    #[arg(long, value_name = "N", default_value_t = 10.0, value_parser = frame_rate)]
+    pub frame_rate: f64,
+    /// Names without .png, .jpg and the like
     #[arg(long)]
     pub drop_extension: bool,
     /// With --form css: OUT.html too, which shows each sprite
@@ -97,6 +151,32 @@ pub struct Words {
     /// Keeps running, and writes the sheets again whenever the folder changes
     #[arg(long)]
     pub watch: bool,
+    /// Prints the manual page, for man(1)
+    #[arg(long, exclusive = true)]
+    pub man: bool,
+    /// Prints what a shell needs to complete the words
+    #[arg(long, value_name = "SHELL", value_enum, exclusive = true)]
+    pub completions: Option<Shell>,
+    /// Writes nothing, and says by its status whether the files are as they would be written
+    #[arg(long, conflicts_with = "watch")]
+    pub check: bool,
+}
+
+fn seconds(text: &str) -> Result<Duration, String> {
+    let seconds = text
+        .parse()
+        .ok()
+        .filter(|seconds| (0.0..=1e6).contains(seconds));
+    let seconds: f64 = seconds.ok_or("a time is a number of seconds up to 1000000")?;
+    Ok(Duration::from_secs_f64(seconds))
+}
+
+fn frame_rate(text: &str) -> Result<f64, String> {
+    let rate = text
+        .parse()
+        .ok()
+        .filter(|rate| (0.001..=1000.0).contains(rate));
+    rate.ok_or_else(|| "a frame rate is from 0.001 to 1000".to_string())
 }
 
 impl Words {
@@ -125,6 +205,35 @@ impl Words {
         }
     }
 
+    /// All that is asked of the packing.
+    pub fn ways(&self) -> Ways {
+        let border = self.border.unwrap_or(self.padding);
+        Ways {
+            options: self.options(),
+            is_dense: self.dense,
+            limit: self.limit(),
+            inset: i32::from(border) - i32::from(self.padding),
+        }
+    }
+
+    /// How far colours go into transparent pixels.
+    pub fn bleed(&self) -> u32 {
+        self.bleed.map_or(u32::from(self.trim), u32::from)
+    }
+
+    /// When the search ends.
+    pub fn limits(&self) -> Limits {
+        Limits {
+            time: self.time.map(|time| time / self.scale.len() as u32),
+            keeps_best: self.keep_best,
+        }
+    }
+
+    /// What pictures and sheets may take.
+    pub fn memory(&self) -> Bytes {
+        self.memory.unwrap_or_else(Bytes::usual)
+    }
+
     /// At most so many sheets.
     pub fn limit(&self) -> usize {
         self.pages.map_or(1, |pages| pages as usize)
@@ -149,6 +258,9 @@ impl Words {
 
     /// What no single word shows.
     fn check(&mut self) -> Result<(), Fault> {
+        if self.template.is_some() {
+            self.form = Form::Template;
+        }
         if let Some(name) = self.out.to_str().and_then(|out| out.strip_suffix(".png")) {
             self.out = PathBuf::from(name);
         }
@@ -163,10 +275,14 @@ impl Words {
             Some("OUT is the name of the sheet, without its ending")
         } else if self.stem().chars().any(char::is_control) {
             Some("OUT has a control character")
+        } else if self.keep_best && self.effort == 0 && self.time.is_none() {
+            Some("--keep-best needs --effort or --time")
         } else if self.page && self.form != Form::Css {
             Some("--page needs --form css")
-        } else if self.turn && self.form == Form::Godot {
-            Some("--turn can't be used with --form godot: its textures can't be turned")
+        } else if !self.has_filter() && (self.filter, self.wrap) != (Filter::Linear, Wrap::None) {
+            Some("--filter and --wrap need --form libgdx or libgdx-new")
+        } else if self.turn && forms::no_turn(self.form).is_some() {
+            forms::no_turn(self.form)
         } else {
             self.fault_of_sides()
         };
@@ -180,6 +296,22 @@ impl Words {
             }
         }
         Ok(())
+    }
+
+    fn has_filter(&self) -> bool {
+        matches!(self.form, Form::Libgdx | Form::LibgdxNew)
+    }
+
+    /// What is written next to the pictures.
+    pub fn style(&self) -> Result<Style, Fault> {
+        let template = self.template.as_deref().map(Template::read).transpose()?;
+        Ok(Style {
+            form: self.form,
+            template,
+            filter: self.filter,
+            wrap: self.wrap,
+            with_page: self.page,
+        })
     }
 
     fn fault_of_sides(&self) -> Option<&'static str> {
@@ -199,7 +331,7 @@ impl Words {
 
 /// The words, or what is told and how the program ends.
 pub fn words(given: impl IntoIterator<Item = std::ffi::OsString>) -> Result<Words, Fault> {
-    let mut words = Words::try_parse_from(given).map_err(|error| match error.kind() {
+    let refused = |error: clap::Error| match error.kind() {
         ErrorKind::DisplayHelp | ErrorKind::DisplayVersion => {
             let told = Fault {
                 status: 0,
@@ -211,9 +343,32 @@ pub fn words(given: impl IntoIterator<Item = std::ffi::OsString>) -> Result<Word
             Fault::new(WORDS, "FOLDER and OUT are required; see --help")
         }
         _ => Fault::new(WORDS, one_line(&error)),
-    })?;
+    };
+    let matches = Words::command()
+        .try_get_matches_from(given)
+        .map_err(refused)?;
+    if let Some(text) = printed(&matches) {
+        let told = Fault {
+            status: 0,
+            lines: Vec::new(),
+        };
+        return Err(say(&text).err().unwrap_or(told));
+    }
+    let mut words = Words::from_arg_matches(&matches).map_err(refused)?;
     words.check()?;
     Ok(words)
+}
+
+// What is asked for instead of sheets.
+fn printed(matches: &ArgMatches) -> Option<String> {
+    let mut command = Words::command();
+    if matches.get_flag("man") {
+        return Some(man::page(&command, USAGE, AFTER));
+    }
+    let shell = matches.get_one::<Shell>("completions")?;
+    let mut text = Vec::new();
+    clap_complete::generate(*shell, &mut command, "guillotiere-sheet", &mut text);
+    String::from_utf8(text).ok()
 }
 
 // The first paragraph of what the parser tells, and what it takes to be meant, as one line.

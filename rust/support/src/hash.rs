@@ -14,6 +14,7 @@ pub struct BuildHasherDefault<H> {
 
 impl<H> BuildHasherDefault<H> {
     /// The one that there is.
+    #[must_use]
     pub fn new() -> BuildHasherDefault<H> {
         BuildHasherDefault { of: PhantomData }
     }
@@ -69,6 +70,30 @@ pub struct FoldHasher {
 const SEED: u64 = 0x243f_6a88_85a3_08d3;
 const MULTIPLIER: u64 = 0x9e37_79b9_7f4a_7c15;
 
+/// The product with `MULTIPLIER`, its upper half of 64 bits joined to the lower one.
+#[cfg(target_pointer_width = "64")]
+#[inline]
+fn folded(word: u64) -> u64 {
+    let product = u128::from(word) * u128::from(MULTIPLIER);
+    (product as u64) ^ ((product >> 64) as u64)
+}
+
+#[cfg(not(target_pointer_width = "64"))]
+use folded_by_halves as folded;
+
+/// The same from products of 64 bits. Where pointers have 32 bits, as in WebAssembly, a product of 128 bits is a call that gives it
+/// through memory. The sums stay below 2^64.
+#[cfg(any(test, not(target_pointer_width = "64")))]
+#[inline]
+fn folded_by_halves(word: u64) -> u64 {
+    const HALF: u64 = 0xffff_ffff;
+    let (low, high) = (word & HALF, word >> 32);
+    let (by_low, by_high) = (MULTIPLIER & HALF, MULTIPLIER >> 32);
+    let first = high * by_low + ((low * by_low) >> 32);
+    let second = low * by_high + (first & HALF);
+    word.wrapping_mul(MULTIPLIER) ^ (high * by_high + (first >> 32) + (second >> 32))
+}
+
 impl Default for FoldHasher {
     #[inline]
     fn default() -> FoldHasher {
@@ -79,8 +104,7 @@ impl Default for FoldHasher {
 impl FoldHasher {
     #[inline]
     fn mix(&mut self, word: u64) {
-        let product = u128::from(self.state ^ word) * u128::from(MULTIPLIER);
-        self.state = (product as u64) ^ ((product >> 64) as u64);
+        self.state = folded(self.state ^ word);
     }
 }
 
@@ -123,5 +147,28 @@ impl Hasher for FoldHasher {
     #[inline]
     fn write_usize(&mut self, number: usize) {
         self.mix(number as u64);
+    }
+}
+
+#[cfg(test)]
+mod tests {
+    use super::{folded, folded_by_halves};
+
+    // Words and what they fold to, by Python's whole numbers of any length.
+    const ROWS: [(u64, u64); 7] = [
+        (0, 0),
+        (1, 0x9e37_79b9_7f4a_7c15),
+        (0x1_0000_0000, 0x7f4a_7c15_9e37_79b9),
+        (0xffff_ffff, 0xe113_025b_1e82_fa53),
+        (0xffff_ffff_ffff_ffff, 0xffff_ffff_ffff_ffff),
+        (0x243f_6a88_85a3_08d3, 0xe184_8576_4ba0_3644),
+        (0x8000_0000_0000_0001, 0x512c_c565_c0ef_421e),
+    ];
+
+    #[test]
+    fn folded_either_way() {
+        for (word, hash) in ROWS {
+            ::core::assert_eq!((folded(word), folded_by_halves(word)), (hash, hash));
+        }
     }
 }

@@ -1,5 +1,8 @@
 //! Devices: readers and writers, and those of the process.
 
+mod output;
+
+pub use output::Stdout;
 pub use rust_std::io::{Error, ErrorKind, Result};
 
 use crate::alloc::{AllocError, AllocFailed, Allocator};
@@ -149,27 +152,18 @@ impl Read for Stdin {
     }
 }
 
-macro_rules! writers {
-    ($($of:literal $name:ident;)*) => {$(
-        #[doc = $of]
-        #[derive(Debug)]
-        pub struct $name {
-            pub(crate) inner: io::$name,
-        }
-
-        impl Write for $name {
-            fn write(&mut self, bytes: &[u8]) -> Result<usize> {
-                io::Write::write(&mut self.inner, bytes)
-            }
-
-            fn flush(&mut self) -> Result<()> {
-                io::Write::flush(&mut self.inner)
-            }
-        }
-    )*};
+/// The standard error output. It has no buffer.
+#[derive(Debug)]
+pub struct Stderr {
+    pub(crate) inner: io::Stderr,
 }
 
-writers! {
-    "The standard output." Stdout;
-    "The standard error output." Stderr;
+impl Write for Stderr {
+    fn write(&mut self, bytes: &[u8]) -> Result<usize> {
+        io::Write::write(&mut self.inner, bytes)
+    }
+
+    fn flush(&mut self) -> Result<()> {
+        io::Write::flush(&mut self.inner)
+    }
 }

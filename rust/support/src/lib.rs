@@ -4,8 +4,8 @@
 //! The memory is the global allocator's. The allocator of a collection is asked before each block is taken and told
 //! when it was given back, so it can count, bound or refuse.
 //!
-//! Features, none on by default: `std` for devices, the process and `HostRuntime`; `raw` for boxes as raw pointers and
-//! for arrays by pointer and length, which is all the unsafe code there is.
+//! Features, none on by default: `std` for devices, the process and `HostRuntime`; `raw` for boxes as raw pointers,
+//! for arrays by pointer and length, and for the memory of a library for C, which is all the unsafe code there is.
 #![no_std]
 #![cfg_attr(not(feature = "raw"), forbid(unsafe_code))]
 #![warn(missing_docs)]
@@ -21,6 +21,8 @@ mod room;
 
 pub mod alloc;
 pub mod boxed;
+#[cfg(feature = "raw")]
+pub mod c_memory;
 pub mod collections;
 pub mod error;
 pub mod hash;

@@ -11,23 +11,25 @@ pub struct HostRuntime;
 
 impl HostRuntime {
     /// The global allocator.
+    #[must_use]
     pub fn alloc(&self) -> Global {
         Global
     }
 
     /// The standard input.
+    #[must_use]
     pub fn stdin(&self) -> Stdin {
         Stdin { inner: io::stdin() }
     }
 
     /// The standard output.
+    #[must_use]
     pub fn stdout(&self) -> Stdout {
-        Stdout {
-            inner: io::stdout(),
-        }
+        Stdout::new()
     }
 
     /// The standard error output.
+    #[must_use]
     pub fn stderr(&self) -> Stderr {
         Stderr {
             inner: io::stderr(),

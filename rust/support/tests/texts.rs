@@ -120,15 +120,21 @@ fn a_box_is_taken_apart_and_made_whole() {
 #[cfg(feature = "raw")]
 #[test]
 #[allow(unsafe_code)]
-fn an_array_of_nothing_may_have_no_place() {
-    use wollemigo_support::raw::{slice, slice_mut};
+fn arrays_and_values_by_pointers() {
+    use wollemigo_support::raw::{slice, slice_mut, spare};
     let mut numbers = [1, 2, 3];
     // Safety: the pointers are of the array, one at a time, and are read at no other length.
     unsafe {
-        assert_eq!(slice(numbers.as_ptr(), 2), [1, 2]);
-        slice_mut(numbers.as_mut_ptr(), 3)[2] = 4;
-        assert!(slice::<u64>(core::ptr::null(), 0).is_empty());
-        assert!(slice_mut::<u64>(core::ptr::null_mut(), 0).is_empty());
+        assert_eq!(slice(numbers.as_ptr(), 2), Some(&[1, 2][..]));
+        slice_mut(numbers.as_mut_ptr(), 3).unwrap()[2] = 4;
+        assert_eq!(slice::<u64>(core::ptr::null(), 0), Some(&[][..]));
+        assert_eq!(
+            slice_mut::<u64>(core::ptr::null_mut(), 0),
+            Some(&mut [][..])
+        );
+        assert_eq!(slice::<u64>(core::ptr::null(), 1), None);
+        assert_eq!(slice_mut::<u64>(core::ptr::null_mut(), 1), None);
+        assert_eq!(spare::<[u64; 2]>(), [0, 0]);
     }
     assert_eq!(numbers, [1, 2, 4]);
 }

@@ -24,5 +24,3 @@ mod simple;
 mod tool;
 #[cfg(test)]
 mod total;
-#[cfg(test)]
-mod uses;

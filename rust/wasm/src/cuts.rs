@@ -1,12 +1,11 @@
 //! The members of the tree of cuts (docs/SLOTS.md, "Slots of an atlas"). Written by hand, and not proved: it only reads.
 
-use crate::atlas_handle::AtlasHandle;
-use crate::plain::{DONE, EMPTY};
+use crate::atlas_handle::AtlasReader;
+use crate::plain::{DONE, EMPTY, NULL_POINTER};
 use wollemigo_core::atlas_allocator::store_of;
 use wollemigo_core::atlas_search::cut::Orientation;
 use wollemigo_core::atlas_store::slots::walks::slot_id;
 use wollemigo_core::atlas_store::slots::{Node, NodeKind};
-use wollemigo_support::alloc::Global;
 use wollemigo_support::raw::slice_mut;
 
 /// A member by its slot; links are numbers of slots, 4294967295 for none. The axis is that of the sequence it is in.
@@ -59,7 +58,7 @@ fn plain_member(number: usize, node: &Node) -> Option<PlainMember> {
 /// how many there are: as many as used slots. `DONE`.
 #[no_mangle]
 pub extern "C" fn guillotiere_atlas_members(
-    atlas: &mut AtlasHandle,
+    atlas: &AtlasReader,
     found: *mut PlainMember,
     found_len: usize,
     count: &mut usize,
@@ -67,10 +66,13 @@ pub extern "C" fn guillotiere_atlas_members(
     if !atlas.holds() {
         return EMPTY;
     }
-    let found = unsafe { slice_mut(found, found_len) };
-    let held = atlas.take(Global);
+    let found = match unsafe { slice_mut(found, found_len) } {
+        Some(found) => found,
+        None => return NULL_POINTER,
+    };
+    let held = atlas.lent();
     let mut many = 0;
-    for (number, slot) in store_of(&held).slots().iter().enumerate() {
+    for (number, slot) in store_of(held).slots().iter().enumerate() {
         if let Some(member) = plain_member(number, &slot.node) {
             if let Some(place) = found.get_mut(many) {
                 *place = member;
@@ -78,7 +80,6 @@ pub extern "C" fn guillotiere_atlas_members(
             many += 1;
         }
     }
-    atlas.put(held);
     *count = many;
     DONE
 }

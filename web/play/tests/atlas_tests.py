@@ -272,4 +272,93 @@ def test_begins_a_new_atlas(page):
     page.compare()
 
 
+
+def test_zooms(page):
+    """A large atlas is drawn larger, up to a pixel of the screen for each of its own; the view is scrolled, and points where it is."""
+    page.play(['atlas 4096 4096'] + ['alloc %d %d' % (40 + number % 90, 30 + number * 7 % 80) for number in range(600)])
+    sizes = """const view = document.getElementById('viewport'), base = document.getElementById('base');
+        return [base.width, view.scrollWidth > view.clientWidth + 10, view.scrollHeight > view.clientHeight + 10]"""
+    before = page.run(sizes)
+    assert not before[1]
+    page.run('const field = document.getElementById("zoom"); field.value = 6; field.dispatchEvent(new Event("input"))')
+    page.settle()
+    width, *scrolls = page.run(sizes)
+    assert width > 2 * before[0] and width <= 4096 and scrolls == [True, True], (before, width, scrolls)
+    live, _ = page.compare()
+    page.run('document.getElementById("viewport").scrollTo(0, 0)')
+    x0, y0, x1, y1 = live[3]
+    page.point((x0 + x1) // 2, (y0 + y1) // 2)
+    page.wait('document.getElementById("told").textContent.startsWith("Box 3")')
+    page.run('const field = document.getElementById("zoom"); field.value = 0; field.dispatchEvent(new Event("input"))')
+    page.settle()
+    assert page.run(sizes) == before
+    page.compare()
+
+
+# Keeps what is drawn in each frame: the boxes by their corners, and how many pixels of the screen the atlas's own take.
+RECORD = """const { drawing } = play.player, draw = drawing.drawBoxes;
+window.frames_ = [];
+drawing.drawBoxes = function (boxes, fill, hasLabel, isFramed) {
+  const all = [...boxes];
+  if (fill === this.colours.live) frames_.push({ across: this.across, boxes: all.map(({ x0, y0, x1, y1 }) => [x0, y0, x1, y1]) });
+  return draw.call(this, all, fill, hasLabel, isFramed);
+};"""
+
+
+def frames_of(page, name):
+    """What is drawn from a click until all stands still."""
+    page.run(RECORD)
+    page.click(name)
+    page.wait('!play.player.drawing.motion && !play.player.asked')
+    return page.run('return window.frames_')
+
+
+def test_rearranging_can_be_followed(page):
+    """The boxes go from where they were to where the tool says that they are, by places in between."""
+    page.run('for (let time = 0; time < 6; time += 1) document.getElementById("free").click()')
+    before = sorted(map(list, page.compare()[0].values()))
+    frames = frames_of(page, '#rearrange')
+    after = sorted(map(list, page.compare()[0].values()))
+    seen = [sorted(each['boxes']) for each in frames]
+    assert before != after and seen[0] == before and seen[-1] == after
+    assert any(each not in (before, after) for each in seen), len(seen)
+    sides = sorted((x1 - x0, y1 - y0) for x0, y0, x1, y1 in before)
+    assert all(sorted((round(x1 - x0), round(y1 - y0)) for x0, y0, x1, y1 in each) == sides for each in seen)
+
+
+def test_growing_can_be_followed(page):
+    """The atlas is drawn at scales between the one that it had and the one that it has, its boxes where they are."""
+    before = page.run('return play.player.drawing.across')
+    live = sorted(map(list, page.compare()[0].values()))
+    page.click('#grow')
+    page.wait('!play.player.drawing.motion && !play.player.asked')
+    middle = page.run('return play.player.drawing.across')
+    frames = frames_of(page, '#grow')
+    after = page.run('return play.player.drawing.across')
+    assert sorted(map(list, page.compare()[0].values())) == live and all(sorted(each['boxes']) == live for each in frames)
+    scales = [each['across'] for each in frames]
+    assert scales[0] == middle and scales[-1] == after < middle <= before and any(after < each < middle for each in scales)
+
+
+def test_no_motion_where_less_is_wanted(page):
+    page.run('window.matchMedia = (query) => ({ matches: query.includes("prefers-reduced-motion: reduce") })')
+    live = sorted(map(list, page.compare()[0].values()))
+    for name in ('#grow', '#rearrange'):
+        frames = frames_of(page, name)
+        after = sorted(map(list, page.tool.boxes(page.lines())[2].values()))
+        whole = [each for each in frames if each['boxes']]
+        # The layout may have it drawn once more, for the room that there is then.
+        assert whole and all(sorted(each['boxes']) == after for each in whole), name
+        assert len({each['across'] for each in whole}) <= 2, name
+    assert after != live
+
+
+def test_motion_ends_where_the_session_goes_on(page):
+    page.run('document.getElementById("rearrange").click(); document.getElementById("add").click()')
+    page.compare()
+    page.run('document.getElementById("rearrange").click()')
+    page.play(['atlas 100 80'] + ['alloc 9 9'] * 16 + ['size'])
+    page.compare()
+
+
 TESTS = [each for name, each in sorted(globals().items()) if name.startswith('test_')]

@@ -155,6 +155,28 @@ def test_text_is_drawn(page):
     assert ink > 1000
 
 
+def test_text_is_not_stretched(page):
+    """The canvas has a pixel for each of the screen's, as soon as its tab is opened, and where the window's width changes."""
+    sizes = '''const { width, height, clientWidth, clientHeight } = document.getElementById('cache-text');
+        return [width, height, Math.round(clientWidth * devicePixelRatio), Math.round(clientHeight * devicePixelRatio)]'''
+    page.click('#tab-cache')
+    for wide in (None, 700, 1280):
+        if wide:
+            page.browser.size(wide, 900)
+            time.sleep(0.4)
+        width, height, shown_width, shown_height = page.run(sizes)
+        assert width == shown_width > 300 and height == shown_height > 100, (wide, page.run(sizes))
+    test_text_is_drawn(page)
+
+
+def test_glyphs_are_as_sharp_as_the_screen(page):
+    """On a screen with more pixels the glyphs have more: the text's line is as many times higher."""
+    begin(page, sizes=1)
+    ratio = page.run('return devicePixelRatio')
+    heights = page.run('return [...play.cache.text.sizes]')
+    assert heights == [round(22 * ratio)], (ratio, heights)
+
+
 def test_stops_with_its_tab(page):
     begin(page)
     page.click('#cache-run')

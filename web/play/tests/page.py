@@ -1,6 +1,7 @@
 """The page in a browser, and what atlas_tool answers to the same lines."""
 import re
 import subprocess
+import urllib.request
 
 
 class Tool:
@@ -34,6 +35,10 @@ class Page:
         self.browser.open(self.address + fragment)
         self.wait('!!window.play')
         self.settle()
+
+    def sent(self):
+        """The page's HTML as it is sent."""
+        return urllib.request.urlopen(self.address).read().decode()
 
     def settle(self):
         self.wait('!play.player.asked && !play.isDue()')

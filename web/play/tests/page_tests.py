@@ -45,6 +45,33 @@ def test_tabs(page):
     page.compare()
 
 
+def test_tab_in_the_address(page):
+    """The address names the tab, and chooses it."""
+    for name in ['cache', 'sheet']:
+        page.open('#' + name)
+        assert page.run('return document.querySelector("[role=tab][aria-selected=true]").id') == 'tab-' + name
+        page.run('location.hash = "atlas"')
+        page.wait('!document.getElementById("panel-atlas").hidden')
+        page.click('#tab-' + name)
+        assert page.run('return location.hash') == '#' + name
+    page.click('#tab-atlas')
+    assert page.run('return location.hash') == ''
+
+
+def test_nothing_is_pressed_before_the_module_is_there(page):
+    """The page as it comes takes no clicks; once the module runs it does. Where it can't be loaded, that is said, and stays so."""
+    assert page.run('return document.querySelector("main").inert') is False
+    assert '<main inert' in page.sent()
+    missing = page.address.replace('/built/', '/nomodule/')
+    page.browser.open(missing)
+    page.wait('!document.getElementById("trouble").hidden')
+    assert 'could not be loaded' in page.trouble() and '404' in page.trouble()
+    assert page.run('return document.querySelector("main").inert')
+    page.open()
+    page.run('window.faults = []')
+    page.browser.told()
+
+
 def test_colours(page):
     """The switch turns page and canvas; it is kept; the colours are those of the pictures."""
     for name, live in [('dark', page.colours[1]), ('light', page.colours[0])]:
@@ -83,12 +110,12 @@ def test_names(page):
 
 
 def test_size(page):
-    """What the page loads: itself and the module, under 200 kB together."""
+    """What the page loads: itself and the module, under 230 kB together, and under 90 by gzip."""
     names = page.run('return performance.getEntriesByType("resource").map((each) => each.name)')
     names = [name for name in names if name.startswith('http')]
     plain, packed = page.measure([page.address] + names)
     assert [name.split('/')[-1] for name in names] == ['wollemigo.wasm'], names
-    assert plain < 200000 and packed < 75000, (plain, packed)
+    assert plain < 230000 and packed < 90000, (plain, packed)
     page.notes.append('%s loads two files: %d bytes, %d packed by gzip' % (page.browser.name, plain, packed))
 
 

@@ -5,7 +5,11 @@ def test_nothing_is_wider_than_the_screen(page):
     for name in ['cache', 'sheet', 'atlas']:
         page.click('#tab-' + name)
         if name == 'sheet':
-            page.click('#sheet-example')
+            page.browser.choose('#sheet-greatest', '128')
+            page.browser.choose('#sheet-pages', 'several')
+        if name == 'atlas':
+            page.click('#beside > summary')
+            page.click('#beside-measure')
         wide, screen = page.run('return [document.documentElement.scrollWidth, window.innerWidth]')
         assert wide <= screen, (name, wide, screen)
     page.compare()

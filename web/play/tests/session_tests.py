@@ -1,5 +1,8 @@
 """The session of the atlas as lines: pasted in, played, copied out, carried by a link."""
+import os
 import random
+import struct
+import time
 
 
 def drawn_lines(seed, count):
@@ -50,12 +53,48 @@ def test_shows_replies(page):
         'alloc 160 10: none', 'free 7: refused not live', 'grow 10 10: bad call']
 
 
+def test_goes_through_the_lines(page):
+    """The slider goes to each line, forth and back; what is seen and how full it is are the tool's after so many lines."""
+    lines = ['atlas 128 96', 'alloc 48 60', 'alloc 44 40', 'alloc 30 30', 'free 7', 'grow 160 128', 'alloc 50 50', 'rearrange', 'resize 70 70', 'live',
+             'clear', 'alloc 9 9']
+    page.play(lines)
+    shares = page.run('return play.player.session.chart')
+    for many in [12, 5, 1, 3, 8, 9, 11, 12, 2]:
+        page.run('const field = document.getElementById("line"); field.value = arguments[0]; field.dispatchEvent(new Event("input"))', many)
+        live, _ = page.compare()
+        assert page.lines() == lines[:many]
+        assert page.run('const { undone } = play.player.session; return undone.slice().reverse()') == lines[many:]
+        _, size, _, _ = page.tool.boxes(lines[:many])
+        share = sum((x1 - x0) * (y1 - y0) for x0, y0, x1, y1 in live.values()) / (size[0] * size[1])
+        assert abs(shares[many - 1] - share) < 1e-9, (many, shares[many - 1], share)
+        assert page.text('line-told') == '%d of 12, %.1f %% full' % (many, 100 * share)
+    page.click('#redo')
+    page.compare()
+    assert page.lines() == lines[:3]
+    page.click('#add')
+    page.compare()
+    assert page.run('return [play.player.session.chart.length, document.getElementById("line").max]') == [4, '4']
+
+
+def test_saves_a_picture(page):
+    page.click('#save')
+    path, end = os.path.join(page.browser.downloads, 'atlas.png'), time.time() + 20
+    while not (os.path.exists(path) and os.path.getsize(path)):
+        assert time.time() < end, os.listdir(page.browser.downloads)
+        time.sleep(0.1)
+    with open(path, 'rb') as file:
+        head = file.read(24)
+    os.remove(path)
+    wanted = page.run('const { width, height } = document.getElementById("base"); return [width, height]')
+    assert head[:8] == b'\x89PNG\r\n\x1a\n' and list(struct.unpack('>II', head[16:24])) == wanted
+
+
 def test_refuses_bad_lines(page):
     """Each is told with its number, and nothing changes."""
     for line, words in {
             'allo 1 2': 'no command', 'alloc 1': 'not the numbers', 'alloc 1 2 3': 'not the numbers', 'alloc 1  2': 'not the numbers',
             'alloc 2147483648 1': 'not the numbers', 'free -1': 'not the numbers', 'free 4294967296': 'not the numbers',
-            'alloc 1.5 2': 'not the numbers', 'take 4 4': 'not to this page', 'record 9 9': 'not to this page',
+            'alloc 1.5 2': 'not the numbers', 'take 4 4': 'not to this page', 'replay': 'not to this page', 'from-atlas': 'not to this page',
             'constructor': 'no command', '__proto__': 'no command', ' alloc 1 2': 'no command',
             'atlas 70000 70000': '65536', '<img src=x onerror=alert(1)>': 'no command'}.items():
         before = page.lines()

@@ -81,6 +81,101 @@ def test_each_setting(page):
     page.click('#sheet-turn')
     page.browser.choose('#sheet-effort', '2000')
     assert compare(page, made, 'squares 1 1024 padding 5 turn effort 2000') > 0
+    page.click('#sheet-turn')
+    page.click('#sheet-dense')
+    page.browser.choose('#sheet-effort', '0')
+    compare(page, made, 'squares 1 1024 padding 5 dense')
+
+
+def in_folders(page, made):
+    """Has these pictures lie in folders, in turn in one of two and in none, as those of a folder that is chosen or dropped do."""
+    folders = ['a/', '', 'b/']
+    page.run('const folders = arguments[0];'
+             'play.sheet.pictures.forEach((each, at) => { each.name = folders[at % 3] + each.name; });'
+             'play.sheet.take([])', folders)
+    return {folders[at % 3] + name: made[name] for at, name in enumerate(sorted(made))}
+
+
+def sheets_of_tool(page, made, settings):
+    """Of atlas_pack: the sizes of the sheets, and of each picture its sheet and its corner."""
+    lines = ['sheet %s' % settings] + ['%s %d %d' % (name, wide, high) for name, (_, wide, high, _) in sorted(made.items())]
+    told = subprocess.run([page.packer], input='\n'.join(lines), stdout=subprocess.PIPE, text=True).stdout.splitlines()
+    words = [line.split() for line in told if not line.startswith('full ')]
+    sizes = [tuple(map(int, each[1:])) for each in words if each[0] == 'sheet']
+    return sizes, {each[0]: tuple(map(int, each[1:4])) for each in words if each[0] != 'sheet'}
+
+
+def compare_sheets(page, made, settings):
+    """The sheets are those of atlas_pack, and each picture's pixels are on its own. Gives the sheet of each picture."""
+    sizes, places = sheets_of_tool(page, made, settings)
+    told = json.loads(page.run('return play.sheet.json()'))['textures']
+    assert [(each['size']['w'], each['size']['h']) for each in told] == sizes, settings
+    assert [each['image'] for each in told] == ['sheet-%d.png' % at for at in range(len(sizes))]
+    found = {each['filename']: (at, each['frame']['x'], each['frame']['y']) for at, sheet in enumerate(told) for each in sheet['frames']}
+    assert found == places, settings
+    points = [[at, x + made[name][1] // 2, y + made[name][2] // 2] for name, (at, x, y) in sorted(places.items())]
+    pixels = page.run('const all = [...document.querySelectorAll("#sheets canvas")];'
+                      'return arguments[0].map(([at, x, y]) => [...all[at].getContext("2d").getImageData(x, y, 1, 1).data])', points)
+    assert pixels == [list(made[name][3]) + [255] for name in sorted(places)]
+    assert '%d pictures on %d sheets: %d × %d' % (len(made), len(sizes), *sizes[0]) in page.text('sheet-told')
+    return {name: at for name, (at, _, _) in places.items()}
+
+
+def test_several_sheets(page):
+    made = pictures(page.folder)
+    choose(page, made)
+    page.browser.choose('#sheet-greatest', '128')
+    assert 'no sheet that is allowed takes them all' in page.text('sheet-told')
+    page.browser.choose('#sheet-pages', 'several')
+    assert page.run('return document.getElementById("sheet-dense").disabled && !document.getElementById("sheet-groups").disabled')
+    assert len(set(compare_sheets(page, made, 'squares 1 128 padding 1 effort 200 pages 99').values())) > 1
+    page.browser.choose('#sheet-kind', 'powers')
+    page.browser.choose('#sheet-effort', '0')
+    compare_sheets(page, made, 'powers 128 padding 1 pages 99')
+    page.browser.choose('#sheet-pages', 'one')
+    page.browser.choose('#sheet-greatest', '512')
+    compare(page, made, 'powers 512 padding 1')
+    assert page.run('return document.querySelectorAll("#sheets canvas").length') == 1
+
+
+def test_a_folder_stays_together(page):
+    made = pictures(page.folder)
+    choose(page, made)
+    page.browser.choose('#sheet-greatest', '128')
+    page.browser.choose('#sheet-pages', 'several')
+    made = in_folders(page, made)
+    apart = compare_sheets(page, made, 'squares 1 128 padding 1 effort 200 pages 99')
+    page.click('#sheet-groups')
+    together = compare_sheets(page, made, 'squares 1 128 padding 1 effort 200 pages 99 group')
+    sheets = [{at for name, at in each.items() if name.startswith(folder)} for each in (apart, together) for folder in ('a/', 'b/')]
+    assert len(sheets[2]) == len(sheets[3]) == 1 and max(map(len, sheets[:2])) > 1, sheets
+
+
+def test_downloads_one_of_several(page):
+    made = pictures(page.folder)
+    choose(page, made)
+    page.browser.choose('#sheet-greatest', '128')
+    page.browser.choose('#sheet-pages', 'several')
+    assert page.run('return document.getElementById("sheet-png").hidden')
+    page.click('#sheets figure:nth-of-type(2) button')
+    path, end = os.path.join(page.browser.downloads, 'sheet-1.png'), time.time() + 20
+    while not (os.path.exists(path) and os.path.getsize(path)):
+        assert time.time() < end, os.listdir(page.browser.downloads)
+        time.sleep(0.1)
+    with open(path, 'rb') as file:
+        head = file.read(24)
+    size = json.loads(page.run('return play.sheet.json()'))['textures'][1]['size']
+    assert struct.unpack('>II', head[16:24]) == (size['w'], size['h'])
+    os.remove(path)
+
+
+def test_picture_that_is_too_large_for_each_sheet(page):
+    path = os.path.join(page.folder, 'large.png')
+    png(path, 200, 9, (1, 2, 3))
+    choose(page, {'large.png': (path, 200, 9, (1, 2, 3))})
+    page.browser.choose('#sheet-greatest', '128')
+    page.browser.choose('#sheet-pages', 'several')
+    assert 'one of them is too large for an empty sheet' in page.text('sheet-told')
 
 
 def test_tells_that_no_sheet_takes_all(page):
@@ -126,12 +221,16 @@ def test_files_that_are_no_pictures(page):
     made = pictures(page.folder, 3)
     page.browser.write('#sheet-files', '\n'.join([text, broken] + [path for path, _, _, _ in made.values()]))
     page.wait('play.sheet.pictures.length === 3')
-    page.wait('document.getElementById("said").textContent === "2 files are no pictures and were left out."')
+    told = 'Left out, since they are no pictures that this browser reads: 2 files, text.txt, broken.png'
+    page.wait('document.getElementById("said").textContent === arguments[0]'.replace('arguments[0]', json.dumps(told)))
+    assert page.text('sheet-left') == told and page.run('return document.getElementById("sheet-left").offsetHeight > 10')
     compare(page, made, 'squares 1 4096 padding 1 effort 200')
 
 
 def test_draws_some_and_removes_all(page):
     page.click('#tab-sheet')
+    assert page.text('sheet-told').startswith('30 pictures on a sheet of')
+    page.click('#sheet-none')
     page.click('#sheet-example')
     assert page.text('sheet-told').startswith('30 pictures on a sheet of')
     page.click('#sheet-none')

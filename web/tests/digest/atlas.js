@@ -5,6 +5,7 @@ import { SEVENS, answered, numberOf } from './sum.js';
 const HELD = 500;
 const ROOM = 2048;
 const EMPTY = numberOf('EMPTY');
+const OCCUPIED = numberOf('OCCUPIED');
 const NO_BOX = { id: 0, x: 0, y: 0, width: 0, height: 0 };
 
 export class Atlases {
@@ -44,7 +45,7 @@ export class Atlases {
   }
 
   fill(it, make) {
-    const { value, status } = it.atlas === null ? answered(make) : { status: EMPTY };
+    const { value, status } = it.atlas === null ? answered(make) : { status: OCCUPIED };
     if (status === 0) it.atlas = value;
     this.sum.add(status);
   }

@@ -2,6 +2,7 @@
 import { SEVENS, answered, numberOf } from './sum.js';
 
 const EMPTY = numberOf('EMPTY');
+const OCCUPIED = numberOf('OCCUPIED');
 const KEYS = 300;
 
 export class Cache {
@@ -48,7 +49,7 @@ export class Cache {
       this.cache = null;
     }
     const make = () => new this.api.TextureCache({ page, largestPage: { width: 384, height: 256 }, pages, padding, atlas });
-    const { value, status } = this.cache === null ? answered(make) : { status: EMPTY };
+    const { value, status } = this.cache === null ? answered(make) : { status: OCCUPIED };
     if (status === 0) this.cache = value;
     this.sum.add(status);
   }

@@ -2,6 +2,7 @@
 import { SEVENS, answered, numberOf } from './sum.js';
 
 const EMPTY = numberOf('EMPTY');
+const OCCUPIED = numberOf('OCCUPIED');
 
 export class Simple {
   constructor(api, draw, sum, atlases) {
@@ -22,7 +23,7 @@ export class Simple {
     }
     const hasOptions = !this.draw.oneIn(2);
     const make = () => new SimpleAtlas(width, height, hasOptions ? options : undefined);
-    const { value, status } = this.simple === null ? answered(make) : { status: EMPTY };
+    const { value, status } = this.simple === null ? answered(make) : { status: OCCUPIED };
     if (status === 0) this.simple = value;
     this.sum.add(status);
   }

@@ -119,7 +119,7 @@ module _ (old new : List AtlasValue) (same : map state_of new ≡ map state_of o
   state_at k =
       sym (slice_get-map state_of new k) ∙ ap (λ (ss : List State). slice_get ss k) same ∙ slice_get-map state_of old k
 
-  was_there : (k : ℕ) (t : AtlasValue) → slice_get new k ≡ Some t
+  pub was_there : (k : ℕ) (t : AtlasValue) → slice_get new k ≡ Some t
       → (s : AtlasValue) × (slice_get old k ≡ Some s) × (state_of t ≡ state_of s)
   was_there k t is = elim (slice_get_cases old k).1 [
     | inl one ↦ let both = rw (is, one.2) at (state_at k) in (one.0, one.2, cc)

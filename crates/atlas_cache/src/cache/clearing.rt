@@ -1,13 +1,14 @@
 //! Removing entries without inserting one, and reserving room beforehand.
-ghost use Rattle.std.specs.Prelude.{◌≡◌, ◌+◌, ◌≤◌, false, length, map, IfErr, IsOk, IsOkUnless, IsTrue, OnErr, OnOk};
+ghost use Rattle.std.specs.Prelude.{◌≡◌, ◌≢◌, ◌+◌, ◌≤◌, false, length, map, Err, IfErr, IsOk, IsOkUnless, IsTrue, OnErr, OnOk};
 ghost use Rattle.std.specs.Prelude.{vec_capacity, vec_len};
 ghost use Rattle.std.specs.List.{AllByRecursion};
 ghost use Rattle.guillotiere.specs.Stored.{state_of};
 ghost use Rattle.atlas_cache.specs.Caches.{with_reserve, IsFull};
 ghost use Rattle.atlas_cache.specs.Changes.{picture_of, ShowsSame};
 ghost use Rattle.atlas_cache.specs.Clearing.{all_forgotten, Clears, DropsLast, IsUsedSince, TellsChanges, Trims};
-ghost use Rattle.atlas_cache.specs.Reserving.{HaveSlots, UseAtMost};
+ghost use Rattle.atlas_cache.specs.Reserving.{HaveSlots, IsShortFor, UseAtMost};
 ghost use Rattle.atlas_cache.specs.Rooms.{IsRefusal};
+ghost use Rattle.atlas_cache.specs.declared.error.CacheError.TheVariants.{Memory, Slots};
 
 use crate::cache::TextureCache;
 use crate::cache::holding::{oldest, place_of, take_out};
@@ -20,7 +21,8 @@ use std::hash::{BuildHasher, Hash};
 impl<K: Copy + Eq + Hash, S: BuildHasher, A: Allocator + Copy> TextureCache<K, S, A> {
     /// Removes all keys. The pages stay, with their sizes and with nothing on them, and so do the frame and the counts. No
     /// change reports this: the caller forgets all places. Takes no memory, and gives none back: what the keys had is
-    /// in reserve. A `shrink` after it takes all pages away, and then the cache begins with small ones again.
+    /// in reserve. A `shrink` after it takes all pages away, and then the cache begins with small ones again. Its time grows by the
+    /// pages and by the most keys that there were.
     pub fn clear(&mut self)
         ensures clears { Clears self.old self.new }
         ensures told { ShowsSame (all_forgotten (picture_of K.eq self.old)) (picture_of K.eq self.new) }
@@ -31,7 +33,8 @@ impl<K: Copy + Eq + Hash, S: BuildHasher, A: Allocator + Copy> TextureCache<K, S
 
     /// Evicts the entries that weren't used for at least this many frames: with 1, what this frame didn't use; with 0, all.
     /// Each is added to the changes as `Evicted`, the least recently used first. The others stay. The list of changes
-    /// is asked for room for as many as there are entries; with `Memory`, if that is refused, nothing changes.
+    /// is asked for room for as many as there are entries; with `Memory`, if that is refused, nothing changes. Takes a freeing for each
+    /// key that goes.
     pub fn trim(&mut self, frames: u64, changes: &mut Changes<K, A>) -> Result<(), CacheError>
         ensures trims { OnOk result (Trims frames changes.old.items changes.new.items self.old self.new) }
         ensures told { TellsChanges K.eq changes.old.items changes.new.items self.old self.new }
@@ -58,8 +61,9 @@ impl<K: Copy + Eq + Hash, S: BuildHasher, A: Allocator + Copy> TextureCache<K, S
 
     /// Makes sure that at least this many slots are in reserve on each page. An insert that neither adds a page nor grows one takes
     /// at most 4 of each page; a page that is added later has none in reserve, one that grows takes up to 3 of its own, and
-    /// one that is repacked may have none. Nothing else changes. `Slots` if those of a page don't suffice, `Memory` if memory
-    /// is refused; the pages before that one have theirs in reserve then.
+    /// one that is repacked may have none; `remove`, `trim` and `clear` take none away. Nothing else changes. `Slots` only if a page
+    /// would use more than 16,777,216 with them, `Memory` only if some page hasn't as many in reserve and memory is refused; the
+    /// pages before that one have theirs in reserve then. Takes as many steps as there are pages, and memory for those that need it.
     pub fn reserve_slots(&mut self, additional: u32) -> Result<(), CacheError>
         ensures ready { OnOk result (HaveSlots additional self.new.pages) }
         ensures states { map state_of self.new.pages ≡ map state_of self.old.pages }
@@ -67,6 +71,8 @@ impl<K: Copy + Eq + Hash, S: BuildHasher, A: Allocator + Copy> TextureCache<K, S
         ensures rest { self.new ≡ record self.old { pages = self.new.pages } }
         ensures full { IsFull self.old → IsFull self.new }
         ensures errors { IfErr result IsRefusal }
+        ensures short { result ≡ Err Slots → IsShortFor additional self.old.pages }
+        ensures had { HaveSlots additional self.old.pages → result ≢ Err Memory }
     {
         self.rooms.reserve_slots(additional)
     }

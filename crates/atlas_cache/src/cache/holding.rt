@@ -47,16 +47,17 @@ pub fn oldest<K: Copy + Eq + Hash, S: BuildHasher, A: Allocator + Copy>(
     Some((number, entries.entry(number)))
 }
 
-/// The least recently used entry that lies on a page, with its number; None if none does. Blank entries that were used
-/// before it are passed one by one.
+/// The least recently used entry that lies on a page, with its number; None if none does. Each blank entry that was used
+/// before it is passed once, and not again until it is used.
 pub fn oldest_lying<K: Copy + Eq + Hash, S: BuildHasher, A: Allocator + Copy>(
-    entries: &Entries<K, S, A>,
+    entries: &mut Entries<K, S, A>,
 ) -> Option<(u32, Entry<K>)>
-    ensures last { IfSome result (λ found. IsOldestLying found.0 found.1 entries.now.entries) }
-    ensures none { IfNone result (lying (entries_of entries.now.entries) ≡ []) }
+    ensures last { IfSome result (λ found. IsOldestLying found.0 found.1 entries.old.entries) }
+    ensures none { IfNone result (lying (entries_of entries.old.entries) ≡ []) }
+    ensures stays { entries.new ≡ entries.old }
 {
     entries.prove_kept();
-    let mut next = entries.oldest();
+    let mut next = entries.unpassed();
     for _ in 0..entries.len() {
         let Some(number) = next else {
             return None;
@@ -65,6 +66,7 @@ pub fn oldest_lying<K: Copy + Eq + Hash, S: BuildHasher, A: Allocator + Copy>(
         if !entry.is_blank() {
             return Some((number, entry));
         }
+        entries.pass(number);
         next = entries.newer(number);
     }
     None

@@ -1,12 +1,15 @@
 //! A page's entries placed anew.
 ghost use Rattle.std.specs.Prelude.{◌≡◌, ◌==◌, ◌↔◌, ◌+◌, ◌≤◌, ◌<◌, ◌++◌, [], ◌∷◌, ℕ, List, true, false, find, length};
-ghost use Rattle.std.specs.Prelude.{IfErr, IfOk, IsOkUnless, IsTrue, OnErr, Ok, Some};
+ghost use Rattle.std.specs.Prelude.{IfErr, IfOk, IsOkUnless, IsPermutation, IsTrue, OnErr, Ok, Some};
 ghost use Rattle.std.specs.Prelude.{vec_capacity, vec_len};
 ghost use Rattle.std.specs.List.{cons_option, filter_map};
+ghost use Rattle.std.specs.List.Sorted.{IsSortedByKey};
+ghost use Rattle.std.specs.Ordering.{nat_cmp};
 ghost use Rattle.atlas_cache.specs.Caches.{entries_of, AreBordered, IsBordered};
 ghost use Rattle.atlas_cache.specs.Clearing.{TellsChanges};
 ghost use Rattle.atlas_cache.specs.Entries.{entry_at};
-ghost use Rattle.atlas_cache.specs.Relocating.{become, held_on, numbered_as, renewed_by, told_as, told_of, Repacks};
+ghost use Rattle.atlas_cache.specs.Relocating.{become, former_id, held_on, numbered_as, renewed_by, told_as, told_of, AreInIdOrder};
+ghost use Rattle.atlas_cache.specs.Relocating.{Repacks};
 ghost use Rattle.atlas_cache.specs.Rooms.{IsRefusal};
 
 use crate::cache::TextureCache;
@@ -47,11 +50,23 @@ fn rectangles_of<K: Copy + Eq + Hash, S: BuildHasher, A: Allocator + Copy>(
     Ok(held)
 }
 
-// The change of an id, if there is one.
+// Puts changes into the order of their former ids.
+fn sort_by_id<A: Allocator>(changes: &mut Vec<Change, A>)
+    ensures permuted { IsPermutation changes.old.items changes.new.items }
+    ensures rising { IsSortedByKey former_id nat_cmp changes.new.items }
+{
+    changes.sort_unstable_by_key(|change| change.old.id.serialize());
+}
+
+// The change of an id, if there is one. Takes as many steps as the logarithm of their number.
 fn change_for(changes: &[Change], id: AllocId) -> Option<Change>
+    requires { AreInIdOrder changes.now }
     ensures { result ≡ find (λ c. c.old.id == id) changes.now }
 {
-    changes.iter().copied().find(|change| change.old.id == id)
+    match changes.binary_search_by_key(&id.serialize(), |change| change.old.id.serialize()) {
+        Ok(at) => Some(changes[at]),
+        Err(_) => None,
+    }
 }
 
 // An entry of the page is moved if a change names its id, and goes if none does. Either is told.
@@ -63,6 +78,7 @@ fn settle<K: Copy + Eq + Hash, S: BuildHasher, A: Allocator + Copy>(
     entry: Entry<K>,
     changes: &mut Changes<K, A>,
 )
+    requires moves { AreInIdOrder moves.now }
     requires here { entry_at number entries.old.entries ≡ Some entry }
     requires was { IsBordered options.now.padding entry }
     requires is { (f : Entry K) → renewed_by moves.now entry ≡ Some f
@@ -106,6 +122,7 @@ fn settle_all<K: Copy + Eq + Hash, S: BuildHasher, A: Allocator + Copy>(
     page: u32,
     changes: &mut Changes<K, A>,
 )
+    requires moves { AreInIdOrder moves.now }
     requires was { AreBordered options.now.padding (entries_of entries.old.entries) }
     requires is { AreBordered options.now.padding
         (filter_map (become page (renewed_by moves.now)) (entries_of entries.old.entries)) }
@@ -140,7 +157,8 @@ impl<K: Copy + Eq + Hash, S: BuildHasher, A: Allocator + Copy> TextureCache<K, S
     ///
     /// A place that an entry moves to can overlap one that a later change moves from: copy all pixels from the page as
     /// it was before the call. `Slots` if the page has too few of them, `Memory` if memory is refused; then nothing
-    /// changes. Takes as many steps as there are entries, and for each entry of the page as many as the page has.
+    /// changes. Takes as many steps as there are entries of all pages, and for each entry of the page one request of an atlas
+    /// and as many steps as the logarithm of their number.
     pub fn repack(&mut self, page: u32, changes: &mut Changes<K, A>) -> Result<bool, CacheError>
         ensures repacks { result ≡ Ok true → Repacks page changes.old.items changes.new.items self.old self.new }
         ensures there { IfOk result (λ there. IsTrue there ↔ (page < length self.old.pages)) }
@@ -157,7 +175,8 @@ impl<K: Copy + Eq + Hash, S: BuildHasher, A: Allocator + Copy> TextureCache<K, S
         let before = self.entries.len();
         changes.reserve(before)?;
         let held = rectangles_of(&self.entries, page, *changes.allocator())?;
-        let list = self.rooms.repack(page, held)?;
+        let mut list = self.rooms.repack(page, held)?;
+        sort_by_id(&mut list.changes);
         let options = self.rooms.options();
         settle_all(&mut self.entries, &options, &list.changes, page, changes);
         let gone = (before - self.entries.len()) as u64;

@@ -14,6 +14,7 @@ ghost use Rattle.atlas_cache.specs.Repacking.{RepacksPage};
 ghost use Rattle.atlas_cache.specs.Rooms.{page_sizes, IsRefusal};
 
 use crate::error::CacheError;
+use crate::rooms::asking::NO_SIZE;
 use crate::rooms::usable::extent;
 use crate::rooms::{Rooms, refusal};
 use guillotiere::{Allocation, AtlasAllocator, Change, ChangeList, Rectangle, Size};
@@ -124,6 +125,7 @@ impl<A: Allocator + Copy> Rooms<A> {
         let list = place_all(&mut placed, order)?;
         placed.prove_sound();
         self.pages[page] = placed;
+        self.refused[page] = NO_SIZE;
         Ok(list)
     }
 

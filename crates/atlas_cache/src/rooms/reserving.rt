@@ -1,8 +1,9 @@
 //! Memory for slots of the pages before they are used.
-ghost use Rattle.std.specs.Prelude.{◌≡◌, map, IfErr, OnOk};
+ghost use Rattle.std.specs.Prelude.{◌≡◌, ◌≢◌, map, Err, IfErr, OnOk};
 ghost use Rattle.guillotiere.specs.Stored.{state_of};
-ghost use Rattle.atlas_cache.specs.Reserving.{HaveSlots, UseAtMost};
+ghost use Rattle.atlas_cache.specs.Reserving.{HaveSlots, IsShortFor, UseAtMost};
 ghost use Rattle.atlas_cache.specs.Rooms.{IsRefusal};
+ghost use Rattle.atlas_cache.specs.declared.error.CacheError.TheVariants.{Memory, Slots};
 
 use crate::error::CacheError;
 use crate::rooms::{Rooms, refusal};
@@ -10,14 +11,16 @@ use std::alloc::Allocator;
 
 impl<A: Allocator + Copy> Rooms<A> {
     /// At least so many slots are in reserve on each page from now on, so that a grant on it, which takes at most 4, asks for
-    /// no memory. Nothing else changes. `Slots` if those of a page don't suffice, `Memory` if memory is refused; the pages
-    /// before that one have theirs in reserve then.
+    /// no memory. Nothing else changes. `Slots` only if a page would use more than 16,777,216 with them, `Memory` only if some page
+    /// hasn't as many in reserve and memory is refused; the pages before that one have theirs in reserve then.
     pub fn reserve_slots(&mut self, additional: u32) -> Result<(), CacheError>
         ensures ready { OnOk result (HaveSlots additional self.new.pages) }
         ensures states { map state_of self.new.pages ≡ map state_of self.old.pages }
         ensures slots { UseAtMost 0 self.old.pages self.new.pages }
         ensures options { self.new.options ≡ self.old.options }
         ensures errors { IfErr result IsRefusal }
+        ensures short { result ≡ Err Slots → IsShortFor additional self.old.pages }
+        ensures had { HaveSlots additional self.old.pages → result ≢ Err Memory }
     {
         for page in 0..self.pages.len() {
             if let Err(error) = self.pages[page].reserve(additional) {

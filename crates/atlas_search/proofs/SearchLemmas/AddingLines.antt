@@ -30,7 +30,7 @@ rest-marked old new k j rest h = and_left (has old j) (not (j == k)) (sym (rest 
 rest-other : (old new : Mask) (k j : ℕ) → IsRest old new k → (j ≡ k → ⊥) → has new j ≡ false → has old j ≡ false
 rest-other old new k j rest ne h = grind (arith, and_true, ne_eqb)
 
-rest-cases : (old new : Mask) (k j : ℕ) → IsRest old new k → has new j ≡ false → (has old j ≡ false) ⊎ (j ≡ k)
+pub rest-cases : (old new : Mask) (k j : ℕ) → IsRest old new k → has new j ≡ false → (has old j ≡ false) ⊎ (j ≡ k)
 rest-cases old new k j rest h = elim (cases_eq j k) [ inl e ↦ inr e | inr ne ↦ inl (rest-other old new k j rest ne h) ]
 
 module _ (o : Options) (heads : List ListHead) (es : List Item) (end : ℕ) (r : Sides) where

@@ -178,9 +178,29 @@ head_of-blank k =
 pub used-blank : (k : ℕ) → is_used_at (replicate 2704 blank_head) k ≡ false
 used-blank k = ap is_slot (head_of-blank k)
 
+-- A head that is written as that of an empty list.
+module _ (heads : List ListHead) (k : ℕ) (within : k < length heads) where
+  pub blank-same : is_used_at (slice_set heads k blank_head) k ≡ false
+  blank-same = ap is_slot (head_of-same heads k blank_head within)
+
+  pub blank-kept : (j : ℕ) → is_used_at heads j ≡ false → is_used_at (slice_set heads k blank_head) j ≡ false
+  blank-kept j h = elim (cases_eq j k) [
+    | inl here ↦ ap (is_used_at (slice_set heads k blank_head)) here ∙ blank-same
+    | inr apart ↦ ap is_slot (head_of-other heads k blank_head j apart) ∙ h
+  ]
+
+-- Past the end there is no list.
+pub used-past : (heads : List ListHead) (k : ℕ) → length heads ≤ k → is_used_at heads k ≡ false
+unfolding head_of
+used-past heads k past = ap (λ h. is_slot h.first) (get_or-eq_default heads blank_head past)
+
+pub empty-table : (heads : List ListHead) (rows : List Mask) → length heads ≡ 2704
+    → ((k : ℕ) → is_used_at heads k ≡ false) → ((i j : ℕ) → is_marked_at rows i j ≡ false) → IsTable heads rows 2704
+empty-table heads rows long empty none = record {
+  count = long;
+  marked = λ i j p q. none i j ∙ sym (or_from _ _ (empty (52 * i + j)) (ne_eqb (52 * i + j) 2704 (λ h. omega (arith, h, p, q))));
+}
+
 pub blank-table : (rows : List Mask) → ((i j : ℕ) → is_marked_at rows i j ≡ false)
     → IsTable (replicate 2704 blank_head) rows 2704
-blank-table rows none = record {
-  count = length-replicate 2704 blank_head;
-  marked = λ i j p q. none i j ∙ sym (or_from _ _ (used-blank (52 * i + j)) (ne_eqb (52 * i + j) 2704 (λ h. omega (arith, h, p, q))));
-}
+blank-table rows none = empty-table (replicate 2704 blank_head) rows (length-replicate 2704 blank_head) used-blank none

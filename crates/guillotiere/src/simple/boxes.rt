@@ -90,6 +90,26 @@ impl<A: Allocator> FreeBoxes<A> {
         })
     }
 
+    /// A copy, in new memory of the same allocator, with room for one entry at least. The only error is `Memory`.
+    pub fn copy(&self) -> Result<FreeBoxes<A>, AtlasError>
+    where
+        A: Copy,
+        ensures unless { IsOkUnless result AtlasError.Memory }
+        ensures same { IfOk result (λ it. box_shelf it ≡ box_shelf self.now) }
+        ensures room { IfOk result (λ it. 0 < vec_capacity it.entries) }
+    {
+        let count = self.entries.len().max(1);
+        let mut entries = Vec::with_capacity(*self.entries.allocator(), count)?;
+        entries.extend_from_slice(&self.entries)?;
+        let table = self.table.copy()?;
+        Ok(FreeBoxes {
+            entries,
+            unused: self.unused,
+            used: self.used,
+            table,
+        })
+    }
+
     // Takes the first of the unused entries, or else a new one, for which there is room.
     fn take(&mut self) -> Link
         requires kept { (o : Options) × AreKept o (box_shelf self.old) }

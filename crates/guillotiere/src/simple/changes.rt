@@ -79,7 +79,7 @@ impl<A: Allocator + Copy> SimpleAtlasAllocator<A> {
         ensures guarded { IsGuarded (simple_state_of self.new) [] }
         ensures simple { IsSimple (simple_state_of self.new) }
     {
-        self.options = Scale::new(options);
+        self.options.set(options);
         self.boxes.restart(Rectangle::from(size), &self.options);
         self.size = size;
         Ok(())

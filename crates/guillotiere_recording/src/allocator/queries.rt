@@ -73,6 +73,26 @@ impl<A: Allocator + Copy> RecordingAllocator<A> {
         Ok(Recording::from_log(self.log.clone()?))
     }
 
+    /// A copy, which goes on by itself: its atlas stores the same, its names and its recording are equal, and so are its answers to
+    /// later calls, except where memory is refused. `Memory` is the only error.
+    pub fn clone(&self) -> Result<Self, RecordingError>
+        ensures unless { IsOkUnless result RecordingError.Memory }
+        ensures atlas { IfOk result (λ it. it.atlas.stored ≡ self.now.atlas.stored) }
+        ensures names { IfOk result (λ it. it.names ≡ self.now.names) }
+        ensures given { IfOk result (λ it. it.given ≡ self.now.given) }
+        ensures recording { IfOk result (λ it. it.recording ≡ self.now.recording) }
+    {
+        let atlas = self.atlas.clone()?;
+        let names = Vec::from_slice(*self.names.allocator(), &self.names)?;
+        let log = self.log.clone()?;
+        Ok(RecordingAllocator {
+            atlas,
+            names,
+            given: self.given,
+            log,
+        })
+    }
+
     // Whether this is the name of the next grant.
     pub(crate) fn gives(&self, name: AllocId) -> bool
         ensures same { IsTrue result ↔ (name ≡ self.now.given) }

@@ -25,11 +25,10 @@ use core::ops::Index;
 
 /// Hands out rectangles inside one large rectangle, the atlas, takes them back and joins free space at once.
 ///
-/// The atlas is a tree of cuts (docs/MODEL.md, "Trees of cuts"): its allocated and free rectangles are the leaves, and
+/// The atlas is a tree of cuts: its allocated and free rectangles are the leaves, and
 /// tile it. Freeing takes no memory; allocating and growing take it only if more slots are used than at any time since the
 /// last start, and never for slots that `reserve` made ready. A new atlas takes 21,672 bytes on the heap: 21,632 for
 /// the table of its lists of free rectangles, and 40 for its one slot.
-
 pub struct AtlasAllocator<A: Allocator + Copy = Global> {
     store: Store<A>,
     first: Link,
@@ -77,19 +76,14 @@ impl<A: Allocator + Copy> AtlasAllocator<A> {
 
     /// The size of the atlas, in pixels.
     #[inline]
+    #[must_use]
     pub fn size(&self) -> Size {
         self.size
     }
 
-    /// States what always holds of an atlas, and does nothing: it is sound, live and free boxes tile it, and the rectangles of
-    /// live ids lie within it and apart from one another. The empty list of held boxes is guarded.
-    #[inline]
-    pub fn prove_sound(&self) {
-        let _size = self.size();
-    }
-
     /// Whether no id is live.
     #[inline]
+    #[must_use]
     pub fn is_empty(&self) -> bool {
         let first = self.store.node(self.first);
         first.kind == NodeKind::Free && first.next.number == NO_SLOT
@@ -98,6 +92,7 @@ impl<A: Allocator + Copy> AtlasAllocator<A> {
     /// How many slots are used, the most that were used at once since the last start, and how many may be used. There
     /// is memory for the second number at least.
     #[inline]
+    #[must_use]
     pub fn slots(&self) -> SlotCount {
         SlotCount {
             used: self.used,
@@ -108,6 +103,7 @@ impl<A: Allocator + Copy> AtlasAllocator<A> {
 
     /// The rectangle of a live id, in pixels; None for every other id.
     #[inline]
+    #[must_use]
     pub fn get(&self, id: AllocId) -> Option<Rectangle> {
         let slots = self.store.slots();
         let at = named_slot(slots, id)?;
@@ -152,7 +148,7 @@ impl<A: Allocator + Copy> AtlasAllocator<A> {
 
     /// Makes the atlas larger; every live id keeps its rectangle. Requires that neither side shrinks. If the atlas is a single
     /// free rectangle, that is enlarged. Otherwise, first along the top sequence, a free last member is enlarged or a free strip is
-    /// appended, and then, across it, a free strip along the whole side (docs/MODEL.md, "Changes of a tree"); each only
+    /// appended, and then, across it, a free strip along the whole side; each only
     /// if that side grows. `Slots` if more slots would be used than the limit allows; `Memory` if more would be used
     /// than at any time since the last start, and memory for them is refused; then nothing changes. Takes no turns, and one
     /// pass along the top sequence for each side that grows. At most 3 more slots are used: with 3 in reserve the
@@ -291,6 +287,7 @@ impl<A: Allocator + Copy> AtlasAllocator<A> {
 /// The slots and the options, for a simple allocator that takes over the free rectangles. `guillotiere` doesn't
 /// re-export this function.
 #[inline]
+#[must_use]
 pub fn store_of<A: Allocator + Copy>(atlas: &AtlasAllocator<A>) -> &Store<A> {
     &atlas.store
 }

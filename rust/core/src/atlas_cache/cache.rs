@@ -26,7 +26,6 @@ use wollemigo_support::hash::{BuildHasher, BuildHasherDefault, Hash};
 /// Rectangles under keys in the pages of a texture array. Contracts see a `CacheState`: how the cache was made, the
 /// atlas of each page, the entries (the most recently used first), how many numbers they have had, for how many more there
 /// is memory in reserve, the frame, and how the cache was used.
-
 pub struct TextureCache<
     K: Copy + Eq + Hash,
     S: BuildHasher = DefaultHasher,
@@ -70,24 +69,28 @@ impl<K: Copy + Eq + Hash, S: BuildHasher, A: Allocator + Copy> TextureCache<K, S
 
     /// How many entries there are, at most 4,294,967,295.
     #[inline]
+    #[must_use]
     pub fn len(&self) -> usize {
         self.entries.len()
     }
 
     /// Whether there are none.
     #[inline]
+    #[must_use]
     pub fn is_empty(&self) -> bool {
         self.entries.is_empty()
     }
 
     /// How many pages there are.
     #[inline]
+    #[must_use]
     pub fn pages(&self) -> u32 {
         self.rooms.len()
     }
 
     /// The size of a page, in pixels; None if there is no such page.
     #[inline]
+    #[must_use]
     pub fn page_size(&self, page: u32) -> Option<Size> {
         if page < self.rooms.len() {
             Some(self.rooms.page_size(page))
@@ -96,17 +99,9 @@ impl<K: Copy + Eq + Hash, S: BuildHasher, A: Allocator + Copy> TextureCache<K, S
         }
     }
 
-    /// States what always holds of a cache, and does nothing: what is live on its pages is what the entries that lie there hold, each
-    /// once; each of those has its padding; two of one page lie apart, and each lies within its page, padding included; the
-    /// others have empty sizes; and each entry has a key and a number of its own.
+    /// The place of a key; None if it isn't held. It doesn't count as a use. One look-up by a hash.
     #[inline]
-    pub fn prove_kept(&self) {
-        self.rooms.prove_kept();
-        self.entries.prove_kept();
-    }
-
-    /// The place of a key; None if it isn't held. It doesn't count as a use.
-    #[inline]
+    #[must_use]
     pub fn peek(&self, key: &K) -> Option<Place> {
         let found = match look_up(&self.entries, key) {
             Some((_, found)) => found,
@@ -117,10 +112,10 @@ impl<K: Copy + Eq + Hash, S: BuildHasher, A: Allocator + Copy> TextureCache<K, S
         Some(place_of(found, &self.rooms.options()))
     }
 
-    /// The place of a key, which is used in this frame from now on; None if it isn't held. Counts a hit or a miss.
+    /// The place of a key, which is used in this frame from now on; None if it isn't held. Counts a hit or a miss. One look-up by a hash,
+    /// however many keys there are.
     #[inline]
     pub fn get(&mut self, key: &K) -> Option<Place> {
-        self.entries.prove_kept();
         let (number, entry) = match look_up(&self.entries, key) {
             Some((number, entry)) => (number, entry),
             _ => {
@@ -150,6 +145,11 @@ impl<K: Copy + Eq + Hash, S: BuildHasher, A: Allocator + Copy> TextureCache<K, S
     /// Nor is an insert that neither adds a page nor grows one (since a page has room, or all allowed exist, at their largest) refused
     /// with `Memory`, given one entry in reserve (`reserve`), 4 slots on each page (`reserve_slots`), and room for one change more than
     /// there are entries. Given n entries in reserve, 4n slots and room for n changes more than entries, none of n such inserts is.
+    ///
+    /// Takes one look-up by a hash. A new key that isn't blank also takes a few steps for each page, and a request of an atlas for each
+    /// page that isn't known to have no room: one that refused a size no larger in width and height, and hasn't changed since, is. An
+    /// eviction takes a freeing and another request of its page; it passes each blank key that was used before what it evicts once, and
+    /// not again until that key is used.
     #[inline]
     pub fn insert(
         &mut self,
@@ -157,7 +157,6 @@ impl<K: Copy + Eq + Hash, S: BuildHasher, A: Allocator + Copy> TextureCache<K, S
         size: Size,
         changes: &mut Changes<K, A>,
     ) -> Result<Inserted, CacheError> {
-        self.entries.prove_kept();
         if let Some((known, entry)) = look_up(&self.entries, &key) {
             if entry.size != size {
                 return Err(CacheError::OtherSize);
@@ -177,10 +176,10 @@ impl<K: Copy + Eq + Hash, S: BuildHasher, A: Allocator + Copy> TextureCache<K, S
         self.insert_new(key, size, asked, changes)
     }
 
-    /// Removes a key, and gives the place that it had; None if it isn't held. Takes no memory.
+    /// Removes a key, and gives the place that it had; None if it isn't held. Takes no memory, and nothing of what is in reserve;
+    /// one look-up by a hash, and a freeing.
     #[inline]
     pub fn remove(&mut self, key: &K) -> Option<Place> {
-        self.entries.prove_kept();
         let (number, gone) = match look_up(&self.entries, key) {
             Some((number, gone)) => (number, gone),
             _ => {
@@ -216,7 +215,6 @@ impl<K: Copy + Eq + Hash, S: BuildHasher, A: Allocator + Copy> TextureCache<K, S
             let page = match self.make_room(asked, changes)? {
                 Some(page) => page,
                 _ => {
-                    self.rooms.prove_kept();
                     return Ok(Inserted::FrameFull);
                 }
             };
@@ -277,7 +275,7 @@ impl<K: Copy + Eq + Hash, S: BuildHasher, A: Allocator + Copy> TextureCache<K, S
     // Of the entries that lie on a page the least recently used one goes, if this frame didn't use it: its page.
     #[inline]
     fn evict(&mut self, changes: &mut Changes<K, A>) -> Option<u32> {
-        let (number, entry) = match oldest_lying(&self.entries) {
+        let (number, entry) = match oldest_lying(&mut self.entries) {
             Some((number, entry)) => (number, entry),
             _ => {
                 return None;

@@ -21,6 +21,7 @@ pub const NO_COUNTS: Counts = Counts {
 
 /// One more, up to 2^64 - 1.
 #[inline]
+#[must_use]
 pub fn count(number: u64) -> u64 {
     number.saturating_add(1)
 }

@@ -3,6 +3,7 @@
 //! however many entries there are.
 
 use crate::atlas_cache::error::CacheError;
+use crate::atlas_cache::recency::links::NO_ENTRY;
 use crate::atlas_cache::recency::Recency;
 use crate::guillotiere::{AllocId, Rectangle, Size};
 use wollemigo_support::alloc::{Allocator, Global};
@@ -38,6 +39,7 @@ pub struct Entry<K> {
 impl<K: Copy> Entry<K> {
     /// Whether it lies on no page.
     #[inline]
+    #[must_use]
     pub fn is_blank(&self) -> bool {
         self.page == NO_PAGE
     }
@@ -46,11 +48,21 @@ impl<K: Copy> Entry<K> {
 /// Entries under their keys, in the order of their use. Each has a number; those of entries which are gone are given to
 /// later ones before new numbers are. Contracts see a `Table`: the numbers with their entries, the most recently used
 /// first, how many numbers were ever given out, and for how many more entries there is memory in reserve.
-
 pub struct Entries<K: Copy + Eq + Hash, S: BuildHasher = DefaultHasher, A: Allocator = Global> {
     map: HashMap<K, u32, S, A>,
     recency: Recency<A>,
     items: Vec<Entry<K>, A>,
+    // This entry and all that were used before it are blank; `NO_ENTRY`: it isn't known of any.
+    mark: u32,
+}
+
+// An entry leaves its place in the order: where it is marked, the one that was used next before it is.
+#[inline]
+fn unmark<A: Allocator>(recency: &Recency<A>, mark: &mut u32, number: u32) {
+    if number != *mark {
+        return;
+    }
+    *mark = recency.older(number).unwrap_or(NO_ENTRY);
 }
 
 // Memory for one more behind all, if there are no more than so many.
@@ -89,6 +101,7 @@ fn bind<K: Copy + Eq + Hash, S: BuildHasher, A: Allocator + Copy>(
 impl<K: Copy + Eq + Hash, A: Allocator + Copy> Entries<K, DefaultHasher, A> {
     /// No entries. Takes no memory.
     #[inline]
+    #[must_use]
     pub fn new(alloc: A) -> Self {
         Entries::with_hasher(alloc, BuildHasherDefault::new())
     }
@@ -97,73 +110,92 @@ impl<K: Copy + Eq + Hash, A: Allocator + Copy> Entries<K, DefaultHasher, A> {
 impl<K: Copy + Eq + Hash, S: BuildHasher, A: Allocator + Copy> Entries<K, S, A> {
     /// No entries, with a hasher for the keys. Takes no memory.
     #[inline]
+    #[must_use]
     pub fn with_hasher(alloc: A, hasher: S) -> Self {
         Entries {
             map: HashMap::with_hasher(alloc, hasher),
             recency: Recency::new(alloc),
             items: Vec::new(alloc),
+            mark: NO_ENTRY,
         }
     }
 
     /// How many entries there are, at most 4,294,967,295.
     #[inline]
+    #[must_use]
     pub fn len(&self) -> usize {
         self.recency.len()
     }
 
     /// Whether there are none.
     #[inline]
+    #[must_use]
     pub fn is_empty(&self) -> bool {
         self.recency.is_empty()
     }
 
-    /// States what always holds of the entries, and does nothing: each has a number of its own, which was given out, and a key of its
-    /// own.
-    #[inline]
-    pub fn prove_kept(&self) {
-        self.recency.prove_kept();
-        let _map = &self.map;
-    }
-
     /// The number of the entry with this key; None if there is none.
     #[inline]
+    #[must_use]
     pub fn find(&self, key: &K) -> Option<u32> {
         self.map.get(key).copied()
     }
 
     /// The entry of a number.
     #[inline]
+    #[must_use]
     pub fn entry(&self, number: u32) -> Entry<K> {
         self.items[number as usize]
     }
 
     /// The most recently used entry; None if there is none.
     #[inline]
+    #[must_use]
     pub fn newest(&self) -> Option<u32> {
         self.recency.newest()
     }
 
     /// The least recently used entry; None if there is none.
     #[inline]
+    #[must_use]
     pub fn oldest(&self) -> Option<u32> {
         self.recency.oldest()
     }
 
     /// The entry that was used next before this one; None if this is the least recently used.
     #[inline]
+    #[must_use]
     pub fn older(&self, number: u32) -> Option<u32> {
         self.recency.older(number)
     }
 
     /// The entry that was used next after this one; None if this is the most recently used.
     #[inline]
+    #[must_use]
     pub fn newer(&self, number: u32) -> Option<u32> {
         self.recency.newer(number)
+    }
+
+    /// The least recently used entry that wasn't passed; None if all were. All that were used before it are blank.
+    #[inline]
+    #[must_use]
+    pub fn unpassed(&self) -> Option<u32> {
+        if self.mark == NO_ENTRY {
+            return self.recency.oldest();
+        }
+        self.recency.newer(self.mark)
+    }
+
+    /// An entry is passed, until it is used, and all that were used before it, until they are. Requires that they are blank.
+    #[inline]
+    pub fn pass(&mut self, number: u32) {
+        self.mark = number;
     }
 
     /// An entry is used in this frame, and is the most recently used from now on.
     #[inline]
     pub fn touch(&mut self, number: u32, frame: u64) {
+        unmark(&self.recency, &mut self.mark, number);
         self.recency.touch(number);
         let entry = &mut self.items[number as usize];
         entry.frame = frame;
@@ -187,6 +219,7 @@ impl<K: Copy + Eq + Hash, S: BuildHasher, A: Allocator + Copy> Entries<K, S, A> 
     #[inline]
     pub fn remove(&mut self, number: u32) {
         let key = self.items[number as usize].key;
+        unmark(&self.recency, &mut self.mark, number);
         self.recency.remove(number);
         let _number = self.map.remove(&key);
     }
@@ -201,6 +234,7 @@ impl<K: Copy + Eq + Hash, S: BuildHasher, A: Allocator + Copy> Entries<K, S, A> 
 
     /// How many numbers were ever given out, since the entries were made or cleared: each number is below.
     #[inline]
+    #[must_use]
     pub fn made(&self) -> u32 {
         self.recency.made()
     }
@@ -221,5 +255,6 @@ impl<K: Copy + Eq + Hash, S: BuildHasher, A: Allocator + Copy> Entries<K, S, A> 
         self.map.clear();
         self.recency.clear();
         self.items.clear();
+        self.mark = NO_ENTRY;
     }
 }

@@ -20,6 +20,7 @@ pub enum Inserted {
 impl Inserted {
     /// The place that was given, whether the key is new or was held; None if none was.
     #[inline]
+    #[must_use]
     pub fn place(self) -> Option<Place> {
         match self {
             Inserted::Placed(place) | Inserted::Held(place) => Some(place),

@@ -94,6 +94,7 @@ impl CacheOptions {
     /// None if the size is empty, or if an empty page of the largest size has no room for that, rounded up to the
     /// alignment of the atlas. Requires options of which `check` is Ok.
     #[inline]
+    #[must_use]
     pub fn asked(&self, size: Size) -> Option<Size> {
         self.asked_of(size)
     }

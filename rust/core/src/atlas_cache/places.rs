@@ -37,6 +37,7 @@ impl Place {
     /// The place of a blank entry: nothing is drawn there. Its page is 0, so that a caller who draws an empty rectangle on
     /// a page needs no case for it.
     #[inline]
+    #[must_use]
     pub fn blank(number: u32) -> Place {
         Place {
             number,
@@ -48,6 +49,7 @@ impl Place {
 
     /// The place of an entry of this size, in pixels, in a rectangle that it was given with this padding.
     #[inline]
+    #[must_use]
     pub fn new(number: u32, page: u32, rectangle: Rectangle, size: Size, padding: i32) -> Place {
         let x = moved_by(rectangle.min.x, padding);
         let y = moved_by(rectangle.min.y, padding);

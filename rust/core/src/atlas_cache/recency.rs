@@ -12,7 +12,6 @@ use wollemigo_support::prelude::Vec;
 /// The numbers of entries in the order of their use. The number of an entry that is gone is given to a later one.
 /// Contracts see an `Order`: the numbers, the most recently used first, how many were ever given out, and for how many more
 /// entries there is memory in reserve.
-
 pub struct Recency<A: Allocator = Global> {
     links: Vec<Link, A>,
     ends: Link,
@@ -63,6 +62,7 @@ fn take_number<A: Allocator>(
 impl<A: Allocator> Recency<A> {
     /// No entries. Takes no memory.
     #[inline]
+    #[must_use]
     pub fn new(alloc: A) -> Self {
         Recency {
             links: Vec::new(alloc),
@@ -75,24 +75,21 @@ impl<A: Allocator> Recency<A> {
 
     /// How many entries there are, at most 4,294,967,295.
     #[inline]
+    #[must_use]
     pub fn len(&self) -> usize {
         self.count
     }
 
     /// Whether there are none.
     #[inline]
+    #[must_use]
     pub fn is_empty(&self) -> bool {
         self.count == 0
     }
 
-    /// States what always holds of an order, and does nothing: each entry is in it once, under a number that was given out.
-    #[inline]
-    pub fn prove_kept(&self) {
-        let _links = &self.links;
-    }
-
     /// The most recently used entry; None if there is none.
     #[inline]
+    #[must_use]
     pub fn newest(&self) -> Option<u32> {
         let ends = self.ends;
         if ends.next == NO_ENTRY {
@@ -103,6 +100,7 @@ impl<A: Allocator> Recency<A> {
 
     /// The least recently used entry; None if there is none.
     #[inline]
+    #[must_use]
     pub fn oldest(&self) -> Option<u32> {
         let ends = self.ends;
         if ends.previous == NO_ENTRY {
@@ -113,6 +111,7 @@ impl<A: Allocator> Recency<A> {
 
     /// The entry that was used next before this one; None if this is the least recently used.
     #[inline]
+    #[must_use]
     pub fn older(&self, number: u32) -> Option<u32> {
         let own = read_link(&self.links, self.ends, number);
         if own.next == NO_ENTRY {
@@ -123,6 +122,7 @@ impl<A: Allocator> Recency<A> {
 
     /// The entry that was used next after this one; None if this is the most recently used.
     #[inline]
+    #[must_use]
     pub fn newer(&self, number: u32) -> Option<u32> {
         let own = read_link(&self.links, self.ends, number);
         if own.previous == NO_ENTRY {
@@ -159,6 +159,7 @@ impl<A: Allocator> Recency<A> {
 
     /// How many numbers were ever given out, since the order was made or cleared: each number is below.
     #[inline]
+    #[must_use]
     pub fn made(&self) -> u32 {
         self.links.len() as u32
     }

@@ -1,21 +1,24 @@
 // Erased from crates/atlas_cache/src/rooms.rt by rust/erase: don't edit.
 //! The pages of a cache, each an atlas: small steps, of which none evicts.
 
+mod asking;
 mod repacking;
 mod reserving;
 mod usable;
 
 use crate::atlas_cache::error::CacheError;
 use crate::atlas_cache::options::CacheOptions;
-use crate::guillotiere::pages::prove_page;
-use crate::guillotiere::{AllocId, Allocation, AtlasAllocator, AtlasError, Size};
-use wollemigo_support::alloc::{Allocator, Global};
+use crate::atlas_cache::rooms::asking::{ask, NO_SIZE};
 use wollemigo_support::prelude::Vec;
 
-/// The atlases of the pages of a cache. Contracts see a `RoomsState`: the options, and what each atlas stores.
+use crate::guillotiere::{AllocId, Allocation, AtlasAllocator, AtlasError, Size};
+use wollemigo_support::alloc::{Allocator, Global};
 
+/// The atlases of the pages of a cache. Contracts see a `RoomsState`: the options, and what each atlas stores.
 pub struct Rooms<A: Allocator + Copy = Global> {
     pages: Vec<AtlasAllocator<A>, A>,
+    // For each page a size that it has no room for: the one that it refused last, or `NO_SIZE` if it changed since.
+    refused: Vec<Size, A>,
     options: CacheOptions,
 }
 
@@ -84,45 +87,41 @@ fn grown(size: Size, largest: Size) -> Size {
 impl<A: Allocator + Copy> Rooms<A> {
     /// No pages. Requires options of which `check` is Ok. Takes no memory.
     #[inline]
+    #[must_use]
     pub fn new(alloc: A, options: CacheOptions) -> Self {
         Rooms {
             pages: Vec::new(alloc),
+            refused: Vec::new(alloc),
             options,
         }
     }
 
     /// How the cache was made.
     #[inline]
+    #[must_use]
     pub fn options(&self) -> CacheOptions {
         self.options
     }
 
     /// How many pages there are: at most 4,294,967,295, so that none has the number `NO_PAGE`.
     #[inline]
+    #[must_use]
     pub fn len(&self) -> u32 {
         number(self.pages.len(), self.options.pages)
     }
 
     /// Whether there are none.
     #[inline]
+    #[must_use]
     pub fn is_empty(&self) -> bool {
         self.pages.is_empty()
     }
 
     /// The size of a page, in pixels. Requires that there is such a page.
     #[inline]
+    #[must_use]
     pub fn page_size(&self, page: u32) -> Size {
         self.pages[page as usize].size()
-    }
-
-    /// States what always holds of the pages, and does nothing: each has the options of the cache, the greatest limit on slots and a
-    /// size from `page` to `largest_page`, and there are no more than the options allow; the rectangles of live ids of a page lie apart and
-    /// within it; an idle page of the largest size has room for whatever `CacheOptions::asked` asks for.
-    #[inline]
-    pub fn prove_kept(&self) {
-        for at in 0..self.pages.len() {
-            prove_page(&self.pages, at);
-        }
     }
 
     /// Grants a request on the first page that has room for it: the page, and what it granted, which has the sides that
@@ -135,7 +134,8 @@ impl<A: Allocator + Copy> Rooms<A> {
         self.place_among(0, to, asked)
     }
 
-    // The same, where none but the pages from `from` on and before `to` can have room: only these are looked at.
+    // The same, where none but the pages from `from` on and before `to` can have room: only these are looked at, and of
+    // these only those are searched that changed since they refused a size that was no larger.
     #[inline]
     pub(crate) fn place_among(
         &mut self,
@@ -144,7 +144,7 @@ impl<A: Allocator + Copy> Rooms<A> {
         asked: Size,
     ) -> Result<Option<(u32, Allocation)>, CacheError> {
         for page in from..to {
-            match self.pages[page].allocate(asked) {
+            match ask(&mut self.pages[page], &mut self.refused[page], asked) {
                 Ok(None) => {}
                 Ok(Some(granted)) => return Ok(Some((number(page, self.options.pages), granted))),
                 Err(error) => return Err(refusal(error)),
@@ -158,6 +158,7 @@ impl<A: Allocator + Copy> Rooms<A> {
     #[inline]
     pub fn free(&mut self, page: u32, id: AllocId) {
         let _freed = self.pages[page as usize].deallocate(id);
+        self.refused[page as usize] = NO_SIZE;
     }
 
     /// The first page that isn't at its largest grows: the page, and its size from now on, in pixels. Its smaller side,
@@ -176,6 +177,7 @@ impl<A: Allocator + Copy> Rooms<A> {
         if let Err(error) = self.pages[page].grow(size) {
             return Err(refusal(error));
         }
+        self.refused[page] = NO_SIZE;
         Ok(Some((number(page, self.options.pages), size)))
     }
 
@@ -188,9 +190,11 @@ impl<A: Allocator + Copy> Rooms<A> {
             return Ok(None);
         }
         let alloc = *self.pages.allocator();
+        self.refused.reserve(1)?;
         match AtlasAllocator::with_options(alloc, self.options.page, &self.options.atlas) {
             Ok(page) => {
                 self.pages.push(page)?;
+                self.refused.push_reserved(NO_SIZE);
                 Ok(Some((number, self.options.page)))
             }
             Err(_) => Err(CacheError::Memory),
@@ -209,14 +213,16 @@ impl<A: Allocator + Copy> Rooms<A> {
             return None;
         }
         self.pages.truncate(last);
+        self.refused.truncate(last);
         Some(number(last, self.options.pages))
     }
 
-    /// All rectangles go. The pages stay, with their sizes. Takes no memory.
+    /// All rectangles go. The pages stay, with their sizes and what they have in reserve. Takes no memory.
     #[inline]
     pub fn clear(&mut self) {
         for page in 0..self.pages.len() {
             let _cleared = self.pages[page].clear();
+            self.refused[page] = NO_SIZE;
         }
     }
 }

@@ -33,6 +33,7 @@ fn better(best: Option<Corner>, other: Corner) -> Corner {
 
 /// The topmost corner of a free box that has room for these sides, and of these the leftmost.
 #[inline]
+#[must_use]
 pub fn best_corner(free: &[FreeBox], width: u32, height: u32) -> Option<Corner> {
     let mut best = None;
     for one in free {

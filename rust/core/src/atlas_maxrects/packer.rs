@@ -12,7 +12,6 @@ use wollemigo_support::prelude::Vec;
 ///
 /// It keeps the boxes that it placed, and the maximal free boxes: all that may still lie in the sheet lies inside one of
 /// these.
-
 pub struct TopmostPacker<A: Allocator + Copy = Global> {
     size: Size,
     free: Vec<FreeBox, A>,
@@ -93,12 +92,14 @@ impl<A: Allocator + Copy> TopmostPacker<A> {
 
     /// The size of the sheet.
     #[inline]
+    #[must_use]
     pub fn size(&self) -> Size {
         self.size
     }
 
     /// The boxes that were placed, the first one first. They lie in the sheet, and no pixel lies in two.
     #[inline]
+    #[must_use]
     pub fn placed(&self) -> &[Rectangle] {
         &self.placed
     }

@@ -11,12 +11,14 @@ pub struct AllocId(u32);
 impl AllocId {
     /// The number of the id.
     #[inline]
+    #[must_use]
     pub fn serialize(&self) -> u32 {
         self.0
     }
 
     /// The id of a number. Every number is accepted; whether the id is live is for the atlas to say.
     #[inline]
+    #[must_use]
     pub fn deserialize(bytes: u32) -> Self {
         AllocId(bytes)
     }
@@ -30,7 +32,7 @@ pub struct Allocation {
 }
 
 /// The most slots that an atlas may use at once, 16777216: an id has 24 bits for the number of its slot. It is the
-/// limit of an atlas that is made without one (docs/MODEL.md, "States and steps").
+/// limit of an atlas that is made without one.
 pub const MOST_SLOTS: u32 = 16777216;
 
 /// How many slots an atlas uses, the most that it used at once since its last start, and how many it may use.

@@ -15,7 +15,6 @@ pub struct Change {
 
 /// What a rearrangement did with what was allocated, in the order in which it was tried: `changes` are the rectangles
 /// that were placed anew, `failures` those that found no room, whose ids are no longer live.
-
 #[derive(Debug, PartialEq)]
 pub struct ChangeList<A: Allocator + Copy = Global> {
     pub changes: Vec<Change, A>,
@@ -25,6 +24,7 @@ pub struct ChangeList<A: Allocator + Copy = Global> {
 impl<A: Allocator + Copy> ChangeList<A> {
     /// Two empty lists. Takes no memory.
     #[inline]
+    #[must_use]
     pub fn empty(alloc: A) -> Self {
         ChangeList {
             changes: Vec::new(alloc),

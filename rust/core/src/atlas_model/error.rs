@@ -3,8 +3,7 @@
 
 use wollemigo_support::alloc::{AllocError, AllocFailed};
 
-/// Why a call of an allocator was refused. After a refusal all that a caller can see is as before the call
-/// (docs/MODEL.md, "Steps").
+/// Why a call of an allocator was refused. After a refusal all that a caller can see is as before the call.
 #[derive(Clone, Copy, Debug, PartialEq, Eq)]
 pub enum AtlasError {
     /// A request for memory was refused.

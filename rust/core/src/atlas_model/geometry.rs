@@ -24,12 +24,14 @@ pub struct Rectangle {
 
 /// The point with these coordinates.
 #[inline]
+#[must_use]
 pub fn point2(x: i32, y: i32) -> Point {
     Point { x, y }
 }
 
 /// The size with these sides.
 #[inline]
+#[must_use]
 pub fn size2(width: i32, height: i32) -> Size {
     Size { width, height }
 }
@@ -43,12 +45,14 @@ fn has_length(from: i32, to: i32) -> bool {
 impl Size {
     /// Whether a side is 0 or less.
     #[inline]
+    #[must_use]
     pub fn is_empty(&self) -> bool {
         self.width <= 0 || self.height <= 0
     }
 
     /// Whether both sides are above 0: what each allocator asks of the size that it is made with or started again at.
     #[inline]
+    #[must_use]
     pub fn is_positive(&self) -> bool {
         self.width > 0 && self.height > 0
     }
@@ -57,12 +61,14 @@ impl Size {
 impl Rectangle {
     /// Whether no unit square lies in the rectangle.
     #[inline]
+    #[must_use]
     pub fn is_empty(&self) -> bool {
         self.max.x <= self.min.x || self.max.y <= self.min.y
     }
 
     /// Whether `width` and `height` both fit an `i32`.
     #[inline]
+    #[must_use]
     pub fn is_measurable(&self) -> bool {
         has_length(self.min.x, self.max.x) && has_length(self.min.y, self.max.y)
     }
@@ -70,6 +76,7 @@ impl Rectangle {
     /// `max.x - min.x`, in pixels, which is negative where `max` lies left of `min`. Requires that the rectangle is
     /// measurable: `is_measurable` is the test.
     #[inline]
+    #[must_use]
     pub fn width(&self) -> i32 {
         self.max.x - self.min.x
     }
@@ -77,12 +84,14 @@ impl Rectangle {
     /// `max.y - min.y`, in pixels, which is negative where `max` lies above `min`. Requires that the rectangle is
     /// measurable.
     #[inline]
+    #[must_use]
     pub fn height(&self) -> i32 {
         self.max.y - self.min.y
     }
 
     /// `width` and `height`. Requires that the rectangle is measurable.
     #[inline]
+    #[must_use]
     pub fn size(&self) -> Size {
         Size {
             width: self.width(),

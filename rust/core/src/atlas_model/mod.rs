@@ -1,12 +1,12 @@
 // Erased from crates/atlas_model/src/lib.rt by rust/erase: don't edit.
 //! What the allocators of `guillotiere` mean: points, sizes, rectangles, options, ids and errors, the model of an atlas
-//! as a tree of cuts (docs/MODEL.md), and the laws that hold of it. `guillotiere` re-exports all of it.
+//! as a tree of cuts, and the laws that hold of it. `guillotiere` re-exports all of it.
 
 mod allocation;
 mod change;
 mod error;
 mod geometry;
-pub mod laws;
+
 mod options;
 
 pub use allocation::{AllocId, Allocation, SlotCount, MOST_SLOTS};

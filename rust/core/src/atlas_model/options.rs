@@ -35,6 +35,7 @@ impl AllocatorOptions {
     /// Whether both alignments are above 0 and the small threshold is at most the large one. Negative thresholds are
     /// allowed.
     #[inline]
+    #[must_use]
     pub fn is_valid(&self) -> bool {
         self.alignment.width > 0
             && self.alignment.height > 0

@@ -79,7 +79,6 @@ fn borders_for(options: &AllocatorOptions) -> Borders {
 
 /// Options, with what the lists take of them: the borders of the classes, and the band of each side up to 256.
 /// Contracts see the options alone.
-
 pub struct Scale {
     options: AllocatorOptions,
     borders: Borders,
@@ -91,6 +90,7 @@ pub struct Scale {
 impl Scale {
     /// That of these options.
     #[inline]
+    #[must_use]
     pub fn new(options: &AllocatorOptions) -> Scale {
         let mut bands = [0; 257];
         for side in 1..257 {
@@ -116,6 +116,7 @@ impl Scale {
 
     /// The same again.
     #[inline]
+    #[must_use]
     pub fn copy(&self) -> Scale {
         Scale {
             options: self.options,
@@ -127,18 +128,21 @@ impl Scale {
 
     /// The options.
     #[inline]
+    #[must_use]
     pub fn plain(&self) -> AllocatorOptions {
         self.options
     }
 
     /// The first row and column of large sizes.
     #[inline]
+    #[must_use]
     pub fn large(&self) -> usize {
         self.borders.large
     }
 
     /// The border of a class after a row or a column.
     #[inline]
+    #[must_use]
     pub fn end_after(&self, first: usize) -> usize {
         if first < self.borders.small {
             self.borders.small
@@ -163,6 +167,7 @@ impl Scale {
 
     /// The list of a size.
     #[inline]
+    #[must_use]
     pub fn place_for(&self, size: Size) -> Place {
         Place {
             row: self.band(size.width),

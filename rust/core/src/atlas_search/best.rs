@@ -33,7 +33,7 @@ pub struct Spot {
 // The rank of no box, and the corner of none.
 const NO_RANK: u32 = 2147483647;
 
-const NO_CORNER: u64 = 18446744073709551615;
+const NO_CORNER: u64 = u64::MAX;
 
 // The `min.y` that no box passes.
 const NO_BAR: u32 = 4294967295;
@@ -71,6 +71,7 @@ fn corner(rectangle: Rectangle) -> u64 {
 impl Best {
     /// No box was shown yet for a request of this rounded size.
     #[inline]
+    #[must_use]
     pub fn new(size: Size, is_large: bool) -> Best {
         Best {
             size,
@@ -171,6 +172,7 @@ impl Best {
 
     /// Whether the best has an equal side.
     #[inline]
+    #[must_use]
     pub fn has_equal_side(&self) -> bool {
         self.rank == 0
     }
@@ -178,12 +180,14 @@ impl Best {
     /// Whether the best has an equal side and its `min.y` is less than `low`:
     /// no box that begins there or below is better.
     #[inline]
+    #[must_use]
     pub fn settles(&self, low: u32) -> bool {
         self.bar < low
     }
 
     /// Where the best of the boxes shown is.
     #[inline]
+    #[must_use]
     pub fn spot(&self) -> Option<Spot> {
         if self.rank == NO_RANK {
             None
@@ -196,6 +200,7 @@ impl Best {
 impl Spot {
     /// What is there, with its rectangle.
     #[inline]
+    #[must_use]
     pub fn found(self, rectangle: Rectangle) -> Found {
         Found {
             rectangle,

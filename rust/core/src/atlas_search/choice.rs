@@ -25,6 +25,7 @@ fn rounded_side(side: i32, alignment: i32) -> Option<i32> {
 /// The size with both sides rounded up to multiples of the alignment; None if a side is 0 or less, or if a rounded side
 /// passes 2147483647.
 #[inline]
+#[must_use]
 pub fn rounded(size: Size, options: &Scale) -> Option<Size> {
     let alignment = options.plain().alignment;
     let width = rounded_side(size.width, alignment.width)?;
@@ -40,6 +41,7 @@ fn spare(from: i32, to: i32, side: i32) -> i32 {
 
 // The smaller of the two side differences, which is below 0 exactly if the size does not fit.
 #[inline]
+#[must_use]
 pub fn margin_in(rectangle: Rectangle, size: Size) -> i32 {
     let width = spare(rectangle.min.x, rectangle.max.x, size.width);
     let height = spare(rectangle.min.y, rectangle.max.y, size.height);

@@ -12,6 +12,7 @@ pub enum Orientation {
 
 /// The other axis.
 #[inline]
+#[must_use]
 pub fn across(axis: Orientation) -> Orientation {
     match axis {
         Orientation::Horizontal => Orientation::Vertical,
@@ -41,6 +42,7 @@ fn capped_area(width: i32, height: i32) -> u64 {
 
 /// The axis on which the greater part remains, counted by areas up to 2147483647.
 #[inline]
+#[must_use]
 pub fn orientation_of(whole: Size, size: Size) -> Orientation {
     let beside = capped_area(whole.width - size.width, size.height);
     let below = capped_area(size.width, whole.height - size.height);
@@ -62,6 +64,7 @@ fn corner_of(chosen: Rectangle, size: Size) -> Point {
 
 /// The part of `chosen` that a request of this size takes: at its `min`.
 #[inline]
+#[must_use]
 pub fn granted(chosen: Rectangle, size: Size) -> Rectangle {
     Rectangle {
         min: chosen.min,
@@ -71,18 +74,21 @@ pub fn granted(chosen: Rectangle, size: Size) -> Rectangle {
 
 /// The size of an exact rectangle.
 #[inline]
+#[must_use]
 pub fn exact_size(area: Rectangle) -> Size {
     area.size()
 }
 
 /// The `min.y` of a rectangle.
 #[inline]
+#[must_use]
 pub fn top_in(area: Rectangle) -> u32 {
     area.min.y as u32
 }
 
 /// The first `extent` pixels of a rectangle along an axis.
 #[inline]
+#[must_use]
 pub fn front(area: Rectangle, axis: Orientation, extent: i32) -> Rectangle {
     let Rectangle { min, max } = area;
     match axis {
@@ -105,6 +111,7 @@ pub fn front(area: Rectangle, axis: Orientation, extent: i32) -> Rectangle {
 
 /// What is left of a rectangle after the first `extent` pixels along an axis.
 #[inline]
+#[must_use]
 pub fn back(area: Rectangle, axis: Orientation, extent: i32) -> Rectangle {
     let Rectangle { min, max } = area;
     match axis {
@@ -127,6 +134,7 @@ pub fn back(area: Rectangle, axis: Orientation, extent: i32) -> Rectangle {
 
 /// What lies beyond a rectangle along an axis, to the far corner of a size.
 #[inline]
+#[must_use]
 pub fn beyond(area: Rectangle, axis: Orientation, size: Size) -> Rectangle {
     let min = match axis {
         Orientation::Horizontal => Point {
@@ -174,6 +182,7 @@ fn rest_along(orientation: Orientation, chosen: Rectangle, size: Size) -> Rest {
 /// What is left of `chosen` for a request of this size: along the axis on which the greater part remains, counted by
 /// areas up to 2147483647.
 #[inline]
+#[must_use]
 pub fn guillotine(chosen: Rectangle, size: Size) -> Rest {
     rest_along(orientation_of(chosen.size(), size), chosen, size)
 }

@@ -5,7 +5,6 @@ use crate::atlas_search::bands::{Place, BANDS};
 use crate::atlas_search::masks::Mask;
 
 /// A set of places. Contracts see the marked columns of each row.
-
 pub struct Marks {
     rows: [Mask; BANDS],
     columns: [Mask; BANDS],
@@ -15,6 +14,7 @@ pub struct Marks {
 impl Marks {
     /// No place is marked.
     #[inline]
+    #[must_use]
     pub fn none() -> Marks {
         let none = Mask::none();
         Marks {
@@ -26,6 +26,7 @@ impl Marks {
 
     /// The same marks again.
     #[inline]
+    #[must_use]
     pub fn copy(&self) -> Marks {
         Marks {
             rows: self.rows,
@@ -55,18 +56,21 @@ impl Marks {
 
     /// The marked columns of a row.
     #[inline]
+    #[must_use]
     pub fn row(&self, i: usize) -> Mask {
         self.rows[i]
     }
 
     /// The marked rows of a column.
     #[inline]
+    #[must_use]
     pub fn column(&self, j: usize) -> Mask {
         self.columns[j]
     }
 
     /// The rows with a mark.
     #[inline]
+    #[must_use]
     pub fn used(&self) -> Mask {
         self.used
     }

@@ -10,18 +10,21 @@ pub struct Mask {
 impl Mask {
     /// The set of no number.
     #[inline]
+    #[must_use]
     pub fn none() -> Mask {
         Mask { bits: 0 }
     }
 
     /// Whether there is no number in the set.
     #[inline]
+    #[must_use]
     pub fn is_empty(self) -> bool {
         self.bits == 0
     }
 
     /// The set with a number.
     #[inline]
+    #[must_use]
     pub fn with(self, k: usize) -> Mask {
         Mask {
             bits: self.bits | 1 << k,
@@ -30,6 +33,7 @@ impl Mask {
 
     /// The set without a number.
     #[inline]
+    #[must_use]
     pub fn without(self, k: usize) -> Mask {
         Mask {
             bits: self.bits & !(1 << k),
@@ -38,6 +42,7 @@ impl Mask {
 
     /// The numbers of the set from one on.
     #[inline]
+    #[must_use]
     pub fn from(self, k: usize) -> Mask {
         Mask {
             bits: self.bits >> k << k,
@@ -46,6 +51,7 @@ impl Mask {
 
     /// The numbers of the set below one.
     #[inline]
+    #[must_use]
     pub fn below(self, k: usize) -> Mask {
         Mask {
             bits: self.bits & ((1 << k) - 1),
@@ -54,6 +60,7 @@ impl Mask {
 
     /// The numbers of one of two sets.
     #[inline]
+    #[must_use]
     pub fn or(self, other: Mask) -> Mask {
         Mask {
             bits: self.bits | other.bits,
@@ -62,6 +69,7 @@ impl Mask {
 
     /// The least number of the set, and 64 if there is none.
     #[inline]
+    #[must_use]
     pub fn first(self) -> usize {
         self.bits.trailing_zeros() as usize
     }

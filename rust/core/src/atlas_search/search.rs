@@ -138,6 +138,7 @@ fn search_before<A: Allocator, E: Entry>(
 
 /// The free entry that a request of this rounded size takes.
 #[inline]
+#[must_use]
 pub fn pick<A: Allocator, E: Entry>(
     entries: &[E],
     table: &Table<A>,

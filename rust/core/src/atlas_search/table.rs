@@ -25,11 +25,28 @@ const BLANK: ListHead = ListHead {
     low: 0,
 };
 
+// The lists of a row are empty in these columns from now on.
+#[inline]
+fn blank_row(heads: &mut [ListHead], row: usize, columns: Mask) {
+    let mut left = columns;
+    while let Some(column) = left.take_first() {
+        heads[BANDS * row + column] = BLANK;
+    }
+}
+
+// All lists are empty from now on, of which only marked ones may have a slot.
+#[inline]
+fn blank_marked(heads: &mut [ListHead], marks: &Marks) {
+    let mut left = marks.used();
+    while let Some(row) = left.take_first() {
+        blank_row(heads, row, marks.row(row));
+    }
+}
+
 /// The heads of all lists: one block of memory, which takes 21632 bytes. Contracts see the heads alone.
 ///
 /// The list that was emptied last is often the next that gets a slot: so it stays marked until another list is emptied,
 /// and a mark says only that a list may have a slot.
-
 pub struct Table<A: Allocator> {
     heads: Vec<ListHead, A>,
     marks: Marks,
@@ -61,22 +78,24 @@ impl<A: Allocator> Table<A> {
         })
     }
 
-    /// Each list is empty from now on.
+    /// Each list is empty from now on. Writes the heads of marked lists alone.
     #[inline]
     pub fn clear(&mut self) {
-        self.heads.fill(BLANK);
+        blank_marked(&mut self.heads, &self.marks);
         self.marks = Marks::none();
         self.emptied = LISTS;
     }
 
     /// The first slot of a list, or none.
     #[inline]
+    #[must_use]
     pub fn head(&self, at: Place) -> Link {
         self.heads[BANDS * at.row + at.column].first
     }
 
     /// At most the `min.y` of each of the list's slots.
     #[inline]
+    #[must_use]
     pub fn low(&self, at: Place) -> u32 {
         self.heads[BANDS * at.row + at.column].low
     }
@@ -101,7 +120,10 @@ impl<A: Allocator> Table<A> {
     #[inline]
     pub fn set_first(&mut self, number: usize, first: Link) {
         self.heads[number].first = first;
-        if first.number == NO_SLOT && self.emptied != number {
+        if first.number != NO_SLOT {
+            return;
+        }
+        if self.emptied != number {
             let before = self.emptied;
             self.emptied = number;
             if before < LISTS && self.heads[before].first.number == NO_SLOT {
@@ -121,18 +143,21 @@ impl<A: Allocator> Table<A> {
 
     /// The columns of a row with lists that may have a slot: each that has one.
     #[inline]
+    #[must_use]
     pub fn row(&self, i: usize) -> Mask {
         self.marks.row(i)
     }
 
     /// The rows of a column with lists that may have a slot: each that has one.
     #[inline]
+    #[must_use]
     pub fn column(&self, j: usize) -> Mask {
         self.marks.column(j)
     }
 
     /// The rows with a list that may have a slot: each with one that has.
     #[inline]
+    #[must_use]
     pub fn used(&self) -> Mask {
         self.marks.used()
     }

@@ -20,6 +20,7 @@ pub enum Allowed {
 impl Allowed {
     /// A size whose sides are at most those of every allowed sheet.
     #[inline]
+    #[must_use]
     pub fn least(self) -> Size {
         match self {
             Allowed::One(size) => size,
@@ -31,6 +32,7 @@ impl Allowed {
 
     /// A size whose sides are at least those of every allowed sheet.
     #[inline]
+    #[must_use]
     pub fn greatest(self) -> Size {
         match self {
             Allowed::One(size) => size,
@@ -42,12 +44,14 @@ impl Allowed {
 
     // How many sizes there are, each a pixel higher than the one before it. Not of powers of two.
     #[inline]
+    #[must_use]
     pub fn count(self) -> u32 {
         (self.greatest().height - self.least().height) as u32 + 1
     }
 
     // The size that is this much higher than the least.
     #[inline]
+    #[must_use]
     pub fn nth(self, number: u32) -> Size {
         let least = self.least();
         let height = (least.height as u32 + number) as i32;

@@ -6,7 +6,6 @@ use wollemigo_support::alloc::Allocator;
 use wollemigo_support::prelude::Vec;
 
 /// Sprites as they lie, the order in which they ask for places in a sheet, and what they find.
-
 pub struct Arrangement<A: Allocator> {
     /// The size of the sheet.
     pub size: Size,

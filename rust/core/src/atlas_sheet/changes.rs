@@ -37,6 +37,7 @@ fn turn_run(random: &mut Random, order: &mut [(usize, Size)]) {
 
 /// The sides of a sprite that is turned.
 #[inline]
+#[must_use]
 pub fn flipped(size: Size) -> Size {
     size2(size.height, size.width)
 }
@@ -77,7 +78,6 @@ fn change(random: &mut Random, turn: bool, order: &mut [(usize, Size)], lying: &
 }
 
 /// Sprites as they lie, and an order of them.
-
 pub struct Asking<A: Allocator> {
     pub lying: Vec<Size, A>,
     pub order: Vec<(usize, Size), A>,

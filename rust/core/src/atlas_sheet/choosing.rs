@@ -10,12 +10,12 @@ use crate::atlas_sheet::packing::packed;
 use crate::atlas_sheet::placed::Placed;
 use crate::atlas_sheet::search::greatest_sheet;
 use crate::atlas_sheet::sheets::{best_filled, filled_of, Filled};
+use crate::atlas_sheet::slots::{asks, is_over, slot_pixels, slots_of};
 use crate::guillotiere::Size;
 use wollemigo_support::alloc::{Allocator, Global};
-use wollemigo_support::prelude::Vec;
+use wollemigo_support::prelude::{vec, Vec};
 
 /// A sheet, and a place or none on it for each of the sprites that have none yet.
-
 pub struct OneSheet<A: Allocator = Global> {
     /// The size of the sheet.
     pub size: Size,
@@ -24,7 +24,6 @@ pub struct OneSheet<A: Allocator = Global> {
 }
 
 /// Some of the sprites, and how all of them lie on one sheet.
-
 pub struct Chosen<A: Allocator> {
     /// Which of the sprites are chosen.
     pub row: Vec<bool, A>,
@@ -34,6 +33,7 @@ pub struct Chosen<A: Allocator> {
 
 /// Whether this is the number of the group.
 #[inline]
+#[must_use]
 pub fn is_in(group: usize, number: Option<usize>) -> bool {
     match number {
         Some(number) => number == group,
@@ -139,6 +139,7 @@ fn spread<A: Allocator>(
 
 /// The first group of a sprite.
 #[inline]
+#[must_use]
 pub fn first_group(groups: &[Option<usize>]) -> Option<usize> {
     for number in groups {
         if let Some(group) = number {
@@ -215,7 +216,21 @@ fn with_group<A: Allocator + Copy>(
     }
 }
 
-// With each other group that the sheet takes, in the order of their first sprites.
+// How many pixels of the greatest sheet the sprites don't take where the row says so.
+#[inline]
+fn room_beside<A: Allocator>(
+    alloc: A,
+    row: &[bool],
+    sprites: &[Size],
+    options: &SheetOptions,
+) -> Result<u64, SheetError> {
+    let some = picked(alloc, row, sprites)?;
+    let room = pixels_of(greatest_sheet(options.allowed));
+    Ok(room.saturating_sub(sprite_pixels(&some)))
+}
+
+// With each other group that the sheet takes, in the order of their first sprites. Each is asked for once, and one with more
+// pixels than are left isn't tried.
 #[inline]
 fn with_groups<A: Allocator + Copy>(
     alloc: A,
@@ -224,12 +239,18 @@ fn with_groups<A: Allocator + Copy>(
     options: &SheetOptions,
     first: Chosen<A>,
 ) -> Result<Chosen<A>, SheetError> {
+    let slots = slots_of(alloc, groups)?;
+    let pixels = slot_pixels(alloc, &slots, sprites)?;
+    let mut asked = vec![in alloc; false; slots.len()]?;
+    let mut room = room_beside(alloc, &first.row, sprites, options)?;
     let mut chosen = first;
     for (number, place) in groups.iter().enumerate() {
         if let Some(group) = place {
-            let is_new = !groups[..number].contains(place);
-            if is_new && !chosen.row[number] {
+            let slot = slots[number];
+            let is_new = asks(&mut asked, slot);
+            if is_new && !chosen.row[number] && !is_over(&pixels, slot, room) {
                 chosen = with_group(alloc, sprites, groups, options, *group, chosen)?;
+                room = room_beside(alloc, &chosen.row, sprites, options)?;
             }
         }
     }

@@ -15,6 +15,7 @@ use wollemigo_support::prelude::Vec;
 
 /// Whether each sprite has a place.
 #[inline]
+#[must_use]
 pub fn is_whole<A: Allocator>(arrangement: &Arrangement<A>) -> bool {
     arrangement.places.iter().all(|place| place.is_some())
 }

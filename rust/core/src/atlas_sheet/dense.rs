@@ -26,12 +26,7 @@ fn by_height<A: Allocator + Copy>(alloc: A, sprites: &[Size]) -> Result<Vec<usiz
 // Where a sprite lies, if it has a place.
 #[inline]
 fn area_of(placed: Option<Placed>) -> Option<Rectangle> {
-    let placed = match placed {
-        Some(placed) => placed,
-        _ => {
-            return None;
-        }
-    };
+    let placed = placed?;
     Some(placed.area)
 }
 
@@ -50,12 +45,14 @@ fn areas<A: Allocator + Copy>(
 
 /// How many pixels a sheet has.
 #[inline]
+#[must_use]
 pub fn pixels_of(size: Size) -> u64 {
     size.width.max(0) as u64 * size.height.max(0) as u64
 }
 
 /// How many pixels the sprites have together, but at most 2^64 - 1.
 #[inline]
+#[must_use]
 pub fn sprite_pixels(sprites: &[Size]) -> u64 {
     let mut area: u64 = 0;
     for sprite in sprites {

@@ -10,7 +10,6 @@ use wollemigo_support::alloc::Allocator;
 use wollemigo_support::prelude::Vec;
 
 /// What the best of several ways finds.
-
 pub struct Filling<A: Allocator> {
     pub way: Way,
     pub found: Found<A>,
@@ -47,6 +46,7 @@ pub fn check(sprites: &[Size], spacing: Spacing) -> Result<(), SheetError> {
 
 /// A coordinate or a side, or 0 for one below 0.
 #[inline]
+#[must_use]
 pub fn from_zero(coordinate: i32) -> u64 {
     coordinate.max(0) as u64
 }
@@ -67,6 +67,7 @@ fn place_area(place: Option<Rectangle>) -> u64 {
 
 // How many pixels the places have together.
 #[inline]
+#[must_use]
 pub fn used_area(places: &[Option<Rectangle>]) -> u128 {
     let mut area = 0;
     for place in places {

@@ -11,7 +11,6 @@ use wollemigo_support::alloc::{Allocator, Global};
 use wollemigo_support::prelude::{vec, Vec};
 
 // Sheets for some of the sprites.
-
 struct SoFar<A: Allocator = Global> {
     sizes: Vec<Size, A>,
     // A place or none for each sprite.

@@ -34,6 +34,7 @@ pub struct SheetOptions {
 impl SheetOptions {
     /// These sheets, no padding, alignment 1 in both directions, no turning, no changes of the order.
     #[inline]
+    #[must_use]
     pub fn new(allowed: Allowed) -> SheetOptions {
         SheetOptions {
             allowed,
@@ -47,6 +48,7 @@ impl SheetOptions {
 
     /// The padding and the alignment.
     #[inline]
+    #[must_use]
     pub fn spacing(&self) -> Spacing {
         Spacing {
             padding: self.padding,

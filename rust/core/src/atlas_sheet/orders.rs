@@ -20,6 +20,7 @@ pub enum Key {
 impl Key {
     /// The value of a sprite under this key: pixels, or pixels times pixels. A side below 0 counts as 0.
     #[inline]
+    #[must_use]
     pub fn of(self, sprite: Size) -> u64 {
         let width = sprite.width.max(0) as u64;
         let height = sprite.height.max(0) as u64;

@@ -22,7 +22,6 @@ pub struct OnPage {
 }
 
 /// Sheets that take all sprites together.
-
 pub struct Pages<A: Allocator = Global> {
     /// The size of each sheet, in pixels.
     pub sizes: Vec<Size, A>,
@@ -32,6 +31,7 @@ pub struct Pages<A: Allocator = Global> {
 
 /// Whether no sprite has a place.
 #[inline]
+#[must_use]
 pub fn is_bare(places: &[Option<Placed>]) -> bool {
     places.iter().all(|place| place.is_none())
 }
@@ -73,12 +73,7 @@ pub fn sprites_left<A: Allocator>(
 // What was found on a sheet.
 #[inline]
 fn found_on(page: usize, place: Option<Placed>) -> Option<OnPage> {
-    let placed = match place {
-        Some(placed) => placed,
-        _ => {
-            return None;
-        }
-    };
+    let placed = place?;
     Some(OnPage { page, placed })
 }
 

@@ -20,12 +20,7 @@ pub struct Placed {
 // Where a sprite lies that has a place.
 #[inline]
 fn placed_in(turn: bool, sprite: Size, lying: Size, place: Option<Rectangle>) -> Option<Placed> {
-    let area = match place {
-        Some(area) => area,
-        _ => {
-            return None;
-        }
-    };
+    let area = place?;
     Some(Placed {
         area,
         turned: turn && lying != sprite,

@@ -23,6 +23,7 @@ fn inner_side(side: i32, padding: u16) -> i32 {
 
 /// What is left of a sheet without the padding at its right and below.
 #[inline]
+#[must_use]
 pub fn inner(sheet: Size, spacing: Spacing) -> Size {
     size2(
         inner_side(sheet.width, spacing.padding),
@@ -47,6 +48,7 @@ fn start<A: Allocator + Copy>(
 
 // What a sprite asks for: its sides with the padding.
 #[inline]
+#[must_use]
 pub fn asked(sprite: Size, padding: u16) -> Size {
     let border = i32::from(padding);
     size2(sprite.width + border, sprite.height + border)
@@ -61,6 +63,7 @@ fn inset_side(low: i32, padding: u16, side: i32) -> (i32, i32) {
 
 // The place of a sprite in the corner of a box, without the padding at its left and above.
 #[inline]
+#[must_use]
 pub fn inset(area: Rectangle, sprite: Size, padding: u16) -> Rectangle {
     let across = inset_side(area.min.x, padding, sprite.width);
     let down = inset_side(area.min.y, padding, sprite.height);
@@ -95,6 +98,29 @@ fn place<A: Allocator + Copy>(
     Ok(Some(inset(area, sprite, spacing.padding)))
 }
 
+// Asks for a place for a sprite, if it hasn't the size that found none just before.
+#[inline]
+fn place_unless<A: Allocator + Copy>(
+    packer: &mut SimpleAtlasAllocator<A>,
+    sprite: Size,
+    spacing: Spacing,
+    refused: Option<Size>,
+) -> Result<Option<Rectangle>, SheetError> {
+    if refused == Some(sprite) {
+        return Ok(None);
+    }
+    place(packer, sprite, spacing)
+}
+
+// The size that found no place, if it found none.
+#[inline]
+fn refused_by(sprite: Size, found: Option<Rectangle>) -> Option<Size> {
+    match found {
+        Some(_) => None,
+        None => Some(sprite),
+    }
+}
+
 // Numbered sprites ask one after another; what each finds is written at its number.
 #[inline]
 fn find_in<A: Allocator + Copy>(
@@ -103,8 +129,11 @@ fn find_in<A: Allocator + Copy>(
     spacing: Spacing,
     places: &mut [Option<Rectangle>],
 ) -> Result<(), SheetError> {
+    let mut refused = None;
     for sprite in order {
-        places[sprite.0] = place(packer, sprite.1, spacing)?;
+        let found = place_unless(packer, sprite.1, spacing, refused)?;
+        places[sprite.0] = found;
+        refused = refused_by(sprite.1, found);
     }
     Ok(())
 }
@@ -147,7 +176,6 @@ pub fn find_all<A: Allocator + Copy>(
 }
 
 /// What sprites find in a new sheet by one way.
-
 pub struct Found<A: Allocator> {
     /// The numbered sprites in the order in which they ask.
     pub order: Vec<(usize, Size), A>,

@@ -10,6 +10,7 @@ pub struct Random {
 impl Random {
     /// The row that begins at this seed.
     #[inline]
+    #[must_use]
     pub fn new(seed: u64) -> Random {
         Random { state: seed }
     }

@@ -186,6 +186,7 @@ fn greatest_power(greatest: i32) -> Size {
 
 /// The allowed sheet whose sides no other exceeds.
 #[inline]
+#[must_use]
 pub fn greatest_sheet(allowed: Allowed) -> Size {
     match allowed {
         Allowed::Powers { greatest } => greatest_power(greatest),
@@ -237,6 +238,7 @@ fn smaller_power(size: Size) -> Option<Size> {
 
 /// The allowed sheet that is one step smaller: a pixel lower, or with half of the longer side among powers of two.
 #[inline]
+#[must_use]
 pub fn smaller_sheet(allowed: Allowed, size: Size) -> Option<Size> {
     match allowed {
         Allowed::One(_) => None,

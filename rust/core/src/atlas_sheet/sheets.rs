@@ -18,7 +18,6 @@ use wollemigo_support::alloc::{Allocator, Global};
 use wollemigo_support::prelude::Vec;
 
 /// A sheet that takes all sprites.
-
 pub struct Sheet<A: Allocator = Global> {
     /// The size of the sheet, in pixels.
     pub size: Size,
@@ -31,7 +30,6 @@ pub struct Sheet<A: Allocator = Global> {
 }
 
 /// A filled sheet.
-
 pub struct Filled<A: Allocator = Global> {
     /// The size of the sheet, in pixels.
     pub size: Size,

@@ -11,7 +11,6 @@ use wollemigo_support::alloc::Allocator;
 use wollemigo_support::prelude::Vec;
 
 /// A way with its order of the sprites.
-
 pub struct Trial<A: Allocator> {
     pub way: Way,
     pub order: Vec<(usize, Size), A>,
@@ -33,7 +32,6 @@ pub fn trials_of<A: Allocator + Copy>(
 }
 
 /// A sheet that takes all sprites, and the way that packs them.
-
 pub struct Packing<A: Allocator> {
     pub size: Size,
     pub way: Way,

@@ -17,6 +17,7 @@ pub enum Choice {
 impl Choice {
     /// The options of an allocator that chooses so.
     #[inline]
+    #[must_use]
     pub fn options(self, spacing: Spacing) -> AllocatorOptions {
         let large_size_threshold = match self {
             Choice::Roomiest => 0,
@@ -83,13 +84,10 @@ pub const WAYS: [Way; 10] = [
     },
 ];
 
-/// Each key is in `WAYS` with each choice.
-#[inline]
-pub fn prove_ways() {}
-
 /// How many of `WAYS` a sheet with so many sprites is filled by: all ten up to 1,200 sprites, fewer for more, so that
 /// they ask for some 12,000 places together; at least the first.
 #[inline]
+#[must_use]
 pub fn ways_tried(sprites: usize) -> usize {
     (12000 / sprites.max(1)).clamp(1, 10)
 }

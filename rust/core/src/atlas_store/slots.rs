@@ -52,12 +52,14 @@ pub struct Slot {
 
 /// The tree's part of a slot.
 #[inline]
+#[must_use]
 pub fn read_node(slots: &[Slot], at: Link) -> Node {
     slots[at.number as usize].node
 }
 
 /// The lists' part of a slot.
 #[inline]
+#[must_use]
 pub fn read_ring(slots: &[Slot], at: Link) -> Ring {
     slots[at.number as usize].ring
 }

@@ -19,7 +19,6 @@ use wollemigo_support::prelude::Vec;
 
 /// The slots, the lists that run through them, and the options by which free slots are listed. `turns` counts the
 /// markings, joins and lifts, and is nothing at run time.
-
 pub struct Store<A: Allocator> {
     slots: Vec<Slot, A>,
     lists: Table<A>,
@@ -48,12 +47,14 @@ impl<A: Allocator> Store<A> {
 
     /// The tree's part of a slot.
     #[inline]
+    #[must_use]
     pub fn node(&self, at: Link) -> Node {
         read_node(&self.slots, at)
     }
 
     /// Whether this is a slot of a free leaf.
     #[inline]
+    #[must_use]
     pub fn is_free(&self, at: Link) -> bool {
         at.number != NO_SLOT && read_node(&self.slots, at).kind == NodeKind::Free
     }

@@ -41,6 +41,7 @@ fn grown_along(from: Size, to: Size, axis: Orientation) -> Size {
 
 /// How an atlas grows whose tree begins at `first`.
 #[inline]
+#[must_use]
 pub fn growth_for<A: Allocator>(store: &Store<A>, first: Link, from: Size, to: Size) -> Growth {
     let middle = grown_along(from, to, store.node(first).axis);
     let last = if middle == from {
@@ -58,6 +59,7 @@ pub fn growth_for<A: Allocator>(store: &Store<A>, first: Link, from: Size, to: S
 
 /// How many slots a growth takes.
 #[inline]
+#[must_use]
 pub fn slots_for<A: Allocator>(store: &Store<A>, growth: Growth) -> u32 {
     let has_strip = growth.middle != growth.from && !store.is_free(growth.last);
     let strip = if has_strip { 1 } else { 0 };

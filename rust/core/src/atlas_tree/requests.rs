@@ -27,6 +27,7 @@ pub fn grant<A: Allocator>(store: &mut Store<A>, chosen: Found, plan: Plan) -> A
 
 /// How many slots a plan takes.
 #[inline]
+#[must_use]
 pub fn slots_needed(plan: Plan) -> u32 {
     match plan {
         Plan::Whole => 0,
@@ -71,6 +72,7 @@ fn corner(leaf: &Node, whole: Size, size: Size) -> Plan {
 
 /// The plan for a request that fits a leaf.
 #[inline]
+#[must_use]
 pub fn plan_for(leaf: &Node, size: Size) -> Plan {
     let whole = exact_size(leaf.area);
     if whole.width == size.width {

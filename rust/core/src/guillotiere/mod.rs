@@ -10,8 +10,8 @@ mod simple;
 
 pub use crate::atlas_allocator::AtlasAllocator;
 pub use crate::atlas_model::{
-    laws, point2, size2, AllocId, Allocation, AllocatorOptions, AtlasError, Change, ChangeList,
-    Point, Rectangle, Size, SlotCount, DEFAULT_OPTIONS, MOST_SLOTS,
+    point2, size2, AllocId, Allocation, AllocatorOptions, AtlasError, Change, ChangeList, Point,
+    Rectangle, Size, SlotCount, DEFAULT_OPTIONS, MOST_SLOTS,
 };
 pub use crate::atlas_store::slots::NodeKind;
 pub use simple::SimpleAtlasAllocator;

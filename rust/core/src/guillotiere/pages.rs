@@ -34,6 +34,7 @@ fn has_room<A: Allocator + Copy>(page: &AtlasAllocator<A>, size: Size) -> bool {
 
 /// The first page on which a request has room, by `can_fit`; None if it has room on none.
 #[inline]
+#[must_use]
 pub fn page_with_room<A: Allocator + Copy>(
     pages: &[AtlasAllocator<A>],
     size: Size,
@@ -45,15 +46,3 @@ pub fn page_with_room<A: Allocator + Copy>(
     }
     None
 }
-
-/// Says that the rectangles of live ids of a page lie within it and apart from one another, and does nothing.
-#[inline]
-pub fn prove_page<A: Allocator + Copy>(pages: &[AtlasAllocator<A>], page: usize) {
-    if page < pages.len() {
-        pages[page].prove_sound();
-    }
-}
-
-/// Does nothing. A law: once a grant on a page is freed, each id of each page has the rectangle that it had before.
-#[inline]
-pub fn pages_are_given_back() {}

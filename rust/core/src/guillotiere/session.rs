@@ -29,7 +29,6 @@ pub enum Call {
 }
 
 /// What a call of an atlas answers.
-
 #[derive(Debug, PartialEq)]
 pub enum Reply<A: Allocator + Copy = Global> {
     /// A request was granted.
@@ -124,7 +123,7 @@ pub fn step<A: Allocator + Copy>(atlas: &mut AtlasAllocator<A>, call: &Call) -> 
 /// Makes calls of an atlas in turn, and appends a reply for each. Room for all replies is reserved first: `Memory` is the
 /// only error, it comes only where `replies` has less room, and after it atlas and replies are as before. Each call is
 /// answered as by `step`, from what the one before it left. So after any list of calls the boxes tile the atlas as
-/// leaves of one normal tree of cuts, and each reply is owed (docs/MODEL.md, "Sessions").
+/// leaves of one normal tree of cuts, and each reply is owed.
 #[inline]
 pub fn run<A: Allocator + Copy>(
     atlas: &mut AtlasAllocator<A>,

@@ -17,7 +17,7 @@ use crate::guillotiere::simple::boxes::{FreeBox, FreeBoxes};
 use wollemigo_support::alloc::{Allocator, Global};
 
 /// A simpler allocator, which hands out boxes and never takes one back: its free boxes make up no tree, and a part that
-/// is narrower or lower than the alignment is lost (docs/MODEL.md, "The simple allocator").
+/// is narrower or lower than the alignment is lost.
 ///
 /// It keeps the memory allocator that it was made with. Contracts see what it stores; `simple_state_of` reads its free boxes,
 /// its size and its options there.
@@ -25,7 +25,6 @@ use wollemigo_support::alloc::{Allocator, Global};
 /// The table of its lists of free boxes takes 21,632 bytes on the heap, and each entry for a free box 20 more. Entries
 /// that aren't used any more are used first by later calls. There are at most 4,294,967,295 entries: where more would
 /// be used, `Memory` is the answer.
-
 pub struct SimpleAtlasAllocator<A: Allocator + Copy = Global> {
     boxes: FreeBoxes<A>,
     size: Size,
@@ -58,6 +57,18 @@ impl<A: Allocator + Copy> SimpleAtlasAllocator<A> {
         })
     }
 
+    /// A copy: the whole stored value is equal, entries and lists included, and so are its answers to later calls, except
+    /// where memory is refused. `Memory` is the only error.
+    #[inline]
+    pub fn clone(&self) -> Result<Self, AtlasError> {
+        let boxes = self.boxes.copy()?;
+        Ok(SimpleAtlasAllocator {
+            boxes,
+            size: self.size,
+            options: self.options.copy(),
+        })
+    }
+
     /// Grants a request: the box of the rounded size at the `min` of the free box that is picked. None if the size is
     /// empty, if a rounded side passes 2147483647, or if the rounded size fits no free box; then no memory is asked
     /// for. The only error is `Memory`, if more entries would be used than there are and memory for them is refused.
@@ -69,18 +80,21 @@ impl<A: Allocator + Copy> SimpleAtlasAllocator<A> {
 
     /// The size of the allocator.
     #[inline]
+    #[must_use]
     pub fn size(&self) -> Size {
         self.size
     }
 
     /// The options of the allocator.
     #[inline]
+    #[must_use]
     pub fn options(&self) -> AllocatorOptions {
         self.options.plain()
     }
 
     /// Whether `grow` may be called with this size: neither side is less than the allocator's.
     #[inline]
+    #[must_use]
     pub fn can_grow_to(&self, new_size: Size) -> bool {
         let size = self.size();
         size.width <= new_size.width && size.height <= new_size.height
@@ -88,12 +102,14 @@ impl<A: Allocator + Copy> SimpleAtlasAllocator<A> {
 
     /// Whether one free box has the allocator's size.
     #[inline]
+    #[must_use]
     pub fn is_empty(&self) -> bool {
         is_listed(&self.boxes.entries, &Rectangle::from(self.size))
     }
 
     /// How many entries are used, one for each free box, how many there are, and how many there may be: 4,294,967,295.
     #[inline]
+    #[must_use]
     pub fn slots(&self) -> SlotCount {
         SlotCount {
             used: self.boxes.used,

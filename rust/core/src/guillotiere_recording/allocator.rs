@@ -23,7 +23,6 @@ const NAMES: u64 = 4294967296;
 /// An atlas that hands out names in place of ids, and records each of its calls that isn't refused.
 ///
 /// A name is an `AllocId` whose number is 0, 1, 2, .. in the order of the grants; none is given twice.
-
 pub struct RecordingAllocator<A: Allocator + Copy = Global> {
     atlas: AtlasAllocator<A>,
     names: Vec<LiveName, A>,
@@ -57,6 +56,7 @@ impl<A: Allocator + Copy> RecordingAllocator<A> {
 
     /// The size of the atlas, in pixels.
     #[inline]
+    #[must_use]
     pub fn size(&self) -> Size {
         let _log = &self.log;
         self.atlas.size()
@@ -184,6 +184,7 @@ impl<A: Allocator + Copy> RecordingAllocator<A> {
     /// Ends the session. The answer is what was recorded: events of a session, so that a replay of it can fail only as
     /// a session's can. Takes no memory.
     #[inline]
+    #[must_use]
     pub fn finish(self) -> Recording<A> {
         Recording::from_log(self.log)
     }

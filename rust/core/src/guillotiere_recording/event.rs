@@ -6,7 +6,6 @@ use crate::guillotiere_recording::error::RecordingError;
 use wollemigo_support::alloc::{Allocator, Global};
 
 /// One call that wasn't refused, with its answer. Every id in it is a name.
-
 #[derive(Debug, PartialEq)]
 pub enum Event<A: Allocator + Copy = Global> {
     /// A request of this size, in pixels, and what it was granted; None if it had no room.

@@ -40,6 +40,7 @@ pub fn map_names<A: Allocator + Copy>(
 
 /// Whether two change lists have the same changes and failures.
 #[inline]
+#[must_use]
 pub fn are_equal<A: Allocator + Copy>(one: &ChangeList<A>, other: &ChangeList<A>) -> bool {
     one == other
 }

@@ -9,7 +9,6 @@ use wollemigo_support::alloc::Allocator;
 use wollemigo_support::prelude::Vec;
 
 /// The size and the options of an atlas when it was new, and what happened since.
-
 pub struct Log<A: Allocator + Copy> {
     pub size: Size,
     pub options: AllocatorOptions,
@@ -19,6 +18,7 @@ pub struct Log<A: Allocator + Copy> {
 impl<A: Allocator + Copy> Log<A> {
     /// A log without events. Takes no memory.
     #[inline]
+    #[must_use]
     pub fn new(alloc: A, size: Size, options: &AllocatorOptions) -> Log<A> {
         Log {
             size,

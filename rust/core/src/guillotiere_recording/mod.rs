@@ -5,7 +5,7 @@ mod allocator;
 mod error;
 mod event;
 mod follow;
-pub mod laws;
+
 mod log;
 mod moves;
 mod names;

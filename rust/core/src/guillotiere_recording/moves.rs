@@ -8,7 +8,6 @@ use wollemigo_support::alloc::Allocator;
 use wollemigo_support::prelude::Vec;
 
 /// What moved and what found no room, under names, and the names of what is live now, by rising name.
-
 pub struct Moved<A: Allocator + Copy> {
     pub list: ChangeList<A>,
     pub names: Vec<LiveName, A>,

@@ -14,6 +14,7 @@ pub struct LiveName {
 
 /// Where a name is among names that rise.
 #[inline]
+#[must_use]
 pub fn place_of(names: &[LiveName], name: u32) -> Option<usize> {
     let at = names.partition_point(|entry| entry.name < name);
     if at < names.len() && names[at].name == name {
@@ -32,6 +33,7 @@ pub struct Found {
 
 /// The live id that a name is given to, among names that rise.
 #[inline]
+#[must_use]
 pub fn find<A: Allocator>(names: &Vec<LiveName, A>, name: u32) -> Option<Found> {
     let at = place_of(names, name)?;
     Some(Found {
@@ -50,6 +52,7 @@ pub fn append<T, A: Allocator>(items: &mut Vec<T, A>, item: T) {
 
 /// A grant under a name.
 #[inline]
+#[must_use]
 pub fn under_name(name: u32, granted: &Allocation) -> Allocation {
     Allocation {
         id: AllocId::deserialize(name),

@@ -13,7 +13,6 @@ use wollemigo_support::prelude::Vec;
 use core::mem;
 
 /// What happened to an atlas: its size and its options when it was new, and the events since.
-
 pub struct Recording<A: Allocator + Copy = Global> {
     log: Log<A>,
 }
@@ -27,18 +26,21 @@ impl<A: Allocator + Copy> Recording<A> {
 
     /// The size of the atlas when it was new, in pixels.
     #[inline]
+    #[must_use]
     pub fn size(&self) -> Size {
         self.log.size
     }
 
     /// The options of the atlas.
     #[inline]
+    #[must_use]
     pub fn options(&self) -> AllocatorOptions {
         self.log.options
     }
 
     /// The events, in order.
     #[inline]
+    #[must_use]
     pub fn events(&self) -> &[Event<A>] {
         &self.log.events
     }
@@ -81,7 +83,6 @@ impl<A: Allocator + Copy> Recording<A> {
 }
 
 /// Makes a recording of events that it is given, whether or not they happened.
-
 pub struct Recorder<A: Allocator + Copy = Global> {
     log: Log<A>,
 }
@@ -90,6 +91,7 @@ impl<A: Allocator + Copy> Recorder<A> {
     /// A recorder of an atlas of this size, in pixels, with these options, without events. Requires a size that isn't empty
     /// and valid options. Takes no memory.
     #[inline]
+    #[must_use]
     pub fn new(alloc: A, size: Size, options: &AllocatorOptions) -> Recorder<A> {
         Recorder {
             log: Log::new(alloc, size, options),

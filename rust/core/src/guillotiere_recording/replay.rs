@@ -44,7 +44,6 @@ impl From<AllocError> for ReplayFault {
 }
 
 /// What a replay saw: how many grants, freeings and failed requests, and what is live at its end, by rising name.
-
 #[derive(Debug, PartialEq)]
 pub struct ReplayStats<A: Allocator + Copy = Global> {
     /// How many requests were granted.
@@ -155,6 +154,7 @@ impl<A: Allocator + Copy> Log<A> {
 
 /// The fault of a replay whose event with this number isn't carried out.
 #[inline]
+#[must_use]
 pub fn fault_at(fault: EventFault, at: usize) -> ReplayFault {
     match fault {
         EventFault::Memory => ReplayFault::Memory,

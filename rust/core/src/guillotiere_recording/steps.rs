@@ -113,6 +113,7 @@ fn grant_again<A: Allocator + Copy>(
 
 /// Whether two rectangles have the same corners.
 #[inline]
+#[must_use]
 pub fn are_same(one: &Rectangle, other: &Rectangle) -> bool {
     one == other
 }

@@ -46,7 +46,6 @@ pub fn grow<A: Allocator + Copy>(
     atlas: &mut AtlasAllocator<A>,
     new_size: Size,
 ) -> Result<(), CallError> {
-    atlas.prove_sound();
     if !atlas.can_grow_to(new_size) {
         return Err(CallError::Shrinks);
     }
@@ -61,7 +60,6 @@ pub fn resize_and_rearrange<A: Allocator + Copy>(
     atlas: &mut AtlasAllocator<A>,
     new_size: Size,
 ) -> Result<ChangeList<A>, CallError> {
-    atlas.prove_sound();
     check_size(new_size)?;
     Ok(atlas.resize_and_rearrange(new_size)?)
 }
@@ -73,7 +71,6 @@ pub fn reset<A: Allocator + Copy>(
     size: Size,
     options: &AllocatorOptions,
 ) -> Result<(), CallError> {
-    atlas.prove_sound();
     check_start(size, options)?;
     atlas.reset(size, options)?;
     Ok(())

@@ -7,6 +7,7 @@ pub mod atlas;
 mod conditions;
 mod error;
 pub mod pages;
+#[cfg(feature = "recording")]
 pub mod recording;
 pub mod rectangles;
 pub mod simple;

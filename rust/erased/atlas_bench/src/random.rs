@@ -4,7 +4,6 @@
 use wollemigo_core::guillotiere::{size2, Size};
 
 /// The generator splitmix64.
-
 pub struct Random {
     state: u64,
 }

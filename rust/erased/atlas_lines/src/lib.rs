@@ -5,7 +5,7 @@
 
 mod atlas_calls;
 mod changes;
-pub mod laws;
+
 mod listing;
 mod replies;
 mod run;

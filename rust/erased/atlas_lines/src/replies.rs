@@ -53,7 +53,6 @@ pub enum Reply {
 }
 
 /// What a command is answered.
-
 pub enum Answer<A: Allocator + Copy> {
     /// One line.
     OneLine(Reply),

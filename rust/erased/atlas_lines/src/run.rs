@@ -42,7 +42,6 @@ fn room(left: u64) -> usize {
 }
 
 // The tool, the line that has begun, and how many lines came before it.
-
 struct Progress<'a, A: Allocator> {
     tool: Tool<'a, A>,
     line: FixedBytes<LINE>,

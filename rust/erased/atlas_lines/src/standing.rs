@@ -2,7 +2,6 @@
 //! What is in the tool's one place for an atlas.
 
 /// An atlas, a recorded session or neither.
-
 pub enum Standing<T, U> {
     /// Neither.
     Nothing,

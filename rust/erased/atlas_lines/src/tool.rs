@@ -17,7 +17,6 @@ use core::mem;
 
 /// What the tool holds: at first no allocator. It holds a reference to the memory's allocator, which is small whatever
 /// that allocator is.
-
 pub struct Tool<'a, A: Allocator> {
     alloc: &'a A,
     stand: Standing<AtlasAllocator<&'a A>, RecordingAllocator<&'a A>>,

@@ -8,7 +8,6 @@ use wollemigo_support::alloc::{AllocError, Global};
 use wollemigo_support::prelude::Vec;
 
 /// What a picture shows: the last size, and the boxes of the lines after it.
-
 pub struct Picture {
     /// The atlas's size.
     pub sides: Sides,
@@ -39,7 +38,6 @@ fn read_lines(alloc: Global, text: &[u8]) -> Result<Vec<Line>, SvgError> {
 }
 
 // What the lines so far show.
-
 struct View {
     sides: Option<Sides>,
     live: Vec<Named>,

@@ -2,7 +2,6 @@
 //! Bytes in a fixed buffer, and numbers in decimal among them, without leading zeros.
 
 /// At most `N` bytes, in order.
-
 pub struct FixedBytes<const N: usize> {
     entries: [u8; N],
     used: usize,

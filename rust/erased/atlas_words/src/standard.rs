@@ -5,7 +5,6 @@ use crate::devices::ToolInput;
 use wollemigo_support::io::Read;
 
 /// Any reader as a device. It reports the bytes that the reader reports, and none after a failure.
-
 pub struct StdInput<R> {
     inner: R,
     failed: bool,

@@ -5,7 +5,6 @@ use crate::devices::ToolOutput;
 use wollemigo_support::io::Write;
 
 /// Any writer as a device. It reports the bytes that the writer reports, and none after a failure.
-
 pub struct StdOutput<W> {
     inner: W,
     failed: bool,

@@ -11,7 +11,6 @@ use wollemigo_support::alloc::Global;
 use wollemigo_support::prelude::Vec;
 
 /// A cache, once there is one, and what the last call changed.
-
 pub struct Session {
     cache: Option<TextureCache<u32>>,
     changes: Changes<u32>,

@@ -10,7 +10,6 @@ pub fn pair<A: Allocator + Copy>(
     id: AllocId,
     other: AllocId,
 ) -> Option<(Rectangle, Rectangle)> {
-    atlas.prove_sound();
     let first = atlas.get(id)?;
     let second = atlas.get(other)?;
     Some((first, second))
@@ -29,7 +28,6 @@ pub fn two<A: Allocator + Copy>(
     second: Size,
 ) -> Result<Option<(Rectangle, Rectangle)>, AtlasError> {
     let mut atlas = AtlasAllocator::new(alloc, sheet)?;
-    atlas.prove_sound();
     let a = match atlas.allocate(first)? {
         Some(a) => a,
         _ => {

@@ -2,7 +2,7 @@
 //! Rectangles alongside those of an atlas, which stays as it is.
 
 use wollemigo_core::guillotiere::{
-    laws, size2, AtlasAllocator, AtlasError, Rectangle, SimpleAtlasAllocator, Size,
+    size2, AtlasAllocator, AtlasError, Rectangle, SimpleAtlasAllocator, Size,
 };
 use wollemigo_support::alloc::Allocator;
 
@@ -16,7 +16,6 @@ pub fn place_beside<'a, B: Allocator>(
     atlas: &AtlasAllocator<&'a B>,
     request: Size,
 ) -> Result<Option<Rectangle>, AtlasError> {
-    laws::guarded_are_disjoint();
     let mut simple = unit(alloc)?;
     simple.init_from_allocator(atlas)?;
     match simple.allocate(request) {

@@ -1,7 +1,6 @@
 // Erased from crates/calling/src/plain.rt by rust/erase: don't edit.
 //! A grant in plain words: its sides, its place, what may be added to its coordinates, and its errors.
 
-use wollemigo_core::guillotiere::laws::idle_has_room;
 use wollemigo_core::guillotiere::{
     point2, size2, AllocId, AtlasAllocator, AtlasError, Point, Rectangle, Size,
 };
@@ -119,8 +118,6 @@ pub fn fits_empty<A: Allocator + Copy>(
     atlas: &mut AtlasAllocator<A>,
     size: Size,
 ) -> Result<Option<Rectangle>, AtlasError> {
-    atlas.prove_sound();
-    idle_has_room();
     match atlas.allocate(size)? {
         Some(a) => Ok(Some(a.rectangle)),
         None => Ok(None),

@@ -7,7 +7,6 @@ use wollemigo_core::guillotiere::{
 use wollemigo_support::alloc::{Allocator, Global};
 
 /// Sprites that each have a rectangle of their own.
-
 pub struct Sheet<A: Allocator + Copy = Global> {
     atlas: AtlasAllocator<A>,
 }

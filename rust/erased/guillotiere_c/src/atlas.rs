@@ -1,7 +1,7 @@
 // Erased from crates/guillotiere_c/src/atlas.rt by rust/erase: don't edit.
 //! The exports of an atlas, but for those that take or write lists.
 
-use crate::atlas_handle::AtlasHandle;
+use crate::atlas_handle::{AtlasHandle, AtlasReader};
 use crate::plain::{
     options_for, plain_allocation, plain_options, plain_rectangle, plain_size, plain_slots,
     status_of, status_of_done, PlainAllocation, PlainAreas, PlainOptions, PlainRectangle,
@@ -10,15 +10,24 @@ use crate::plain::{
 use wollemigo_core::guillotiere::{size2, AllocId, AtlasAllocator};
 use wollemigo_support::alloc::Global;
 
-/// Grants a request. `DONE`, and then the id and its rectangle are in `granted`; `NO_ROOM`, `SLOTS` or `MEMORY`.
+/// Asks for a box of this size, rounded up by the options. `DONE`: `granted` has its id and its rectangle, which overlaps no
+/// other live box. `NO_ROOM` if the size is empty or fits no free box; `SLOTS`; `MEMORY`; `EMPTY`.
 #[no_mangle]
 pub extern "C" fn guillotiere_atlas_allocate(
-    atlas: &mut AtlasHandle,
+    atlas: Option<&mut AtlasHandle>,
     width: i32,
     height: i32,
-    granted: &mut PlainAllocation,
+    granted: Option<&mut PlainAllocation>,
 ) -> u32 {
     let alloc = Global;
+    let atlas = match atlas {
+        Some(atlas) => atlas,
+        None => return crate::plain::NULL_POINTER,
+    };
+    let granted = match granted {
+        Some(granted) => granted,
+        None => return crate::plain::NULL_POINTER,
+    };
     if !atlas.holds() {
         return EMPTY;
     }
@@ -35,10 +44,14 @@ pub extern "C" fn guillotiere_atlas_allocate(
     }
 }
 
-/// Frees the box of an id. `DONE`, or `NOT_LIVE`.
+/// Frees the box of a live id: it joins the free space next to it. Takes no memory. `DONE`; `NOT_LIVE`; `EMPTY`.
 #[no_mangle]
-pub extern "C" fn guillotiere_atlas_deallocate(atlas: &mut AtlasHandle, id: u32) -> u32 {
+pub extern "C" fn guillotiere_atlas_deallocate(atlas: Option<&mut AtlasHandle>, id: u32) -> u32 {
     let alloc = Global;
+    let atlas = match atlas {
+        Some(atlas) => atlas,
+        None => return crate::plain::NULL_POINTER,
+    };
     if !atlas.holds() {
         return EMPTY;
     }
@@ -48,20 +61,26 @@ pub extern "C" fn guillotiere_atlas_deallocate(atlas: &mut AtlasHandle, id: u32)
     status_of_done(answer)
 }
 
-/// The rectangle of a live id. `DONE`, and then it is in `found`; `NOT_LIVE`.
+/// The rectangle of a live id. `DONE`: it is in `found`. `NOT_LIVE`; `EMPTY`.
 #[no_mangle]
 pub extern "C" fn guillotiere_atlas_get(
-    atlas: &mut AtlasHandle,
+    atlas: Option<&AtlasReader>,
     id: u32,
-    found: &mut PlainRectangle,
+    found: Option<&mut PlainRectangle>,
 ) -> u32 {
-    let alloc = Global;
+    let atlas = match atlas {
+        Some(atlas) => atlas,
+        None => return crate::plain::NULL_POINTER,
+    };
+    let found = match found {
+        Some(found) => found,
+        None => return crate::plain::NULL_POINTER,
+    };
     if !atlas.holds() {
         return EMPTY;
     }
-    let held = atlas.take(alloc);
+    let held = atlas.lent();
     let rectangle = held.get(AllocId::deserialize(id));
-    atlas.put(held);
     match rectangle {
         Some(rectangle) => {
             *found = plain_rectangle(rectangle);
@@ -71,11 +90,19 @@ pub extern "C" fn guillotiere_atlas_get(
     }
 }
 
-/// Makes the atlas larger; every live id keeps its rectangle. `DONE`; `BAD_CALL` if a side shrinks; `SLOTS` or
-/// `MEMORY`.
+/// Makes the atlas larger; every live id keeps its rectangle. `DONE`; `BAD_CALL` if a side shrinks; `SLOTS`; `MEMORY`;
+/// `EMPTY`.
 #[no_mangle]
-pub extern "C" fn guillotiere_atlas_grow(atlas: &mut AtlasHandle, width: i32, height: i32) -> u32 {
+pub extern "C" fn guillotiere_atlas_grow(
+    atlas: Option<&mut AtlasHandle>,
+    width: i32,
+    height: i32,
+) -> u32 {
     let alloc = Global;
+    let atlas = match atlas {
+        Some(atlas) => atlas,
+        None => return crate::plain::NULL_POINTER,
+    };
     if !atlas.holds() {
         return EMPTY;
     }
@@ -90,48 +117,57 @@ pub extern "C" fn guillotiere_atlas_grow(atlas: &mut AtlasHandle, width: i32, he
     status_of_done(answer)
 }
 
-/// Whether the atlas may be grown to this size: no side shrinks. False of a handle that holds nothing.
+/// Whether the atlas may be grown to this size, in pixels: no side shrinks. False of a handle that holds nothing.
 #[no_mangle]
 pub extern "C" fn guillotiere_atlas_can_grow_to(
-    atlas: &mut AtlasHandle,
+    atlas: Option<&AtlasReader>,
     width: i32,
     height: i32,
 ) -> bool {
-    let alloc = Global;
+    let atlas = match atlas {
+        Some(atlas) => atlas,
+        None => return false,
+    };
     if !atlas.holds() {
         return false;
     }
-    let held = atlas.take(alloc);
-    let can_grow = held.can_grow_to(size2(width, height));
-    atlas.put(held);
-    can_grow
+    let held = atlas.lent();
+    held.can_grow_to(size2(width, height))
 }
 
-/// Whether a request of this size has room: then `guillotiere_atlas_allocate` grants it, slots and memory aside; else
-/// it answers `NO_ROOM`. False of a handle that holds nothing.
+/// Whether a request of this size, in pixels, has room: then `guillotiere_atlas_allocate` grants it, slots and memory aside;
+/// else it answers `NO_ROOM`. Takes one search and no memory. False of a handle that holds nothing.
 #[no_mangle]
 pub extern "C" fn guillotiere_atlas_can_fit(
-    atlas: &mut AtlasHandle,
+    atlas: Option<&AtlasReader>,
     width: i32,
     height: i32,
 ) -> bool {
-    let alloc = Global;
+    let atlas = match atlas {
+        Some(atlas) => atlas,
+        None => return false,
+    };
     if !atlas.holds() {
         return false;
     }
-    let held = atlas.take(alloc);
-    let can_fit = held.can_fit(size2(width, height));
-    atlas.put(held);
-    can_fit
+    let held = atlas.lent();
+    held.can_fit(size2(width, height))
 }
 
-/// Takes memory for so many slots in addition to those that are used; nothing else changes. `DONE`; `SLOTS` if more
-/// slots would be used than the limit allows; `MEMORY`. A grant uses at most 4 more slots, a growth at most 3, a
-/// freeing none, and while there is memory for them the answer isn't `MEMORY`. The memory stays until the atlas is
-/// rearranged or freed.
+/// Takes memory for this many slots beyond those in use; nothing else changes. While there is memory for 4 more slots no
+/// request is answered `MEMORY`, and for 3 no growth; a request uses at most 4, a growth at most 3, a freeing none. The
+/// memory stays until the atlas is rearranged or freed, and a copy has none of it.
+/// `DONE`; `SLOTS` if more slots would be used than the limit allows; `MEMORY`; `EMPTY`.
 #[no_mangle]
-pub extern "C" fn guillotiere_atlas_reserve(atlas: &mut AtlasHandle, additional: u32) -> u32 {
+pub extern "C" fn guillotiere_atlas_reserve(
+    atlas: Option<&mut AtlasHandle>,
+    additional: u32,
+) -> u32 {
     let alloc = Global;
+    let atlas = match atlas {
+        Some(atlas) => atlas,
+        None => return crate::plain::NULL_POINTER,
+    };
     if !atlas.holds() {
         return EMPTY;
     }
@@ -141,10 +177,14 @@ pub extern "C" fn guillotiere_atlas_reserve(atlas: &mut AtlasHandle, additional:
     status_of_done(answer)
 }
 
-/// Starts again at the present size, options and limit: one free rectangle, no id live. Always `DONE`.
+/// Starts again at the present size, options and limit: one free box, no id live. Takes no memory. `DONE`; `EMPTY`.
 #[no_mangle]
-pub extern "C" fn guillotiere_atlas_clear(atlas: &mut AtlasHandle) -> u32 {
+pub extern "C" fn guillotiere_atlas_clear(atlas: Option<&mut AtlasHandle>) -> u32 {
     let alloc = Global;
+    let atlas = match atlas {
+        Some(atlas) => atlas,
+        None => return crate::plain::NULL_POINTER,
+    };
     if !atlas.holds() {
         return EMPTY;
     }
@@ -154,16 +194,24 @@ pub extern "C" fn guillotiere_atlas_clear(atlas: &mut AtlasHandle) -> u32 {
     status_of_done(answer)
 }
 
-/// Starts again at this size and with these options; the limit stays. `DONE`; `BAD_CALL` if the size is empty or the
-/// options aren't valid.
+/// Starts again at this size and with these options; the limit stays. Takes no memory.
+/// `DONE`; `BAD_CALL` if a side isn't above 0 or the options aren't valid; `EMPTY`.
 #[no_mangle]
 pub extern "C" fn guillotiere_atlas_reset(
-    atlas: &mut AtlasHandle,
+    atlas: Option<&mut AtlasHandle>,
     width: i32,
     height: i32,
-    options: &PlainOptions,
+    options: Option<&PlainOptions>,
 ) -> u32 {
     let alloc = Global;
+    let atlas = match atlas {
+        Some(atlas) => atlas,
+        None => return crate::plain::NULL_POINTER,
+    };
+    let options = match options {
+        Some(options) => options,
+        None => return crate::plain::NULL_POINTER,
+    };
     if !atlas.holds() {
         return EMPTY;
     }
@@ -178,73 +226,107 @@ pub extern "C" fn guillotiere_atlas_reset(
     status_of_done(answer)
 }
 
-/// The size of the atlas, in pixels. `DONE`.
+/// The size of the atlas. `DONE`; `EMPTY`.
 #[no_mangle]
-pub extern "C" fn guillotiere_atlas_size(atlas: &mut AtlasHandle, size: &mut PlainSize) -> u32 {
-    let alloc = Global;
+pub extern "C" fn guillotiere_atlas_size(
+    atlas: Option<&AtlasReader>,
+    size: Option<&mut PlainSize>,
+) -> u32 {
+    let atlas = match atlas {
+        Some(atlas) => atlas,
+        None => return crate::plain::NULL_POINTER,
+    };
+    let size = match size {
+        Some(size) => size,
+        None => return crate::plain::NULL_POINTER,
+    };
     if !atlas.holds() {
         return EMPTY;
     }
-    let held = atlas.take(alloc);
+    let held = atlas.lent();
     *size = plain_size(held.size());
-    atlas.put(held);
     DONE
 }
 
-/// The options of the atlas. `DONE`.
+/// The options of the atlas. `DONE`; `EMPTY`.
 #[no_mangle]
 pub extern "C" fn guillotiere_atlas_options(
-    atlas: &mut AtlasHandle,
-    options: &mut PlainOptions,
+    atlas: Option<&AtlasReader>,
+    options: Option<&mut PlainOptions>,
 ) -> u32 {
-    let alloc = Global;
+    let atlas = match atlas {
+        Some(atlas) => atlas,
+        None => return crate::plain::NULL_POINTER,
+    };
+    let options = match options {
+        Some(options) => options,
+        None => return crate::plain::NULL_POINTER,
+    };
     if !atlas.holds() {
         return EMPTY;
     }
-    let held = atlas.take(alloc);
+    let held = atlas.lent();
     *options = plain_options(held.options());
-    atlas.put(held);
     DONE
 }
 
-/// How many slots are used, the most that were used at once since the last start, and how many may be used. `DONE`.
+/// The counts of slots. `DONE`; `EMPTY`.
 #[no_mangle]
-pub extern "C" fn guillotiere_atlas_slots(atlas: &mut AtlasHandle, slots: &mut PlainSlots) -> u32 {
-    let alloc = Global;
+pub extern "C" fn guillotiere_atlas_slots(
+    atlas: Option<&AtlasReader>,
+    slots: Option<&mut PlainSlots>,
+) -> u32 {
+    let atlas = match atlas {
+        Some(atlas) => atlas,
+        None => return crate::plain::NULL_POINTER,
+    };
+    let slots = match slots {
+        Some(slots) => slots,
+        None => return crate::plain::NULL_POINTER,
+    };
     if !atlas.holds() {
         return EMPTY;
     }
-    let held = atlas.take(alloc);
+    let held = atlas.lent();
     *slots = plain_slots(held.slots());
-    atlas.put(held);
     DONE
 }
 
-/// The area of all live and of all free rectangles, in unit squares: together that of the atlas. `DONE`.
+/// The areas of all live and of all free boxes, in one pass over the slots. `DONE`; `EMPTY`.
 #[no_mangle]
-pub extern "C" fn guillotiere_atlas_areas(atlas: &mut AtlasHandle, areas: &mut PlainAreas) -> u32 {
-    let alloc = Global;
+pub extern "C" fn guillotiere_atlas_areas(
+    atlas: Option<&AtlasReader>,
+    areas: Option<&mut PlainAreas>,
+) -> u32 {
+    let atlas = match atlas {
+        Some(atlas) => atlas,
+        None => return crate::plain::NULL_POINTER,
+    };
+    let areas = match areas {
+        Some(areas) => areas,
+        None => return crate::plain::NULL_POINTER,
+    };
     if !atlas.holds() {
         return EMPTY;
     }
-    let held = atlas.take(alloc);
+    let held = atlas.lent();
     *areas = PlainAreas {
         allocated: held.allocated_area(),
         free: held.free_area(),
     };
-    atlas.put(held);
     DONE
 }
 
 /// Whether no id is live; also true of a handle that holds nothing.
 #[no_mangle]
-pub extern "C" fn guillotiere_atlas_is_empty(atlas: &mut AtlasHandle) -> bool {
-    let alloc = Global;
+pub extern "C" fn guillotiere_atlas_is_empty(atlas: Option<&AtlasReader>) -> bool {
+    let atlas = match atlas {
+        Some(atlas) => atlas,
+        None => return false,
+    };
     if !atlas.holds() {
         return true;
     }
-    let held = atlas.take(alloc);
-    let is_empty = held.is_empty();
-    atlas.put(held);
-    is_empty
+    let held = atlas.lent();
+    held.is_empty()
 }

@@ -7,6 +7,7 @@ use wollemigo_support::alloc::Global;
 use wollemigo_support::prelude::Box;
 
 use core::mem::replace;
+use core::ptr::null_mut;
 
 /// A place for an atlas: it holds one, or nothing, and then it is null.
 #[repr(C)]
@@ -17,9 +18,7 @@ pub struct AtlasHandle {
 impl AtlasHandle {
     /// A handle that holds nothing.
     pub fn none() -> AtlasHandle {
-        AtlasHandle {
-            at: std::ptr::null_mut(),
-        }
+        AtlasHandle { at: null_mut() }
     }
 
     /// Drops a handle. Requires that it holds nothing, so that nothing is lost.
@@ -57,8 +56,26 @@ impl AtlasHandle {
 
     /// Puts an atlas in. Requires that the handle holds nothing.
     pub fn put(&mut self, atlas: Box<AtlasAllocator>) {
-        atlas.prove_sound();
         let empty = replace(self, AtlasHandle::close(hold(atlas)));
         AtlasHandle::forget(empty);
+    }
+}
+
+/// The same place for a call that only reads: what lies at the pointer is lent to it, and any number of such calls may run
+/// at once.
+#[repr(C)]
+pub struct AtlasReader {
+    at: *const u8,
+}
+
+impl AtlasReader {
+    /// Whether it holds an atlas.
+    pub fn holds(&self) -> bool {
+        !self.at.is_null()
+    }
+
+    /// The atlas. Requires that it holds one.
+    pub fn lent(&self) -> &AtlasAllocator {
+        unsafe { &*(self.at as *const AtlasAllocator) }
     }
 }

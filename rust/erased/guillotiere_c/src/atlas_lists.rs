@@ -1,7 +1,7 @@
 // Erased from crates/guillotiere_c/src/atlas_lists.rt by rust/erase: don't edit.
 //! The exports of an atlas that take or write lists.
 
-use crate::atlas_handle::AtlasHandle;
+use crate::atlas_handle::{AtlasHandle, AtlasReader};
 use crate::plain::{
     status_of, status_of_done, PlainAllocation, PlainChange, PlainChangeCount, PlainRectangle,
     BAD_CALL, DONE, EMPTY, MEMORY, NOT_LIVE, SHORT,
@@ -12,23 +12,32 @@ use wollemigo_support::alloc::Global;
 use wollemigo_support::prelude::Vec;
 use wollemigo_support::raw::{slice, slice_mut};
 
-/// Writes the live ids with their rectangles, by rising number of the slot, as many as there is room for, and into
-/// `count` how many there are. `DONE` or `MEMORY`.
+/// Writes the live boxes, by rising slot, which is the low 24 bits of the id: as many as there is room for, and into `count`
+/// how many there are. What `found` has after them stays. `DONE`; `MEMORY`; `EMPTY`.
 #[no_mangle]
 pub extern "C" fn guillotiere_atlas_live(
-    atlas: &mut AtlasHandle,
+    atlas: Option<&AtlasReader>,
     found: *mut PlainAllocation,
     found_len: usize,
-    count: &mut usize,
+    count: Option<&mut usize>,
 ) -> u32 {
-    let alloc = Global;
-    let found = unsafe { slice_mut(found, found_len) };
+    let atlas = match atlas {
+        Some(atlas) => atlas,
+        None => return crate::plain::NULL_POINTER,
+    };
+    let found = match unsafe { slice_mut(found, found_len) } {
+        Some(found) => found,
+        None => return crate::plain::NULL_POINTER,
+    };
+    let count = match count {
+        Some(count) => count,
+        None => return crate::plain::NULL_POINTER,
+    };
     if !atlas.holds() {
         return EMPTY;
     }
-    let held = atlas.take(alloc);
+    let held = atlas.lent();
     let list = held.allocations();
-    atlas.put(held);
     let list = match list {
         Ok(list) => list,
         _ => {
@@ -40,23 +49,31 @@ pub extern "C" fn guillotiere_atlas_live(
     DONE
 }
 
-/// Writes the free rectangles, in an order that is left open, as many as there is room for, and into `count` how many
-/// there are. `DONE` or `MEMORY`.
+/// The same of the free boxes, in an order that is left open.
 #[no_mangle]
 pub extern "C" fn guillotiere_atlas_free_boxes(
-    atlas: &mut AtlasHandle,
+    atlas: Option<&AtlasReader>,
     found: *mut PlainRectangle,
     found_len: usize,
-    count: &mut usize,
+    count: Option<&mut usize>,
 ) -> u32 {
-    let alloc = Global;
-    let found = unsafe { slice_mut(found, found_len) };
+    let atlas = match atlas {
+        Some(atlas) => atlas,
+        None => return crate::plain::NULL_POINTER,
+    };
+    let found = match unsafe { slice_mut(found, found_len) } {
+        Some(found) => found,
+        None => return crate::plain::NULL_POINTER,
+    };
+    let count = match count {
+        Some(count) => count,
+        None => return crate::plain::NULL_POINTER,
+    };
     if !atlas.holds() {
         return EMPTY;
     }
-    let held = atlas.take(alloc);
+    let held = atlas.lent();
     let list = held.free_rectangles();
-    atlas.put(held);
     let list = match list {
         Ok(list) => list,
         _ => {
@@ -94,16 +111,30 @@ fn write_whole_list(
 /// `guillotiere_atlas_resize_and_rearrange` at the present size.
 #[no_mangle]
 pub extern "C" fn guillotiere_atlas_rearrange(
-    atlas: &mut AtlasHandle,
+    atlas: Option<&mut AtlasHandle>,
     changes: *mut PlainChange,
     changes_len: usize,
     failures: *mut PlainAllocation,
     failures_len: usize,
-    count: &mut PlainChangeCount,
+    count: Option<&mut PlainChangeCount>,
 ) -> u32 {
     let alloc = Global;
-    let changes = unsafe { slice_mut(changes, changes_len) };
-    let failures = unsafe { slice_mut(failures, failures_len) };
+    let atlas = match atlas {
+        Some(atlas) => atlas,
+        None => return crate::plain::NULL_POINTER,
+    };
+    let changes = match unsafe { slice_mut(changes, changes_len) } {
+        Some(changes) => changes,
+        None => return crate::plain::NULL_POINTER,
+    };
+    let failures = match unsafe { slice_mut(failures, failures_len) } {
+        Some(failures) => failures,
+        None => return crate::plain::NULL_POINTER,
+    };
+    let count = match count {
+        Some(count) => count,
+        None => return crate::plain::NULL_POINTER,
+    };
     if !atlas.holds() {
         return EMPTY;
     }
@@ -124,24 +155,38 @@ pub extern "C" fn guillotiere_atlas_rearrange(
     }
 }
 
-/// Repacks what is live into an empty atlas of this size, the largest first, and lists what moved and what found no
-/// room; the ids of the latter are no longer live, and all former ids are void. Each array has room for as many as
-/// there are used slots, else the answer is `SHORT`. `DONE`; `BAD_CALL` if the size is empty; `SHORT`, `SLOTS` or
-/// `MEMORY`.
+/// Repacks what is live into an empty atlas of this size, the largest first; options and limit stay. All former ids are void.
+/// `changes` gets what was placed, `failures` what found no room and is no longer live, `count` how many of each. Both arrays
+/// must have room for as many as there are used slots (`guillotiere_atlas_slots`), else the answer is `SHORT`.
+/// `DONE`; `BAD_CALL` if a side isn't above 0; `SHORT`; `SLOTS`; `MEMORY`; `EMPTY`.
 #[no_mangle]
 pub extern "C" fn guillotiere_atlas_resize_and_rearrange(
-    atlas: &mut AtlasHandle,
+    atlas: Option<&mut AtlasHandle>,
     width: i32,
     height: i32,
     changes: *mut PlainChange,
     changes_len: usize,
     failures: *mut PlainAllocation,
     failures_len: usize,
-    count: &mut PlainChangeCount,
+    count: Option<&mut PlainChangeCount>,
 ) -> u32 {
     let alloc = Global;
-    let changes = unsafe { slice_mut(changes, changes_len) };
-    let failures = unsafe { slice_mut(failures, failures_len) };
+    let atlas = match atlas {
+        Some(atlas) => atlas,
+        None => return crate::plain::NULL_POINTER,
+    };
+    let changes = match unsafe { slice_mut(changes, changes_len) } {
+        Some(changes) => changes,
+        None => return crate::plain::NULL_POINTER,
+    };
+    let failures = match unsafe { slice_mut(failures, failures_len) } {
+        Some(failures) => failures,
+        None => return crate::plain::NULL_POINTER,
+    };
+    let count = match count {
+        Some(count) => count,
+        None => return crate::plain::NULL_POINTER,
+    };
     if !atlas.holds() {
         return EMPTY;
     }
@@ -175,16 +220,23 @@ fn ids_of(alloc: Global, numbers: &[u32]) -> Result<Vec<AllocId>, AtlasError> {
     Ok(ids)
 }
 
-/// Frees the boxes of the ids of a list. `DONE`; `NOT_LIVE` if one of them isn't live or is in the list twice;
-/// `MEMORY`, as the list is copied first.
+/// Frees the boxes of a list of ids, all or none. `DONE`; `NOT_LIVE` if one isn't live or is listed twice; `MEMORY`, as the
+/// list is copied first; `EMPTY`.
 #[no_mangle]
 pub extern "C" fn guillotiere_atlas_deallocate_all(
-    atlas: &mut AtlasHandle,
+    atlas: Option<&mut AtlasHandle>,
     ids: *const u32,
     ids_len: usize,
 ) -> u32 {
     let alloc = Global;
-    let ids = unsafe { slice(ids, ids_len) };
+    let atlas = match atlas {
+        Some(atlas) => atlas,
+        None => return crate::plain::NULL_POINTER,
+    };
+    let ids = match unsafe { slice(ids, ids_len) } {
+        Some(ids) => ids,
+        None => return crate::plain::NULL_POINTER,
+    };
     if !atlas.holds() {
         return EMPTY;
     }

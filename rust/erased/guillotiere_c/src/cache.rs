@@ -1,10 +1,11 @@
 // Erased from crates/guillotiere_c/src/cache.rt by rust/erase: don't edit.
 //! The exports of a cache: its life, its keys and its changes.
 
-use crate::cache_handle::CacheHandle;
+use crate::cache_handle::{CacheHandle, CacheReader};
 use crate::followed::FollowedCache;
 use crate::plain::{
-    DONE, EMPTY, FRAME_FULL, HELD, MEMORY, NEVER_FITS, NOT_HELD, NO_CHANGE, NO_PAGE, SLOTS,
+    DONE, EMPTY, FRAME_FULL, HELD, MEMORY, NEVER_FITS, NOT_HELD, NO_CHANGE, NO_PAGE, OCCUPIED,
+    SLOTS,
 };
 use crate::plain_cache::{
     cache_options_for, plain_cache_change, plain_place, status_of_cache_error,
@@ -14,18 +15,28 @@ use wollemigo_core::atlas_cache::{CacheError, Inserted, Place};
 use wollemigo_core::guillotiere::size2;
 use wollemigo_support::alloc::Global;
 use wollemigo_support::prelude::Box;
+use wollemigo_support::raw::spare;
 
-/// Makes a cache with these options, where the handle holds nothing. `DONE`; `EMPTY` if the handle holds a cache already;
-/// the first of `EMPTY_PAGE`, `LARGEST_PAGE`, `NO_PAGES`, `BAD_PADDING`, `BAD_ATLAS` and `NOTHING_FITS` that is wrong
-/// with the options; `MEMORY`.
+/// Makes a cache that holds nothing and has no page yet, where the handle holds nothing. Keys are any numbers of 64 bits;
+/// they are hashed with a fixed seed.
+/// `DONE`; `OCCUPIED` if the handle holds a cache already; the first of `EMPTY_PAGE`, `LARGEST_PAGE`, `NO_PAGES`,
+/// `BAD_PADDING`, `BAD_ATLAS` and `NOTHING_FITS` that is wrong with the options; `MEMORY`.
 #[no_mangle]
 pub extern "C" fn guillotiere_cache_new(
-    options: &PlainCacheOptions,
-    cache: &mut CacheHandle,
+    options: Option<&PlainCacheOptions>,
+    cache: Option<&mut CacheHandle>,
 ) -> u32 {
     let alloc = Global;
+    let options = match options {
+        Some(options) => options,
+        None => return crate::plain::NULL_POINTER,
+    };
+    let cache = match cache {
+        Some(cache) => cache,
+        None => return crate::plain::NULL_POINTER,
+    };
     if cache.holds() {
-        return EMPTY;
+        return OCCUPIED;
     }
     let made = match FollowedCache::new(alloc, cache_options_for(options)) {
         Ok(made) => made,
@@ -40,20 +51,29 @@ pub extern "C" fn guillotiere_cache_new(
     }
 }
 
-/// Frees a cache, with all that it takes; the handle holds nothing then.
+/// Frees a cache, with all its memory; the handle holds nothing then.
 #[no_mangle]
-pub extern "C" fn guillotiere_cache_free(cache: &mut CacheHandle) {
+pub extern "C" fn guillotiere_cache_free(cache: Option<&mut CacheHandle>) {
     let alloc = Global;
+    let cache = match cache {
+        Some(cache) => cache,
+        None => return,
+    };
     if !cache.holds() {
         return;
     }
     let _held = cache.take(alloc);
 }
 
-/// A new frame: what was used before may go from now on. `DONE`.
+/// Begins a new frame: what isn't used in it may be evicted. Until the first call no key is evicted for another: all that is
+/// held counts as used in the current frame. `DONE`; `EMPTY`.
 #[no_mangle]
-pub extern "C" fn guillotiere_cache_begin_frame(cache: &mut CacheHandle) -> u32 {
+pub extern "C" fn guillotiere_cache_begin_frame(cache: Option<&mut CacheHandle>) -> u32 {
     let alloc = Global;
+    let cache = match cache {
+        Some(cache) => cache,
+        None => return crate::plain::NULL_POINTER,
+    };
     if !cache.holds() {
         return EMPTY;
     }
@@ -74,14 +94,22 @@ fn write_found(found: Option<Place>, place: &mut PlainPlace) -> u32 {
     }
 }
 
-/// The place of a key, which is used in this frame from now on. Counts a hit or a miss. `DONE`; `NOT_HELD`.
+/// The place of a key, which is used in this frame from now on. Counts a hit or a miss. `DONE`; `NOT_HELD`; `EMPTY`.
 #[no_mangle]
 pub extern "C" fn guillotiere_cache_get(
-    cache: &mut CacheHandle,
+    cache: Option<&mut CacheHandle>,
     key: u64,
-    place: &mut PlainPlace,
+    place: Option<&mut PlainPlace>,
 ) -> u32 {
     let alloc = Global;
+    let cache = match cache {
+        Some(cache) => cache,
+        None => return crate::plain::NULL_POINTER,
+    };
+    let place = match place {
+        Some(place) => place,
+        None => return crate::plain::NULL_POINTER,
+    };
     if !cache.holds() {
         return EMPTY;
     }
@@ -91,20 +119,26 @@ pub extern "C" fn guillotiere_cache_get(
     write_found(found, place)
 }
 
-/// The place of a key; it doesn't count as a use. `DONE`; `NOT_HELD`.
+/// The place of a key; it doesn't count as a use, a hit or a miss. `DONE`; `NOT_HELD`; `EMPTY`.
 #[no_mangle]
 pub extern "C" fn guillotiere_cache_peek(
-    cache: &mut CacheHandle,
+    cache: Option<&CacheReader>,
     key: u64,
-    place: &mut PlainPlace,
+    place: Option<&mut PlainPlace>,
 ) -> u32 {
-    let alloc = Global;
+    let cache = match cache {
+        Some(cache) => cache,
+        None => return crate::plain::NULL_POINTER,
+    };
+    let place = match place {
+        Some(place) => place,
+        None => return crate::plain::NULL_POINTER,
+    };
     if !cache.holds() {
         return EMPTY;
     }
-    let held = cache.take(alloc);
+    let held = cache.lent();
     let found = held.peek(key);
-    cache.put(held);
     write_found(found, place)
 }
 
@@ -125,21 +159,40 @@ fn write_inserted(answer: Result<Inserted, CacheError>, place: &mut PlainPlace) 
     }
 }
 
-/// A place for a key, which is used in this frame, as `TextureCache::insert` finds it. `DONE` of a new key, whose
-/// pixels are to be written there; a key with an empty size has none, and its place is empty. `HELD` of one that was
-/// held, and then the place is written too; `FRAME_FULL` if each entry on a page is used in this frame and no page has
-/// room; `NEVER_FITS` if the size passes the largest page, with the padding and rounded up to the alignment;
-/// `OTHER_SIZE` if the key is held with another size; `NUMBERS`, `SLOTS`, `MEMORY`. What was done is reported by
-/// `guillotiere_cache_next_change`, also after `FRAME_FULL` and after an error.
+/// A place for a key, which is used in this frame. A key that is held keeps its place, and is the most recently used; that
+/// doesn't count as a hit. A new key goes onto the first page with room for its size with the padding. If none has room, a
+/// page grows: its smaller side (the width if they are equal) doubles, but no further than the largest page. If none can
+/// grow, one is added; and if no more are allowed, the least recently used key that lies on a page and that this frame didn't
+/// use is evicted; and so on. What was done is handed over by `guillotiere_cache_next_change`, also after `FRAME_FULL` and
+/// after an error: take all of it after each insertion, before the place or its number is noted. A key that was evicted and
+/// came back is reported as evicted all the same.
+/// `DONE`: the key is new, and its place was written: its pixels are to be written to the texture. `HELD`: it was held, and
+/// its place, where its pixels are, was written. `FRAME_FULL`: all pages allowed exist, at their largest, this frame uses all
+/// keys on them and no page has room: draw what is batched, call `guillotiere_cache_begin_frame` and insert again; while a
+/// frame has used nothing this is never the answer. `NEVER_FITS` if the size, with the padding on all sides and rounded up to
+/// the alignment, exceeds the largest page, `OTHER_SIZE` if the key is held with another size, even if this one is empty or
+/// would never fit: then nothing changed. `NUMBERS` if 4294967295 keys are still held; `SLOTS` if those of a page don't
+/// suffice: then no key is evicted for the new one, in no later frame either, and keys have to be removed or trimmed;
+/// `MEMORY`; `EMPTY`. A key with an empty size (a side below 1) takes no room, and is never evicted to make room for another.
+/// Both rectangles of its place are 0, and so is its page, but it is on no page: nothing is to be written or drawn, no
+/// repacking reports it, and no page stays for it.
 #[no_mangle]
 pub extern "C" fn guillotiere_cache_insert(
-    cache: &mut CacheHandle,
+    cache: Option<&mut CacheHandle>,
     key: u64,
     width: i32,
     height: i32,
-    place: &mut PlainPlace,
+    place: Option<&mut PlainPlace>,
 ) -> u32 {
     let alloc = Global;
+    let cache = match cache {
+        Some(cache) => cache,
+        None => return crate::plain::NULL_POINTER,
+    };
+    let place = match place {
+        Some(place) => place,
+        None => return crate::plain::NULL_POINTER,
+    };
     if !cache.holds() {
         return EMPTY;
     }
@@ -149,31 +202,46 @@ pub extern "C" fn guillotiere_cache_insert(
     write_inserted(answer, place)
 }
 
-/// A key goes, and the place that it had is written. No change reports this: the caller forgets its place, once the
-/// changes that weren't handed over are followed. Takes no memory. `DONE`; `NOT_HELD`.
+/// Removes a key, and writes the place that it had. No change reports this: forget its place, once you have followed the
+/// changes that weren't handed over. Takes no memory. `DONE`; `NOT_HELD`; `EMPTY`.
 #[no_mangle]
 pub extern "C" fn guillotiere_cache_remove(
-    cache: &mut CacheHandle,
+    cache: Option<&mut CacheHandle>,
     key: u64,
-    place: &mut PlainPlace,
+    removed: Option<&mut PlainPlace>,
 ) -> u32 {
     let alloc = Global;
+    let cache = match cache {
+        Some(cache) => cache,
+        None => return crate::plain::NULL_POINTER,
+    };
+    let mut spare_removed = unsafe { spare() };
+    let removed = removed.unwrap_or(&mut spare_removed);
     if !cache.holds() {
         return EMPTY;
     }
     let mut held = cache.take(alloc);
     let found = held.remove(key);
     cache.put(held);
-    write_found(found, place)
+    write_found(found, removed)
 }
 
-/// Hands over the first change that wasn't handed over yet. Takes no memory. `DONE`; `NO_CHANGE` if there is none.
+/// Hands over the first change that wasn't handed over yet; each is handed over once, in the order in which they were made.
+/// Takes no memory. `DONE`; `NO_CHANGE` if there is none; `EMPTY`.
 #[no_mangle]
 pub extern "C" fn guillotiere_cache_next_change(
-    cache: &mut CacheHandle,
-    change: &mut PlainCacheChange,
+    cache: Option<&mut CacheHandle>,
+    change: Option<&mut PlainCacheChange>,
 ) -> u32 {
     let alloc = Global;
+    let cache = match cache {
+        Some(cache) => cache,
+        None => return crate::plain::NULL_POINTER,
+    };
+    let change = match change {
+        Some(change) => change,
+        None => return crate::plain::NULL_POINTER,
+    };
     if !cache.holds() {
         return EMPTY;
     }
@@ -189,11 +257,15 @@ pub extern "C" fn guillotiere_cache_next_change(
     }
 }
 
-/// All keys go. The pages stay, with their sizes and with nothing on them. No change reports this: the caller forgets
-/// all places. The changes that weren't handed over stay. `DONE`.
+/// Removes all keys. The pages stay, with their sizes and nothing on them. No change reports this. The changes that weren't
+/// handed over stay: follow them, then forget all places. Takes no memory. `DONE`; `EMPTY`.
 #[no_mangle]
-pub extern "C" fn guillotiere_cache_clear(cache: &mut CacheHandle) -> u32 {
+pub extern "C" fn guillotiere_cache_clear(cache: Option<&mut CacheHandle>) -> u32 {
     let alloc = Global;
+    let cache = match cache {
+        Some(cache) => cache,
+        None => return crate::plain::NULL_POINTER,
+    };
     if !cache.holds() {
         return EMPTY;
     }
@@ -203,11 +275,15 @@ pub extern "C" fn guillotiere_cache_clear(cache: &mut CacheHandle) -> u32 {
     DONE
 }
 
-/// The keys that weren't used for at least so many frames go, each reported as evicted, the least recently used first:
-/// with 1, what this frame didn't use; with 0, all. `DONE`; `MEMORY`.
+/// Evicts the keys that weren't used for at least this many frames, each reported by a change, the least recently used first:
+/// with 1, what this frame didn't use; with 0, all. `DONE`; `MEMORY`, and then all is as it was; `EMPTY`.
 #[no_mangle]
-pub extern "C" fn guillotiere_cache_trim(cache: &mut CacheHandle, frames: u64) -> u32 {
+pub extern "C" fn guillotiere_cache_trim(cache: Option<&mut CacheHandle>, frames: u64) -> u32 {
     let alloc = Global;
+    let cache = match cache {
+        Some(cache) => cache,
+        None => return crate::plain::NULL_POINTER,
+    };
     if !cache.holds() {
         return EMPTY;
     }
@@ -220,11 +296,16 @@ pub extern "C" fn guillotiere_cache_trim(cache: &mut CacheHandle, frames: u64) -
     }
 }
 
-/// The pages behind the last one with a key go, each reported as removed, the last one first. The others stay, with
-/// their sizes, and so do all keys; after `clear` all pages go. `DONE`; `MEMORY`.
+/// Removes the pages after the last one with a key, each reported by a change, `GUILLOTIERE_PAGE_REMOVED`, the last one
+/// first. The others stay, with their sizes, and so do all keys; after `guillotiere_cache_clear` all pages go. `DONE`;
+/// `MEMORY`, and then all is as it was; `EMPTY`.
 #[no_mangle]
-pub extern "C" fn guillotiere_cache_shrink(cache: &mut CacheHandle) -> u32 {
+pub extern "C" fn guillotiere_cache_shrink(cache: Option<&mut CacheHandle>) -> u32 {
     let alloc = Global;
+    let cache = match cache {
+        Some(cache) => cache,
+        None => return crate::plain::NULL_POINTER,
+    };
     if !cache.holds() {
         return EMPTY;
     }
@@ -237,12 +318,18 @@ pub extern "C" fn guillotiere_cache_shrink(cache: &mut CacheHandle) -> u32 {
     }
 }
 
-/// Places the keys of a page anew, the largest first, so that what is free comes together. Each of them is reported
-/// once, as moved or, where it found no room, as evicted; no other key changes. Pages are counted from 0. `DONE`;
-/// `NO_PAGE`; `SLOTS`; `MEMORY`.
+/// Repacks the keys of a page, the largest first, and among equal areas the most recently used, so that what is free comes
+/// together; pages are counted from 0. Each key of the page is reported by a change, the most recently used first:
+/// `GUILLOTIERE_MOVED`, also where it stays, or `GUILLOTIERE_EVICTED`, where it found no room. A place that a key moves to
+/// can overlap one that a later change moves from: take the changes that wait, then copy the page, then call this, and copy
+/// all pixels from that copy. `DONE`; `NO_PAGE`, `SLOTS` or `MEMORY`, and then all is as it was; `EMPTY`.
 #[no_mangle]
-pub extern "C" fn guillotiere_cache_repack(cache: &mut CacheHandle, page: u32) -> u32 {
+pub extern "C" fn guillotiere_cache_repack(cache: Option<&mut CacheHandle>, page: u32) -> u32 {
     let alloc = Global;
+    let cache = match cache {
+        Some(cache) => cache,
+        None => return crate::plain::NULL_POINTER,
+    };
     if !cache.holds() {
         return EMPTY;
     }

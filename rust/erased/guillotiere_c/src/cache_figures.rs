@@ -1,65 +1,99 @@
 // Erased from crates/guillotiere_c/src/cache_figures.rt by rust/erase: don't edit.
 //! The exports that report on a cache: how many keys and pages it has, and how it was used.
 
-use crate::cache_handle::CacheHandle;
+use crate::cache_handle::CacheReader;
 use crate::plain::{plain_size, PlainAreas, PlainSize, DONE, EMPTY, MEMORY, NO_PAGE};
 use crate::plain_cache::{plain_cache_options, plain_counts, PlainCacheOptions, PlainCounts};
 use wollemigo_core::guillotiere::size2;
-use wollemigo_support::alloc::Global;
 
-/// How many keys are held. `DONE`.
+/// How many keys are held. `DONE`; `EMPTY`.
 #[no_mangle]
-pub extern "C" fn guillotiere_cache_len(cache: &mut CacheHandle, len: &mut usize) -> u32 {
-    let alloc = Global;
+pub extern "C" fn guillotiere_cache_len(
+    cache: Option<&CacheReader>,
+    len: Option<&mut usize>,
+) -> u32 {
+    let cache = match cache {
+        Some(cache) => cache,
+        None => return crate::plain::NULL_POINTER,
+    };
+    let len = match len {
+        Some(len) => len,
+        None => return crate::plain::NULL_POINTER,
+    };
     if !cache.holds() {
         return EMPTY;
     }
-    let held = cache.take(alloc);
+    let held = cache.lent();
     *len = held.len();
-    cache.put(held);
     DONE
 }
 
-/// How many numbers keys had so far, since the cache was made or cleared: the number of each place is below. `DONE`.
+/// How many numbers keys have had since the cache was made or cleared: the number of each place is below this. The numbers of
+/// keys that are gone are reused before new ones are given out, so there are never more than there ever were keys at once,
+/// and what a caller keeps of each key fits an array. `DONE`; `EMPTY`.
 #[no_mangle]
-pub extern "C" fn guillotiere_cache_numbers(cache: &mut CacheHandle, numbers: &mut u32) -> u32 {
-    let alloc = Global;
+pub extern "C" fn guillotiere_cache_numbers(
+    cache: Option<&CacheReader>,
+    numbers: Option<&mut u32>,
+) -> u32 {
+    let cache = match cache {
+        Some(cache) => cache,
+        None => return crate::plain::NULL_POINTER,
+    };
+    let numbers = match numbers {
+        Some(numbers) => numbers,
+        None => return crate::plain::NULL_POINTER,
+    };
     if !cache.holds() {
         return EMPTY;
     }
-    let held = cache.take(alloc);
+    let held = cache.lent();
     *numbers = held.numbers();
-    cache.put(held);
     DONE
 }
 
-/// How many pages there are. `DONE`.
+/// How many pages there are. `DONE`; `EMPTY`.
 #[no_mangle]
-pub extern "C" fn guillotiere_cache_page_count(cache: &mut CacheHandle, pages: &mut u32) -> u32 {
-    let alloc = Global;
+pub extern "C" fn guillotiere_cache_page_count(
+    cache: Option<&CacheReader>,
+    pages: Option<&mut u32>,
+) -> u32 {
+    let cache = match cache {
+        Some(cache) => cache,
+        None => return crate::plain::NULL_POINTER,
+    };
+    let pages = match pages {
+        Some(pages) => pages,
+        None => return crate::plain::NULL_POINTER,
+    };
     if !cache.holds() {
         return EMPTY;
     }
-    let held = cache.take(alloc);
+    let held = cache.lent();
     *pages = held.pages();
-    cache.put(held);
     DONE
 }
 
-/// The size of a page, in pixels. Pages are counted from 0. `DONE`; `NO_PAGE`.
+/// The size of a page, counted from 0. `DONE`; `NO_PAGE`; `EMPTY`.
 #[no_mangle]
 pub extern "C" fn guillotiere_cache_page_size(
-    cache: &mut CacheHandle,
+    cache: Option<&CacheReader>,
     page: u32,
-    size: &mut PlainSize,
+    size: Option<&mut PlainSize>,
 ) -> u32 {
-    let alloc = Global;
+    let cache = match cache {
+        Some(cache) => cache,
+        None => return crate::plain::NULL_POINTER,
+    };
+    let size = match size {
+        Some(size) => size,
+        None => return crate::plain::NULL_POINTER,
+    };
     if !cache.holds() {
         return EMPTY;
     }
-    let held = cache.take(alloc);
+    let held = cache.lent();
     let found = held.page_size(page);
-    cache.put(held);
     match found {
         Some(found) => {
             *size = plain_size(found);
@@ -69,22 +103,29 @@ pub extern "C" fn guillotiere_cache_page_size(
     }
 }
 
-/// The areas of a page, in pixels: of its entries, with their padding and what alignment added, and of what is free.
-/// Pages are counted from 0. `DONE`; `NO_PAGE`.
+/// The areas of a page, counted from 0: that of its keys, with their padding and what the alignment added, and that which is
+/// free; together that of the page. Takes one pass over the slots of the page. A page with much that is free, from which keys
+/// are evicted all the same, is worth a repacking. `DONE`; `NO_PAGE`; `EMPTY`.
 #[no_mangle]
 pub extern "C" fn guillotiere_cache_areas(
-    cache: &mut CacheHandle,
+    cache: Option<&CacheReader>,
     page: u32,
-    areas: &mut PlainAreas,
+    areas: Option<&mut PlainAreas>,
 ) -> u32 {
-    let alloc = Global;
+    let cache = match cache {
+        Some(cache) => cache,
+        None => return crate::plain::NULL_POINTER,
+    };
+    let areas = match areas {
+        Some(areas) => areas,
+        None => return crate::plain::NULL_POINTER,
+    };
     if !cache.holds() {
         return EMPTY;
     }
-    let held = cache.take(alloc);
+    let held = cache.lent();
     let live = held.live_area(page);
     let free = held.free_area(page);
-    cache.put(held);
     let allocated = match live {
         Some(allocated) => allocated,
         _ => {
@@ -101,23 +142,31 @@ pub extern "C" fn guillotiere_cache_areas(
     DONE
 }
 
-/// The area of a page, in pixels, that is free in rectangles which have no room for an entry of this size, with its padding
-/// and rounded up to the alignment. Pages are counted from 0. `DONE`; `NO_PAGE`; `MEMORY`.
+/// Of the area of a page that is free, what lies in free boxes which have no room for a key of this size, with its padding
+/// and rounded up to the alignment; a side below 0 counts as 0. Asked with the size of a usual key it says how fragmented the
+/// page is: where much is of no use, it is time to repack it. Takes memory for a list of the page's free boxes.
+/// `DONE`; `NO_PAGE`; `MEMORY`; `EMPTY`.
 #[no_mangle]
 pub extern "C" fn guillotiere_cache_unusable_area(
-    cache: &mut CacheHandle,
+    cache: Option<&CacheReader>,
     page: u32,
     width: i32,
     height: i32,
-    area: &mut u64,
+    area: Option<&mut u64>,
 ) -> u32 {
-    let alloc = Global;
+    let cache = match cache {
+        Some(cache) => cache,
+        None => return crate::plain::NULL_POINTER,
+    };
+    let area = match area {
+        Some(area) => area,
+        None => return crate::plain::NULL_POINTER,
+    };
     if !cache.holds() {
         return EMPTY;
     }
-    let held = cache.take(alloc);
+    let held = cache.lent();
     let found = held.unusable_area(page, size2(width, height));
-    cache.put(held);
     match found {
         Ok(Some(found)) => {
             *area = found;
@@ -128,34 +177,46 @@ pub extern "C" fn guillotiere_cache_unusable_area(
     }
 }
 
-/// The options with which the cache was made. `DONE`.
+/// The options with which the cache was made. `DONE`; `EMPTY`.
 #[no_mangle]
 pub extern "C" fn guillotiere_cache_options_of(
-    cache: &mut CacheHandle,
-    options: &mut PlainCacheOptions,
+    cache: Option<&CacheReader>,
+    options: Option<&mut PlainCacheOptions>,
 ) -> u32 {
-    let alloc = Global;
+    let cache = match cache {
+        Some(cache) => cache,
+        None => return crate::plain::NULL_POINTER,
+    };
+    let options = match options {
+        Some(options) => options,
+        None => return crate::plain::NULL_POINTER,
+    };
     if !cache.holds() {
         return EMPTY;
     }
-    let held = cache.take(alloc);
+    let held = cache.lent();
     *options = plain_cache_options(held.options());
-    cache.put(held);
     DONE
 }
 
-/// How often `guillotiere_cache_get` found its key and how often it didn't, and how many keys were evicted. `DONE`.
+/// The counts since the cache was made. `DONE`; `EMPTY`.
 #[no_mangle]
 pub extern "C" fn guillotiere_cache_statistics(
-    cache: &mut CacheHandle,
-    counts: &mut PlainCounts,
+    cache: Option<&CacheReader>,
+    counts: Option<&mut PlainCounts>,
 ) -> u32 {
-    let alloc = Global;
+    let cache = match cache {
+        Some(cache) => cache,
+        None => return crate::plain::NULL_POINTER,
+    };
+    let counts = match counts {
+        Some(counts) => counts,
+        None => return crate::plain::NULL_POINTER,
+    };
     if !cache.holds() {
         return EMPTY;
     }
-    let held = cache.take(alloc);
+    let held = cache.lent();
     *counts = plain_counts(held.statistics());
-    cache.put(held);
     DONE
 }

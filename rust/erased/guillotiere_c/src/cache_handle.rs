@@ -7,6 +7,7 @@ use wollemigo_support::alloc::Global;
 use wollemigo_support::prelude::Box;
 
 use core::mem::replace;
+use core::ptr::null_mut;
 
 /// A place for a cache: it holds one, or nothing, and then it is null.
 #[repr(C)]
@@ -17,9 +18,7 @@ pub struct CacheHandle {
 impl CacheHandle {
     /// A handle that holds nothing.
     pub fn none() -> CacheHandle {
-        CacheHandle {
-            at: std::ptr::null_mut(),
-        }
+        CacheHandle { at: null_mut() }
     }
 
     /// Drops a handle. Requires that it holds nothing, so that nothing is lost.
@@ -59,5 +58,24 @@ impl CacheHandle {
     pub fn put(&mut self, cache: Box<FollowedCache>) {
         let empty = replace(self, CacheHandle::close(hold(cache)));
         CacheHandle::forget(empty);
+    }
+}
+
+/// The same place for a call that only reads: what lies at the pointer is lent to it, and any number of such calls may run
+/// at once.
+#[repr(C)]
+pub struct CacheReader {
+    at: *const u8,
+}
+
+impl CacheReader {
+    /// Whether it holds a cache.
+    pub fn holds(&self) -> bool {
+        !self.at.is_null()
+    }
+
+    /// The cache. Requires that it holds one.
+    pub fn lent(&self) -> &FollowedCache {
+        unsafe { &*(self.at as *const FollowedCache) }
     }
 }

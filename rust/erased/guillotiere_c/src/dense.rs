@@ -11,7 +11,7 @@ use crate::sheet::sizes_of;
 use crate::writing::write_placed;
 use wollemigo_core::atlas_sheet::{pack_dense, Sheet, SheetError, SheetOptions};
 use wollemigo_support::alloc::Global;
-use wollemigo_support::raw::{slice, slice_mut};
+use wollemigo_support::raw::{slice, slice_mut, spare};
 
 // The sheet that the library finds.
 fn found(
@@ -24,25 +24,39 @@ fn found(
     Ok(sheet)
 }
 
-/// Packs sprites as `guillotiere_pack` does, or into a smaller sheet with no guillotine cuts, in which none is turned, as
-/// `atlas_sheet::pack_dense` finds it; and writes where each of them lies, in the order of the sprites, and the size of the
-/// sheet. `DONE`; `NO_ROOM` if no order that was tried packs them into the greatest sheet that is allowed; `BAD_CALL` if the
-/// sheets are of no kind, or the padding is above 65535; `SHORT` if there is room for fewer places than sprites;
-/// `EMPTY_SHEET`, `EMPTY_RANGE`, `EMPTY_ALIGNMENT`; `EMPTY_SPRITE` and `GREAT_SPRITE` of the sprite whose number is written
-/// then; `MEMORY`.
+/// Packs as `guillotiere_pack`, and then tries smaller sheets of those allowed, laid out without guillotine cuts: each
+/// sprite, the highest first, as high up as it can lie, and there as far left. The sheet never has more pixels than that of
+/// `guillotiere_pack`; in one that has fewer no sprite is turned. It may find a sheet where `guillotiere_pack` finds none. It
+/// takes longer. All else as `guillotiere_pack`.
 #[no_mangle]
 pub extern "C" fn guillotiere_pack_dense(
     sprites: *const PlainSize,
     sprites_len: usize,
-    options: &PlainSheetOptions,
+    options: Option<&PlainSheetOptions>,
     places: *mut PlainPlaced,
     places_len: usize,
-    size: &mut PlainSize,
-    sprite: &mut usize,
+    size: Option<&mut PlainSize>,
+    sprite: Option<&mut usize>,
 ) -> u32 {
     let alloc = Global;
-    let sprites = unsafe { slice(sprites, sprites_len) };
-    let places = unsafe { slice_mut(places, places_len) };
+    let sprites = match unsafe { slice(sprites, sprites_len) } {
+        Some(sprites) => sprites,
+        None => return crate::plain::NULL_POINTER,
+    };
+    let options = match options {
+        Some(options) => options,
+        None => return crate::plain::NULL_POINTER,
+    };
+    let places = match unsafe { slice_mut(places, places_len) } {
+        Some(places) => places,
+        None => return crate::plain::NULL_POINTER,
+    };
+    let size = match size {
+        Some(size) => size,
+        None => return crate::plain::NULL_POINTER,
+    };
+    let mut spare_sprite = unsafe { spare() };
+    let sprite = sprite.unwrap_or(&mut spare_sprite);
     let options = match sheet_options_for(options) {
         Some(options) => options,
         _ => {

@@ -9,7 +9,7 @@ use crate::sheet::sizes_of;
 use crate::writing::write_maybe_placed;
 use wollemigo_core::atlas_sheet::{fill, Filled, Placed, SheetError, SheetOptions};
 use wollemigo_support::alloc::Global;
-use wollemigo_support::raw::{slice, slice_mut};
+use wollemigo_support::raw::{slice, slice_mut, spare};
 
 // The sheet that the library fills.
 fn filled(
@@ -33,25 +33,43 @@ fn unplaced(places: &[Option<Placed>]) -> usize {
     left
 }
 
-/// Places sprites in the greatest sheet that is allowed, as many pixels of them as `atlas_sheet::fill` finds room for, and
-/// writes a place or none for each, in the order of the sprites, how many have none, and the size of the sheet. `DONE`;
-/// `BAD_CALL` if the sheets are of no kind, or the padding is above 65535; `SHORT` if there is room for fewer places than
-/// sprites; `EMPTY_SHEET`, `EMPTY_RANGE`, `EMPTY_ALIGNMENT`; `EMPTY_SPRITE` and `GREAT_SPRITE` of the sprite whose number
-/// is written then; `MEMORY`.
+/// Places sprites in the greatest sheet that is allowed, as many pixels of them as it finds room for. `DONE`, even if not all
+/// of them have a place: `places` has a place or none for each, in the order of the sprites, `left` how many have none, and
+/// `size` the sheet's size. Never `NO_ROOM`; else as `guillotiere_pack`.
 #[no_mangle]
 pub extern "C" fn guillotiere_fill(
     sprites: *const PlainSize,
     sprites_len: usize,
-    options: &PlainSheetOptions,
+    options: Option<&PlainSheetOptions>,
     places: *mut PlainMaybePlaced,
     places_len: usize,
-    left: &mut usize,
-    size: &mut PlainSize,
-    sprite: &mut usize,
+    left: Option<&mut usize>,
+    size: Option<&mut PlainSize>,
+    sprite: Option<&mut usize>,
 ) -> u32 {
     let alloc = Global;
-    let sprites = unsafe { slice(sprites, sprites_len) };
-    let places = unsafe { slice_mut(places, places_len) };
+    let sprites = match unsafe { slice(sprites, sprites_len) } {
+        Some(sprites) => sprites,
+        None => return crate::plain::NULL_POINTER,
+    };
+    let options = match options {
+        Some(options) => options,
+        None => return crate::plain::NULL_POINTER,
+    };
+    let places = match unsafe { slice_mut(places, places_len) } {
+        Some(places) => places,
+        None => return crate::plain::NULL_POINTER,
+    };
+    let left = match left {
+        Some(left) => left,
+        None => return crate::plain::NULL_POINTER,
+    };
+    let size = match size {
+        Some(size) => size,
+        None => return crate::plain::NULL_POINTER,
+    };
+    let mut spare_sprite = unsafe { spare() };
+    let sprite = sprite.unwrap_or(&mut spare_sprite);
     let options = match sheet_options_for(options) {
         Some(options) => options,
         _ => {

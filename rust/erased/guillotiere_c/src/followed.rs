@@ -11,7 +11,6 @@ use wollemigo_support::prelude::Vec;
 
 /// A cache, and the changes that weren't handed over yet. Those that were stay in the list until the last one is handed
 /// over, or the next call comes that adds to it.
-
 pub struct FollowedCache {
     cache: TextureCache<u64>,
     changes: Changes<u64>,
@@ -162,6 +161,18 @@ impl FollowedCache {
     /// As `TextureCache::reserve`.
     pub fn reserve(&mut self, additional: usize) -> Result<(), CacheError> {
         self.cache.reserve(additional)
+    }
+
+    /// As `TextureCache::reserve_slots`.
+    pub fn reserve_slots(&mut self, additional: u32) -> Result<(), CacheError> {
+        self.cache.reserve_slots(additional)
+    }
+
+    /// Takes memory for so many changes besides those that weren't handed over; nothing else changes. `Memory` if it is refused.
+    pub fn reserve_changes(&mut self, additional: usize) -> Result<(), CacheError> {
+        drop_taken(&mut self.changes, &mut self.taken);
+        self.changes.reserve(additional)?;
+        Ok(())
     }
 
     /// As `TextureCache::statistics`.

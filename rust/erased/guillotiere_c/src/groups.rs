@@ -12,7 +12,7 @@ use crate::writing::{write_on_pages, write_sizes};
 use wollemigo_core::atlas_sheet::{pack_groups, Pages, SheetError, SheetOptions};
 use wollemigo_support::alloc::Global;
 use wollemigo_support::prelude::{CollectIn, Vec};
-use wollemigo_support::raw::{slice, slice_mut};
+use wollemigo_support::raw::{slice, slice_mut, spare};
 
 // The group with this number.
 fn group_of(number: u32) -> Option<usize> {
@@ -42,30 +42,55 @@ fn found(
     Ok(pages)
 }
 
-/// Packs sprites as `guillotiere_pack_pages` does, with all sprites of a group on one sheet, as `atlas_sheet::pack_groups`
-/// finds it. `groups` has the number of each sprite's group, in the order of the sprites. A sprite is in no group where the
-/// number is `NO_GROUP`, or where `groups` ends before; numbers past the last sprite count for nothing. A group that no way
-/// packs alone into the greatest sheet that is allowed is placed as sprites in no group. What is written, and the statuses,
-/// are those of `guillotiere_pack_pages`.
+/// Packs as `guillotiere_pack_pages`, with all sprites of a group on one sheet. `groups` has the number of each sprite's
+/// group, in the order of the sprites; `GUILLOTIERE_NO_GROUP`, or no number where groups_len is below sprites_len, says that
+/// a sprite is in none, and numbers past the last sprite are ignored. A group that none of the ten ways packs by itself into
+/// the greatest of the sheets allowed isn't kept together: each of its sprites is placed as if in no group. Groups come in
+/// the order of their first sprites. The first opens a sheet; then each other group that this sheet takes as well goes onto
+/// it, and as many of the sprites in no group as it takes; then the sheet is made as small as `guillotiere_pack` finds it.
+/// Once no group is left, the sprites without a place are packed as by `guillotiere_pack_pages`. All else as
+/// `guillotiere_pack_pages`.
 #[no_mangle]
 pub extern "C" fn guillotiere_pack_groups(
     sprites: *const PlainSize,
     sprites_len: usize,
     groups: *const u32,
     groups_len: usize,
-    options: &PlainSheetOptions,
+    options: Option<&PlainSheetOptions>,
     places: *mut PlainOnPage,
     places_len: usize,
     sizes: *mut PlainSize,
     sizes_len: usize,
-    count: &mut usize,
-    sprite: &mut usize,
+    count: Option<&mut usize>,
+    sprite: Option<&mut usize>,
 ) -> u32 {
     let alloc = Global;
-    let sprites = unsafe { slice(sprites, sprites_len) };
-    let groups = unsafe { slice(groups, groups_len) };
-    let places = unsafe { slice_mut(places, places_len) };
-    let sizes = unsafe { slice_mut(sizes, sizes_len) };
+    let sprites = match unsafe { slice(sprites, sprites_len) } {
+        Some(sprites) => sprites,
+        None => return crate::plain::NULL_POINTER,
+    };
+    let groups = match unsafe { slice(groups, groups_len) } {
+        Some(groups) => groups,
+        None => return crate::plain::NULL_POINTER,
+    };
+    let options = match options {
+        Some(options) => options,
+        None => return crate::plain::NULL_POINTER,
+    };
+    let places = match unsafe { slice_mut(places, places_len) } {
+        Some(places) => places,
+        None => return crate::plain::NULL_POINTER,
+    };
+    let sizes = match unsafe { slice_mut(sizes, sizes_len) } {
+        Some(sizes) => sizes,
+        None => return crate::plain::NULL_POINTER,
+    };
+    let count = match count {
+        Some(count) => count,
+        None => return crate::plain::NULL_POINTER,
+    };
+    let mut spare_sprite = unsafe { spare() };
+    let sprite = sprite.unwrap_or(&mut spare_sprite);
     let options = match sheet_options_for(options) {
         Some(options) => options,
         _ => {

@@ -9,7 +9,7 @@ use crate::sheet::sizes_of;
 use crate::writing::{write_on_pages, write_sizes};
 use wollemigo_core::atlas_sheet::{pack_pages, Pages, SheetError, SheetOptions};
 use wollemigo_support::alloc::Global;
-use wollemigo_support::raw::{slice, slice_mut};
+use wollemigo_support::raw::{slice, slice_mut, spare};
 
 // The sheets that the library finds.
 fn found(
@@ -22,27 +22,48 @@ fn found(
     Ok(pages)
 }
 
-/// Packs all sprites into as few sheets as `atlas_sheet::pack_pages` finds. Writes where each of them lies, in the order of
-/// the sprites; the sizes of the sheets, as many as there is room for; and into `count` how many sheets there are, at most
-/// as many as sprites. `DONE`; `NO_ROOM` if a sprite is too large for an empty sheet; `BAD_CALL` if the sheets are of no
-/// kind, or the padding is above 65535; `SHORT` if there is room for fewer places than sprites; `EMPTY_SHEET`,
-/// `EMPTY_RANGE`, `EMPTY_ALIGNMENT`; `EMPTY_SPRITE` and `GREAT_SPRITE` of the sprite whose number is written then; `MEMORY`.
+/// Packs all sprites into as few sheets as are found: the greatest of those allowed gets what `guillotiere_fill` places
+/// there, the same is done with the sprites that are left, and the last of them get as small a sheet as `guillotiere_pack`
+/// finds. For each sheet `effort` changes of the order are tried. `DONE`: `places` has where each sprite lies, in the order
+/// of the sprites, `count` how many sheets there are, at most as many as sprites, and `sizes` their sizes, as many as there
+/// is room for; what the arrays have after that stays. No two places on one sheet overlap, and no sheet is empty. There may
+/// be no sprites: then there are no sheets.
+/// `NO_ROOM` if a sprite is too large for an empty sheet; else as `guillotiere_pack`.
 #[no_mangle]
 pub extern "C" fn guillotiere_pack_pages(
     sprites: *const PlainSize,
     sprites_len: usize,
-    options: &PlainSheetOptions,
+    options: Option<&PlainSheetOptions>,
     places: *mut PlainOnPage,
     places_len: usize,
     sizes: *mut PlainSize,
     sizes_len: usize,
-    count: &mut usize,
-    sprite: &mut usize,
+    count: Option<&mut usize>,
+    sprite: Option<&mut usize>,
 ) -> u32 {
     let alloc = Global;
-    let sprites = unsafe { slice(sprites, sprites_len) };
-    let places = unsafe { slice_mut(places, places_len) };
-    let sizes = unsafe { slice_mut(sizes, sizes_len) };
+    let sprites = match unsafe { slice(sprites, sprites_len) } {
+        Some(sprites) => sprites,
+        None => return crate::plain::NULL_POINTER,
+    };
+    let options = match options {
+        Some(options) => options,
+        None => return crate::plain::NULL_POINTER,
+    };
+    let places = match unsafe { slice_mut(places, places_len) } {
+        Some(places) => places,
+        None => return crate::plain::NULL_POINTER,
+    };
+    let sizes = match unsafe { slice_mut(sizes, sizes_len) } {
+        Some(sizes) => sizes,
+        None => return crate::plain::NULL_POINTER,
+    };
+    let count = match count {
+        Some(count) => count,
+        None => return crate::plain::NULL_POINTER,
+    };
+    let mut spare_sprite = unsafe { spare() };
+    let sprite = sprite.unwrap_or(&mut spare_sprite);
     let options = match sheet_options_for(options) {
         Some(options) => options,
         _ => {

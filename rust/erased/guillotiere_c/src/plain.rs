@@ -12,10 +12,10 @@ pub const DONE: u32 = 0;
 /// The request has no room.
 pub const NO_ROOM: u32 = 1;
 
-/// The condition of the call doesn't hold: an empty size, options that aren't valid, a growth that shrinks a side.
+/// An empty size, options that aren't valid, a growth that shrinks a side, or a bad limit.
 pub const BAD_CALL: u32 = 2;
 
-/// An id isn't live, or is in a list of ids twice.
+/// An id isn't live, or is listed twice.
 pub const NOT_LIVE: u32 = 3;
 
 /// More slots would be used than the limit allows.
@@ -24,16 +24,16 @@ pub const SLOTS: u32 = 4;
 /// Memory was refused.
 pub const MEMORY: u32 = 5;
 
-/// An array of the caller's is too short.
+/// An array is too short.
 pub const SHORT: u32 = 6;
 
-/// A handle that is to hold an allocator holds nothing; or one that is to hold nothing holds one.
+/// A handle holds nothing.
 pub const EMPTY: u32 = 7;
 
 /// A side of the sheet, or the least that is allowed, is below 1.
 pub const EMPTY_SHEET: u32 = 8;
 
-/// No sheet is allowed: the greatest side is below the least.
+/// The greatest side of a sheet is below the least.
 pub const EMPTY_RANGE: u32 = 9;
 
 /// A side of the alignment is below 1.
@@ -48,7 +48,7 @@ pub const GREAT_SPRITE: u32 = 12;
 /// A key is held with another size.
 pub const OTHER_SIZE: u32 = 13;
 
-/// All 4294967295 numbers of entries are in use.
+/// A cache holds 4294967295 keys, and can hold no more.
 pub const NUMBERS: u32 = 14;
 
 /// A side of a new page is below 1.
@@ -75,7 +75,7 @@ pub const NO_CHANGE: u32 = 21;
 /// There is no such page.
 pub const NO_PAGE: u32 = 22;
 
-/// An inserted key was held already.
+/// A key that is inserted was held already; its place was written.
 pub const HELD: u32 = 23;
 
 /// This frame uses all that the pages of a cache have room for.
@@ -84,50 +84,61 @@ pub const FRAME_FULL: u32 = 24;
 /// With the padding, rounded up to the alignment, a size exceeds the largest page.
 pub const NEVER_FITS: u32 = 25;
 
-/// Not even a size of 1 by 1 fits the largest page. (26 isn't used.)
+/// With the padding and rounded up, not even 1 by 1 fits the largest page; 26 isn't used.
 pub const NOTHING_FITS: u32 = 27;
 
-/// A kind of sheets: this size alone.
+// No export answers it: what stands before them does, in the plain library the erased form of an export (docs/PLAIN.md, rule
+// 11), in the proved one some C (bindings/nulls.py).
+/// A pointer is null, or that of an array whose length isn't 0; nothing was done.
+pub const NULL_POINTER: u32 = 28;
+
+/// A handle that is to be filled holds something already.
+pub const OCCUPIED: u32 = 29;
+
+/// `width` by `height` alone.
 pub const ONE_SIZE: u32 = 0;
 
-/// A kind of sheets: squares.
+/// Squares with a side from `least` to `greatest`.
 pub const SQUARES: u32 = 1;
 
-/// A kind of sheets: each side a power of two.
+/// Each side a power of two, at most `greatest`; the sides may differ.
 pub const POWERS: u32 = 2;
 
-/// A kind of sheets: one width, and heights from 1 on.
+/// `width`, and a height from 1 to `greatest`.
 pub const HEIGHTS: u32 = 3;
 
-/// In place of the number of a group: a sprite is in none. Each smaller number is that of a group.
+/// Instead of the number of a group: the sprite is in none. Every smaller number, 0 included, is that of a group.
 pub const NO_GROUP: u32 = 4_294_967_295;
 
-/// A kind of changes: there is a new page.
+/// There is a new page, the last one: make a texture of `size` for `page`.
 pub const PAGE_ADDED: u32 = 0;
 
-/// A kind of changes: a page is larger.
+/// `page` has this `size` now, and nothing on it moved: make its texture larger.
 pub const PAGE_GROWN: u32 = 1;
 
-/// A kind of changes: a key is gone.
+/// `key` is gone, and its place was `from`.
 pub const EVICTED: u32 = 2;
 
-/// A kind of changes: a key has another place.
+/// `key` moved, by a repacking: copy `from.rectangle` to `to.rectangle`, border and all, out of a copy of the page as it was
+/// before the call.
 pub const MOVED: u32 = 3;
 
-/// A kind of changes: the last page is gone.
+/// `page`, the last one, is gone, and nothing was on it: drop its texture.
 pub const PAGE_REMOVED: u32 = 4;
 
-/// The greatest limit on the slots of an atlas, which is also that of an atlas without a limit of its own.
+/// The greatest limit on the slots of an atlas, and that of an atlas without a limit of its own.
 pub const MOST_SLOTS: u32 = 16_777_216;
 
-/// The three numbers of the version.
+pub const INTERFACE: u32 = 1;
+
+// The three numbers of the version.
 pub const VERSION_MAJOR: u32 = 0;
 
 pub const VERSION_MINOR: u32 = 7;
 
 pub const VERSION_PATCH: u32 = 0;
 
-/// As `Size`.
+/// A size, in pixels.
 #[repr(C)]
 #[derive(Clone, Copy)]
 pub struct PlainSize {
@@ -135,7 +146,7 @@ pub struct PlainSize {
     pub height: i32,
 }
 
-/// As `Rectangle`: the unit squares from `min` up to, but not including, `max`.
+/// The unit squares from `min` up to, but not including, `max`.
 #[repr(C)]
 #[derive(Clone, Copy)]
 pub struct PlainRectangle {
@@ -145,7 +156,7 @@ pub struct PlainRectangle {
     pub max_y: i32,
 }
 
-/// As `Allocation`.
+/// A live box. An id that was freed may be issued again, for another box, even by the next call: forget it when you free it.
 #[repr(C)]
 #[derive(Clone, Copy)]
 pub struct PlainAllocation {
@@ -153,7 +164,7 @@ pub struct PlainAllocation {
     pub rectangle: PlainRectangle,
 }
 
-/// As `Change`, whose field `new` is a reserved word in C++.
+/// A box that was placed anew: under its former id, and under the id that it has now. Its sides stay.
 #[repr(C)]
 #[derive(Clone, Copy)]
 pub struct PlainChange {
@@ -161,7 +172,8 @@ pub struct PlainChange {
     pub after: PlainAllocation,
 }
 
-/// As `AllocatorOptions`.
+/// Sides of requests are rounded up to multiples of the alignment, whose sides are above 0. A size is small if both its sides
+/// are below the small threshold, large if one is at least the large one; the small one is at most the large one.
 #[repr(C)]
 #[derive(Clone, Copy)]
 pub struct PlainOptions {
@@ -171,7 +183,9 @@ pub struct PlainOptions {
     pub large_size_threshold: i32,
 }
 
-/// As `SlotCount`.
+/// How many slots are used, the most that were used at once since the last start, and how many may be used. Each live and
+/// each free box takes a slot, and so does each container of the tree of cuts. Of a simple allocator: its entries, one for
+/// each free box; how many there are, used and unused; and 4294967295.
 #[repr(C)]
 #[derive(Clone, Copy)]
 pub struct PlainSlots {
@@ -180,7 +194,7 @@ pub struct PlainSlots {
     pub limit: u32,
 }
 
-/// What is live and what is free, in unit squares.
+/// The areas of all live and of all free boxes of an atlas or of a page, which are together its own.
 #[repr(C)]
 #[derive(Clone, Copy)]
 pub struct PlainAreas {

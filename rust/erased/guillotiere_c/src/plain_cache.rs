@@ -3,26 +3,38 @@
 
 use crate::plain::{
     plain_options, plain_rectangle, plain_size, PlainOptions, PlainRectangle, PlainSize, BAD_ATLAS,
-    BAD_PADDING, DONE, EMPTY, EMPTY_PAGE, EVICTED, LARGEST_PAGE, MEMORY, MOVED, NOTHING_FITS,
-    NO_PAGES, NUMBERS, OTHER_SIZE, PAGE_ADDED, PAGE_GROWN, PAGE_REMOVED, SLOTS,
+    BAD_PADDING, DONE, EMPTY_PAGE, EVICTED, LARGEST_PAGE, MEMORY, MOVED, NOTHING_FITS, NO_PAGES,
+    NUMBERS, OCCUPIED, OTHER_SIZE, PAGE_ADDED, PAGE_GROWN, PAGE_REMOVED, SLOTS,
 };
 use wollemigo_core::atlas_cache::{
     CacheChange, CacheError, CacheOptions, Counts, OptionsError, Place,
 };
 use wollemigo_core::guillotiere::{size2, AllocatorOptions};
 
-/// As `CacheOptions`.
+/// How a cache is made. Lengths are in pixels. The layers of a texture array all have the same size: for those `page` must
+/// equal `largest_page`. Pages that grow each need a texture of their own.
 #[repr(C)]
 #[derive(Clone, Copy)]
 pub struct PlainCacheOptions {
+    /// The size of a new page, which isn't empty.
     pub page: PlainSize,
+    /// Pages grow up to this; neither side is less than that of `page`.
     pub largest_page: PlainSize,
+    /// The most pages, at least 1.
     pub pages: u32,
+    /// How wide the border is on all four sides of an entry, at least 0.
     pub padding: i32,
+    /// Of the atlas of each page.
     pub atlas: PlainOptions,
 }
 
-/// As `Place`.
+/// Where a key lies: its number, which stays until the key is gone, and which no other key has meanwhile; its page, counted
+/// from 0; `rectangle`, which no other entry overlaps; and `inner` in it, which has the sides that were asked for; the
+/// padding lies to its left and above it. To its right and below it, `rectangle` has the padding as well, and more where an
+/// alignment rounds up.
+///
+/// The border of a new entry shows what lay there before. A linear filter reads it, so write all of `rectangle`: the pixels
+/// in `inner`, and cleared ones around it. With a padding of 1 draw at most half a pixel beyond `inner`.
 #[repr(C)]
 #[derive(Clone, Copy)]
 pub struct PlainPlace {
@@ -32,10 +44,11 @@ pub struct PlainPlace {
     pub inner: PlainRectangle,
 }
 
-/// As `CacheChange`. What its kind doesn't name has no meaning.
+/// What a cache did. Its kind says which fields have a meaning; the others have none.
 #[repr(C)]
 #[derive(Clone, Copy)]
 pub struct PlainCacheChange {
+    /// A kind of changes.
     pub kind: u32,
     pub page: u32,
     pub size: PlainSize,
@@ -44,7 +57,8 @@ pub struct PlainCacheChange {
     pub to: PlainPlace,
 }
 
-/// As `Counts`.
+/// How often `guillotiere_cache_get` found its key and how often it didn't, and how many keys an insertion, a trim or a
+/// repacking evicted. A count that reaches 18446744073709551615 stays there.
 #[repr(C)]
 #[derive(Clone, Copy)]
 pub struct PlainCounts {

@@ -8,24 +8,33 @@ use crate::plain::{
 use wollemigo_core::atlas_sheet::{Allowed, OnPage, Placed, SheetError, SheetOptions};
 use wollemigo_core::guillotiere::size2;
 
-/// As `SheetOptions`. What a kind of sheets doesn't name isn't looked at.
+/// Which sheets are allowed, and how sprites lie in them. Of `width`, `height`, `least` and `greatest`, in pixels, only those
+/// that the kind names are read.
 #[repr(C)]
 #[derive(Clone, Copy)]
 pub struct PlainSheetOptions {
+    /// A kind of sheets.
     pub allowed: u32,
     pub width: i32,
     pub height: i32,
     pub least: i32,
     pub greatest: i32,
+    /// Pixels between two sprites, and between a sprite and the border: at most 65535.
     pub padding: u32,
+    /// Each place, with the padding at its left and above, begins on multiples of these two sides, which are at least 1,
+    /// and takes multiples of them, also at the right and lower border.
     pub alignment_width: i32,
     pub alignment_height: i32,
+    /// 0 for no turning; otherwise a sprite may lie turned by 90 degrees.
     pub turn: u32,
+    /// How many more orders of the sprites are tried: 0 for none, 20000 for a second or so.
     pub effort: u32,
+    /// For these orders; the same input gives the same sheet on every machine.
     pub seed: u64,
 }
 
-/// As `Placed`; `turned` is 1 or 0.
+/// Where a sprite lies: its place without the padding, and whether it is turned by 90 degrees (1 or 0): then the place is as
+/// wide as the sprite is high.
 #[repr(C)]
 #[derive(Clone, Copy)]
 pub struct PlainPlaced {
@@ -33,7 +42,8 @@ pub struct PlainPlaced {
     pub turned: u32,
 }
 
-/// A place or none: `is_placed` is 1 or 0. Where there is none the place has no meaning.
+/// Where a sprite lies in a sheet that was filled: `is_placed` is 1, and it lies in `placed`; or 0, where it found no room,
+/// and `placed` is 0.
 #[repr(C)]
 #[derive(Clone, Copy)]
 pub struct PlainMaybePlaced {
@@ -41,7 +51,7 @@ pub struct PlainMaybePlaced {
     pub placed: PlainPlaced,
 }
 
-/// As `OnPage`.
+/// Where a sprite lies on one of several sheets: the number of the sheet, counted from 0, and its place there.
 #[repr(C)]
 #[derive(Clone, Copy)]
 pub struct PlainOnPage {

@@ -1,13 +1,13 @@
 // Erased from crates/guillotiere_c/src/simple.rt by rust/erase: don't edit.
 //! The exports of a simple allocator.
 
-use crate::atlas_handle::AtlasHandle;
+use crate::atlas_handle::AtlasReader;
 use crate::plain::{
     options_for, plain_options, plain_rectangle, plain_size, plain_slots, status_of,
     status_of_done, PlainOptions, PlainRectangle, PlainSize, PlainSlots, BAD_CALL, DONE, EMPTY,
-    MEMORY, NO_ROOM,
+    MEMORY, NO_ROOM, OCCUPIED,
 };
-use crate::simple_handle::SimpleHandle;
+use crate::simple_handle::{SimpleHandle, SimpleReader};
 use wollemigo_core::guillotiere::{
     size2, AllocatorOptions, AtlasError, Rectangle, SimpleAtlasAllocator, Size, DEFAULT_OPTIONS,
 };
@@ -23,7 +23,7 @@ fn start(
     simple: &mut SimpleHandle,
 ) -> u32 {
     if simple.holds() {
-        return EMPTY;
+        return OCCUPIED;
     }
     if width <= 0 || height <= 0 || !options.is_valid() {
         return BAD_CALL;
@@ -44,15 +44,19 @@ fn start(
     }
 }
 
-/// Makes a simple allocator of this size with the default options, where the handle holds nothing. `DONE`; `BAD_CALL`
-/// if the size is empty; `MEMORY`; `EMPTY` if the handle holds one already.
+/// Makes a simple allocator with the default options, where the handle holds nothing.
+/// `DONE`; `BAD_CALL` if a side isn't above 0; `MEMORY`; `OCCUPIED` if the handle holds one already.
 #[no_mangle]
 pub extern "C" fn guillotiere_simple_new(
     width: i32,
     height: i32,
-    simple: &mut SimpleHandle,
+    simple: Option<&mut SimpleHandle>,
 ) -> u32 {
     let alloc = Global;
+    let simple = match simple {
+        Some(simple) => simple,
+        None => return crate::plain::NULL_POINTER,
+    };
     start(alloc, width, height, &DEFAULT_OPTIONS, simple)
 }
 
@@ -61,18 +65,30 @@ pub extern "C" fn guillotiere_simple_new(
 pub extern "C" fn guillotiere_simple_with_options(
     width: i32,
     height: i32,
-    options: &PlainOptions,
-    simple: &mut SimpleHandle,
+    options: Option<&PlainOptions>,
+    simple: Option<&mut SimpleHandle>,
 ) -> u32 {
     let alloc = Global;
+    let options = match options {
+        Some(options) => options,
+        None => return crate::plain::NULL_POINTER,
+    };
+    let simple = match simple {
+        Some(simple) => simple,
+        None => return crate::plain::NULL_POINTER,
+    };
     let options = options_for(options);
     start(alloc, width, height, &options, simple)
 }
 
-/// Frees a simple allocator, with all that it takes; the handle holds nothing then.
+/// Frees a simple allocator, with all its memory; the handle holds nothing then.
 #[no_mangle]
-pub extern "C" fn guillotiere_simple_free(simple: &mut SimpleHandle) {
+pub extern "C" fn guillotiere_simple_free(simple: Option<&mut SimpleHandle>) {
     let alloc = Global;
+    let simple = match simple {
+        Some(simple) => simple,
+        None => return,
+    };
     if !simple.holds() {
         return;
     }
@@ -84,15 +100,24 @@ fn request(simple: &mut SimpleAtlasAllocator, size: Size) -> Result<Option<Recta
     simple.allocate(size)
 }
 
-/// Grants a request. `DONE`, and then the rectangle is in `granted`; `NO_ROOM` or `MEMORY`.
+/// Asks for a box of this size, rounded up by the options. `DONE`: its rectangle is in `granted`. `NO_ROOM` if the size is
+/// empty or fits no free box; `MEMORY`; `EMPTY`.
 #[no_mangle]
 pub extern "C" fn guillotiere_simple_allocate(
-    simple: &mut SimpleHandle,
+    simple: Option<&mut SimpleHandle>,
     width: i32,
     height: i32,
-    granted: &mut PlainRectangle,
+    granted: Option<&mut PlainRectangle>,
 ) -> u32 {
     let alloc = Global;
+    let simple = match simple {
+        Some(simple) => simple,
+        None => return crate::plain::NULL_POINTER,
+    };
+    let granted = match granted {
+        Some(granted) => granted,
+        None => return crate::plain::NULL_POINTER,
+    };
     if !simple.holds() {
         return EMPTY;
     }
@@ -109,14 +134,18 @@ pub extern "C" fn guillotiere_simple_allocate(
     }
 }
 
-/// Makes the allocator larger. `DONE`; `BAD_CALL` if a side shrinks; `MEMORY`.
+/// Makes the allocator larger. `DONE`; `BAD_CALL` if a side shrinks; `MEMORY`; `EMPTY`.
 #[no_mangle]
 pub extern "C" fn guillotiere_simple_grow(
-    simple: &mut SimpleHandle,
+    simple: Option<&mut SimpleHandle>,
     width: i32,
     height: i32,
 ) -> u32 {
     let alloc = Global;
+    let simple = match simple {
+        Some(simple) => simple,
+        None => return crate::plain::NULL_POINTER,
+    };
     if !simple.holds() {
         return EMPTY;
     }
@@ -131,27 +160,32 @@ pub extern "C" fn guillotiere_simple_grow(
     status_of_done(answer)
 }
 
-/// Whether the allocator may be grown to this size: no side shrinks. False of a handle that holds nothing.
+/// Whether the allocator may be grown to this size, in pixels: no side shrinks. False of a handle that holds nothing.
 #[no_mangle]
 pub extern "C" fn guillotiere_simple_can_grow_to(
-    simple: &mut SimpleHandle,
+    simple: Option<&SimpleReader>,
     width: i32,
     height: i32,
 ) -> bool {
-    let alloc = Global;
+    let simple = match simple {
+        Some(simple) => simple,
+        None => return false,
+    };
     if !simple.holds() {
         return false;
     }
-    let held = simple.take(alloc);
-    let can_grow = held.can_grow_to(size2(width, height));
-    simple.put(held);
-    can_grow
+    let held = simple.lent();
+    held.can_grow_to(size2(width, height))
 }
 
-/// Starts again with one free box of the allocator's size. Always `DONE`.
+/// Starts again with one free box of the allocator's size. Takes no memory. `DONE`; `EMPTY`.
 #[no_mangle]
-pub extern "C" fn guillotiere_simple_clear(simple: &mut SimpleHandle) -> u32 {
+pub extern "C" fn guillotiere_simple_clear(simple: Option<&mut SimpleHandle>) -> u32 {
     let alloc = Global;
+    let simple = match simple {
+        Some(simple) => simple,
+        None => return crate::plain::NULL_POINTER,
+    };
     if !simple.holds() {
         return EMPTY;
     }
@@ -161,16 +195,24 @@ pub extern "C" fn guillotiere_simple_clear(simple: &mut SimpleHandle) -> u32 {
     status_of_done(answer)
 }
 
-/// Starts again at this size and with these options. `DONE`; `BAD_CALL` if the size is empty or the options aren't
-/// valid.
+/// Starts again at this size and with these options. Takes no memory.
+/// `DONE`; `BAD_CALL` if a side isn't above 0 or the options aren't valid; `EMPTY`.
 #[no_mangle]
 pub extern "C" fn guillotiere_simple_reset(
-    simple: &mut SimpleHandle,
+    simple: Option<&mut SimpleHandle>,
     width: i32,
     height: i32,
-    options: &PlainOptions,
+    options: Option<&PlainOptions>,
 ) -> u32 {
     let alloc = Global;
+    let simple = match simple {
+        Some(simple) => simple,
+        None => return crate::plain::NULL_POINTER,
+    };
+    let options = match options {
+        Some(options) => options,
+        None => return crate::plain::NULL_POINTER,
+    };
     if !simple.holds() {
         return EMPTY;
     }
@@ -185,14 +227,22 @@ pub extern "C" fn guillotiere_simple_reset(
     status_of_done(answer)
 }
 
-/// Takes over an atlas's size, its options and its free rectangles, so that what is live there is never granted. The
-/// atlas stays as it is. `DONE` or `MEMORY`; `EMPTY` if one of the handles holds nothing.
+/// Takes over an atlas's size, options and free boxes, so that it never grants what is live there. The atlas stays as it is.
+/// `DONE`; `MEMORY`; `EMPTY` if one of the handles holds nothing.
 #[no_mangle]
 pub extern "C" fn guillotiere_simple_init_from_allocator(
-    simple: &mut SimpleHandle,
-    atlas: &mut AtlasHandle,
+    simple: Option<&mut SimpleHandle>,
+    atlas: Option<&AtlasReader>,
 ) -> u32 {
     let alloc = Global;
+    let simple = match simple {
+        Some(simple) => simple,
+        None => return crate::plain::NULL_POINTER,
+    };
+    let atlas = match atlas {
+        Some(atlas) => atlas,
+        None => return crate::plain::NULL_POINTER,
+    };
     if !simple.holds() {
         return EMPTY;
     }
@@ -201,68 +251,88 @@ pub extern "C" fn guillotiere_simple_init_from_allocator(
         simple.put(held);
         return EMPTY;
     }
-    let source = atlas.take(alloc);
-    let answer = held.init_from_allocator(&source);
-    atlas.put(source);
+    let source = atlas.lent();
+    let answer = held.init_from_allocator(source);
     simple.put(held);
     status_of_done(answer)
 }
 
-/// The size of the allocator, in pixels. `DONE`.
+/// The size of the allocator. `DONE`; `EMPTY`.
 #[no_mangle]
-pub extern "C" fn guillotiere_simple_size(simple: &mut SimpleHandle, size: &mut PlainSize) -> u32 {
-    let alloc = Global;
+pub extern "C" fn guillotiere_simple_size(
+    simple: Option<&SimpleReader>,
+    size: Option<&mut PlainSize>,
+) -> u32 {
+    let simple = match simple {
+        Some(simple) => simple,
+        None => return crate::plain::NULL_POINTER,
+    };
+    let size = match size {
+        Some(size) => size,
+        None => return crate::plain::NULL_POINTER,
+    };
     if !simple.holds() {
         return EMPTY;
     }
-    let held = simple.take(alloc);
+    let held = simple.lent();
     *size = plain_size(held.size());
-    simple.put(held);
     DONE
 }
 
-/// The options of the allocator. `DONE`.
+/// The options of the allocator. `DONE`; `EMPTY`.
 #[no_mangle]
 pub extern "C" fn guillotiere_simple_options(
-    simple: &mut SimpleHandle,
-    options: &mut PlainOptions,
+    simple: Option<&SimpleReader>,
+    options: Option<&mut PlainOptions>,
 ) -> u32 {
-    let alloc = Global;
+    let simple = match simple {
+        Some(simple) => simple,
+        None => return crate::plain::NULL_POINTER,
+    };
+    let options = match options {
+        Some(options) => options,
+        None => return crate::plain::NULL_POINTER,
+    };
     if !simple.holds() {
         return EMPTY;
     }
-    let held = simple.take(alloc);
+    let held = simple.lent();
     *options = plain_options(held.options());
-    simple.put(held);
     DONE
 }
 
-/// How many entries are used, one for each free box, how many there are, and how many there may be: 4,294,967,295.
-/// `DONE`.
+/// The counts of entries, one of which each free box takes. `DONE`; `EMPTY`.
 #[no_mangle]
 pub extern "C" fn guillotiere_simple_slots(
-    simple: &mut SimpleHandle,
-    slots: &mut PlainSlots,
+    simple: Option<&SimpleReader>,
+    slots: Option<&mut PlainSlots>,
 ) -> u32 {
-    let alloc = Global;
+    let simple = match simple {
+        Some(simple) => simple,
+        None => return crate::plain::NULL_POINTER,
+    };
+    let slots = match slots {
+        Some(slots) => slots,
+        None => return crate::plain::NULL_POINTER,
+    };
     if !simple.holds() {
         return EMPTY;
     }
-    let held = simple.take(alloc);
+    let held = simple.lent();
     *slots = plain_slots(held.slots());
-    simple.put(held);
     DONE
 }
 
 /// Whether one free box has the allocator's size; also true of a handle that holds nothing.
 #[no_mangle]
-pub extern "C" fn guillotiere_simple_is_empty(simple: &mut SimpleHandle) -> bool {
-    let alloc = Global;
+pub extern "C" fn guillotiere_simple_is_empty(simple: Option<&SimpleReader>) -> bool {
+    let simple = match simple {
+        Some(simple) => simple,
+        None => return false,
+    };
     if !simple.holds() {
         return true;
     }
-    let held = simple.take(alloc);
-    let is_empty = held.is_empty();
-    simple.put(held);
-    is_empty
+    let held = simple.lent();
+    held.is_empty()
 }

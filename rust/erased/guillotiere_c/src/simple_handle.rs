@@ -7,6 +7,7 @@ use wollemigo_support::alloc::Global;
 use wollemigo_support::prelude::Box;
 
 use core::mem::replace;
+use core::ptr::null_mut;
 
 /// A place for a simple allocator: it holds one, or nothing, and then it is null.
 #[repr(C)]
@@ -17,9 +18,7 @@ pub struct SimpleHandle {
 impl SimpleHandle {
     /// A handle that holds nothing.
     pub fn none() -> SimpleHandle {
-        SimpleHandle {
-            at: std::ptr::null_mut(),
-        }
+        SimpleHandle { at: null_mut() }
     }
 
     /// Drops a handle. Requires that it holds nothing, so that nothing is lost.
@@ -61,5 +60,24 @@ impl SimpleHandle {
         let _size = simple.size();
         let empty = replace(self, SimpleHandle::close(hold(simple)));
         SimpleHandle::forget(empty);
+    }
+}
+
+/// The same place for a call that only reads: what lies at the pointer is lent to it, and any number of such calls may run
+/// at once.
+#[repr(C)]
+pub struct SimpleReader {
+    at: *const u8,
+}
+
+impl SimpleReader {
+    /// Whether it holds an allocator.
+    pub fn holds(&self) -> bool {
+        !self.at.is_null()
+    }
+
+    /// The allocator. Requires that it holds one.
+    pub fn lent(&self) -> &SimpleAtlasAllocator {
+        unsafe { &*(self.at as *const SimpleAtlasAllocator) }
     }
 }

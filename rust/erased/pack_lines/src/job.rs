@@ -11,7 +11,6 @@ use wollemigo_support::alloc::Global;
 use wollemigo_support::prelude::Vec;
 
 /// What the lines of a text ask for.
-
 pub struct Job {
     /// What the sheet keeps to, and how it is written.
     pub settings: Settings,

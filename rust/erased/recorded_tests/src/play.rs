@@ -8,7 +8,6 @@ use wollemigo_support::alloc::{AllocError, Global};
 use wollemigo_support::prelude::{format, String, Vec};
 
 /// The lines of a session, and the expected replies.
-
 pub struct Session {
     steps: Vec<Step>,
     // Whether some lines say themselves which requests for memory are refused.

@@ -10,7 +10,6 @@ use wollemigo_support::io::{Read, Write};
 use wollemigo_support::prelude::{format, Vec};
 
 // What is played: the kind, how many of its sessions were played, and the session that is read.
-
 struct Player<'a> {
     kind: &'a str,
     played: u64,

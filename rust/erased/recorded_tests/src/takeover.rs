@@ -13,7 +13,6 @@ use wollemigo_support::alloc::{AllocError, Global};
 use wollemigo_support::prelude::{format, String, Vec};
 
 /// An atlas, and the simple allocator that takes over from it.
-
 pub struct Pair {
     atlas: AtlasAllocator,
     simple: SimpleAtlasAllocator,

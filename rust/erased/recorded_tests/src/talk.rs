@@ -9,7 +9,6 @@ use wollemigo_support::alloc::Global;
 use wollemigo_support::prelude::{String, Vec};
 
 /// A line with its end, and the expected replies, each with its end.
-
 pub struct Step {
     pub line: String,
     pub replies: String,
@@ -47,7 +46,6 @@ const NO_MEMORY: &[u8] = b"refused memory\n";
 const NO_REPLAY: &[u8] = b"replay refused memory\n";
 
 /// A session that is played, of which both devices know.
-
 pub struct Talk<'a> {
     steps: &'a [Step],
     // How many lines were begun.
@@ -189,7 +187,6 @@ impl<'a> Talk<'a> {
 }
 
 /// Gives one line, or one look, a call.
-
 pub struct Asking<'a> {
     talk: &'a Talk<'a>,
     failed: bool,
@@ -222,7 +219,6 @@ impl ToolInput for Asking<'_> {
 }
 
 /// Hears one reply, or what one look shows, a call.
-
 pub struct Hearing<'a> {
     talk: &'a Talk<'a>,
     seen: Vec<u8>,

@@ -25,6 +25,13 @@ impl Walk<'_, '_> {
         if body != end {
             return Err(self.source.fault(other, "an else of an unknown form"));
         }
+        if self.is_question(i + 1, equal, other) {
+            let name = self.source.text_of(i + 3, equal - 1).to_string();
+            self.source.count(13);
+            self.source.replace(i + 1, equal, &name);
+            self.source.replace(other, body, "?");
+            return Ok(());
+        }
         // What the pattern makes mutable is so outside of the match.
         let names = self.bound_names(i + 1, equal)?;
         let outer = in_brackets(&names);
@@ -40,6 +47,27 @@ impl Walk<'_, '_> {
         );
         self.source.append(body - 1, " }");
         Ok(())
+    }
+
+    /// Whether `Some(NAME) = VALUE else { return None; }` stands at token `i`, with a value that is a chain of names, calls and fields.
+    fn is_question(&self, i: usize, equal: usize, other: usize) -> bool {
+        let last = equal - 2;
+        let is_name = last == i + 2 || last == i + 3 && self.source.word(i + 2) == "mut";
+        let is_some = self.source.reads(i, &["Some", "("]) && is_name && self.source.is_word(last);
+        let returns_none = self
+            .source
+            .reads(other + 1, &["{", "return", "None", ";", "}"]);
+        let mut j = equal + 1;
+        while j < other {
+            j = match self.source.word(j) {
+                "." | ":" => j + 1,
+                "(" | "[" if j > equal + 1 => self.source.closed(j).unwrap_or(j + 1),
+                "as" | "if" | "match" | "loop" | "move" | "unsafe" => return false,
+                _ if self.source.is_word(j) => j + 1,
+                _ => return false,
+            };
+        }
+        is_some && returns_none
     }
 
     /// The first token from `i` on that is one of these and stands within no bracket.

@@ -38,7 +38,7 @@ impl Walk<'_, '_> {
             self.source.count(5);
         }
         if kept.is_empty() {
-            self.source.replace(i, end, "");
+            self.source.cut_with_space(i, end);
         } else if kept.len() < names.len() {
             self.source
                 .replace(i, end, &format!("#[derive({})]", kept.join(", ")));

@@ -13,17 +13,41 @@
 //! 10. A handle that `main` or a test is given is made at its begin.
 //! 11. An export takes no allocator, and a slice as a pointer and a length.
 //! 12. A call of Rust's name that takes an allocator or a handle is called `.._in`.
-//! 13. `let .. else` becomes `let .. = match ..`.
+//! 13. `let .. else` becomes `let .. = match ..`, or `?`.
 //! 14. A function of the library that has no hint to inline gets `#[inline]`.
+//! 15. A public function of the library that changes nothing gets `#[must_use]` for its answer.
+//! 16. A law goes, and so do its calls and imports: a function without parameters and without a body, or one named `prove_..`.
+//! 17. In the library a reference to a page of the repository goes: `(docs/..)` in a comment.
+//! 18. The greatest `u64` is called so.
+//! 19. A module of the library that belongs to a feature is compiled with that alone.
 mod choices;
 mod derives;
 mod ghosts;
 mod handles;
+mod laws;
 mod names;
 
 use crate::fault::Fault;
 use crate::source::Source;
+pub use laws::laws_of;
 use std::collections::BTreeSet;
+
+/// Modules of the library that belong to a feature of its package, and the feature.
+pub const FEATURES: [(&str, &str); 5] = [
+    ("atlas_cache", "cache"),
+    ("atlas_maxrects", "sheet"),
+    ("atlas_sheet", "sheet"),
+    ("guillotiere_recording", "recording"),
+    ("guillotiere_total::recording", "recording"),
+];
+
+/// The line above the declaration of a module that belongs to a feature.
+pub fn condition_of(module: &str) -> String {
+    let found = FEATURES.iter().find(|(name, _)| *name == module);
+    found.map_or(String::new(), |(_, feature)| {
+        format!("#[cfg(feature = \"{}\")]\n", feature)
+    })
+}
 
 /// Where a source goes, as far as the rules ask it.
 #[derive(Clone, Debug)]
@@ -34,6 +58,8 @@ pub struct Place {
     pub is_library: bool,
     /// The crates that are modules of the library's one crate.
     pub library: BTreeSet<String>,
+    /// The laws of all sources, by their names.
+    pub laws: BTreeSet<String>,
 }
 
 /// The file, or a module that stands in it with its body.
@@ -73,6 +99,9 @@ struct Walk<'a, 's> {
 /// Makes the edits of all rules.
 pub fn apply(source: &mut Source<'_>, place: &Place) -> Result<(), Fault> {
     source.check_brackets()?;
+    let mut place = place.clone();
+    place.laws.extend(laws_of(source)?);
+    let place = &place;
     let scope = Scope::new(0, source.len());
     let mut walk = Walk {
         source,
@@ -87,12 +116,22 @@ pub fn apply(source: &mut Source<'_>, place: &Place) -> Result<(), Fault> {
         i = walk.step(i)?;
     }
     walk.import_prelude();
+    if place.is_library {
+        source.cut_references();
+    }
     Ok(())
 }
 
 impl Walk<'_, '_> {
     /// At the word `mod`: what stands in the brackets of a module is a scope of its own.
     fn enter_module(&mut self, i: usize) -> Result<(), Fault> {
+        let module = format!("{}::{}", self.place.name, self.source.word(i + 1));
+        let condition = condition_of(&module);
+        if self.place.is_library && self.source.word(i + 2) == ";" && !condition.is_empty() {
+            let first = i - (self.source.before(i) == "pub") as usize;
+            self.source.count(19);
+            self.source.insert(first, &condition);
+        }
         if self.source.word(i + 2) == "{" {
             let end = self.source.closed(i + 2)? - 1;
             let inner = Scope::new(i + 3, end);
@@ -115,7 +154,15 @@ impl Walk<'_, '_> {
 
     /// Applies the rule that holds at token `i`, if one does. The token to go on with.
     fn step(&mut self, i: usize) -> Result<usize, Fault> {
+        if let Some(end) = self.law(i)? {
+            return Ok(end);
+        }
         match self.source.word(i) {
+            "18446744073709551615" => {
+                self.source.count(18);
+                self.source.replace(i, i + 1, "u64::MAX");
+                return Ok(i + 1);
+            }
             "#" => return self.attribute(i),
             _ if !self.source.is_word(i) => return Ok(i + 1),
             "ghost" => return self.ghost(i),

@@ -41,13 +41,14 @@ const SUPPORTED: [(&str, &[&str]); 7] = [
 ];
 
 /// What Rust's `core` has under the same name, and means the same by.
-const SAME: [(&str, &[&str]); 8] = [
+const SAME: [(&str, &[&str]); 9] = [
     ("cell", &["Cell"]),
     ("cmp", &["Ordering", "Reverse"]),
     ("fmt", &["Display", "Debug", "Formatter", "Result", "Write"]),
     ("iter", &[]),
     ("mem", &["replace", "swap", "take"]),
     ("ops", &["Index"]),
+    ("ptr", &["null_mut"]),
     ("slice", &[]),
     ("str", &["from_utf8", "FromStr"]),
 ];
@@ -97,7 +98,7 @@ impl Walk<'_, '_> {
             return Ok(end + 1);
         }
         for j in i + 1..end {
-            if self.source.is_word(j) {
+            if self.source.is_word(j) && !self.law_in_list(j) {
                 let word = self.source.word(j).to_string();
                 self.scope.imported.insert(word);
                 self.head_of_path(j)?;
@@ -190,7 +191,7 @@ impl Walk<'_, '_> {
 
     /// Rule 7: the import of what the prelude of Rattle has and the text uses.
     pub(super) fn import_prelude(&mut self) {
-        let of_exports = ["slice", "slice_mut"];
+        let of_exports = ["slice", "slice_mut", "spare"];
         let wanted = self
             .scope
             .used

@@ -1,7 +1,9 @@
 //! TexturePacker's JSON, hash and array, and Phaser's multiatlas.
-use super::{beside, File};
+use super::{beside, has_all, File};
+use crate::animation::Animation;
+use crate::nine;
 use crate::sheet::{Frame, Page, Sheet};
-use serde::Serialize;
+use serde::{Serialize, Serializer};
 use std::collections::BTreeMap;
 
 #[derive(Serialize)]
@@ -28,6 +30,36 @@ struct One<'a> {
     trimmed: bool,
     sprite_source_size: Box,
     source_size: Sides,
+    #[serde(skip_serializing_if = "Option::is_none")]
+    anchor: Option<Point>,
+    #[serde(skip_serializing_if = "Option::is_none")]
+    borders: Option<Borders>,
+    #[serde(rename = "scale9Borders", skip_serializing_if = "Option::is_none")]
+    middle: Option<Box>,
+    #[serde(skip_serializing_if = "Option::is_none")]
+    duration: Option<u32>,
+}
+
+#[derive(Serialize)]
+struct Point {
+    x: f64,
+    y: f64,
+}
+
+#[derive(Serialize)]
+struct Borders {
+    left: u32,
+    top: u32,
+    right: u32,
+    bottom: u32,
+}
+
+#[derive(Serialize)]
+struct Tag<'a> {
+    name: &'a str,
+    from: usize,
+    to: usize,
+    direction: &'static str,
 }
 
 #[derive(Serialize)]
@@ -44,11 +76,15 @@ struct Meta<'a> {
     scale: Option<String>,
     #[serde(skip_serializing_if = "Vec::is_empty")]
     related_multi_packs: Vec<String>,
+    #[serde(rename = "frameTags", skip_serializing_if = "Vec::is_empty")]
+    frame_tags: Vec<Tag<'a>>,
 }
 
 #[derive(Serialize)]
 struct Whole<'a, F> {
     frames: F,
+    #[serde(skip_serializing_if = "BTreeMap::is_empty")]
+    animations: BTreeMap<&'a str, Vec<&'a str>>,
     meta: Meta<'a>,
 }
 
@@ -70,8 +106,9 @@ struct Textures<'a> {
 const FORMAT: &str = "RGBA8888";
 
 // In `frame` the sides are those of the sprite before it is turned.
-fn one(frame: &Frame, is_named: bool) -> One<'_> {
+fn one(frame: &Frame, is_named: bool, duration: Option<u32>) -> One<'_> {
     let kept = frame.kept;
+    let nine = frame.nine.map(|nine| nine.split);
     One {
         filename: Some(frame.name.as_str()).filter(|_| is_named),
         frame: Box {
@@ -92,7 +129,81 @@ fn one(frame: &Frame, is_named: bool) -> One<'_> {
             w: frame.whole.0,
             h: frame.whole.1,
         },
+        anchor: frame.anchor.map(|anchor| Point {
+            x: anchor.x,
+            y: anchor.y,
+        }),
+        borders: nine.map(borders),
+        middle: nine.map(|nine| middle(nine, frame.whole)),
+        duration,
     }
+}
+
+fn borders(nine: nine::Sides) -> Borders {
+    Borders {
+        left: nine.left,
+        top: nine.top,
+        right: nine.right,
+        bottom: nine.bottom,
+    }
+}
+
+// What is stretched.
+fn middle(nine: nine::Sides, (width, height): (u32, u32)) -> Box {
+    Box {
+        x: nine.left,
+        y: nine.top,
+        w: width.saturating_sub(nine.left + nine.right),
+        h: height.saturating_sub(nine.top + nine.bottom),
+    }
+}
+
+// All frames of a sheet; those of animations with the milliseconds that each is shown.
+fn all<'a>(sheet: &'a Sheet, page: &'a Page, are_named: bool) -> Vec<(&'a str, One<'a>)> {
+    let animated = sheet.animated();
+    let duration = (1000.0 / sheet.frame_rate).round() as u32;
+    let frames = page.frames.iter().map(|frame| {
+        let name = frame.name.as_str();
+        (
+            name,
+            one(frame, are_named, animated.get(name).map(|_| duration)),
+        )
+    });
+    frames.collect()
+}
+
+// An object in the order of the list.
+struct Members<'a>(Vec<(&'a str, One<'a>)>);
+
+impl Serialize for Members<'_> {
+    fn serialize<S: Serializer>(&self, serializer: S) -> Result<S::Ok, S::Error> {
+        serializer.collect_map(self.0.iter().map(|(name, one)| (name, one)))
+    }
+}
+
+// The animations whose frames all lie on this sheet.
+fn played<'a>(sheet: &'a Sheet, page: &Page) -> BTreeMap<&'a str, Vec<&'a str>> {
+    let whole = sheet.animations.iter().filter(|one| has_all(page, one));
+    let frames = |one: &'a Animation| one.frames.iter().map(|frame| frame.1.as_str()).collect();
+    whole.map(|one| (one.name.as_str(), frames(one))).collect()
+}
+
+// The same, by the places of the first and the last frame in the list.
+fn tags<'a>(sheet: &'a Sheet, page: &Page) -> Vec<Tag<'a>> {
+    let tag = |(name, frames): (&'a str, Vec<&'a str>)| {
+        let from = page
+            .frames
+            .iter()
+            .position(|frame| frame.name == frames[0])?;
+        let to = from + frames.len() - 1;
+        Some(Tag {
+            name,
+            from,
+            to,
+            direction: "forward",
+        })
+    };
+    played(sheet, page).into_iter().filter_map(tag).collect()
 }
 
 fn sides(page: &Page) -> Sides {
@@ -111,6 +222,7 @@ fn meta(app_only: bool) -> Meta<'static> {
         size: None,
         scale: None,
         related_multi_packs: Vec::new(),
+        frame_tags: Vec::new(),
     }
 }
 
@@ -126,6 +238,7 @@ fn meta_of<'a>(sheet: &'a Sheet, number: usize) -> Meta<'a> {
         size: Some(sides(page)),
         scale: Some(sheet.scale.to_string()),
         related_multi_packs: others.map(|other| beside(&other.image, ".json")).collect(),
+        frame_tags: tags(sheet, page),
         ..meta(false)
     }
 }
@@ -148,29 +261,39 @@ fn each(sheet: &Sheet, of: impl Fn(&Page, Meta<'_>) -> String) -> Vec<File> {
 
 pub fn hashes(sheet: &Sheet) -> Vec<File> {
     each(sheet, |page, meta| {
-        let frames: BTreeMap<&str, One<'_>> = page
-            .frames
-            .iter()
-            .map(|frame| (frame.name.as_str(), one(frame, false)))
-            .collect();
-        text(&Whole { frames, meta })
+        text(&Whole {
+            frames: Members(all(sheet, page, false)),
+            animations: played(sheet, page),
+            meta,
+        })
     })
+}
+
+// The frames as a list.
+fn listed<'a>(sheet: &'a Sheet, page: &'a Page) -> Vec<One<'a>> {
+    all(sheet, page, true)
+        .into_iter()
+        .map(|(_, one)| one)
+        .collect()
 }
 
 pub fn arrays(sheet: &Sheet) -> Vec<File> {
     each(sheet, |page, meta| {
-        let frames: Vec<One<'_>> = page.frames.iter().map(|frame| one(frame, true)).collect();
-        text(&Whole { frames, meta })
+        text(&Whole {
+            frames: listed(sheet, page),
+            animations: played(sheet, page),
+            meta,
+        })
     })
 }
 
-fn texture(page: &Page, scale: f64) -> Texture<'_> {
+fn texture<'a>(sheet: &'a Sheet, page: &'a Page) -> Texture<'a> {
     Texture {
         image: &page.image,
         format: FORMAT,
         size: sides(page),
-        scale,
-        frames: page.frames.iter().map(|frame| one(frame, true)).collect(),
+        scale: sheet.scale.value(),
+        frames: listed(sheet, page),
     }
 }
 
@@ -179,7 +302,7 @@ pub fn multiatlas(sheet: &Sheet) -> String {
         textures: sheet
             .pages
             .iter()
-            .map(|page| texture(page, sheet.scale.value()))
+            .map(|page| texture(sheet, page))
             .collect(),
         meta: meta(true),
     })

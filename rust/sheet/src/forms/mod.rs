@@ -4,59 +4,107 @@ mod godot;
 mod json;
 mod libgdx;
 mod starling;
+mod template;
 
+pub use libgdx::{Filter, Wrap};
+pub use template::Template;
+
+use crate::animation::Animation;
 use crate::fault::{Fault, WORDS};
 use crate::picture::Lie;
-use crate::sheet::Sheet;
+use crate::sheet::{Page, Sheet, Sprite};
 use clap::ValueEnum;
+use std::collections::HashSet;
 
 /// A form of output.
 #[derive(Clone, Copy, Debug, PartialEq, Eq, ValueEnum)]
 pub enum Form {
-    /// JSON, an object of frames; a file for each sheet
+    /// PixiJS, and what reads TexturePacker's JSON: an object of frames; a file for each sheet
     JsonHash,
-    /// JSON, a list of frames; a file for each sheet
+    /// Phaser, and what reads TexturePacker's JSON: a list of frames; a file for each sheet
     JsonArray,
-    /// JSON for Phaser's multiatlas; one file for all sheets
+    /// Phaser's multiatlas: JSON; one file for all sheets
     Phaser,
-    /// .atlas of libGDX; one file for all sheets
+    /// libGDX and what reads its .atlas, all versions; one file for all sheets
     Libgdx,
-    /// SpriteFrames of Godot 4, .tres; one file for all sheets
+    /// libGDX 1.9.13 and later: .atlas in its new form; one file for all sheets
+    LibgdxNew,
+    /// Godot 4: SpriteFrames, .tres; one file for all sheets
     Godot,
-    /// XML of Starling; a file for each sheet
+    /// Godot 3: SpriteFrames, .tres; one file for all sheets
+    Godot3,
+    /// Starling, and what reads Sparrow's XML; a file for each sheet
     Starling,
-    /// Classes in CSS; one file for all sheets
+    /// Web pages: classes in CSS; one file for all sheets
     Css,
+    /// Unity, by a script of yours: JSON like its SpriteMetaData; one file for all sheets
+    Unity,
+    /// cocos2d and what reads its .plist, format 2; a file for each sheet
+    Cocos,
+    /// What --template says
+    #[value(skip)]
+    Template,
+}
+
+/// A form, and what is asked of it.
+#[derive(Clone, Debug)]
+pub struct Style {
+    pub form: Form,
+    pub template: Option<Template>,
+    pub filter: Filter,
+    pub wrap: Wrap,
+    /// Whether CSS has a page that shows all.
+    pub with_page: bool,
 }
 
 /// The name of a file, and what it has.
 pub type File = (String, Vec<u8>);
 
 /// The files of one scale beside its pictures.
-pub fn files(form: Form, sheet: &Sheet, with_page: bool) -> Vec<File> {
+pub fn files(style: &Style, sheet: &Sheet) -> Result<Vec<File>, Fault> {
     let one =
         |ending: &str, text: String| vec![(format!("{}{}", sheet.stem, ending), text.into_bytes())];
-    match form {
+    let atlas = |is_new| libgdx::text(sheet, style.filter, style.wrap, is_new);
+    Ok(match style.form {
         Form::JsonHash => json::hashes(sheet),
         Form::JsonArray => json::arrays(sheet),
         Form::Phaser => one(".json", json::multiatlas(sheet)),
-        Form::Libgdx => one(".atlas", libgdx::text(sheet)),
-        Form::Godot => one(".tres", godot::text(sheet)),
+        Form::Libgdx => one(".atlas", atlas(false)),
+        Form::LibgdxNew => one(".atlas", atlas(true)),
+        Form::Godot => one(".tres", godot::text(sheet, godot::Version::Four)),
+        Form::Godot3 => one(".tres", godot::text(sheet, godot::Version::Three)),
         Form::Starling => starling::files(sheet),
+        Form::Unity => template::unity()?.files(sheet)?,
+        Form::Cocos => template::cocos()?.files(sheet)?,
+        Form::Template => match &style.template {
+            Some(template) => template.files(sheet)?,
+            None => Vec::new(),
+        },
         Form::Css => {
             let mut files = one(".css", css::text(sheet));
-            if with_page {
+            if style.with_page {
                 files.extend(one(".html", css::page(sheet)));
             }
             files
         }
+    })
+}
+
+/// Why sprites can't lie turned in a form; none where they can.
+pub fn no_turn(form: Form) -> Option<&'static str> {
+    match form {
+        Form::Godot | Form::Godot3 => {
+            Some("--turn can't be used with --form godot or godot3: its textures can't be turned")
+        }
+        Form::Unity => Some("--turn can't be used with --form unity: its sprites can't be turned"),
+        _ => None,
     }
 }
 
 /// How a turned sprite lies in the pictures that the engines of a form read.
 pub fn turned(form: Form) -> Lie {
     match form {
-        Form::Libgdx => Lie::CounterClockwise,
+        Form::Libgdx | Form::LibgdxNew => Lie::CounterClockwise,
         _ => Lie::Clockwise,
     }
 }
@@ -64,7 +112,7 @@ pub fn turned(form: Form) -> Lie {
 /// Whether the form can have these names, and its files the name `stem`.
 pub fn check_names(form: Form, stem: &str, names: &[&str]) -> Result<(), Fault> {
     let lines: Vec<String> = match form {
-        Form::Libgdx => [stem]
+        Form::Libgdx | Form::LibgdxNew => [stem]
             .iter()
             .chain(names)
             .filter_map(|name| libgdx::fault(name))
@@ -84,6 +132,71 @@ pub fn check_names(form: Form, stem: &str, names: &[&str]) -> Result<(), Fault> 
             lines,
         })
     }
+}
+
+/// What the form has no place for, a line each.
+pub fn lost(form: Form, sprites: &[Sprite]) -> Vec<String> {
+    let has_anchors = matches!(
+        form,
+        Form::JsonHash
+            | Form::JsonArray
+            | Form::Phaser
+            | Form::Starling
+            | Form::Unity
+            | Form::Template
+    );
+    let has_nines = matches!(
+        form,
+        Form::JsonHash
+            | Form::JsonArray
+            | Form::Phaser
+            | Form::Libgdx
+            | Form::LibgdxNew
+            | Form::Unity
+            | Form::Template
+    );
+    let mut lines = Vec::new();
+    if !has_anchors && sprites.iter().any(|one| one.anchor.is_some()) {
+        lines.push("this form has no place for anchors".to_string());
+    }
+    let nines = sprites
+        .iter()
+        .filter(|one| !has_nines && one.nine.is_some());
+    lines.extend(nines.map(|one| {
+        format!(
+            "{}: this form has no place for what a nine-patch tells",
+            one.name
+        )
+    }));
+    lines
+}
+
+/// The animations that a form with a file for each sheet can't have, since their frames lie on several, a line each.
+pub fn split(form: Form, sheet: &Sheet) -> Vec<String> {
+    if !matches!(form, Form::JsonHash | Form::JsonArray) {
+        return Vec::new();
+    }
+    let is_split = |one: &&Animation| !sheet.pages.iter().any(|page| has_all(page, one));
+    let line = |one: &Animation| {
+        format!(
+            "animation {} lies on several sheets, so no file has it; --group may help",
+            one.name
+        )
+    };
+    sheet.animations.iter().filter(is_split).map(line).collect()
+}
+
+// Whether all frames of an animation lie on a sheet.
+fn has_all(page: &Page, animation: &Animation) -> bool {
+    let names: HashSet<&str> = page
+        .frames
+        .iter()
+        .map(|frame| frame.name.as_str())
+        .collect();
+    animation
+        .frames
+        .iter()
+        .all(|(_, name)| names.contains(name.as_str()))
 }
 
 // The name of a file of this sheet's with another ending: the file beside the picture.

@@ -33,6 +33,13 @@ fn line(frame: &Frame) -> String {
         )
         .unwrap();
     }
+    if let Some(anchor) = frame.anchor {
+        let (x, y) = (
+            anchor.x * f64::from(frame.whole.0),
+            anchor.y * f64::from(frame.whole.1),
+        );
+        write!(line, " pivotX=\"{}\" pivotY=\"{}\"", x, y).unwrap();
+    }
     line.push_str("/>\n");
     line
 }

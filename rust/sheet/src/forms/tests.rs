@@ -1,5 +1,5 @@
 //! One sheet with one turned, trimmed sprite, in each form.
-use super::{check_names, files, Form};
+use super::{check_names, files, Filter, Form, Style, Template, Wrap};
 use crate::picture::Part;
 use crate::sheet::{Frame, Page, Sheet};
 
@@ -16,6 +16,8 @@ fn sheet() -> Sheet {
             height: 6,
         },
         whole: (10, 20),
+        anchor: None,
+        nine: None,
     };
     Sheet {
         stem: "s".to_string(),
@@ -27,11 +29,20 @@ fn sheet() -> Sheet {
             height: 16,
             frames: vec![frame],
         }],
+        animations: Vec::new(),
+        frame_rate: 10.0,
     }
 }
 
 fn text(form: Form) -> String {
-    let mut files = files(form, &sheet(), false);
+    let style = Style {
+        form,
+        template: None,
+        filter: Filter::Nearest,
+        wrap: Wrap::Xy,
+        with_page: false,
+    };
+    let mut files = files(&style, &sheet()).unwrap();
     assert_eq!(files.len(), 1);
     String::from_utf8(files.remove(0).1).unwrap()
 }
@@ -58,9 +69,12 @@ fn json() {
 
 #[test]
 fn libgdx() {
-    let lines = "\ns.png\nsize: 8,16\nformat: RGBA8888\nfilter: Linear,Linear\nrepeat: none\npma: true\na \"b\".png\n  rotate: true\n  \
+    let lines = "\ns.png\nsize: 8,16\nformat: RGBA8888\nfilter: Nearest,Nearest\nrepeat: xy\na \"b\".png\n  rotate: true\n  \
                  xy: 1, 2\n  size: 5, 6\n  orig: 10, 20\n  offset: 3, 10\n  index: -1\n";
     assert_eq!(text(Form::Libgdx), lines);
+    let lines = "s.png\nsize: 8,16\nformat: RGBA8888\nfilter: Nearest,Nearest\nrepeat: xy\npma: true\na \"b\".png\n\
+                 bounds: 1, 2, 5, 6\noffsets: 3, 10, 10, 20\nrotate: 90\n";
+    assert_eq!(text(Form::LibgdxNew), lines);
 }
 
 #[test]
@@ -75,6 +89,48 @@ fn godot() {
     let told = text(Form::Godot);
     assert!(told.contains("region = Rect2(1, 2, 5, 6)\nmargin = Rect2(3, 4, 5, 14)\n"));
     assert!(told.contains("\"name\": &\"a \\\"b\\\".png\""));
+    let told = text(Form::Godot3);
+    assert!(told.contains(
+        "atlas = ExtResource( 1 )\nregion = Rect2( 1, 2, 5, 6 )\nmargin = Rect2( 3, 4, 5, 14 )\n"
+    ));
+    assert!(told.contains(
+        "\"frames\": [SubResource( 1 )],\n\"loop\": true,\n\"name\": \"a \\\"b\\\".png\""
+    ));
+}
+
+#[test]
+fn templates() {
+    let named = |name: &str, text: &str| Template::new(name, text);
+    for name in [
+        "x.tera",
+        "x",
+        "x.json",
+        ".tera",
+        "x.each.tera.",
+        "x.png.tera",
+        "x..tera",
+    ] {
+        assert!(named(name, "").is_err(), "{}", name);
+    }
+    let fault = named("x.txt.tera", "{% if %}").unwrap_err();
+    assert!(fault.lines[0].starts_with("x.txt.tera: ") && fault.lines.len() == 1);
+    let all = "{{ stem }} {{ pages[0].frames[0].offset.x }} <{{ pages[0].image }}>";
+    let files = named("x.lua.tera", all).unwrap().files(&sheet()).unwrap();
+    // The middle of what is kept is at 3 + 2.5, and that of the picture at 5.
+    assert_eq!(files, [("s.lua".to_string(), b"s 0.5 <s.png>".to_vec())]);
+    let each = named(
+        "x.each.tar.gz.tera",
+        "{{ page.image }} {{ page.frames | length }}",
+    )
+    .unwrap();
+    assert_eq!(
+        each.files(&sheet()).unwrap(),
+        [("s.tar.gz".to_string(), b"s.png 1".to_vec())]
+    );
+    assert!(named("x.txt.tera", "{{ none }}")
+        .unwrap()
+        .files(&sheet())
+        .is_err());
 }
 
 #[test]

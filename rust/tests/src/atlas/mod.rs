@@ -1,11 +1,13 @@
 //! Tests of an atlas, in addition to the rows of `guillotiere_tests` and `recorded_tests`: walks, many boxes, a long
-//! session. Expected values are worked by hand from the rules; none is an answer of the code under test.
+//! session. Expected values are worked by hand from the rules, or recorded from the Rust crate `guillotiere` 0.7.0; none is
+//! an answer of the code under test.
 
 mod churn;
 mod errors;
 mod geometry;
 mod pages;
 mod queries;
+mod rearranging;
 mod reserving;
 mod session_long;
 mod walks;

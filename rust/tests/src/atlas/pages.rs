@@ -1,9 +1,7 @@
 //! Pages of a texture array.
 
 use test_tables::rectangle;
-use wollemigo_core::guillotiere::pages::{
-    allocate_on, deallocate_on, page_with_room, pages_are_given_back, prove_page,
-};
+use wollemigo_core::guillotiere::pages::{allocate_on, deallocate_on, page_with_room};
 use wollemigo_core::guillotiere::{size2, AllocId, AtlasAllocator, AtlasError};
 use wollemigo_support::alloc::Global;
 use wollemigo_support::test::Fail;
@@ -53,15 +51,5 @@ fn a_box_is_freed_on_its_page() -> Result<(), Fail> {
     assert!(frees(&mut pages, 1, id));
     assert!(!frees(&mut pages, 1, id));
     assert!(fill(&mut pages, 1)?.is_some());
-    Ok(())
-}
-
-#[test]
-fn what_is_only_said_does_nothing() -> Result<(), Fail> {
-    let pages = two_pages()?;
-    prove_page(&pages, 0);
-    prove_page(&pages, 2);
-    pages_are_given_back();
-    assert_eq!(first_with_room(&pages), Some(0));
     Ok(())
 }

@@ -135,6 +135,49 @@ fn a_blank_entry_is_on_no_page() {
     assert!(blank.is_blank() && !on_a_page.is_blank());
 }
 
+// The key of the next entry that is to be looked at for one that lies on a page.
+fn unpassed(entries: &Entries<u32>) -> Option<u32> {
+    Some(entries.entry(entries.unpassed()?).key)
+}
+
+fn pass(entries: &mut Entries<u32>, key: u32) {
+    if let Some(number) = entries.find(&key) {
+        entries.pass(number);
+    }
+}
+
+// Of the keys 1 to 4, oldest first, 1, 2 and 3 are blank. What was passed isn't met again until it is used, and stays passed when
+// what was passed before it or after it is used or goes.
+#[test]
+fn blank_entries_are_passed_once() -> Result<(), Fail> {
+    let mut entries: Entries<u32> = Entries::new(Global);
+    for key in 1..5 {
+        let page = if key == 4 { 0 } else { NO_PAGE };
+        entries.push(Entry { page, ..entry(key, 1) })?;
+    }
+    assert_eq!(unpassed(&entries), Some(1));
+    pass(&mut entries, 1);
+    assert_eq!(unpassed(&entries), Some(2));
+    pass(&mut entries, 2);
+    pass(&mut entries, 3);
+    assert_eq!(unpassed(&entries), Some(4));
+    remove(&mut entries, 1);
+    assert_eq!(unpassed(&entries), Some(4));
+    touch(&mut entries, 3, 2);
+    assert_eq!(unpassed(&entries), Some(4));
+    remove(&mut entries, 4);
+    assert_eq!(unpassed(&entries), Some(3));
+    remove(&mut entries, 2);
+    assert_eq!(unpassed(&entries), Some(3));
+    pass(&mut entries, 3);
+    assert_eq!(unpassed(&entries), None);
+    touch(&mut entries, 3, 3);
+    assert_eq!(unpassed(&entries), Some(3));
+    entries.clear();
+    assert_eq!(unpassed(&entries), None);
+    Ok(())
+}
+
 #[test]
 fn a_used_entry_comes_first_with_its_frame() -> Result<(), Fail> {
     let mut entries = three()?;

@@ -136,6 +136,45 @@ fn a_cleared_page_has_room() -> Result<(), Fail> {
     Ok(())
 }
 
+// A page that refused a size is asked for it again once it has room: something was freed, the page grew, was cleared or repacked.
+#[test]
+fn a_page_that_refused_is_asked_again_when_it_changed() -> Result<(), Fail> {
+    let mut rooms = two_pages()?;
+    let held = place_two(&mut rooms, size2(20, 16), size2(12, 16))?;
+    place(&mut rooms, size2(32, 16))?;
+    for asked in [size2(12, 16), size2(20, 16), size2(12, 16), size2(1, 1)] {
+        assert_eq!(place(&mut rooms, asked)?, None);
+    }
+    for allocation in &held {
+        rooms.free(0, allocation.id);
+    }
+    assert_eq!(
+        place(&mut rooms, size2(32, 16))?,
+        Some((0, at(0, 0, 32, 16)))
+    );
+    assert_eq!(place(&mut rooms, size2(8, 8))?, None);
+    assert_eq!(rooms.grow_page()?, Some((0, size2(32, 32))));
+    assert_eq!(
+        place(&mut rooms, size2(8, 8))?,
+        Some((0, at(0, 16, 8, 24)))
+    );
+    assert_eq!(place(&mut rooms, size2(32, 32))?, None);
+    rooms.clear();
+    assert_eq!(
+        place(&mut rooms, size2(32, 32))?,
+        Some((0, at(0, 0, 32, 32)))
+    );
+    assert_eq!(place(&mut rooms, size2(33, 1))?, None);
+    assert_eq!(place(&mut rooms, size2(32, 16))?, Some((1, at(0, 0, 32, 16))));
+    assert_eq!(place(&mut rooms, size2(32, 16))?, None);
+    rooms.repack(1, Vec::new(Global))?;
+    assert_eq!(
+        place(&mut rooms, size2(32, 16))?,
+        Some((1, at(0, 0, 32, 16)))
+    );
+    Ok(())
+}
+
 #[test]
 fn the_largest_is_packed_first() -> Result<(), Fail> {
     let mut rooms = two_pages()?;

@@ -2,6 +2,7 @@
 
 use super::filling::{are_apart, is_good, sprites_of, upright};
 use super::sides;
+use test_tables::rectangle;
 use wollemigo_core::atlas_sheet::{pack, Allowed, Placed, SheetError, SheetOptions};
 use wollemigo_core::guillotiere::{size2, Size};
 use wollemigo_support::alloc::Global;
@@ -64,6 +65,45 @@ fn kinds_of_sheets() {
         let found = pack(Global, &[size2(4, 3), size2(4, 3)], &options).expect("memory");
         assert_eq!(found.map(|sheet| sheet.size), *size, "row {row}");
     }
+}
+
+// Squares, worked by hand: of a single sprite's greater side; four of 8 x 8 fill one of 16; two of 5 x 8 lie beside each
+// other in 10 x 8; and one of 17 x 1 is a pixel too wide.
+#[test]
+fn squares() {
+    let (small, high) = (size2(8, 8), size2(5, 8));
+    let rows: [(&[Size], i32, i32, Option<i32>); 6] = [
+        (&[size2(5, 3)], 1, 64, Some(5)),
+        (&[small; 4], 1, 64, Some(16)),
+        (&[high; 2], 1, 64, Some(10)),
+        (&[high; 2], 12, 64, Some(12)),
+        (&[], 3, 64, Some(3)),
+        (&[size2(17, 1)], 1, 16, None),
+    ];
+    for (row, (sprites, least, greatest, side)) in rows.iter().enumerate() {
+        let options = SheetOptions::new(Allowed::Squares {
+            least: *least,
+            greatest: *greatest,
+        });
+        let found = pack(Global, sprites, &options).expect("memory");
+        let size = side.map(|side| size2(side, side));
+        assert_eq!(found.map(|sheet| sheet.size), size, "row {row}");
+    }
+}
+
+// A single sprite lies in the corner of its square, as it was given.
+#[test]
+fn one_sprite() {
+    let options = SheetOptions::new(Allowed::Squares {
+        least: 1,
+        greatest: 64,
+    });
+    let found = pack(Global, &[size2(5, 3)], &options).expect("memory");
+    let corner = Placed {
+        area: rectangle((0, 0, 5, 3)),
+        turned: false,
+    };
+    assert_eq!(found.expect("a sheet").places, [corner]);
 }
 
 // Places stand in the order of the sprites: the great one, which is placed first, is the second.
@@ -179,6 +219,24 @@ fn refused_options() {
     for (row, (allowed, error)) in rows.iter().enumerate() {
         let options = SheetOptions::new(*allowed);
         let found = pack(Global, &[size2(1, 1), NO_SIZE], &options);
+        assert_eq!(found.err(), Some(*error), "row {row}");
+    }
+}
+
+// The same of squares for no sprites, and for one that is empty.
+#[test]
+fn refused_squares() {
+    let rows: [(&[Size], i32, i32, SheetError); 3] = [
+        (&[], 0, 9, SheetError::EmptySheet),
+        (&[], 9, 8, SheetError::EmptyRange),
+        (&[size2(1, 0)], 1, 8, SheetError::EmptySprite(0)),
+    ];
+    for (row, (sprites, least, greatest, error)) in rows.iter().enumerate() {
+        let options = SheetOptions::new(Allowed::Squares {
+            least: *least,
+            greatest: *greatest,
+        });
+        let found = pack(Global, sprites, &options);
         assert_eq!(found.err(), Some(*error), "row {row}");
     }
 }

@@ -8,12 +8,14 @@ use wollemigo_support::alloc::Allocator;
 impl<A: Allocator + Copy> AtlasAllocator<A> {
     /// The options of the atlas.
     #[inline]
+    #[must_use]
     pub fn options(&self) -> AllocatorOptions {
         self.store.options()
     }
 
     /// Whether `grow` may be called with this size: neither side is less than the atlas's.
     #[inline]
+    #[must_use]
     pub fn can_grow_to(&self, new_size: Size) -> bool {
         self.size.width <= new_size.width && self.size.height <= new_size.height
     }
@@ -21,6 +23,7 @@ impl<A: Allocator + Copy> AtlasAllocator<A> {
     /// Whether a request has room: its size isn't empty and, rounded up, fits a free rectangle. Then `allocate` grants
     /// it, slots and memory aside; else it answers None. Takes one search, and no memory.
     #[inline]
+    #[must_use]
     pub fn can_fit(&self, requested_size: Size) -> bool {
         match self.store.rounded(requested_size) {
             Some(size) => self.store.choose(size).is_some(),

@@ -13,12 +13,14 @@ impl<A: Allocator + Copy> AtlasAllocator<A> {
     /// The area of all live rectangles together, in unit squares: with `free_area` it is the width times the height of
     /// the atlas. One pass over the slots, and no memory.
     #[inline]
+    #[must_use]
     pub fn allocated_area(&self) -> u64 {
         live_sum(self.store.slots())
     }
 
     /// The area of all free rectangles together, in unit squares. One pass over the slots, and no memory.
     #[inline]
+    #[must_use]
     pub fn free_area(&self) -> u64 {
         free_sum(self.store.slots())
     }

@@ -12,7 +12,8 @@ use wollemigo_support::hash::{BuildHasher, Hash};
 impl<K: Copy + Eq + Hash, S: BuildHasher, A: Allocator + Copy> TextureCache<K, S, A> {
     /// Removes all keys. The pages stay, with their sizes and with nothing on them, and so do the frame and the counts. No
     /// change reports this: the caller forgets all places. Takes no memory, and gives none back: what the keys had is
-    /// in reserve. A `shrink` after it takes all pages away, and then the cache begins with small ones again.
+    /// in reserve. A `shrink` after it takes all pages away, and then the cache begins with small ones again. Its time grows by the
+    /// pages and by the most keys that there were.
     #[inline]
     pub fn clear(&mut self) {
         self.entries.clear();
@@ -21,7 +22,8 @@ impl<K: Copy + Eq + Hash, S: BuildHasher, A: Allocator + Copy> TextureCache<K, S
 
     /// Evicts the entries that weren't used for at least this many frames: with 1, what this frame didn't use; with 0, all.
     /// Each is added to the changes as `Evicted`, the least recently used first. The others stay. The list of changes
-    /// is asked for room for as many as there are entries; with `Memory`, if that is refused, nothing changes.
+    /// is asked for room for as many as there are entries; with `Memory`, if that is refused, nothing changes. Takes a freeing for each
+    /// key that goes.
     #[inline]
     pub fn trim(&mut self, frames: u64, changes: &mut Changes<K, A>) -> Result<(), CacheError> {
         changes.reserve(self.entries.len())?;
@@ -40,8 +42,9 @@ impl<K: Copy + Eq + Hash, S: BuildHasher, A: Allocator + Copy> TextureCache<K, S
 
     /// Makes sure that at least this many slots are in reserve on each page. An insert that neither adds a page nor grows one takes
     /// at most 4 of each page; a page that is added later has none in reserve, one that grows takes up to 3 of its own, and
-    /// one that is repacked may have none. Nothing else changes. `Slots` if those of a page don't suffice, `Memory` if memory
-    /// is refused; the pages before that one have theirs in reserve then.
+    /// one that is repacked may have none; `remove`, `trim` and `clear` take none away. Nothing else changes. `Slots` only if a page
+    /// would use more than 16,777,216 with them, `Memory` only if some page hasn't as many in reserve and memory is refused; the
+    /// pages before that one have theirs in reserve then. Takes as many steps as there are pages, and memory for those that need it.
     #[inline]
     pub fn reserve_slots(&mut self, additional: u32) -> Result<(), CacheError> {
         self.rooms.reserve_slots(additional)
@@ -50,7 +53,6 @@ impl<K: Copy + Eq + Hash, S: BuildHasher, A: Allocator + Copy> TextureCache<K, S
     // The entries that weren't used for so many frames go.
     #[inline]
     fn drop_unused(&mut self, frames: u64, changes: &mut Changes<K, A>) {
-        self.entries.prove_kept();
         'each: loop {
             if !self.drop_last(frames, changes) {
                 return;

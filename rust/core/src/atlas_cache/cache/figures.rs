@@ -12,6 +12,7 @@ use wollemigo_support::hash::{BuildHasher, Hash};
 impl<K: Copy + Eq + Hash, S: BuildHasher, A: Allocator + Copy> TextureCache<K, S, A> {
     /// How the cache was made.
     #[inline]
+    #[must_use]
     pub fn options(&self) -> CacheOptions {
         self.rooms.options()
     }
@@ -19,6 +20,7 @@ impl<K: Copy + Eq + Hash, S: BuildHasher, A: Allocator + Copy> TextureCache<K, S
     /// How often `get` found its key and how often it didn't, and how many entries were evicted, since the cache was
     /// made.
     #[inline]
+    #[must_use]
     pub fn statistics(&self) -> Counts {
         self.counts
     }
@@ -26,6 +28,7 @@ impl<K: Copy + Eq + Hash, S: BuildHasher, A: Allocator + Copy> TextureCache<K, S
     /// How many numbers entries have had since the cache was made or cleared: each number is below this. There are at most as
     /// many as there ever were entries at once.
     #[inline]
+    #[must_use]
     pub fn numbers(&self) -> u32 {
         self.entries.made()
     }
@@ -33,6 +36,7 @@ impl<K: Copy + Eq + Hash, S: BuildHasher, A: Allocator + Copy> TextureCache<K, S
     /// The area of all entries of a page together, with their padding and what alignment added, in pixels; None if
     /// there is no such page. Takes no memory, and one pass over the slots of the page.
     #[inline]
+    #[must_use]
     pub fn live_area(&self, page: u32) -> Option<u64> {
         if page < self.rooms.len() {
             Some(self.rooms.live_area(page))
@@ -44,6 +48,7 @@ impl<K: Copy + Eq + Hash, S: BuildHasher, A: Allocator + Copy> TextureCache<K, S
     /// The area of a page that no entry takes, in pixels; None if there is no such page. Takes no memory, and one pass
     /// over the slots of the page.
     #[inline]
+    #[must_use]
     pub fn free_area(&self, page: u32) -> Option<u64> {
         if page < self.rooms.len() {
             Some(self.rooms.free_area(page))

@@ -12,44 +12,39 @@ use wollemigo_support::hash::{BuildHasher, Hash};
 
 /// The entry of a key with its number; None if there is none.
 #[inline]
+#[must_use]
 pub fn look_up<K: Copy + Eq + Hash, S: BuildHasher, A: Allocator + Copy>(
     entries: &Entries<K, S, A>,
     key: &K,
 ) -> Option<(u32, Entry<K>)> {
-    entries.prove_kept();
     let number = entries.find(key)?;
     Some((number, entries.entry(number)))
 }
 
 /// The least recently used entry with its number; None if there is none.
 #[inline]
+#[must_use]
 pub fn oldest<K: Copy + Eq + Hash, S: BuildHasher, A: Allocator + Copy>(
     entries: &Entries<K, S, A>,
 ) -> Option<(u32, Entry<K>)> {
-    entries.prove_kept();
     let number = entries.oldest()?;
     Some((number, entries.entry(number)))
 }
 
-/// The least recently used entry that lies on a page, with its number; None if none does. Blank entries that were used
-/// before it are passed one by one.
+/// The least recently used entry that lies on a page, with its number; None if none does. Each blank entry that was used
+/// before it is passed once, and not again until it is used.
 #[inline]
 pub fn oldest_lying<K: Copy + Eq + Hash, S: BuildHasher, A: Allocator + Copy>(
-    entries: &Entries<K, S, A>,
+    entries: &mut Entries<K, S, A>,
 ) -> Option<(u32, Entry<K>)> {
-    entries.prove_kept();
-    let mut next = entries.oldest();
+    let mut next = entries.unpassed();
     for _ in 0..entries.len() {
-        let number = match next {
-            Some(number) => number,
-            _ => {
-                return None;
-            }
-        };
+        let number = next?;
         let entry = entries.entry(number);
         if !entry.is_blank() {
             return Some((number, entry));
         }
+        entries.pass(number);
         next = entries.newer(number);
     }
     None
@@ -57,6 +52,7 @@ pub fn oldest_lying<K: Copy + Eq + Hash, S: BuildHasher, A: Allocator + Copy>(
 
 /// The place of an entry.
 #[inline]
+#[must_use]
 pub fn place_of<K: Copy>(entry: Entry<K>, options: &CacheOptions) -> Place {
     if entry.is_blank() {
         return Place::blank(entry.number);

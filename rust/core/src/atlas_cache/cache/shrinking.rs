@@ -24,7 +24,6 @@ impl<K: Copy + Eq + Hash, S: BuildHasher, A: Allocator + Copy> TextureCache<K, S
     fn drop_pages(&mut self, changes: &mut Changes<K, A>) {
         'each: loop {
             if !self.drop_page(changes) {
-                self.prove_kept();
                 return;
             }
         }

@@ -13,12 +13,7 @@ use wollemigo_support::hash::{BuildHasher, Hash};
 fn newest<K: Copy + Eq + Hash, S: BuildHasher, A: Allocator + Copy>(
     entries: &Entries<K, S, A>,
 ) -> Option<(u32, Entry<K>)> {
-    let number = match entries.newest() {
-        Some(number) => number,
-        _ => {
-            return None;
-        }
-    };
+    let number = entries.newest()?;
     Some((number, entries.entry(number)))
 }
 
@@ -28,19 +23,14 @@ fn older<K: Copy + Eq + Hash, S: BuildHasher, A: Allocator + Copy>(
     entries: &Entries<K, S, A>,
     number: u32,
 ) -> Option<(u32, Entry<K>)> {
-    entries.prove_kept();
-    let next = match entries.older(number) {
-        Some(next) => next,
-        _ => {
-            return None;
-        }
-    };
+    let next = entries.older(number)?;
     Some((next, entries.entry(next)))
 }
 
 impl<K: Copy + Eq + Hash, S: BuildHasher, A: Allocator + Copy> TextureCache<K, S, A> {
     /// The most recently used key, and its place; None if there is none. It doesn't count as a use.
     #[inline]
+    #[must_use]
     pub fn newest(&self) -> Option<(K, Place)> {
         let entry = match newest(&self.entries) {
             Some((_, entry)) => entry,
@@ -53,6 +43,7 @@ impl<K: Copy + Eq + Hash, S: BuildHasher, A: Allocator + Copy> TextureCache<K, S
 
     /// The least recently used key, and its place; None if there is none. It doesn't count as a use.
     #[inline]
+    #[must_use]
     pub fn oldest(&self) -> Option<(K, Place)> {
         let entry = match oldest(&self.entries) {
             Some((_, entry)) => entry,
@@ -67,6 +58,7 @@ impl<K: Copy + Eq + Hash, S: BuildHasher, A: Allocator + Copy> TextureCache<K, S
     /// held. It doesn't count as a use. From `newest` on, this gives each key once, in the order of use, with one
     /// look-up each.
     #[inline]
+    #[must_use]
     pub fn older(&self, key: &K) -> Option<(K, Place)> {
         let number = match look_up(&self.entries, key) {
             Some((number, _)) => number,

@@ -13,6 +13,7 @@ pub const NO_ENTRY: u32 = 4294967295;
 
 /// The link of an entry, or the ends of the order at `NO_ENTRY`.
 #[inline]
+#[must_use]
 pub fn read_link(links: &[Link], ends: Link, at: u32) -> Link {
     if at == NO_ENTRY {
         ends

@@ -2,6 +2,7 @@
 //! A page's rectangles placed anew, and the areas of a page.
 
 use crate::atlas_cache::error::CacheError;
+use crate::atlas_cache::rooms::asking::NO_SIZE;
 use crate::atlas_cache::rooms::usable::extent;
 use crate::atlas_cache::rooms::{refusal, Rooms};
 use crate::guillotiere::{Allocation, AtlasAllocator, Change, ChangeList, Rectangle, Size};
@@ -88,14 +89,15 @@ impl<A: Allocator + Copy> Rooms<A> {
             }
         };
         let list = place_all(&mut placed, order)?;
-        placed.prove_sound();
         self.pages[page] = placed;
+        self.refused[page] = NO_SIZE;
         Ok(list)
     }
 
     /// The area of all live rectangles of a page together, in unit squares. Requires that there is such a page. Takes no
     /// memory, and one pass over the slots of the page.
     #[inline]
+    #[must_use]
     pub fn live_area(&self, page: u32) -> u64 {
         self.pages[page as usize].allocated_area()
     }
@@ -103,6 +105,7 @@ impl<A: Allocator + Copy> Rooms<A> {
     /// The area of all free rectangles of a page together, in unit squares. Requires that there is such a page. Takes no
     /// memory, and one pass over the slots of the page.
     #[inline]
+    #[must_use]
     pub fn free_area(&self, page: u32) -> u64 {
         self.pages[page as usize].free_area()
     }

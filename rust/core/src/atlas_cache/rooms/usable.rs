@@ -16,6 +16,7 @@ fn taken_side(side: i32, padding: i32, alignment: i32) -> u64 {
 
 /// How far `to` lies beyond `from`, where a position below 0 counts as 0.
 #[inline]
+#[must_use]
 pub fn extent(from: i32, to: i32) -> u64 {
     (to.max(0) as u64).saturating_sub(from.max(0) as u64)
 }

@@ -17,7 +17,7 @@ fn cut_area(area: Rectangle, axis: Orientation, extent: u32) -> (Rectangle, Rect
 }
 
 /// How a free leaf gives way to a request that fits it, with the request's pixels along the leaf's sequence and across
-/// it (docs/MODEL.md, "Changes of a tree").
+/// it.
 #[derive(Clone, Copy, Debug, PartialEq, Eq)]
 pub enum Plan {
     /// The leaf is granted whole.

@@ -8,18 +8,21 @@ use wollemigo_support::prelude::Vec;
 
 /// The id of the slot with this number in this generation.
 #[inline]
+#[must_use]
 pub fn slot_id(number: usize, generation: u8) -> AllocId {
     AllocId::deserialize(number as u32 + MOST_SLOTS * u32::from(generation))
 }
 
 /// The number of the slot that an id names.
 #[inline]
+#[must_use]
 pub fn slot_number(id: AllocId) -> u32 {
     id.serialize() % MOST_SLOTS
 }
 
 /// The slot that an id names, if it is allocated under that id now.
 #[inline]
+#[must_use]
 pub fn named_slot(slots: &[Slot], id: AllocId) -> Option<usize> {
     let at = slot_number(id) as usize;
     let node = slots.get(at)?.node;
@@ -91,6 +94,7 @@ fn area_of(rectangle: &Rectangle) -> u64 {
 
 /// The area of all free slots together, in unit squares.
 #[inline]
+#[must_use]
 pub fn free_sum(slots: &[Slot]) -> u64 {
     let mut sum = 0;
     for slot in slots {
@@ -103,6 +107,7 @@ pub fn free_sum(slots: &[Slot]) -> u64 {
 
 /// The area of all allocated slots together, in unit squares.
 #[inline]
+#[must_use]
 pub fn live_sum(slots: &[Slot]) -> u64 {
     let mut sum = 0;
     for slot in slots {

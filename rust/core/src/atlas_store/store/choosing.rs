@@ -12,12 +12,14 @@ impl<A: Allocator> Store<A> {
     /// The size of a request, rounded up to multiples of the alignment; None if a side is 0 or less, or if a rounded
     /// side passes 2147483647.
     #[inline]
+    #[must_use]
     pub fn rounded(&self, size: Size) -> Option<Size> {
         rounded(size, &self.options)
     }
 
     /// The free slot that a request of this rounded size takes; None if it fits none.
     #[inline]
+    #[must_use]
     pub fn choose(&self, size: Size) -> Option<Found> {
         pick(&self.slots, &self.lists, &self.options, size)
     }

@@ -2,12 +2,12 @@
 //! A count of turns that only contracts see. It takes no memory, and its methods do nothing when they run.
 
 /// How many turns there were.
-
 pub struct Turns {}
 
 impl Turns {
     /// No turn yet.
     #[inline]
+    #[must_use]
     pub fn new() -> Turns {
         Turns {}
     }

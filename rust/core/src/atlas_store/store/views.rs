@@ -10,24 +10,28 @@ use wollemigo_support::alloc::Allocator;
 impl<A: Allocator> Store<A> {
     /// The slots, by their numbers.
     #[inline]
+    #[must_use]
     pub fn slots(&self) -> &[Slot] {
         &self.slots
     }
 
     /// The options.
     #[inline]
+    #[must_use]
     pub fn options(&self) -> AllocatorOptions {
         self.options.plain()
     }
 
     /// The options as a search reads them.
     #[inline]
+    #[must_use]
     pub fn scale(&self) -> Scale {
         self.options.copy()
     }
 
     /// The allocator that memory for slots comes from.
     #[inline]
+    #[must_use]
     pub fn allocator(&self) -> A
     where
         A: Copy,

@@ -31,7 +31,6 @@ impl Entry for FreeBox {
 }
 
 /// Free boxes, each in the list of its size, and entries that are unused; `used` counts the others.
-
 pub struct FreeBoxes<A: Allocator> {
     pub entries: Vec<FreeBox, A>,
     pub unused: Link,
@@ -68,6 +67,24 @@ impl<A: Allocator> FreeBoxes<A> {
             entries,
             unused: Link::NONE,
             used: 0,
+            table,
+        })
+    }
+
+    /// A copy, in new memory of the same allocator, with room for one entry at least. The only error is `Memory`.
+    #[inline]
+    pub fn copy(&self) -> Result<FreeBoxes<A>, AtlasError>
+    where
+        A: Copy,
+    {
+        let count = self.entries.len().max(1);
+        let mut entries = Vec::with_capacity(*self.entries.allocator(), count)?;
+        entries.extend_from_slice(&self.entries)?;
+        let table = self.table.copy()?;
+        Ok(FreeBoxes {
+            entries,
+            unused: self.unused,
+            used: self.used,
             table,
         })
     }

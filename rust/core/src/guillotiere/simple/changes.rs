@@ -37,7 +37,7 @@ impl<A: Allocator + Copy> SimpleAtlasAllocator<A> {
     /// options. Always Ok. Keeps the room of the entries, and takes no memory.
     #[inline]
     pub fn reset(&mut self, size: Size, options: &AllocatorOptions) -> Result<(), AtlasError> {
-        self.options = Scale::new(options);
+        self.options.set(options);
         self.boxes.restart(Rectangle::from(size), &self.options);
         self.size = size;
         Ok(())

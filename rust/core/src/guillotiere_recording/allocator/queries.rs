@@ -6,28 +6,33 @@ use crate::guillotiere_recording::allocator::RecordingAllocator;
 use crate::guillotiere_recording::error::RecordingError;
 use crate::guillotiere_recording::recording::Recording;
 use wollemigo_support::alloc::Allocator;
+use wollemigo_support::prelude::Vec;
 
 impl<A: Allocator + Copy> RecordingAllocator<A> {
     /// The options of the atlas.
     #[inline]
+    #[must_use]
     pub fn options(&self) -> AllocatorOptions {
         self.atlas.options()
     }
 
     /// Whether `grow` may be called with this size, in pixels: neither side is less than the atlas's.
     #[inline]
+    #[must_use]
     pub fn can_grow_to(&self, new_size: Size) -> bool {
         self.atlas.can_grow_to(new_size)
     }
 
     /// Whether a request of this size, in pixels, has room, as the atlas's `can_fit` says. Takes one search, and no memory.
     #[inline]
+    #[must_use]
     pub fn can_fit(&self, requested_size: Size) -> bool {
         self.atlas.can_fit(requested_size)
     }
 
     /// How many slots are used, the most that were used at once since the last start, and how many may be used.
     #[inline]
+    #[must_use]
     pub fn slots(&self) -> SlotCount {
         self.atlas.slots()
     }
@@ -44,6 +49,21 @@ impl<A: Allocator + Copy> RecordingAllocator<A> {
     #[inline]
     pub fn recording(&self) -> Result<Recording<A>, RecordingError> {
         Ok(Recording::from_log(self.log.clone()?))
+    }
+
+    /// A copy, which goes on by itself: its atlas stores the same, its names and its recording are equal, and so are its answers to
+    /// later calls, except where memory is refused. `Memory` is the only error.
+    #[inline]
+    pub fn clone(&self) -> Result<Self, RecordingError> {
+        let atlas = self.atlas.clone()?;
+        let names = Vec::from_slice(*self.names.allocator(), &self.names)?;
+        let log = self.log.clone()?;
+        Ok(RecordingAllocator {
+            atlas,
+            names,
+            given: self.given,
+            log,
+        })
     }
 
     // Whether this is the name of the next grant.

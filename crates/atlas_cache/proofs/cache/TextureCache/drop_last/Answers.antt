@@ -70,6 +70,7 @@ returns-clause-drops g c = λ _.
       numbers = c.take_out.ensures.made;
       reserved = c.take_out.ensures.reserved;
       sizes = c.take_out.ensures.sizes;
+      slots = c.take_out.ensures.slots;
       options = c.take_out.ensures.options;
       frame = refl;
       counts = rw c.count-self-inside.ensures refl;

@@ -21,7 +21,7 @@ returns-then-entry-self-clause-stops g c = λ _.
     rw (← c.self.view_is, w.was) (all-in-use it.frame w.newer c.in-Some.entry w.older w.lies w.blank falls c.if-entry-self.true)
 
 pub take_out-requires-clause-here : goal.take_out-requires-clause-here
-take_out-requires-clause-here g c = let w = rw c.in-Some.is at c.oldest_lying.ensures.last in w.at
+take_out-requires-clause-here g c = let w = rw c.in-Some.is at c.oldest_lying.ensures.last in rw c.oldest_lying.ensures.stays w.at
 
 pub place_of-place-requires : goal.place_of-place-requires
 place_of-place-requires g c =
@@ -30,7 +30,11 @@ place_of-place-requires g c =
     (bordered-at _ _ c.self.inside.entries.entries c.in-Some.entry c.self.invariant.bordered w.at)
 
 pub invariant_of-self : goal.invariant_of-self
-invariant_of-self g c =
+invariant_of-self g c = rw c.oldest_lying.ensures.stays c.self.invariant
+
+pub invariant_of-self-2 : goal.invariant_of-self-2
+invariant_of-self-2 g c =
+    let without = rw c.oldest_lying.ensures.stays at c.take_out.ensures.without in
     let w = rw c.in-Some.is at c.oldest_lying.ensures.last in
     let it = c.self.inside in
     let n = c.in-Some.number in
@@ -41,14 +45,15 @@ invariant_of-self g c =
     let p = parts n it.entries.entries e w.at in
     record {
       held = c.take_out.ensures.held;
-      bordered = rw (c.take_out.ensures.options, c.take_out.ensures.without)
+      bordered = rw (c.take_out.ensures.options, without)
           (rest_bordered it.rooms.pages it.rooms.options.padding it.frame e es rest p was.bordered);
-      frames = rw c.take_out.ensures.without
+      frames = rw without
           (rest_falls it.rooms.pages it.rooms.options.padding it.frame e es rest p was.frames);
     }
 
 pub returns-clause-does : goal.returns-clause-does
 returns-clause-does g c = λ _.
+    let without = rw c.oldest_lying.ensures.stays at c.take_out.ensures.without in
     let it = c.self.inside in
     let e = c.in-Some.entry in
     let w = rw c.in-Some.is at c.oldest_lying.ensures.last in
@@ -64,15 +69,15 @@ returns-clause-does g c = λ _.
         newer = w.newer;
         older = w.older;
         was = w.was;
-        is = rw c.take_out.ensures.without w.others;
+        is = rw without w.others;
         lies = w.lies;
         blank = w.blank;
         named = refl;
         shows = rw (c.place_of-place.ensures, c.options.ensures.options, c.take_out.ensures.options) refl;
         unused = omega (arith, least, c.if-entry-self.false);
         leaves = c.take_out.ensures.leaves;
-        numbers = c.take_out.ensures.made;
-        reserved = c.take_out.ensures.reserved;
+        numbers = rw c.oldest_lying.ensures.stays at c.take_out.ensures.made;
+        reserved = rw c.oldest_lying.ensures.stays at c.take_out.ensures.reserved;
         sizes = c.take_out.ensures.sizes;
         options = c.take_out.ensures.options;
         frame = refl;
@@ -82,8 +87,9 @@ returns-clause-does g c = λ _.
 
 pub returns-clause-less : goal.returns-clause-less
 returns-clause-less g c = λ _.
+    let without = rw c.oldest_lying.ensures.stays at c.take_out.ensures.without in
     let w = rw c.in-Some.is at c.oldest_lying.ensures.last in
-    rw (← c.self.view_is, c.take_out.ensures.options, c.take_out.ensures.sizes, c.take_out.ensures.without, w.others, w.was)
+    rw (← c.self.view_is, c.take_out.ensures.options, c.take_out.ensures.sizes, without, w.others, w.was)
     (omega (arith, length-less w.newer c.in-Some.entry w.older))
 
 pub returns-clause-there : goal.returns-clause-there
@@ -99,20 +105,22 @@ pub returns-clause-others : goal.returns-clause-others
 returns-clause-others g c = rw (← c.self.view_is) c.take_out.ensures.leaves.others
 
 pub returns-in_default-clause-reserves : goal.returns-in_default-clause-reserves
-returns-in_default-clause-reserves g c = rw (← c.self.view_is) (λ n had. had)
+returns-in_default-clause-reserves g c = rw (c.oldest_lying.ensures.stays, ← c.self.view_is) (λ n had. had)
 
 pub returns-then-entry-self-clause-reserves : goal.returns-then-entry-self-clause-reserves
-returns-then-entry-self-clause-reserves g c = rw (← c.self.view_is) (λ n had. had)
+returns-then-entry-self-clause-reserves g c = rw (c.oldest_lying.ensures.stays, ← c.self.view_is) (λ n had. had)
 
 pub returns-clause-reserves : goal.returns-clause-reserves
 returns-clause-reserves g c =
+    let without = rw c.oldest_lying.ensures.stays at c.take_out.ensures.without in
+    let reserved = rw c.oldest_lying.ensures.stays at c.take_out.ensures.reserved in
     let w = rw c.in-Some.is at c.oldest_lying.ensures.last in
     let fewer = length-less w.newer c.in-Some.entry w.older in
     let was = ap length w.was in
     let is : length (entries_of c.take_out.new.entries.entries) ≡ length (w.newer ++ w.older) =
-    rw c.take_out.ensures.without (ap length w.others) in
+    rw without (ap length w.others) in
     rw (← c.self.view_is) (λ n had.
-    reserves_left n n _ _ 0 _ _ c.take_out.ensures.slots (omega arith) (omega (arith, c.take_out.ensures.reserved))
+    reserves_left n n _ _ 0 _ _ c.take_out.ensures.slots (omega arith) (omega (arith, reserved))
     (omega (arith, fewer, was, is, c.push_reserved.ensures.len, c.push_reserved.ensures.capacity, c.requires.room)) had)
 
 pub returns-clause-full : goal.returns-clause-full

@@ -1,4 +1,4 @@
-use Rattle.std.proofs.Common.{◌∙◌, refl}
+use Rattle.std.proofs.Common.{◌∙◌, arith, refl}
 use Rattle.atlas_cache.specs.Caches.{CacheState, entries_of}
 use Rattle.atlas_cache.specs.Changes.{Removes}
 use Rattle.atlas_cache.specs.Entries.{without_number}
@@ -6,6 +6,8 @@ use Rattle.atlas_cache.proofs.CacheLemmas.{bordered-at, rest_bordered, rest_fall
 use Rattle.atlas_cache.proofs.KeyLemmas.{found_named, own_keys}
 use Rattle.atlas_cache.proofs.ListLemmas.{parts}
 use Rattle.atlas_cache.proofs.PictureLemmas.{removes_tell}
+use Rattle.atlas_cache.proofs.ReadyLemmas.{full_stays}
+use Rattle.atlas_cache.proofs.RoomLemmas.Reserving.{slots_left}
 use Rattle.atlas_cache.proofs.cache.TextureCache.remove.Goals as goal
 
 pub take_out-requires-clause-here : goal.take_out-requires-clause-here
@@ -50,6 +52,7 @@ returns-clause-removes g c =
       numbers = c.take_out.ensures.made;
       reserved = c.take_out.ensures.reserved;
       sizes = c.take_out.ensures.sizes;
+      slots = c.take_out.ensures.slots;
       options = c.take_out.ensures.options;
       frame = refl;
       counts = refl;
@@ -88,6 +91,7 @@ returns-clause-told g c =
       numbers = c.take_out.ensures.made;
       reserved = c.take_out.ensures.reserved;
       sizes = c.take_out.ensures.sizes;
+      slots = c.take_out.ensures.slots;
       options = c.take_out.ensures.options;
       frame = refl;
       counts = refl;
@@ -95,3 +99,12 @@ returns-clause-told g c =
     let own = own_keys eq it.entries.entries c.prove_kept.ensures.keys in
     let named = laws.symm e.key c.args.key.now ∙ found_named eq c.args.key.now e (entries_of it.entries.entries) found.here in
     rw (← c.self.view_is) (removes_tell eq laws c.args.key.now e s t own named removes)
+
+pub returns-clause-ready : goal.returns-clause-ready
+returns-clause-ready g c =
+    rw (← c.self.view_is)
+    (λ n. slots_left 0 n n c.self.inside.rooms.pages c.take_out.new.rooms.pages (omega arith) c.take_out.ensures.slots)
+
+pub returns-clause-full : goal.returns-clause-full
+returns-clause-full g c =
+    full_stays c.args.self.now _ (rw (← c.self.view_is) c.take_out.ensures.options) (rw (← c.self.view_is) c.take_out.ensures.sizes)

@@ -1,13 +1,14 @@
-use Rattle.std.proofs.Common.{◌≡◌, ◌+◌, ◌-◌, min, length, refl, arith, ap}
+use Rattle.std.proofs.Common.{◌≡◌, ◌∙◌, ◌+◌, ◌-◌, ◌++◌, min, length, refl, arith, ap}
 use Rattle.atlas_cache.specs.Caches.{entries_of}
 use Rattle.atlas_cache.specs.Entries.{no_page}
 use Rattle.atlas_cache.specs.Relocating.{become, renewed_by}
 use Rattle.atlas_cache.proofs.BlankLemmas.{each-where}
 use Rattle.atlas_cache.proofs.HoldingLemmas.{IsLiveOn}
 use Rattle.atlas_cache.proofs.GatherLemmas.{entries-exact, entries-name}
+use Rattle.atlas_cache.proofs.IdOrderLemmas.{become-same, in-order, told-same}
 use Rattle.atlas_cache.proofs.KeyLemmas.{own_keys}
 use Rattle.atlas_cache.proofs.ListLemmas.{length-listed}
-use Rattle.atlas_cache.proofs.RepackLemmas.{repacked_held, repacked_falls, repacked_bordered, renewed_same, shorter}
+use Rattle.atlas_cache.proofs.RepackLemmas.{old_once, repacked_held, repacked_falls, repacked_bordered, renewed_same, shorter}
 use Rattle.atlas_cache.proofs.RepackTelling.{repacks_tell}
 use Rattle.atlas_cache.proofs.TrimLemmas.{none-told}
 use Rattle.atlas_cache.proofs.cache.TextureCache.repack.Goals as goal
@@ -23,10 +24,23 @@ settle_all-requires-clause-is g c =
     let off : c.args.page ≡ no_page → ⊥ = (λ q. omega (arith, q, c.if-page-len.false, c.len.ensures.numbered)) in
     let does = c.in_ok-list.ensures.repacks
     (rw c.in_ok-held.ensures.held (entries-name c.args.page c.self.inside.rooms.pages es off c.self.invariant.held)) in
-    rw (c.options-options.ensures.options, c.repack.ensures.options, c.deref.ensures.value)
+    let cs = c.in_ok-list.list.changes.items in
+    let permuted = c.sort_by_id.ensures.permuted in
+    let once = old_once c.self.inside.rooms.pages c.repack.new.self.pages c.args.page c.in_ok-list.list does in
+    rw (c.options-options.ensures.options, c.repack.ensures.options, c.deref.ensures.value, become-same cs _ permuted once c.args.page es)
     (repacked_bordered c.self.inside.rooms.pages c.repack.new.self.pages c.args.page c.in_ok-list.list does
     c.self.inside.rooms.options.padding es (each-where (IsLiveOn c.self.inside.rooms.pages) es c.self.invariant.held.live)
     c.self.invariant.bordered)
+
+pub settle_all-requires-clause-moves : goal.settle_all-requires-clause-moves
+settle_all-requires-clause-moves g c =
+    let es = entries_of c.self.inside.entries.entries in
+    let off : c.args.page ≡ no_page → ⊥ = (λ q. omega (arith, q, c.if-page-len.false, c.len.ensures.numbered)) in
+    let does = c.in_ok-list.ensures.repacks
+    (rw c.in_ok-held.ensures.held (entries-name c.args.page c.self.inside.rooms.pages es off c.self.invariant.held)) in
+    let permuted = c.sort_by_id.ensures.permuted in
+    let once = old_once c.self.inside.rooms.pages c.repack.new.self.pages c.args.page c.in_ok-list.list does in
+    rw c.deref.ensures.value (in-order c.in_ok-list.list.changes.items _ permuted once c.sort_by_id.ensures.rising)
 
 pub overflow_sub-gone : goal.overflow_sub-gone
 overflow_sub-gone g c = omega (
@@ -43,14 +57,18 @@ invariant_of-self-2 g c =
     let off : c.args.page ≡ no_page → ⊥ = (λ q. omega (arith, q, c.if-page-len.false, c.len.ensures.numbered)) in
     let does = c.in_ok-list.ensures.repacks
     (rw c.in_ok-held.ensures.held (entries-name c.args.page c.self.inside.rooms.pages es off c.self.invariant.held)) in
+    let permuted = c.sort_by_id.ensures.permuted in
+    let once = old_once it.rooms.pages c.repack.new.self.pages c.args.page c.in_ok-list.list does in
+    let entries = (rw c.deref.ensures.value at c.settle_all.ensures.entries)
+    ∙ become-same c.in_ok-list.list.changes.items _ permuted once c.args.page es in
     record {
-      held = rw (c.settle_all.ensures.entries, c.deref.ensures.value)
+      held = rw entries
           (repacked_held it.rooms.pages c.repack.new.self.pages c.args.page c.in_ok-list.list does off es c.self.invariant.held);
-      bordered = rw (c.settle_all.ensures.entries, c.deref.ensures.value, c.repack.ensures.options)
+      bordered = rw (entries, c.repack.ensures.options)
           (repacked_bordered it.rooms.pages c.repack.new.self.pages c.args.page c.in_ok-list.list does it.rooms.options.padding
           es (each-where (IsLiveOn it.rooms.pages) es c.self.invariant.held.live)
           c.self.invariant.bordered);
-      frames = rw (c.settle_all.ensures.entries, c.deref.ensures.value)
+      frames = rw entries
           (repacked_falls it.rooms.pages c.repack.new.self.pages c.args.page c.in_ok-list.list does it.frame (entries_of it.entries.entries)
           c.self.invariant.frames);
     }
@@ -63,6 +81,10 @@ returns-clause-repacks g c = λ _.
     let off : c.args.page ≡ no_page → ⊥ = (λ q. omega (arith, q, c.if-page-len.false, c.len.ensures.numbered)) in
     let does = c.in_ok-list.ensures.repacks
     (rw c.in_ok-held.ensures.held (entries-name c.args.page c.self.inside.rooms.pages es off c.self.invariant.held)) in
+    let permuted = c.sort_by_id.ensures.permuted in
+    let once = old_once it.rooms.pages c.repack.new.self.pages c.args.page c.in_ok-list.list does in
+    let told = rw (c.deref.ensures.value, c.options-options.ensures.options, c.repack.ensures.options, c.reserve.ensures.items)
+    at c.settle_all.ensures.told in
     let evictions : c.saturating_add-self-inside.result
     ≡ min (it.counts.evictions + (length (entries_of it.entries.entries) - length (entries_of c.settle_all.new.entries.entries))) 18446744073709551615 =
     omega (arith, c.saturating_add-self-inside.ensures, c.len-2.ensures.len, c.len-before.ensures.len, length-listed it.entries.entries, length-listed c.settle_all.new.entries.entries) in
@@ -73,9 +95,8 @@ returns-clause-repacks g c = λ _.
       given_up = c.in_ok-list.list.failures.items;
       moves = λ e. refl;
       placed = rw c.in_ok-held.ensures.held at c.in_ok-list.ensures.placed;
-      entries = rw c.deref.ensures.value at c.settle_all.ensures.entries;
-      listed = rw (c.deref.ensures.value, c.options-options.ensures.options, c.repack.ensures.options, c.reserve.ensures.items)
-          at c.settle_all.ensures.told;
+      entries = (rw c.deref.ensures.value at c.settle_all.ensures.entries) ∙ become-same cs _ permuted once c.args.page es;
+      listed = told ∙ ap (λ ys. c.args.changes.now.items ++ ys) (told-same cs _ permuted once it.rooms.options.padding c.args.page es);
       numbers = c.settle_all.ensures.made;
       reserved = c.settle_all.ensures.reserved;
       others = does.others;

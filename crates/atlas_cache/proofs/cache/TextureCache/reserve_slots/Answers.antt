@@ -26,3 +26,6 @@ returns-clause-full g c =
     let states = c.reserve_slots.ensures.states in
     rw (← c.self.view_is) (full_stays _ _ c.reserve_slots.ensures.options
     (same_sizes c.self.inside.rooms.pages c.reserve_slots.new.self.pages states))
+
+pub returns-clause-had : goal.returns-clause-had
+returns-clause-had g c = rw (← c.self.view_is) c.reserve_slots.ensures.had

@@ -3,6 +3,7 @@ use Rattle.std.proofs.lemmas.Option.{slice_get_read}
 use Rattle.atlas_cache.specs.Entries.{moved}
 use Rattle.atlas_cache.specs.Orders.{IsEntry}
 use Rattle.atlas_cache.proofs.EntryKeeping.{entry-is, kept-written, moved-is}
+use Rattle.atlas_cache.proofs.MarkLemmas.{mark-placed}
 use Rattle.atlas_cache.proofs.entries.Entries.move_to.Goals as goal
 
 pub index_mut-entry-requires : goal.index_mut-entry-requires
@@ -18,8 +19,11 @@ invariant_of-self g c =
     let eq = g.K.PartialEq.eq in
     let l : IsEntry n s.recency = entry-is eq s.map s.recency s.items.items c.self.invariant.0 c.args.self.now.entries (ap (λ t. t.entries) c.self.view_is) n c.requires in
     let r = c.index_mut-entry.result.now in
-    let at : slice_get s.items.items n ≡ Some r = slice_get_read s.items.items _ n r s.items.ok.0 (omega (arith, c.self.invariant.0.inside n l, s.items.ok.0)) c.index_mut-entry.ensures.value in
-    (kept-written eq s.map s.recency s.items.items c.self.invariant.0 n r (record r { id = c.args.id; rectangle = c.args.rectangle }) l at refl refl, c.self.invariant.1)
+    let at : slice_get s.items.items n ≡ Some r = slice_get_read s.items.items _ n r s.items.ok.0 (omega (arith, c.self.invariant.0.inside n l, s.items.ok.0)) c.index_mut-entry.ensures.value in (
+      kept-written eq s.map s.recency s.items.items c.self.invariant.0 n r (record r { id = c.args.id; rectangle = c.args.rectangle }) l at refl refl,
+      c.self.invariant.1,
+      mark-placed eq s.map s.recency s.items.items c.self.invariant.0 s.mark c.self.invariant.2 n c.args.id c.args.rectangle r l at,
+    )
 
 pub returns-clause-entries : goal.returns-clause-entries
 returns-clause-entries g c =

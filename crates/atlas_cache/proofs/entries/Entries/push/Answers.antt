@@ -1,11 +1,12 @@
-use Rattle.std.proofs.Common.{◌+◌, ◌-◌, ◌<◌, ◌≤◌, arith, length, vec_capacity, max, refl, ◌≡◌, ◌∙◌, ◌∷◌, ap, inl, inr, subst, sym, Err, rules}
+use Rattle.std.proofs.Common.{◌+◌, ◌-◌, ◌<◌, ◌≤◌, arith, length, vec_capacity, max, refl, ◌≡◌, ◌∙◌, ◌∷◌, List, ap, inl, inr, subst, sym, Err, rules}
 use Rattle.std.proofs.lemmas.Bool.{false≢true}
 use Rattle.atlas_cache.specs.declared.entries.Entry.{Entry}
-use Rattle.atlas_cache.specs.Entries.{Table}
+use Rattle.atlas_cache.specs.Entries.{EndsBlank, Table}
 use Rattle.atlas_cache.specs.Orders.{Order}
 use Rattle.atlas_cache.specs.Tables.{AreKept, HasMemory, numbered}
 use Rattle.atlas_cache.proofs.EntryKeeping.{absent-is, joined-is, kept-alike, kept-joined, new-none}
 use Rattle.atlas_cache.proofs.EntryLemmas.{length-numbered}
+use Rattle.atlas_cache.proofs.MarkLemmas.{mark-new}
 use Rattle.atlas_cache.proofs.ReserveLemmas.{memory-joined, memory-kept}
 use Rattle.atlas_cache.proofs.entries.Entries.push.Goals as goal
 
@@ -17,6 +18,7 @@ invariant_of-self g c =
       kept-alike g.K.PartialEq.eq s.map s.recency s.items.items c.self.invariant.0 new same.2,
       memory-kept s.map s.recency (vec_capacity s.items) c.self.invariant.1 new (vec_capacity s.items) c.in_err-reserve.ensures.spare same.1
           (omega arith),
+      c.self.invariant.2,
     )
 
 pub invariant_of-self-in_err-make_room : goal.invariant_of-self-in_err-make_room
@@ -28,6 +30,7 @@ invariant_of-self-in_err-make_room g c =
           (kept-alike g.K.PartialEq.eq s.map s.recency s.items.items c.self.invariant.0 new same.2),
       memory-kept s.map s.recency (vec_capacity s.items) c.self.invariant.1 new (vec_capacity c.make_room.new.items)
           c.in_ok-reserve.ensures.spare same.1 c.make_room.ensures.capacity,
+      subst (λ (xs : List (Entry g.row.K.Denot)). EndsBlank s.mark (numbered xs s.recency.entries)) (sym c.make_room.ensures.items) c.self.invariant.2,
     )
 
 pub invariant_of-self-in_err-number : goal.invariant_of-self-in_err-number
@@ -42,6 +45,8 @@ invariant_of-self-in_err-number g c =
       subst (λ o. HasMemory new o (vec_capacity items)) (sym c.in_err-number.ensures.refused)
           (memory-kept s.map s.recency (vec_capacity s.items) c.self.invariant.1 new (vec_capacity items) c.in_ok-reserve.ensures.spare same.1
           c.make_room.ensures.capacity),
+      subst (λ (o : Order). EndsBlank s.mark (numbered items.items o.entries)) (sym c.in_err-number.ensures.refused)
+          (subst (λ (xs : List (Entry g.row.K.Denot)). EndsBlank s.mark (numbered xs s.recency.entries)) (sym c.make_room.ensures.items) c.self.invariant.2),
     )
 
 pub store-requires-clause-room : goal.store-requires-clause-room
@@ -72,6 +77,10 @@ invariant_of-self-2 g c =
           (memory-joined map s.recency (vec_capacity items) memory n c.bind.new.map (vec_capacity last) c.bind.ensures.spare (c.bind.ensures.held absent)
           (omega (arith, few))
           c.store.ensures.capacity (omega (arith, kept.made, c.store.ensures.size, last.ok.0, last.ok.1))),
+      subst (λ (o : Order). EndsBlank s.mark (numbered last.items o.entries)) (sym c.in_ok-number.ensures.joined)
+          (mark-new eq map s.recency items.items kept s.mark
+          (subst (λ (xs : List (Entry g.row.K.Denot)). EndsBlank s.mark (numbered xs s.recency.entries)) (sym c.make_room.ensures.items) c.self.invariant.2)
+          n e last.items c.in_ok-number.ensures.new c.store.ensures.stored c.store.ensures.others),
     )
 
 pub returns-clause-new : goal.returns-clause-new

@@ -1,10 +1,11 @@
 use Rattle.std.proofs.Common.{◌≡◌, ◌∙◌, Some, ap, arith, slice_get, subst, sym, vec_capacity}
 use Rattle.std.proofs.lemmas.Option.{slice_get_read}
-use Rattle.atlas_cache.specs.Entries.{without_number}
-use Rattle.atlas_cache.specs.Orders.{IsEntry}
+use Rattle.atlas_cache.specs.Entries.{without_number, EndsBlank}
+use Rattle.atlas_cache.specs.Orders.{IsEntry, Order}
 use Rattle.atlas_cache.specs.Tables.{AreKept, HasMemory, numbered}
 use Rattle.atlas_cache.proofs.EntryLemmas.{numbered-without}
 use Rattle.atlas_cache.proofs.EntryKeeping.{entry-is, kept-gone}
+use Rattle.atlas_cache.proofs.MarkLemmas.{mark-gone}
 use Rattle.atlas_cache.proofs.ReserveLemmas.{memory-gone, one-at-most}
 use Rattle.atlas_cache.proofs.entries.Entries.remove.Goals as goal
 
@@ -32,7 +33,14 @@ invariant_of-self g c =
       subst (λ o. HasMemory c.remove-number.new.self o (vec_capacity s.items)) (sym c.remove.ensures)
           (memory-gone s.map s.recency (vec_capacity s.items) c.self.invariant.1 n c.remove-number.new.self l c.remove-number.ensures.spare
           (omega (arith, c.remove-number.ensures.len, one-at-most c.remove-number.result))),
+      subst (λ (o : Order). EndsBlank c.unmark.new.mark (numbered s.items.items o.entries)) (sym c.remove.ensures)
+          (mark-gone eq s.map s.recency s.items.items c.self.invariant.0 s.mark c.self.invariant.2 n l c.unmark.new.mark c.unmark.ensures),
     )
+
+pub unmark-requires : goal.unmark-requires
+unmark-requires g c =
+    let s = c.self.inside in
+    entry-is g.K.PartialEq.eq s.map s.recency s.items.items c.self.invariant.0 c.args.self.now.entries (ap (λ t. t.entries) c.self.view_is) c.args.number c.requires
 
 pub returns-clause-entries : goal.returns-clause-entries
 returns-clause-entries g c =

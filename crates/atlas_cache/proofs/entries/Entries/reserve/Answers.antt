@@ -1,5 +1,8 @@
-use Rattle.std.proofs.Common.{arith, subst, sym, vec_capacity}
-use Rattle.atlas_cache.specs.Tables.{AreKept, HasMemory}
+use Rattle.std.proofs.Common.{List, arith, subst, sym, vec_capacity}
+use Rattle.atlas_cache.specs.declared.entries.Entry.{Entry}
+use Rattle.atlas_cache.specs.Entries.{EndsBlank}
+use Rattle.atlas_cache.specs.Orders.{Order}
+use Rattle.atlas_cache.specs.Tables.{AreKept, HasMemory, numbered}
 use Rattle.atlas_cache.proofs.EntryKeeping.{kept-alike, kept-reserved}
 use Rattle.atlas_cache.proofs.ReserveLemmas.{entries-fit, memory-kept, memory-reserved}
 use Rattle.atlas_cache.proofs.entries.Entries.reserve.Goals as goal
@@ -12,6 +15,7 @@ invariant_of-self g c =
       kept-alike g.K.PartialEq.eq s.map s.recency s.items.items c.self.invariant.0 new same.2,
       memory-kept s.map s.recency (vec_capacity s.items) c.self.invariant.1 new (vec_capacity s.items) c.in_err-reserve.ensures.spare same.1
           (omega arith),
+      c.self.invariant.2,
     )
 
 pub invariant_of-self-in_err-reserve-2 : goal.invariant_of-self-in_err-reserve-2
@@ -23,6 +27,7 @@ invariant_of-self-in_err-reserve-2 g c =
           (kept-alike g.K.PartialEq.eq s.map s.recency s.items.items c.self.invariant.0 new same.2),
       memory-kept s.map s.recency (vec_capacity s.items) c.self.invariant.1 new (vec_capacity c.reserve-2.new.self)
           c.in_ok-reserve.ensures.spare same.1 c.in_err-reserve-2.ensures.capacity,
+      subst (λ (xs : List (Entry g.row.K.Denot)). EndsBlank s.mark (numbered xs s.recency.entries)) (sym c.in_err-reserve-2.ensures.items) c.self.invariant.2,
     )
 
 pub invariant_of-self-in_err-reserve-3 : goal.invariant_of-self-in_err-reserve-3
@@ -37,6 +42,8 @@ invariant_of-self-in_err-reserve-3 g c =
       subst (λ o. HasMemory new o (vec_capacity items)) (sym c.in_err-reserve-3.ensures.refused)
           (memory-kept s.map s.recency (vec_capacity s.items) c.self.invariant.1 new (vec_capacity items) c.in_ok-reserve.ensures.spare same.1
           c.in_ok-reserve-2.ensures.capacity),
+      subst (λ (o : Order). EndsBlank s.mark (numbered items.items o.entries)) (sym c.in_err-reserve-3.ensures.refused)
+          (subst (λ (xs : List (Entry g.row.K.Denot)). EndsBlank s.mark (numbered xs s.recency.entries)) (sym c.in_ok-reserve-2.ensures.items) c.self.invariant.2),
     )
 
 pub invariant_of-self-2 : goal.invariant_of-self-2
@@ -54,4 +61,6 @@ invariant_of-self-2 g c =
           (memory-reserved s.map s.recency (vec_capacity s.items) c.self.invariant.1 new (vec_capacity items) c.args.additional
           c.in_ok-reserve.ensures.spare c.in_ok-reserve.ensures.ok same.1 c.in_ok-reserve-2.ensures.capacity
           (omega (arith, fit, s.items.ok.0, c.in_ok-reserve-2.ensures.ok, c.in_ok-reserve-2.ensures.len))),
+      subst (λ (o : Order). EndsBlank s.mark (numbered items.items o.entries)) (sym c.in_ok-reserve-3.ensures.reserves)
+          (subst (λ (xs : List (Entry g.row.K.Denot)). EndsBlank s.mark (numbered xs s.recency.entries)) (sym c.in_ok-reserve-2.ensures.items) c.self.invariant.2),
     )

@@ -1,9 +1,10 @@
 use Rattle.std.proofs.Common.{◌≡◌, ◌∙◌, Some, ap, arith, refl, set, slice_get, subst, sym, vec_capacity}
 use Rattle.std.proofs.lemmas.Option.{slice_get_read}
-use Rattle.atlas_cache.specs.Entries.{touched}
-use Rattle.atlas_cache.specs.Orders.{IsEntry}
+use Rattle.atlas_cache.specs.Entries.{touched, EndsBlank}
+use Rattle.atlas_cache.specs.Orders.{IsEntry, Order}
 use Rattle.atlas_cache.specs.Tables.{AreKept, HasMemory, numbered}
 use Rattle.atlas_cache.proofs.EntryKeeping.{entry-is, kept-used, kept-written, touched-is}
+use Rattle.atlas_cache.proofs.MarkLemmas.{mark-used}
 use Rattle.atlas_cache.proofs.ReserveLemmas.{memory-used}
 use Rattle.atlas_cache.proofs.entries.Entries.touch.Goals as goal
 
@@ -29,7 +30,14 @@ invariant_of-self g c =
       subst (λ o. AreKept eq s.map o (set s.items.items n (record r { frame = c.args.frame }))) (sym c.touch.ensures)
           (kept-used eq s.map s.recency (set s.items.items n (record r { frame = c.args.frame })) (kept-written eq s.map s.recency s.items.items c.self.invariant.0 n r (record r { frame = c.args.frame }) l at refl refl) n l),
       subst (λ o. HasMemory s.map o (vec_capacity s.items)) (sym c.touch.ensures) (memory-used s.map s.recency (vec_capacity s.items) c.self.invariant.1 n l),
+      subst (λ (o : Order). EndsBlank c.unmark.new.mark (numbered (set s.items.items n (record r { frame = c.args.frame })) o.entries)) (sym c.touch.ensures)
+          (mark-used eq s.map s.recency s.items.items c.self.invariant.0 s.mark c.self.invariant.2 n l c.unmark.new.mark c.unmark.ensures c.args.frame r at),
     )
+
+pub unmark-requires : goal.unmark-requires
+unmark-requires g c =
+    let s = c.self.inside in
+    entry-is g.K.PartialEq.eq s.map s.recency s.items.items c.self.invariant.0 c.args.self.now.entries (ap (λ t. t.entries) c.self.view_is) c.args.number c.requires
 
 pub returns-clause-entries : goal.returns-clause-entries
 returns-clause-entries g c =

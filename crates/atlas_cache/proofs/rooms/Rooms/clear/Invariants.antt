@@ -1,6 +1,7 @@
 use Rattle.std.proofs.Common.{◌≡◌, ◌<◌, ℕ, None, length}
 use Rattle.guillotiere.specs.Pages.{rectangle_on}
-use Rattle.atlas_cache.specs.Rooms.{page_sizes, rooms_of, KeepsRooms}
+use Rattle.atlas_cache.specs.Reserving.{UseAtMost}
+use Rattle.atlas_cache.specs.Rooms.{page_sizes, rooms_of, AreRefused, KeepsRooms}
 use Rattle.atlas_cache.proofs.rooms.Rooms.clear.Given as goal
 
 abbrev pub invariant-loop-page : goal.invariant-loop-page
@@ -9,6 +10,8 @@ invariant-loop-page g l =
       idle : (k : ℕ) → k < l.page → (id : ℕ) → rectangle_on l.self-inside.pages.items k id ≡ None;
       same : length l.self-inside.pages.items ≡ l.page-end;
       sizes : page_sizes l.self-inside.pages.items ≡ page_sizes l.fn.self.pages;
+      slots : UseAtMost 0 l.fn.self.pages l.self-inside.pages.items;
       options : l.self-inside.options ≡ l.fn.self.options;
       kept : KeepsRooms (rooms_of l.self-inside.options l.self-inside.pages.items);
+      known : AreRefused l.self-inside.pages.items l.self-inside.refused.items;
     }

@@ -1,6 +1,7 @@
 use Rattle.std.proofs.Common.{arith}
 use Rattle.atlas_cache.proofs.RoomLemmas.Paging.{gives_back, page_of, rooms_stay, sizes_stay}
 use Rattle.atlas_cache.proofs.RoomLemmas.Reserving.{page_uses}
+use Rattle.atlas_cache.proofs.RoomLemmas.Refusing.{refused_changed}
 use Rattle.atlas_cache.proofs.rooms.Rooms.free.Goals as goal
 
 pub index_mut-requires : goal.index_mut-requires
@@ -28,6 +29,13 @@ returns-clause-slots g c =
 
 pub invariant_of-self : goal.invariant_of-self
 invariant_of-self g c =
+    let within = page_of c.self.inside.pages.items c.args.page c.args.id (rw (← c.self.view_is) at c.requires) in (
+      rooms_stay _ _ c.index_mut.result.now _ c.index_mut.ensures.value within c.self.inside.options
+          c.deallocate-freed.ensures.leaves.sound c.deallocate-freed.ensures.frame c.self.invariant.0,
+      refused_changed _ _ c.args.page _ within c.self.invariant.1,
+    )
+
+pub index_mut-requires-2 : goal.index_mut-requires-2
+index_mut-requires-2 g c =
     let within = page_of c.self.inside.pages.items c.args.page c.args.id (rw (← c.self.view_is) at c.requires) in
-    rooms_stay _ _ c.index_mut.result.now _ c.index_mut.ensures.value within c.self.inside.options
-    c.deallocate-freed.ensures.leaves.sound c.deallocate-freed.ensures.frame c.self.invariant
+    omega (arith, within, c.self.invariant.1.as_many, c.self.inside.refused.ok.0)

@@ -6,31 +6,32 @@ use Rattle.guillotiere.specs.Steps.AtlasCall.{Grow}
 use Rattle.guillotiere.specs.Steps.AtlasReply.{Refused}
 use Rattle.guillotiere.specs.Stored.{state_of}
 use Rattle.atlas_cache.specs.declared.error.CacheError.TheVariants.{Slots}
-use Rattle.atlas_cache.specs.Rooms.{page_sizes, rooms_of, KeepsRooms}
+use Rattle.atlas_cache.specs.Rooms.{page_sizes, rooms_of, AreRefused, KeepsRooms}
 use Rattle.atlas_cache.proofs.RoomLemmas.Growing.{grown_less, growth_of, not_all_largest}
 use Rattle.atlas_cache.proofs.RoomLemmas.Paging.{nothing_changes, others_kept, page_grows, rectangles_stay, rooms_keep, sizes_set}
 use Rattle.atlas_cache.proofs.RoomLemmas.Reserving.{growth_short}
+use Rattle.atlas_cache.proofs.RoomLemmas.Refusing.{refused_changed}
 use Rattle.atlas_cache.proofs.rooms.Rooms.grow_page.Goals as goal
 
 pub grown-size-requires-clause-positive : goal.grown-size-requires-clause-positive
 grown-size-requires-clause-positive g c =
-    (growth_of (rooms_of c.self.inside.options c.self.inside.pages.items) c.self.invariant c.in-Some.page c.in-Some.old
+    (growth_of (rooms_of c.self.inside.options c.self.inside.pages.items) c.self.invariant.0 c.in-Some.page c.in-Some.old
     (rw c.deref.ensures.value at c.in-Some.ensures.here) c.in-Some.ensures.smaller).positive
 
 pub grown-size-requires-clause-fits : goal.grown-size-requires-clause-fits
 grown-size-requires-clause-fits g c =
-    (growth_of (rooms_of c.self.inside.options c.self.inside.pages.items) c.self.invariant c.in-Some.page c.in-Some.old
+    (growth_of (rooms_of c.self.inside.options c.self.inside.pages.items) c.self.invariant.0 c.in-Some.page c.in-Some.old
     (rw c.deref.ensures.value at c.in-Some.ensures.here) c.in-Some.ensures.smaller).fits
 
 pub index_mut-requires : goal.index_mut-requires
 index_mut-requires g c =
-    let growth = growth_of (rooms_of c.self.inside.options c.self.inside.pages.items) c.self.invariant c.in-Some.page c.in-Some.old
+    let growth = growth_of (rooms_of c.self.inside.options c.self.inside.pages.items) c.self.invariant.0 c.in-Some.page c.in-Some.old
     (rw c.deref.ensures.value at c.in-Some.ensures.here) c.in-Some.ensures.smaller in
     omega (arith, growth.within, c.self.inside.pages.ok.0)
 
 pub grow-requires : goal.grow-requires
 grow-requires g c =
-    let growth = growth_of (rooms_of c.self.inside.options c.self.inside.pages.items) c.self.invariant c.in-Some.page c.in-Some.old
+    let growth = growth_of (rooms_of c.self.inside.options c.self.inside.pages.items) c.self.invariant.0 c.in-Some.page c.in-Some.old
     (rw c.deref.ensures.value at c.in-Some.ensures.here) c.in-Some.ensures.smaller in
     let a = c.index_mut.result.now in
     rw c.grown-size.ensures
@@ -38,17 +39,19 @@ grow-requires g c =
 
 pub number-requires : goal.number-requires
 number-requires g c =
-    let growth = growth_of (rooms_of c.self.inside.options c.self.inside.pages.items) c.self.invariant c.in-Some.page c.in-Some.old
+    let growth = growth_of (rooms_of c.self.inside.options c.self.inside.pages.items) c.self.invariant.0 c.in-Some.page c.in-Some.old
     (rw c.deref.ensures.value at c.in-Some.ensures.here) c.in-Some.ensures.smaller in
-    omega (arith, growth.within, c.self.invariant.few)
+    omega (arith, growth.within, c.self.invariant.0.few)
 
 pub invariant_of-self : goal.invariant_of-self
 invariant_of-self g c =
-    let growth = growth_of (rooms_of c.self.inside.options c.self.inside.pages.items) c.self.invariant c.in-Some.page c.in-Some.old
+    let growth = growth_of (rooms_of c.self.inside.options c.self.inside.pages.items) c.self.invariant.0 c.in-Some.page c.in-Some.old
     (rw c.deref.ensures.value at c.in-Some.ensures.here) c.in-Some.ensures.smaller in
-    subst (λ ps. KeepsRooms (rooms_of c.self.inside.options ps))
-    (sym (nothing_changes c.self.inside.pages.items c.in-Some.page c.index_mut.result.now c.grow.new.self c.index_mut.ensures.value
-    growth.within c.in-Err.ensures.refused)) c.self.invariant
+    let same = sym (nothing_changes c.self.inside.pages.items c.in-Some.page c.index_mut.result.now c.grow.new.self c.index_mut.ensures.value
+    growth.within c.in-Err.ensures.refused) in (
+      subst (λ ps. KeepsRooms (rooms_of c.self.inside.options ps)) same c.self.invariant.0,
+      subst (λ ps. AreRefused ps c.self.inside.refused.items) same c.self.invariant.1,
+    )
 
 pub returns-in-Err-clause-none : goal.returns-in-Err-clause-none
 returns-in-Err-clause-none g c =
@@ -60,14 +63,14 @@ returns-in-Err-clause-none g c =
 
 pub returns-in-Err-clause-refused : goal.returns-in-Err-clause-refused
 returns-in-Err-clause-refused g c =
-    let growth = growth_of (rooms_of c.self.inside.options c.self.inside.pages.items) c.self.invariant c.in-Some.page c.in-Some.old
+    let growth = growth_of (rooms_of c.self.inside.options c.self.inside.pages.items) c.self.invariant.0 c.in-Some.page c.in-Some.old
     (rw c.deref.ensures.value at c.in-Some.ensures.here) c.in-Some.ensures.smaller in
     ap (rooms_of c.self.inside.options) (nothing_changes c.self.inside.pages.items c.in-Some.page c.index_mut.result.now c.grow.new.self
     c.index_mut.ensures.value growth.within c.in-Err.ensures.refused) ∙ c.self.view_is
 
 pub returns-in-Err-clause-short : goal.returns-in-Err-clause-short
 returns-in-Err-clause-short g c = λ is.
-    let growth = growth_of (rooms_of c.self.inside.options c.self.inside.pages.items) c.self.invariant c.in-Some.page c.in-Some.old
+    let growth = growth_of (rooms_of c.self.inside.options c.self.inside.pages.items) c.self.invariant.0 c.in-Some.page c.in-Some.old
     (rw c.deref.ensures.value at c.in-Some.ensures.here) c.in-Some.ensures.smaller in
     let a = c.index_mut.result.now in
     let b = c.grow.new.self in
@@ -75,19 +78,27 @@ returns-in-Err-clause-short g c = λ is.
     let slots : c.refusal.result ≡ Slots = cc in
     let step = subst (λ e. Step (state_of a) (Grow n) (Refused e) (state_of b)) (c.refusal.ensures.slots slots) c.in-Err.ensures.step in
     rw (← c.self.view_is) (growth_short c.self.inside.pages.items c.in-Some.page a b c.index_mut.ensures.value growth.within
-    c.self.inside.options c.self.invariant n (state_of b) step)
+    c.self.inside.options c.self.invariant.0 n (state_of b) step)
 
 pub invariant_of-self-2 : goal.invariant_of-self-2
 invariant_of-self-2 g c =
-    let growth = growth_of (rooms_of c.self.inside.options c.self.inside.pages.items) c.self.invariant c.in-Some.page c.in-Some.old
+    let growth = growth_of (rooms_of c.self.inside.options c.self.inside.pages.items) c.self.invariant.0 c.in-Some.page c.in-Some.old
     (rw c.deref.ensures.value at c.in-Some.ensures.here) c.in-Some.ensures.smaller in
     let pages = c.self.inside.pages.items in
     let a = c.index_mut.result.now in
-    let there = slice_get-get_or pages c.in-Some.page a growth.within ∙ ap Some (sym c.index_mut.ensures.value) in
-    rooms_keep pages c.in-Some.page a c.grow.new.self c.index_mut.ensures.value growth.within c.self.inside.options
-    (page_grows c.self.inside.options a c.grow.new.self (sides_of c.grown-size.result) c.grow.ensures.keeps.sound
-    c.in_default-grow.ensures.frame (rw c.grown-size.ensures (growth.larger a there)) (rw c.grown-size.ensures growth.grows.within))
-    c.self.invariant
+    let there = slice_get-get_or pages c.in-Some.page a growth.within ∙ ap Some (sym c.index_mut.ensures.value) in (
+      rooms_keep pages c.in-Some.page a c.grow.new.self c.index_mut.ensures.value growth.within c.self.inside.options
+          (page_grows c.self.inside.options a c.grow.new.self (sides_of c.grown-size.result) c.grow.ensures.keeps.sound
+          c.in_default-grow.ensures.frame (rw c.grown-size.ensures (growth.larger a there)) (rw c.grown-size.ensures growth.grows.within))
+          c.self.invariant.0,
+      refused_changed pages c.self.inside.refused.items c.in-Some.page c.grow.new.self growth.within c.self.invariant.1,
+    )
+
+pub index_mut-requires-2 : goal.index_mut-requires-2
+index_mut-requires-2 g c =
+    let growth = growth_of (rooms_of c.self.inside.options c.self.inside.pages.items) c.self.invariant.0 c.in-Some.page c.in-Some.old
+    (rw c.deref.ensures.value at c.in-Some.ensures.here) c.in-Some.ensures.smaller in
+    omega (arith, growth.within, c.self.invariant.1.as_many, c.self.inside.refused.ok.0)
 
 pub returns-clause-first : goal.returns-clause-first
 returns-clause-first g c =
@@ -101,7 +112,7 @@ returns-clause-first g c =
 
 pub returns-clause-sizes : goal.returns-clause-sizes
 returns-clause-sizes g c =
-    let growth = growth_of (rooms_of c.self.inside.options c.self.inside.pages.items) c.self.invariant c.in-Some.page c.in-Some.old
+    let growth = growth_of (rooms_of c.self.inside.options c.self.inside.pages.items) c.self.invariant.0 c.in-Some.page c.in-Some.old
     (rw c.deref.ensures.value at c.in-Some.ensures.here) c.in-Some.ensures.smaller in
     let exact : size_of (sides_of c.grown-size.result) ≡ c.grown-size.result = rw c.grown-size.ensures refl in
     rw (c.number.ensures, ← c.self.view_is) (sizes_set c.self.inside.pages.items c.in-Some.page c.index_mut.result.now c.grow.new.self
@@ -109,7 +120,7 @@ returns-clause-sizes g c =
 
 pub returns-clause-less : goal.returns-clause-less
 returns-clause-less g c =
-    let growth = growth_of (rooms_of c.self.inside.options c.self.inside.pages.items) c.self.invariant c.in-Some.page c.in-Some.old
+    let growth = growth_of (rooms_of c.self.inside.options c.self.inside.pages.items) c.self.invariant.0 c.in-Some.page c.in-Some.old
     (rw c.deref.ensures.value at c.in-Some.ensures.here) c.in-Some.ensures.smaller in
     rw (returns-clause-sizes g c, c.number.ensures, c.grown-size.ensures, ← c.self.view_is)
     (grown_less (rooms_of c.self.inside.options c.self.inside.pages.items) c.in-Some.page c.in-Some.old growth
@@ -117,14 +128,14 @@ returns-clause-less g c =
 
 pub returns-clause-same : goal.returns-clause-same
 returns-clause-same g c =
-    let growth = growth_of (rooms_of c.self.inside.options c.self.inside.pages.items) c.self.invariant c.in-Some.page c.in-Some.old
+    let growth = growth_of (rooms_of c.self.inside.options c.self.inside.pages.items) c.self.invariant.0 c.in-Some.page c.in-Some.old
     (rw c.deref.ensures.value at c.in-Some.ensures.here) c.in-Some.ensures.smaller in
     rw (← c.self.view_is) (rectangles_stay c.self.inside.pages.items c.in-Some.page c.index_mut.result.now c.grow.new.self
     c.index_mut.ensures.value growth.within c.grow.ensures.keeps.live)
 
 pub returns-clause-others : goal.returns-clause-others
 returns-clause-others g c =
-    let growth = growth_of (rooms_of c.self.inside.options c.self.inside.pages.items) c.self.invariant c.in-Some.page c.in-Some.old
+    let growth = growth_of (rooms_of c.self.inside.options c.self.inside.pages.items) c.self.invariant.0 c.in-Some.page c.in-Some.old
     (rw c.deref.ensures.value at c.in-Some.ensures.here) c.in-Some.ensures.smaller in
     rw (c.number.ensures, ← c.self.view_is) (others_kept c.self.inside.pages.items c.in-Some.page c.index_mut.result.now
     c.grow.new.self c.index_mut.ensures.value growth.within)

@@ -28,4 +28,4 @@ returns-clause-within g c =
     c.loop-at.invariant.within page (omega (arith, there)) i r s is_s)
 
 pub returns-clause-room : goal.returns-clause-room
-returns-clause-room g c = rw (← c.self.view_is) (largest_has_room _ c.self.invariant)
+returns-clause-room g c = rw (← c.self.view_is) (largest_has_room _ c.self.invariant.0)

@@ -2,6 +2,7 @@ use Rattle.std.proofs.Common.{◌≡◌, ◌+◌, ◌-◌, ◌∙◌, ◌∷◌,
 use Rattle.std.proofs.lemmas.Bool.{eqb-true}
 use Rattle.atlas_cache.specs.Rooms.{rooms_of, KeepsRooms}
 use Rattle.atlas_cache.proofs.ShrinkLemmas.{drops_last, in_use, last_number, rooms_left}
+use Rattle.atlas_cache.proofs.RoomLemmas.Refusing.{refused_taken}
 use Rattle.atlas_cache.proofs.rooms.Rooms.remove_page.Goals as goal
 
 pub returns-then-is_empty-clause-used : goal.returns-then-is_empty-clause-used
@@ -23,9 +24,12 @@ invariant_of-self g c =
     let long : length c.self.inside.pages.items ≡ c.len-last.result - 1 + 1 =
     omega (arith, number, c.len-last.ensures, c.self.inside.pages.ok.0) in
     let drops = drops_last c.self.inside.pages.items c.truncate.new.self.items (c.len-last.result - 1) c.number.result c.index.result.now
-    long (search rules) (search rules) (c.is_empty-2.ensures.empty.0 c.if-not-is_empty.false) c.number.ensures in
-    rooms_left c.self.inside.options c.truncate.new.self.items drops.last
-    (subst (λ ps. KeepsRooms (rooms_of c.self.inside.options ps)) drops.was c.self.invariant)
+    long (search rules) (search rules) (c.is_empty-2.ensures.empty.0 c.if-not-is_empty.false) c.number.ensures in (
+      rooms_left c.self.inside.options c.truncate.new.self.items drops.last
+          (subst (λ ps. KeepsRooms (rooms_of c.self.inside.options ps)) drops.was c.self.invariant.0),
+      rw (c.truncate.ensures.items, c.truncate-2.ensures.items)
+          (refused_taken (c.len-last.result - 1) c.self.inside.pages.items c.self.inside.refused.items c.self.invariant.1),
+    )
 
 pub returns-clause-drops : goal.returns-clause-drops
 returns-clause-drops g c =

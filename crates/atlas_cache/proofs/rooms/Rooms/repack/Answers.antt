@@ -1,9 +1,10 @@
-use Rattle.std.proofs.Common.{◌<◌, length}
+use Rattle.std.proofs.Common.{◌<◌, arith, length}
 use Rattle.std.proofs.lemmas.List.Sorted.{All-permutation}
 use Rattle.guillotiere.specs.Refits.Refitted.{HasExactRectangle}
 use Rattle.guillotiere.specs.Stored.{state_of}
 use Rattle.atlas_cache.proofs.RoomLemmas.Paging.{rooms_stay, sizes_stay}
 use Rattle.atlas_cache.proofs.RoomLemmas.Repacking.{frame_here, named_permuted, named_there, page_placed, page_repacks, placing_tells, refits_here, starts_alike, state_here}
+use Rattle.atlas_cache.proofs.RoomLemmas.Refusing.{refused_changed}
 use Rattle.atlas_cache.proofs.rooms.Rooms.repack.Goals as goal
 
 pub place_all-requires : goal.place_all-requires
@@ -18,11 +19,18 @@ invariant_of-self g c =
     let b = c.place_all.new.atlas in
     let within : c.args.page < length pages = rw (← c.self.view_is) at c.requires.page in
     let start = starts_alike pages c.args.page a b c.index.ensures within c.self.inside.options c.size-size.result
-    (state_of c.in-Ok.placed) c.self.invariant c.size-size.ensures.size c.in-Ok.ensures.state in
-    rooms_stay pages c.args.page a b c.index.ensures within c.self.inside.options c.prove_sound.ensures.sound
-    (frame_here (state_of a) (state_of c.in-Ok.placed) (state_of b) c.sort_by_area.new.held.items c.in_ok-list.list
-    c.size-size.ensures.sound c.prove_sound.ensures.sound start c.in_ok-list.ensures.refits)
-    c.self.invariant
+    (state_of c.in-Ok.placed) c.self.invariant.0 c.size-size.ensures.size c.in-Ok.ensures.state in (
+      rooms_stay pages c.args.page a b c.index.ensures within c.self.inside.options c.prove_sound.ensures.sound
+          (frame_here (state_of a) (state_of c.in-Ok.placed) (state_of b) c.sort_by_area.new.held.items c.in_ok-list.list
+          c.size-size.ensures.sound c.prove_sound.ensures.sound start c.in_ok-list.ensures.refits)
+          c.self.invariant.0,
+      refused_changed pages c.self.inside.refused.items c.args.page b within c.self.invariant.1,
+    )
+
+pub index_mut-requires-2 : goal.index_mut-requires-2
+index_mut-requires-2 g c =
+    let within : c.args.page < length c.self.inside.pages.items = rw (← c.self.view_is) at c.requires.page in
+    omega (arith, within, c.self.invariant.1.as_many, c.self.inside.refused.ok.0)
 
 pub returns-clause-repacks : goal.returns-clause-repacks
 returns-clause-repacks g c = λ names.
@@ -31,7 +39,7 @@ returns-clause-repacks g c = λ names.
     let b = c.place_all.new.atlas in
     let within : c.args.page < length pages = rw (← c.self.view_is) at c.requires.page in
     let start = starts_alike pages c.args.page a b c.index.ensures within c.self.inside.options c.size-size.result
-    (state_of c.in-Ok.placed) c.self.invariant c.size-size.ensures.size c.in-Ok.ensures.state in
+    (state_of c.in-Ok.placed) c.self.invariant.0 c.size-size.ensures.size c.in-Ok.ensures.state in
     let order = c.sort_by_area.new.held.items in
     let named = named_permuted _ _ _ _ c.sort_by_area.ensures.permuted (rw (← c.self.view_is) at names) in
     let exact = All-permutation HasExactRectangle _ _ c.sort_by_area.ensures.permuted c.requires.exact in
@@ -47,7 +55,7 @@ returns-clause-placed g c =
     let b = c.place_all.new.atlas in
     let within : c.args.page < length pages = rw (← c.self.view_is) at c.requires.page in
     let start = starts_alike pages c.args.page a b c.index.ensures within c.self.inside.options c.size-size.result
-    (state_of c.in-Ok.placed) c.self.invariant c.size-size.ensures.size c.in-Ok.ensures.state in
+    (state_of c.in-Ok.placed) c.self.invariant.0 c.size-size.ensures.size c.in-Ok.ensures.state in
     let order = c.sort_by_area.new.held.items in
     rw (← c.self.view_is) (record {
       order = order;
@@ -66,7 +74,7 @@ returns-clause-sizes g c =
     let b = c.place_all.new.atlas in
     let within : c.args.page < length pages = rw (← c.self.view_is) at c.requires.page in
     let start = starts_alike pages c.args.page a b c.index.ensures within c.self.inside.options c.size-size.result
-    (state_of c.in-Ok.placed) c.self.invariant c.size-size.ensures.size c.in-Ok.ensures.state in
+    (state_of c.in-Ok.placed) c.self.invariant.0 c.size-size.ensures.size c.in-Ok.ensures.state in
     rw (← c.self.view_is) (sizes_stay pages c.args.page a b c.index.ensures within
     (frame_here (state_of a) (state_of c.in-Ok.placed) (state_of b) c.sort_by_area.new.held.items c.in_ok-list.list
     c.size-size.ensures.sound c.prove_sound.ensures.sound start c.in_ok-list.ensures.refits))

@@ -5,8 +5,8 @@ use Rattle.atlas_search.specs.Tables.{is_used_at}
 use Rattle.atlas_search.proofs.SearchLemmas.TableHeads.{read-head, read-low, is_slot, slot-is, no_slot-is, kept-table, kept-mark, first-emptied, later-emptied, unmarked-table, head_of-same, head_of-other, low_of-any}
 use Rattle.atlas_search.proofs.table.Table.set_first.Goals as goal
 
-pub invariant_of-self : goal.invariant_of-self
-invariant_of-self g c =
+pub invariant_of-self-then-index : goal.invariant_of-self-then-index
+invariant_of-self-then-index g c =
     let t = c.self.inside in
     let used : is_used_at t.heads.items c.args.number ≡ true = grind (arith, c.requires.used) in
     let e : ListHead = record { first = c.args.first; low = c.index_mut.result.now.low } in
@@ -41,8 +41,8 @@ invariant_of-self-else-self-number g c =
     kept-mark t.heads.items t.marks t.emptied c.args.number (record { first = c.args.first; low = c.index_mut.result.now.low })
     c.self.invariant c.requires.number c.if-self-number.false
 
-pub invariant_of-self-else-first-eq-NO_SLOT : goal.invariant_of-self-else-first-eq-NO_SLOT
-invariant_of-self-else-first-eq-NO_SLOT g c =
+pub invariant_of-self : goal.invariant_of-self
+invariant_of-self g c =
     grind (arith, kept-table c.self.inside.heads.items c.self.inside.marks c.self.inside.emptied c.args.number, slot-is)
 
 pub returns-then-index : goal.returns-then-index
@@ -51,5 +51,8 @@ returns-then-index g c = grind (arith, head_of-same, head_of-other, low_of-any, 
 pub returns-else-before-lt-LISTS : goal.returns-else-before-lt-LISTS
 returns-else-before-lt-LISTS g c = grind (arith, head_of-same, head_of-other, low_of-any, read-low)
 
-pub returns-else-first-eq-NO_SLOT : goal.returns-else-first-eq-NO_SLOT
-returns-else-first-eq-NO_SLOT g c = grind (arith, head_of-same, head_of-other, low_of-any, read-low)
+pub returns-then-first-ne-NO_SLOT : goal.returns-then-first-ne-NO_SLOT
+returns-then-first-ne-NO_SLOT g c = grind (arith, head_of-same, head_of-other, low_of-any, read-low)
+
+pub returns-else-self-number : goal.returns-else-self-number
+returns-else-self-number g c = grind (arith, head_of-same, head_of-other, low_of-any, read-low)

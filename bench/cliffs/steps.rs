@@ -1,0 +1,56 @@
+//! How much was done so far, in steps that are the same in each run, or else in nanoseconds.
+//!
+//! With `--cfg steps` the program is built by `-C profile-generate`, which counts how often the ways through each function are taken, also
+//! through those of std that are compiled for it; a step is one count. Otherwise it is the time that the thread had a processor for.
+
+#[cfg(steps)]
+extern "C" {
+    #[link_name = "__start___llvm_prf_cnts"]
+    static mut FIRST: u64;
+    #[link_name = "__stop___llvm_prf_cnts"]
+    static mut END: u64;
+}
+
+/// The sum of all counters, which the linker puts between these two names.
+#[cfg(steps)]
+#[inline(never)]
+fn all() -> u64 {
+    unsafe {
+        let (first, end) = (std::ptr::addr_of!(FIRST), std::ptr::addr_of!(END));
+        let count = (end as usize - first as usize) / std::mem::size_of::<u64>();
+        std::slice::from_raw_parts(first, count).iter().sum()
+    }
+}
+
+/// All but what counting took.
+#[cfg(steps)]
+pub fn steps() -> u64 {
+    use std::sync::atomic::{AtomicU64, Ordering::Relaxed};
+    static LOOK: AtomicU64 = AtomicU64::new(0);
+    static LOOKS: AtomicU64 = AtomicU64::new(0);
+    if LOOK.load(Relaxed) == 0 {
+        let before = all();
+        LOOK.store(all() - before, Relaxed);
+    }
+    all() - (LOOKS.fetch_add(1, Relaxed) + 2) * LOOK.load(Relaxed)
+}
+
+#[cfg(not(steps))]
+extern "C" {
+    fn clock_gettime(clock: i32, time: *mut [i64; 2]) -> i32;
+}
+
+#[cfg(not(steps))]
+pub fn steps() -> u64 {
+    const THREAD_TIME: i32 = 3;
+    let mut time = [0; 2];
+    unsafe { clock_gettime(THREAD_TIME, &mut time) };
+    time[0] as u64 * 1_000_000_000 + time[1] as u64
+}
+
+/// Where callgrind counts: it is told this name.
+#[inline(never)]
+pub fn counted(part: &mut dyn FnMut()) {
+    part();
+    std::hint::black_box(());
+}

@@ -1,0 +1,139 @@
+"""The program of bench/cliffs, which plays workloads, for bench/worst."""
+import hashlib
+import os
+import re
+import subprocess
+import sys
+import tempfile
+
+sys.dont_write_bytecode = True
+from measure import ROOT, Failure, call, say  # noqa: E402
+
+sys.path.append(os.path.join(ROOT, 'rust'))
+import cargo_here  # noqa: E402
+
+SOURCES = os.path.join(ROOT, 'bench', 'cliffs')
+BUILDS = os.path.join(ROOT, 'bench', 'out', 'worst')
+PACKAGE = """[package]
+name = "cliffs"
+version = "0.0.0"
+edition = "2021"
+
+[dependencies]
+wollemigo-core = { path = "%s" }
+wollemigo-support = { path = "%s", features = ["std"] }
+%s
+[profile.release]
+panic = "abort"
+lto = "fat"
+
+[workspace]
+"""
+EUCLID = '[package]\nname = "euclid"\nversion = "0.0.0"\nedition = "2021"\n'
+STEPS = ['--cfg steps', '-C profile-generate=' + os.devnull, '-C llvm-args=-disable-vp']
+PART = re.compile(r'([a-z]+):(\d+):(\d+)')
+
+
+def read(path):
+    with open(path) as file:
+        return file.read()
+
+
+def write(path, text):
+    """Leaves a file that is already so, so that cargo doesn't build it again."""
+    os.makedirs(os.path.dirname(path), exist_ok=True)
+    if not os.path.exists(path) or read(path) != text:
+        with open(path, 'w') as file:
+            file.write(text)
+
+
+def lay_out(here, core, crate):
+    """Writes the package; `crate` has the two paths of the Rust crate's own code, or none."""
+    support = os.path.join(os.path.dirname(core), 'support')
+    write(os.path.join(here, 'Cargo.toml'), PACKAGE % (core, support, 'euclid = { path = "euclid" }\n' if crate else ''))
+    for name in os.listdir(SOURCES):
+        if name.endswith('.rs'):
+            write(os.path.join(here, 'src', name), read(os.path.join(SOURCES, name)))
+    if crate:
+        write(os.path.join(here, 'euclid', 'Cargo.toml'), EUCLID)
+        write(os.path.join(here, 'euclid', 'src', 'lib.rs'), read(os.path.join(crate[0], 'euclid_shim.rs')))
+        write(os.path.join(here, 'src', 'allocator.rs'), read(crate[1]))
+        write(os.path.join(here, 'src', 'cache.rs'), read(os.path.join(ROOT, 'bench', 'cache.rs')))
+
+
+def build(core, crate, has_steps):
+    """Builds it by cargo, in release; with steps if it is to count them. The plain one is as a user's program is."""
+    core = os.path.abspath(core)
+    name = hashlib.sha256('\n'.join([core] + list(crate)).encode()).hexdigest()[:12]
+    here = os.path.join(BUILDS, name)
+    lay_out(here, core, crate)
+    flags = ['-A warnings'] + (['--cfg crates'] if crate else []) + (STEPS if has_steps else [])
+    target = 'steps' if has_steps else 'plain'
+    path = cargo_here.cargo()
+    say('building bench/cliffs over %s%s' % (core, ', with steps' if has_steps else ''))
+    call([path] + (cargo_here.from_debian() or ['--offline']) + ['build', '--release', '-j2'], 'cargo build of bench/cliffs', cwd=here,
+         env=dict(cargo_here.environment(path), CARGO_TARGET_DIR=target, RUSTFLAGS=' '.join(flags)))
+    return os.path.join(here, target, 'release', 'cliffs')
+
+
+class Played:
+    """What was played: calls and steps of each part, free boxes when asking began, and a checksum of all answers."""
+
+    def __init__(self, line):
+        self.parts = {name: (int(calls), int(steps)) for name, calls, steps in PART.findall(line)}
+        self.holes = int(re.search(r'holes:(\d+)', line).group(1))
+        self.sum = int(re.search(r'sum:(\d+)', line).group(1))
+
+    def calls(self, part):
+        return self.parts.get(part, (0, 0))[0]
+
+    def each(self, part):
+        """Steps a call."""
+        calls, steps = self.parts.get(part, (0, 0))
+        return steps / calls if calls else 0
+
+
+def words_of(form, budget, bounds, part, genome):
+    said = ','.join('%s:%d' % pair for pair in sorted(bounds.items())) or '-'
+    return '%s %d %s %s %s\n' % (form, budget, said, part, genome)
+
+
+class Player:
+    """A program that runs and answers line by line. One that ended is begun again."""
+
+    def __init__(self, program):
+        self.program = program
+        self.process = None
+
+    def play(self, form, genome, budget=0, bounds=()):
+        """None where it didn't come to an end."""
+        if self.process is None:
+            self.process = subprocess.Popen([self.program], stdin=subprocess.PIPE, stdout=subprocess.PIPE, stderr=subprocess.DEVNULL,
+                                            text=True, env=dict(os.environ, LLVM_PROFILE_FILE=os.devnull))
+        try:
+            self.process.stdin.write(words_of(form, budget, dict(bounds), '-', genome))
+            self.process.stdin.flush()
+            line = self.process.stdout.readline()
+        except BrokenPipeError:
+            line = ''
+        if line:
+            return Played(line)
+        self.process.wait()
+        self.process = None
+        return None
+
+
+def counted(program, form, genome, part, bounds, seconds=None):
+    """The instructions of a call of this part, as callgrind counts them; None where it took longer than so many seconds."""
+    with tempfile.TemporaryDirectory() as folder:
+        command = ['valgrind', '--tool=callgrind', '--callgrind-out-file=' + os.path.join(folder, 'out'), '--toggle-collect=*counted*',
+                   program]
+        try:
+            done = subprocess.run(command, input=words_of(form, 0, bounds, part, genome), capture_output=True, text=True, timeout=seconds)
+        except subprocess.TimeoutExpired:
+            return None
+    found = re.search(r'Collected : (\d+)', done.stderr)
+    if done.returncode or not done.stdout or not found:
+        raise Failure('%s over %s\n%s' % (program, genome, done.stderr[-500:]))
+    calls = Played(done.stdout).calls(part)
+    return int(found.group(1)) / calls if calls else 0

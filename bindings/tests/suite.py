@@ -1,0 +1,138 @@
+"""What the tests of the library share: the suite that counts them, the library, and programs over it."""
+import os
+import re
+import shutil
+import subprocess
+import sys
+
+BINDINGS = os.path.dirname(os.path.dirname(os.path.abspath(__file__)))
+sys.path.insert(0, BINDINGS)
+import null_pointers  # noqa: E402
+import package  # noqa: E402
+
+ROOT = os.path.dirname(BINDINGS)
+CALLS = int(os.environ.get('CALLS', '1000000'))
+WARNINGS = ['-Wall', '-Wextra', '-Wpedantic', '-Wshadow', '-Werror']
+SANITIZED = ['-O1', '-g', '-fsanitize=address,undefined', '-fno-sanitize-recover=all']
+REFUSING = ['-Wl,--wrap=malloc,--wrap=realloc,--wrap=free']
+# What the archive of the kit takes from the C library.
+NEEDED = {'malloc', 'realloc', 'free', 'memcpy', 'memmove', 'memset'}
+
+
+class Failure(Exception):
+    """What a test found."""
+
+
+class Suite:
+    """Runs tests by name, counts them, and keeps what was skipped."""
+
+    def __init__(self):
+        self.passed = self.failed = 0
+        self.skipped = []
+
+    def run(self, name, test, *arguments):
+        try:
+            test(*arguments)
+        except Failure as failure:
+            self.failed += 1
+            print('FAILED %s\n%s' % (name, failure), flush=True)
+        else:
+            self.passed += 1
+            print('passed %s' % name, flush=True)
+
+    def has(self, commands, what):
+        """Whether these commands are there; if not, says what is skipped."""
+        missing = [command for command in commands if shutil.which(command) is None]
+        if missing:
+            self.skip(what, 'there is no ' + ', '.join(missing))
+        return not missing
+
+    def skip(self, what, reason):
+        self.skipped.append(what)
+        print('skipped %s: %s' % (what, reason), flush=True)
+
+
+def call(command, **more):
+    more.setdefault('stdout', subprocess.PIPE)
+    done = subprocess.run(command, stderr=subprocess.STDOUT, text=True, **more)
+    if done.returncode != 0:
+        raise Failure('%s ended with status %d\n%s' % (' '.join(command), done.returncode, (done.stdout or '')[-3000:]))
+    return done.stdout
+
+
+class Library:
+    """The library, installed in a folder of its own, and programs over it."""
+
+    def __init__(self, folder, is_plain, words=()):
+        os.makedirs(folder, exist_ok=True)
+        self.folder = folder
+        self.is_plain = is_plain
+        self.prefix = os.path.join(folder, 'prefix')
+        installer = os.path.join(ROOT, 'rust', 'install') if is_plain else os.path.join(BINDINGS, 'build')
+        self.installation = [installer, self.prefix] + list(words)
+        self.count = 0
+
+    def archive(self):
+        return os.path.join(self.prefix, 'lib', 'libguillotiere.a')
+
+    def compiled(self, compiler, source, flags):
+        """A program of one source file."""
+        self.count += 1
+        program = os.path.join(self.folder, 'program%d' % self.count)
+        standard = '-std=c++17' if source.endswith('.cpp') else '-std=c99'
+        more = ['-Wshadow-field'] if compiler == 'clang++' else []
+        call([compiler, standard] + WARNINGS + more + flags + ['-I' + os.path.join(self.prefix, 'include'), '-o', program,
+             os.path.join(BINDINGS, source), self.archive()])
+        return program
+
+
+def build(library):
+    call(library.installation)
+
+
+def names_in(file, *words):
+    """The global names of a file: those that it defines, and those that it takes from others."""
+    table = call(['nm', '--extern-only', '--portability'] + list(words) + [file])
+    names = [line.split()[:2] for line in table.splitlines() if len(line.split()) > 1]
+    return {name for name, kind in names if kind not in 'Uw'}, {name for name, kind in names if kind == 'U'}
+
+
+def exports():
+    return set(package.exports())
+
+
+def run_program(library, compiler, source, flags, arguments=(), before=()):
+    return call(list(before) + [library.compiled(compiler, source, flags)] + list(arguments))
+
+
+def run_nulls(library, compiler, before=()):
+    """Each call with each of its pointers null in turn."""
+    source = null_pointers.written(library.folder)
+    call(list(before) + [library.compiled(compiler, source, ['-O2', '-I' + os.path.join(BINDINGS, 'tests')])])
+
+
+def check_plugin(library):
+    """A shared library that links the archive has no name of it among its own."""
+    source, plugin = os.path.join(library.folder, 'plugin.c'), os.path.join(library.folder, 'plugin.so')
+    with open(source, 'w') as file:
+        file.write('#include <guillotiere.h>\nuint32_t of_plugin(void);\n'
+                   'uint32_t of_plugin(void) { return guillotiere_version(); }\n')
+    call(['gcc', '-std=c99', '-shared', '-fPIC', '-I' + os.path.join(library.prefix, 'include'), '-o', plugin, source, library.archive()])
+    defined, _ = names_in(plugin, '--dynamic')
+    if not {'of_plugin'} <= defined or any(name.startswith('guillotiere') for name in defined):
+        raise Failure('names of the plugin: %s' % sorted(defined))
+
+
+def check_readers(library, compiler):
+    """Each call whose handles are const, over memory that can't be written; and the program makes each of them."""
+    with open(os.path.join(BINDINGS, 'c', 'guillotiere.h')) as file:
+        found = re.findall(r'^(?:uint32_t|void|bool) (guillotiere_\w+)\(([^;]*)\);', file.read(), re.M)
+    wanted = {name for name, words in found if re.search(r'const guillotiere_(atlas|simple|cache) \*', words)}
+    program = library.compiled(compiler, 'tests/readonly.c', ['-O2', '-pthread'] + REFUSING)
+    if set(call([program, 'names']).split()) != wanted:
+        raise Failure('tests/readonly.c makes other calls than those whose handles are const in guillotiere.h')
+    call([program])
+
+
+def digest_of(library, compiler, before=()):
+    return run_program(library, compiler, 'tests/digest.c', ['-O2'], [str(CALLS)], before)

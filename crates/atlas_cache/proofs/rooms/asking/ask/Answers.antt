@@ -1,0 +1,8 @@
+use Rattle.std.proofs.Common.{◌∙◌, arith, refl, sym}
+use Rattle.atlas_cache.proofs.RoomLemmas.Refusing.{larger_has_none, no_size_has_none}
+use Rattle.atlas_cache.proofs.rooms.asking.ask.Goals as goal
+
+pub returns-then-is_no_smaller-clause-answer : goal.returns-then-is_no_smaller-clause-answer
+returns-then-is_no_smaller-clause-answer g c =
+    larger_has_none c.args.refused.now c.args.asked c.args.page.now (c.is_no_smaller.ensures.positive c.if-is_no_smaller.true)
+    (c.is_no_smaller.ensures.fits c.if-is_no_smaller.true) c.requires

@@ -1,0 +1,68 @@
+//! A request to a page, which isn't searched again where that can't help.
+ghost use Rattle.std.specs.Prelude.{◌≡◌, ◌≢◌, Err, IfErr, IfOk, IfSome, IsTrue, None, Ok, OnErr};
+ghost use Rattle.guillotiere.specs.Boxes.{Fits, IsPositive};
+ghost use Rattle.guillotiere.specs.Callers.{AddsBox, IsAnswer, KeepsFrame};
+ghost use Rattle.guillotiere.specs.Pages.{HasRoomFor};
+ghost use Rattle.guillotiere.specs.Pixels.{box_of, sides_of};
+ghost use Rattle.guillotiere.specs.Replies.{IsExact};
+ghost use Rattle.guillotiere.specs.Reserves.{HasReserve, UsesAtMost};
+ghost use Rattle.guillotiere.specs.States.{IsSound};
+ghost use Rattle.guillotiere.specs.Steps.{Step};
+ghost use Rattle.guillotiere.specs.Steps.AtlasCall.{Allocate};
+ghost use Rattle.guillotiere.specs.Steps.AtlasReply.{Refused};
+ghost use Rattle.guillotiere.specs.Stored.{state_of};
+
+use guillotiere::{Allocation, AtlasAllocator, AtlasError, Size};
+use std::alloc::Allocator;
+
+/// A size that no page has room for.
+pub const NO_SIZE: Size = Size {
+    width: 0,
+    height: 0,
+};
+
+// Whether a page with no room for one size, of which no side is below 1, has none for another either.
+fn is_no_smaller(asked: Size, refused: Size) -> bool
+    ensures positive { IsTrue result → IsPositive (sides_of refused) }
+    ensures fits { IsTrue result → Fits (sides_of refused) (sides_of asked) }
+{
+    0 < refused.width
+        && refused.width <= asked.width
+        && 0 < refused.height
+        && refused.height <= asked.height
+}
+
+/// Asks a page, as `allocate` does. It isn't searched if it is known to have no room: it had none for the size in `refused`, which
+/// isn't larger. From then on `refused` is what it has no room for: this size, or `NO_SIZE` where it granted it.
+pub fn ask<A: Allocator + Copy>(
+    page: &mut AtlasAllocator<A>,
+    refused: &mut Size,
+    asked: Size,
+) -> Result<Option<Allocation>, AtlasError>
+    requires { HasRoomFor refused.old page.old → ⊥ }
+    ensures known { HasRoomFor refused.new page.new → ⊥ }
+    ensures answer { IsAnswer (state_of page.old) asked result }
+    ensures exact { IfOk result (λ granted. IfSome granted (λ allocation. IsExact allocation.rectangle)) }
+    ensures adds { IfOk result (λ granted. IfSome granted (λ a.
+        AddsBox (state_of page.old) (state_of page.new) a.id (box_of a.rectangle))) }
+    ensures none { result ≡ Ok None → page.new ≡ page.old }
+    ensures refused { OnErr result (page.new ≡ page.old) }
+    ensures step { IfErr result (λ error. Step (state_of page.old) (Allocate (sides_of asked)) (Refused error)
+        (state_of page.new)) }
+    ensures sound { IsSound (state_of page.new) }
+    ensures frame { KeepsFrame (state_of page.old) (state_of page.new) }
+    ensures slots { UsesAtMost 4 page.old page.new }
+    ensures memory { HasReserve 4 page.old → result ≢ Err AtlasError.Memory }
+{
+    page.prove_sound();
+    if is_no_smaller(asked, *refused) {
+        return Ok(None);
+    }
+    let answer = page.allocate(asked);
+    if matches!(answer, Ok(None)) {
+        *refused = asked;
+    } else {
+        *refused = NO_SIZE;
+    }
+    answer
+}

@@ -1,4 +1,0 @@
-pub mod Reading
-pub mod PageLemmas
-pub mod StepLines
-pub mod Faults

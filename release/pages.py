@@ -1,0 +1,92 @@
+"""The texts of a release: a README.md in each archive that has none of its own, and RELEASE.md beside the archives."""
+import os
+
+LIBRARY = """# guillotiere %(version)s for C and C++: %(platform)s
+
+An allocator of rectangles in textures, a cache of rectangles under keys, and a packer of sheets. Unpack it anywhere: CMake finds it by
+`-DCMAKE_PREFIX_PATH=FOLDER`, pkg-config by `PKG_CONFIG_PATH=FOLDER/lib/pkgconfig`, and without either it takes `-IFOLDER/include` and
+`FOLDER/lib/libguillotiere.a`. `include/guillotiere.h` says what each call means, and `examples` has programs.
+
+%(lean)sMade by %(made)s. %(needs)s
+
+**Proved** are the sources in Rattle that this was made from, for pointers of 64 bits: each function meets its contract. **Not proved** is
+that the plain Rust, from which a compiler made this library, means the same: that is tested, as is the library. What the caller of a C
+function has to keep to is said in the header, and nothing checks it.
+"""
+
+LEAN = """This one has no standard library of Rust in it, and is compiled for size. A panic, of which none is known, calls `abort`
+without a line.
+
+"""
+
+SHEET = """# guillotiere-sheet %(version)s: %(platform)s
+
+Packs a folder of pictures into sheets that engines load: `bin/guillotiere-sheet FOLDER OUT`. `--help` and `--man` say all words.
+`share` has the manual page and what bash, zsh and fish complete words by. `THIRD-PARTY.txt` has the licences of the crates of others
+that it was built with.
+
+Made by %(made)s. %(needs)s
+
+**Proved** are the sources, in Rattle, of the packing that it calls: sprites lie apart, within the sheet. **Not proved**, but tested: that
+the plain Rust means the same as those, and all else: reading, drawing and writing pictures, and the forms.
+"""
+
+PAGE = """# guillotiere %(version)s: the page to play with
+
+Put these files side by side on a server of files, as by `python3 -m http.server`, and open `index.html`: an atlas whose boxes you add and
+free, a cache of glyphs, and sheets of pictures. `how.html` explains in five figures how an atlas finds room.
+
+Made by %(made)s.
+
+**Proved** is nothing here: the module is for pointers of 32 bits, and the proofs are for 64. Tested are the module, which was made from
+the proved sources, and the pages.
+"""
+
+RELEASE = """# guillotiere %(version)s
+
+Made by `release/make` from commit %(commit)s%(changes)s.
+`sha256sum -c SHA256SUMS` compares the files with their sums. All are under MIT or Apache-2.0, and each has both texts in it.
+
+| file | bytes | what it is | made by |
+|---|--:|---|---|
+%(rows)s
+
+%(absent)s## What is proved, and what isn't
+
+The sources in Rattle are proved for pointers of 64 bits: each function meets its contract, and five claims follow, which README.md of the
+repository states. All files here are made from plain Rust, which was made from those sources by removing the contracts. That it means the
+same is trusted and tested, not proved; so is what compilers made of it.
+
+- **The library for C and C++**: its functions, which take pointers and answer statuses, are from proved sources too. The C++ header is
+  written by hand, and tested.
+- **The crates**: `wollemigo-core` is from the proved sources. `wollemigo`, which turns values and errors into those of Rust users, and
+  `wollemigo-support`, which stands for the kit's standard library, are written by hand, and tested.
+- **The package for JavaScript**, and **the page**: WebAssembly has pointers of 32 bits, so nothing is proved of them.
+- **guillotiere-sheet**: the packing is from proved sources, all else is written by hand.
+- The library as the Rattle kit proves and builds it isn't among these files: `bindings/build` makes it.
+
+## The same bytes
+
+%(same)s
+"""
+
+SAME = """`release/make` is written so that two runs over one commit, in one folder and by the same compilers, give the same bytes: names
+are sorted, times are the commit's, and no file tells where the clone was. That two builds from nothing do so wasn't compared. Other
+compilers, linkers, versions of Binaryen, esbuild, npm and cargo, and other crates of others, give other bytes."""
+
+
+def needs(what, version):
+    """What is told of the least C library."""
+    return '%s needs glibc %s or newer.' % (what, version) if version else ''
+
+
+def rows(folder, told):
+    """A line for each file that is told of."""
+    return '\n'.join('| `%s` | %s | %s | %s |' % (name, format(os.path.getsize(os.path.join(folder, name)), ','), *told[name])
+                     for name in sorted(told))
+
+
+def release(folder, told, absent, values):
+    lines = ''.join('- %s: %s\n' % each for each in absent)
+    return RELEASE % {**values, 'rows': rows(folder, told), 'same': SAME,
+                      'absent': 'Not among them:\n\n%s\n' % lines if lines else ''}

@@ -1,0 +1,168 @@
+//! Walks along the rectangles of an atlas.
+use crate::error::expected;
+use crate::{convert, Allocation, AtlasAllocator, AtlasError, Rectangle};
+use core::fmt;
+use core::iter::FusedIterator;
+use core::marker::PhantomData;
+use wollemigo_core::guillotiere as library;
+use wollemigo_support::alloc::Global;
+use wollemigo_support::vec::Vec as LibraryVec;
+
+impl AtlasAllocator {
+    /// The live rectangles with their ids, by rising slot. One pass over the slots, which gathers them in a list.
+    ///
+    /// ```
+    /// use guillotiere::{size2, AtlasAllocator};
+    ///
+    /// let mut atlas = AtlasAllocator::new(size2(64, 64));
+    /// let glyph = atlas.allocate(size2(20, 60)).unwrap();
+    /// assert!(atlas.allocations().eq([glyph]));
+    /// let free: i32 = atlas.free_rectangles().map(|area| area.area()).sum();
+    /// assert_eq!(free, 64 * 64 - 20 * 60);
+    /// ```
+    ///
+    /// # Panics
+    ///
+    /// If memory for the list runs out; `for_each_allocated_rectangle` takes none.
+    #[must_use]
+    #[track_caller]
+    pub fn allocations(&self) -> Allocations<'_> {
+        expected(self.try_allocations())
+    }
+
+    /// `allocations` with the error as a value: `Memory`.
+    pub fn try_allocations(&self) -> Result<Allocations<'_>, AtlasError> {
+        Ok(Allocations::of(self.library().allocations()?))
+    }
+
+    /// The free rectangles, in an order that is left open. One pass over the slots, which gathers them in a list.
+    ///
+    /// # Panics
+    ///
+    /// If memory for the list runs out; `for_each_free_rectangle` takes none.
+    #[must_use]
+    #[track_caller]
+    pub fn free_rectangles(&self) -> FreeRectangles<'_> {
+        expected(self.try_free_rectangles())
+    }
+
+    /// `free_rectangles` with the error as a value: `Memory`.
+    pub fn try_free_rectangles(&self) -> Result<FreeRectangles<'_>, AtlasError> {
+        Ok(FreeRectangles::of(self.library().free_rectangles()?))
+    }
+}
+
+// A list of the library, of which some items were taken at both ends.
+struct Left<T> {
+    list: LibraryVec<T, Global>,
+    next: usize,
+    end: usize,
+}
+
+impl<T: Copy> Left<T> {
+    fn all(list: LibraryVec<T, Global>) -> Self {
+        let end = list.len();
+        Left { list, next: 0, end }
+    }
+
+    fn items(&self) -> &[T] {
+        &self.list.as_slice()[self.next..self.end]
+    }
+
+    fn first(&mut self) -> Option<T> {
+        let item = *self.items().first()?;
+        self.next += 1;
+        Some(item)
+    }
+
+    fn last(&mut self) -> Option<T> {
+        let item = *self.items().last()?;
+        self.end -= 1;
+        Some(item)
+    }
+}
+
+/// The live rectangles of an atlas with their ids, by rising slot.
+///
+/// ```
+/// use guillotiere::{size2, AtlasAllocator};
+///
+/// let mut atlas = AtlasAllocator::new(size2(64, 64));
+/// let _ = atlas.allocate(size2(20, 60));
+/// for live in atlas.allocations() {
+///     println!("{:?} at {:?}", live.id, live.rectangle);
+/// }
+/// ```
+pub struct Allocations<'a> {
+    left: Left<library::Allocation>,
+    atlas: PhantomData<&'a AtlasAllocator>,
+}
+
+/// The free rectangles of an atlas, in an order that is left open.
+///
+/// ```
+/// use guillotiere::{size2, AtlasAllocator};
+///
+/// let atlas = AtlasAllocator::new(size2(64, 64));
+/// assert_eq!(atlas.free_rectangles().len(), 1);
+/// ```
+pub struct FreeRectangles<'a> {
+    left: Left<library::Rectangle>,
+    atlas: PhantomData<&'a AtlasAllocator>,
+}
+
+impl Allocations<'_> {
+    pub(crate) fn of(list: LibraryVec<library::Allocation, Global>) -> Self {
+        Allocations {
+            left: Left::all(list),
+            atlas: PhantomData,
+        }
+    }
+}
+
+impl FreeRectangles<'_> {
+    pub(crate) fn of(list: LibraryVec<library::Rectangle, Global>) -> Self {
+        FreeRectangles {
+            left: Left::all(list),
+            atlas: PhantomData,
+        }
+    }
+}
+
+macro_rules! walk {
+    ($walk:ident, $item:ty, $turned:expr) => {
+        impl Iterator for $walk<'_> {
+            type Item = $item;
+
+            fn next(&mut self) -> Option<$item> {
+                self.left.first().as_ref().map($turned)
+            }
+
+            fn size_hint(&self) -> (usize, Option<usize>) {
+                let left = self.left.items().len();
+                (left, Some(left))
+            }
+        }
+
+        impl DoubleEndedIterator for $walk<'_> {
+            fn next_back(&mut self) -> Option<$item> {
+                self.left.last().as_ref().map($turned)
+            }
+        }
+
+        impl ExactSizeIterator for $walk<'_> {}
+
+        impl FusedIterator for $walk<'_> {}
+
+        impl fmt::Debug for $walk<'_> {
+            fn fmt(&self, f: &mut fmt::Formatter<'_>) -> fmt::Result {
+                f.debug_list()
+                    .entries(self.left.items().iter().map($turned))
+                    .finish()
+            }
+        }
+    };
+}
+
+walk!(Allocations, Allocation, convert::allocation);
+walk!(FreeRectangles, Rectangle, convert::rectangle);

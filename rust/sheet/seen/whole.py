@@ -1,0 +1,239 @@
+#!/usr/bin/env python3
+"""Kills guillotiere-sheet at each step that changes OUT's folder, runs it twice at once, and stops it by signals: whoever finds a record
+finds the pictures that belong to it, and the next run leaves nothing but the set.
+
+    rust/sheet/seen/whole.py PROGRAM
+
+The last line is 'N passed, M failed'. It needs Pillow, and gcc on Linux."""
+import os
+import shutil
+import signal
+import subprocess
+import sys
+import tempfile
+import time
+import traceback
+
+sys.dont_write_bytecode = True
+HERE = os.path.dirname(os.path.abspath(__file__))
+sys.path[:0] = [HERE]
+import icons  # noqa: E402
+import readers  # noqa: E402
+from PIL import Image  # noqa: E402
+
+PROGRAM = os.path.abspath(sys.argv[1]) if len(sys.argv) == 2 else sys.exit(__doc__)
+# The forms with one record and with several, and how many sheets there are.
+WAYS = [('libgdx', []), ('json-hash', []), ('phaser', ['--pages', '9']), ('json-hash', ['--pages', '9']), ('starling', ['--pages', '9'])]
+RECORD = {'libgdx': '.atlas', 'json-hash': '.json', 'phaser': '.json', 'starling': '.xml'}
+
+
+class Count:
+    """Of the tests."""
+    passed = failed = 0
+
+
+def test(what, check, *words):
+    try:
+        check(*words)
+        Count.passed += 1
+    except Exception:  # noqa: BLE001
+        Count.failed += 1
+        print('%s: failed\n%s' % (what, traceback.format_exc()))
+
+
+def run(words, library=None, **steps):
+    settings = dict(os.environ, **({'LD_PRELOAD': library} if library else {}), **{name: str(value) for name, value in steps.items()})
+    return subprocess.run([PROGRAM] + words, stdout=subprocess.PIPE, stderr=subprocess.PIPE, text=True, env=settings, timeout=120)
+
+
+def pictures(room, name, count, side):
+    """A folder of pictures: their colours tell the folder and the number."""
+    folder = os.path.join(room, name)
+    for number in range(count):
+        icons.save(folder, '%dx.png' % number, Image.new('RGBA', (side + number, side), (number, side, 7, 255)))
+    return folder, icons.originals(folder)
+
+
+def found(form, out):
+    """The pictures of the set, or none if its record isn't there."""
+    record = RECORD[form]
+    if not any(os.path.exists(out + number + record) for number in ('', '-0')):
+        return None
+    return {name: picture.tobytes() for name, picture in readers.read(form, out).items()}
+
+
+def told(originals):
+    return {name: picture.tobytes() for name, picture in originals.items()}
+
+
+def hidden(folder):
+    return [name for name in os.listdir(folder) if name.startswith('.')]
+
+
+def killed(form, more, library, room):
+    """After each kill the old set is there, or the new one, or none; the next run ends the work."""
+    old, new = pictures(room, 'old', 6, 20), pictures(room, 'new', 6, 26)
+    sizes = ['--size', '64', '64'] if more else []
+    step, before, none = 0, 0, 0
+    while True:
+        step += 1
+        inside = os.path.join(room, 'out')
+        shutil.rmtree(inside, ignore_errors=True)
+        os.mkdir(inside)
+        out = os.path.join(inside, 'sheet')
+        words = [out, '--form', form, *more, *sizes]
+        assert run([old[0]] + words).returncode == 0
+        done = run([new[0]] + words, library, STEP_KILL=step)
+        if done.returncode == 0:
+            break
+        assert done.returncode == -signal.SIGKILL, (done.returncode, done.stderr)
+        there = found(form, out)
+        assert there in (None, told(old[1]), told(new[1])), (step, os.listdir(inside))
+        before += there == told(old[1])
+        none += there is None
+        # A run that can't read its pictures ends the work of the one before all the same.
+        bad = run([os.path.join(room, 'none'), *words])
+        assert bad.returncode == 1
+        assert run([new[0]] + words).returncode == 0
+        assert found(form, out) == told(new[1]) and not hidden(inside), (step, os.listdir(inside))
+    assert step > 6 and before > 1 and none > 0, (step, before, none)
+    assert found(form, out) == told(new[1]) and not hidden(inside)
+
+
+def ready(library, room):
+    """What was complete at the kill gets its places by the next run, though that finds no pictures."""
+    old, new = pictures(room, 'first', 6, 20), pictures(room, 'second', 6, 26)
+    empty, inside = os.path.join(room, 'empty'), os.path.join(room, 'placed')
+    os.mkdir(empty)
+    seen = set()
+    for step in range(1, 9):
+        shutil.rmtree(inside, ignore_errors=True)
+        os.mkdir(inside)
+        out = os.path.join(inside, 'sheet')
+        assert run([old[0], out]).returncode == 0
+        run([new[0], out], library, STEP_KILL=step)
+        was_ready = '.sheet.ready' in hidden(inside)
+        assert run([empty, out]).returncode == 1
+        there = found('json-hash', out)
+        assert there == told((new if was_ready else old)[1]) or not was_ready and there == told(new[1]), step
+        assert not hidden(inside)
+        seen.add(was_ready)
+    assert seen == {False, True}
+
+
+def two(library, room):
+    """Two runs for one OUT, which differ: in the end the set is that of one of them."""
+    folder, originals = pictures(room, 'both', 9, 20)
+    inside = os.path.join(room, 'two')
+    os.mkdir(inside)
+    out = os.path.join(inside, 'sheet')
+    settings = dict(os.environ, LD_PRELOAD=library, STEP_WAIT='30000')
+    waited = 0
+    for turn in range(6):
+        sides = [['--size', '128', '128'], ['--power-of-two']][::1 if turn % 2 else -1]
+        running = [subprocess.Popen([PROGRAM, folder, out, *more], env=settings, stdout=subprocess.DEVNULL, stderr=subprocess.PIPE,
+                                    text=True) for more in sides]
+        lines = [each.communicate(timeout=60)[1] for each in running]
+        assert [each.returncode for each in running] == [0, 0], lines
+        waited += sum(line == 'guillotiere-sheet: sheet: waiting for another run that writes it\n' for line in lines)
+        assert found('json-hash', out) == told(originals) and not hidden(inside)
+    assert waited > 0
+
+
+def stopped(library, room):
+    """By Ctrl-C, or as a service is ended: while it packs, while it writes, and while it watches. Nothing is left half done."""
+    folder, originals = pictures(room, 'many', 40, 20)
+    for number, (how, more, steps, seconds) in enumerate((
+            (signal.SIGINT, ['--effort', '100000000'], {}, 1), (signal.SIGTERM, ['--effort', '100000000'], {}, 1),
+            (signal.SIGINT, [], {'LD_PRELOAD': library, 'STEP_WAIT': '400000'}, 0.6),
+            (signal.SIGINT, [], {'LD_PRELOAD': library, 'STEP_WAIT': '400000'}, 1.1), (signal.SIGTERM, ['--watch'], {}, 1))):
+        inside = os.path.join(room, 'stopped %d' % number)
+        os.mkdir(inside)
+        out = os.path.join(inside, 'sheet')
+        running = subprocess.Popen([PROGRAM, folder, out, *more], env=dict(os.environ, **steps), stdout=subprocess.DEVNULL,
+                                   stderr=subprocess.DEVNULL)
+        time.sleep(seconds)
+        running.send_signal(how)
+        assert running.wait(timeout=20) in (0, 130), (number, running.returncode)
+        assert not hidden(inside), (number, os.listdir(inside))
+        assert found('json-hash', out) in (None, told(originals)), number
+        if '--effort' in more:
+            assert running.returncode == 130 and os.listdir(inside) == []
+
+
+def to_the_disk(library, room):
+    """All files and both folders are on the disk before the first one gets its place; then the record goes, and comes last."""
+    folder, _ = pictures(room, 'disk', 9, 20)
+    inside = os.path.join(room, 'on disk')
+    os.mkdir(inside)
+    for number in (1, 2):
+        log = os.path.join(room, 'log %d' % number)
+        assert run([folder, os.path.join(inside, 'sheet'), *['--trim'][:number - 1]], library, STEP_LOG=log).returncode == 0
+        with open(log) as file:
+            steps = file.read().split()
+        # The record is unlinked in the middle; at the end the folder of parts, which isn't there any more, and the lock.
+        assert steps == ['mkdir', 'fsync', 'fsync', 'fsync', 'rename', 'fsync', 'unlink', 'fsync', 'rename', 'rename', 'fsync', 'rmdir',
+                         'unlink', 'unlink'], steps
+        icons.save(folder, '0x.png', Image.new('RGBA', (40, 30), (1, 1, 1, 255)))
+
+
+def hung_up(room):
+    """A run that nohup began goes on where the terminal is closed."""
+    folder, originals = pictures(room, 'hung up', 4, 20)
+    out = os.path.join(room, 'hung')
+    running = subprocess.Popen([PROGRAM, folder, out, '--watch'], stdout=subprocess.DEVNULL, stderr=subprocess.DEVNULL,
+                               preexec_fn=lambda: signal.signal(signal.SIGHUP, signal.SIG_IGN))
+    end = time.time() + 30
+    while not os.path.exists(out + '.json') and time.time() < end:
+        time.sleep(0.05)
+    running.send_signal(signal.SIGHUP)
+    time.sleep(0.5)
+    assert running.poll() is None and found('json-hash', out) == told(originals)
+    running.terminate()
+    running.wait(timeout=20)
+
+
+def untouched(room):
+    """A run that changes nothing leaves the files as they are, and one that changes a single file's bytes brings it back."""
+    folder, _ = pictures(room, 'same', 9, 20)
+    inside = os.path.join(room, 'untouched')
+    os.mkdir(inside)
+    words = [folder, os.path.join(inside, 'sheet'), '--size', '64', '64', '--pages', '9']
+
+    def stamps():
+        files = {name: os.stat(os.path.join(inside, name)) for name in os.listdir(inside)}
+        return {name: (file.st_mtime_ns, file.st_ino) for name, file in files.items()}
+    assert run(words).returncode == 0
+    first = stamps()
+    assert len(first) == 4 and run(words).returncode == 0 and stamps() == first
+    with open(os.path.join(inside, 'sheet-1.png'), 'r+b') as file:
+        file.write(b'x')
+    assert run(words).returncode == 0
+    second = stamps()
+    assert second['sheet-0.png'] == first['sheet-0.png'] and second['sheet-1.png'] != first['sheet-1.png']
+    assert found('json-hash', os.path.join(inside, 'sheet')) is not None
+
+
+def all_tests(room):
+    test('untouched', untouched, room)
+    test('hung up', hung_up, room)
+    library = os.path.join(room, 'steps.so')
+    compiler = shutil.which('gcc')
+    if compiler is None or not sys.platform.startswith('linux'):
+        print('skipped kills of guillotiere-sheet: there is no gcc')
+        return
+    subprocess.run([compiler, '-shared', '-fPIC', '-O1', '-o', library, os.path.join(HERE, 'steps.c'), '-ldl'], check=True)
+    for number, (form, more) in enumerate(WAYS):
+        inside = os.path.join(room, str(number))
+        os.mkdir(inside)
+        test('killed, %s' % ' '.join([form, *more]), killed, form, more, library, inside)
+    test('to the disk', to_the_disk, library, room)
+    test('ready', ready, library, room)
+    test('two at once', two, library, room)
+    test('stopped', stopped, library, room)
+
+
+with tempfile.TemporaryDirectory() as temporary:
+    all_tests(temporary)
+print('%d passed, %d failed' % (Count.passed, Count.failed))
+sys.exit(1 if Count.failed else 0)

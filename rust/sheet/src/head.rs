@@ -1,0 +1,41 @@
+//! The size of a picture from the first bytes of its file.
+use image::ImageFormat;
+use imagesize::ImageType;
+use std::fs::File;
+use std::io::{BufReader, Read, Seek, SeekFrom};
+use std::path::Path;
+
+// What isn't a file may never end.
+fn opened(path: &Path) -> Option<BufReader<File>> {
+    let is_file = path.metadata().ok()?.is_file();
+    File::open(path)
+        .ok()
+        .filter(|_| is_file)
+        .map(BufReader::new)
+}
+
+fn by_decoder(file: BufReader<File>, format: ImageFormat) -> Option<(u64, u64)> {
+    let (width, height) = image::io::Reader::with_format(file, format)
+        .into_dimensions()
+        .ok()?;
+    Some((width.into(), height.into()))
+}
+
+/// The width and the height; none where the first bytes don't tell them.
+pub fn size(path: &Path) -> Option<(u64, u64)> {
+    let mut file = opened(path)?;
+    let mut first = [0; 12];
+    file.read_exact(&mut first).ok()?;
+    file.seek(SeekFrom::Start(0)).ok()?;
+    match imagesize::image_type(&first) {
+        Ok(ImageType::Png | ImageType::Jpeg | ImageType::Webp) => {
+            let size = imagesize::reader_size(file).ok()?;
+            Some((size.width as u64, size.height as u64))
+        }
+        Ok(ImageType::Gif) => by_decoder(file, ImageFormat::Gif),
+        Ok(ImageType::Bmp) => by_decoder(file, ImageFormat::Bmp),
+        Ok(ImageType::Tiff) => by_decoder(file, ImageFormat::Tiff),
+        _ if crate::decode::is_targa(path) => by_decoder(file, ImageFormat::Tga),
+        _ => None,
+    }
+}

@@ -1,0 +1,126 @@
+//! Reads pictures, after their sizes: what is too large is known before it takes memory.
+use crate::colour::Colour;
+use crate::decode::{decoded, GREATEST, TOO_LARGE};
+use crate::fault::{Fault, FILES};
+use crate::folder::Named;
+use crate::head;
+use crate::memory::Bytes;
+use crate::picture::Picture;
+use crate::progress::Progress;
+use crate::room;
+use crate::words::Words;
+use std::panic;
+use std::path::Path;
+use std::thread;
+
+/// A name, the pixels, and what the file says of colours.
+pub type Found = (String, Picture, Colour);
+
+// What this gives for each file, by as many threads as the machine has processors. A reader of pictures that panics has met a file
+// that it can't read, and gives nothing.
+fn of_each<T: Send>(
+    what: &str,
+    files: &[Named],
+    of: impl Fn(&Path) -> T + Sync + panic::RefUnwindSafe,
+) -> Vec<Option<T>> {
+    let threads = thread::available_parallelism().map_or(1, usize::from);
+    let each = ((files.len() + threads - 1) / threads).max(1);
+    let of = &of;
+    let hook = panic::take_hook();
+    panic::set_hook(Box::new(|_| {}));
+    let shown = Progress::counted(what, files.len());
+    let all = |files: &[Named]| {
+        let one = |file: &Named| {
+            let got = panic::catch_unwind(|| of(&file.1)).ok();
+            shown.step();
+            got
+        };
+        files.iter().map(one).collect::<Vec<_>>()
+    };
+    let results = thread::scope(|scope| {
+        let running: Vec<_> = files
+            .chunks(each)
+            .map(|files| scope.spawn(move || all(files)))
+            .collect();
+        let ended = running
+            .into_iter()
+            .map(|thread| thread.join().unwrap_or_default());
+        ended.flatten().collect()
+    });
+    panic::set_hook(hook);
+    results
+}
+
+fn read(path: &Path) -> Result<(Picture, Colour), String> {
+    let bytes = std::fs::read(path).map_err(|error| error.to_string())?;
+    decoded(path, &bytes)
+}
+
+fn told(path: &Path, why: &str) -> String {
+    format!("{}: {}", path.display(), why)
+}
+
+fn bad_files(lines: Vec<String>) -> Result<(), Fault> {
+    if lines.is_empty() {
+        return Ok(());
+    }
+    Err(Fault {
+        status: FILES,
+        lines,
+    })
+}
+
+/// The files whose pictures may have a place, and the names of those that are left out. A picture that no sheet takes is refused here
+/// already, and so are all, where they take more memory than is allowed.
+pub fn checked(files: Vec<Named>, words: &Words) -> Result<(Vec<Named>, Vec<String>), Fault> {
+    let sizes: Vec<Option<(u64, u64)>> = of_each("looking at", &files, head::size)
+        .into_iter()
+        .map(Option::flatten)
+        .collect();
+    let is_great = |size: &Option<(u64, u64)>| {
+        size.map_or(false, |(w, h)| Bytes::of(w, h).0 > GREATEST as u64)
+    };
+    if !words.leave_out {
+        let great = files.iter().zip(&sizes).filter(|(_, size)| is_great(size));
+        bad_files(great.map(|((_, path), _)| told(path, TOO_LARGE)).collect())?;
+    }
+    let (mut kept, mut taken, mut left_out, mut too_large) =
+        (Vec::new(), Bytes(0), Vec::new(), Vec::new());
+    for (file, size) in files.into_iter().zip(sizes) {
+        let great = is_great(&size).then(|| told(&file.1, TOO_LARGE));
+        let no_place = size.and_then(|size| room::no_place(&file.0, size, words));
+        match great.or(no_place) {
+            Some(line) => {
+                too_large.push(line);
+                left_out.push(file.0);
+            }
+            None => {
+                let (width, height) = size.unwrap_or((0, 0));
+                taken = taken.and(Bytes::of(width, height));
+                kept.push(file);
+            }
+        }
+    }
+    if !too_large.is_empty() && (!words.leave_out || kept.is_empty()) {
+        return Err(Fault {
+            status: crate::fault::ROOM,
+            lines: too_large,
+        });
+    }
+    words.memory().allow(taken, "the pictures")?;
+    Ok((kept, left_out))
+}
+
+/// All pictures. All that can't be read are named.
+pub fn pictures(files: Vec<Named>) -> Result<Vec<Found>, Fault> {
+    let results = of_each("reading", &files, read);
+    let (mut found, mut lines) = (Vec::new(), Vec::new());
+    for ((name, path), result) in files.into_iter().zip(results) {
+        match result.unwrap_or_else(|| Err("it can't be read".to_string())) {
+            Ok((picture, colour)) => found.push((name, picture, colour)),
+            Err(why) => lines.push(told(&path, &why)),
+        }
+    }
+    bad_files(lines)?;
+    Ok(found)
+}

@@ -1,0 +1,215 @@
+//! A set of files that is whole or isn't there, written by one run at a time.
+//!
+//! All files are first written into a hidden folder beside their places. Its new name, `.OUT.ready`, says that they are complete: from then
+//! on this run, or else the next one, gives them their places. The records go first and come last, so that whoever finds a record finds
+//! the pictures that it was written with.
+use crate::fault::{Fault, FILES, STALE};
+use crate::forms::File;
+use crate::output::note;
+use crate::stop;
+use fd_lock::RwLock;
+use same_file::Handle;
+use std::fs;
+use std::io::{self, ErrorKind, Write};
+use std::path::{Path, PathBuf};
+
+/// Where the files of one OUT lie.
+pub struct Target {
+    folder: PathBuf,
+    stem: String,
+}
+
+impl Target {
+    pub fn new(folder: PathBuf, stem: &str) -> Target {
+        Target {
+            folder,
+            stem: stem.to_string(),
+        }
+    }
+
+    fn hidden(&self, ending: &str) -> PathBuf {
+        self.folder.join(format!(".{}.{}", self.stem, ending))
+    }
+
+    // Where no file can be made in the folder, the system tells of a file that isn't there.
+    fn unwritten(&self, name: &str, error: impl std::fmt::Display) -> Fault {
+        let path = self.folder.join(name);
+        Fault::file(&path, format!("it can't be written there: {}", error))
+    }
+
+    fn sheet(&self) -> String {
+        format!("{}.png", self.stem)
+    }
+
+    /// Does this while no other run does it for the same OUT. What an earlier run left behind is put in its place or removed first.
+    pub fn alone<T>(&self, work: impl FnOnce() -> Result<T, Fault>) -> Result<T, Fault> {
+        let path = self.hidden("lock");
+        let failed = |error: io::Error| self.unwritten(&self.sheet(), error);
+        loop {
+            let file = fs::OpenOptions::new()
+                .create(true)
+                .write(true)
+                .open(&path)
+                .map_err(failed)?;
+            let opened = Handle::from_file(file.try_clone().map_err(failed)?).map_err(failed)?;
+            let mut lock = RwLock::new(file);
+            if matches!(lock.try_write(), Err(error) if error.kind() == ErrorKind::WouldBlock) {
+                note(&format!(
+                    "{}: waiting for another run that writes it",
+                    self.stem
+                ));
+            }
+            let _guard = lock.write().map_err(failed)?;
+            // The run before took its file away when it ended.
+            if !Handle::from_path(&path).map_or(false, |there| there == opened) {
+                continue;
+            }
+            let _held = stop::Held::new(&path, || Ok(())).map_err(failed)?;
+            self.clear()?;
+            return work();
+        }
+    }
+
+    // A set that is complete gets its places, and one that isn't is removed.
+    fn clear(&self) -> Result<(), Fault> {
+        let failed = |error: io::Error| self.unwritten(&self.sheet(), error);
+        let part = self.hidden("part");
+        if part.is_dir() {
+            fs::remove_dir_all(&part).map_err(failed)?;
+        }
+        if self.hidden("ready").is_dir() {
+            self.place()?;
+        }
+        Ok(())
+    }
+
+    // Whether each file is there with these bytes.
+    fn has(&self, files: &[File]) -> bool {
+        files.iter().all(|file| self.has_one(file))
+    }
+
+    /// Names each file that isn't there with these bytes.
+    pub fn check(&self, files: &[File]) -> Result<(), Fault> {
+        let differ = files.iter().filter(|file| !self.has_one(file));
+        let line =
+            |(name, _): &File| format!("{}: it isn't up to date", self.folder.join(name).display());
+        let mut lines: Vec<String> = differ.map(line).collect();
+        if lines.is_empty() && self.hidden("ready").is_dir() {
+            lines.push(format!("{}: it was written in part", self.stem));
+        }
+        if lines.is_empty() {
+            return Ok(());
+        }
+        Err(Fault {
+            status: STALE,
+            lines,
+        })
+    }
+
+    fn has_one(&self, (name, bytes): &File) -> bool {
+        let path = self.folder.join(name);
+        let is_as_long = |file: fs::Metadata| file.is_file() && file.len() == bytes.len() as u64;
+        fs::metadata(&path).map_or(false, is_as_long)
+            && fs::read(&path).map_or(false, |there| there == *bytes)
+    }
+
+    /// Writes the pictures that differ from those that are there, and all records if one file differs. `files` has the pictures first, and
+    /// the record that names others last.
+    pub fn write(&self, files: &[File]) -> Result<(), Fault> {
+        for (name, _) in files {
+            let path = self.folder.join(name);
+            if path.is_dir() {
+                return Err(Fault::file(&path, "it is a folder"));
+            }
+        }
+        if self.has(files) {
+            return Ok(());
+        }
+        let part = self.hidden("part");
+        let held = stop::Held::new(&part, || fs::create_dir(&part))
+            .map_err(|error| self.unwritten(&self.sheet(), error))?;
+        let changed = files
+            .iter()
+            .filter(|file| !is_picture(&file.0) || !self.has_one(file));
+        for (place, (name, bytes)) in changed.enumerate() {
+            let beside = part.join(format!("{:08}-{}", place, name));
+            stop::whole(|| write_through(&beside, bytes))
+                .map_err(|error| self.unwritten(name, error))?;
+        }
+        let failed = |error: io::Error| self.unwritten(&self.sheet(), error);
+        held.end(|| {
+            sync_folder(&part)
+                .and_then(|()| fs::rename(&part, self.hidden("ready")))
+                .and_then(|()| sync_folder(&self.folder))
+                .map_err(failed)?;
+            self.place()
+        })
+    }
+
+    // Renames what is ready in the order of its numbers. Without its record nobody takes a picture for one of the set.
+    fn place(&self) -> Result<(), Fault> {
+        let ready = self.hidden("ready");
+        let failed = |error: io::Error| self.unwritten(&self.sheet(), error);
+        let entries: io::Result<Vec<fs::DirEntry>> =
+            fs::read_dir(&ready).map_err(failed)?.collect();
+        let mut names: Vec<String> = entries
+            .map_err(failed)?
+            .iter()
+            .filter_map(|entry| entry.file_name().into_string().ok())
+            .collect();
+        names.sort();
+        let place = |name: &str| {
+            self.folder
+                .join(name.split_once('-').map_or(name, |both| both.1))
+        };
+        if names.len() > 1 {
+            for name in names.iter().rev().filter(|name| !is_picture(name)) {
+                remove(&place(name)).map_err(failed)?;
+            }
+            sync_folder(&self.folder).map_err(failed)?;
+        }
+        for name in &names {
+            let path = place(name);
+            fs::rename(ready.join(name), &path).map_err(|error| {
+                Fault::file(&path, format!("it can't be written there: {}", error))
+            })?;
+        }
+        sync_folder(&self.folder)
+            .and_then(|()| fs::remove_dir(&ready))
+            .map_err(failed)
+    }
+}
+
+fn is_picture(name: &str) -> bool {
+    name.ends_with(".png")
+}
+
+fn remove(path: &Path) -> io::Result<()> {
+    match fs::remove_file(path) {
+        Err(error) if error.kind() != ErrorKind::NotFound => Err(error),
+        _ => Ok(()),
+    }
+}
+
+// To the disk, so that a new name doesn't come there before what it names.
+fn write_through(path: &Path, bytes: &[u8]) -> io::Result<()> {
+    let mut file = fs::File::create(path)?;
+    file.write_all(bytes)?;
+    file.sync_all()
+}
+
+#[cfg(unix)]
+fn sync_folder(path: &Path) -> io::Result<()> {
+    fs::File::open(path)?.sync_all()
+}
+
+// Elsewhere a folder can't be opened like a file.
+#[cfg(not(unix))]
+fn sync_folder(_: &Path) -> io::Result<()> {
+    Ok(())
+}
+
+/// What is told of a picture that can't be made.
+pub fn unmade(name: &str, why: impl std::fmt::Display) -> Fault {
+    Fault::new(FILES, format!("{}: {}", name, why))
+}

@@ -1,0 +1,152 @@
+// What the figures share: boxes that move, a slider with steps, and lines of code.
+import { copy, isStill, make } from './page.js';
+
+const SPACE = 'http://www.w3.org/2000/svg';
+const LEAVE = 320; // milliseconds that a box takes to fade
+
+export function draw(name, attributes = {}, ...inside) {
+  const made = document.createElementNS(SPACE, name);
+  for (const [key, value] of Object.entries(attributes)) made.setAttribute(key, value);
+  made.append(...inside);
+  return made;
+}
+
+let views = 0;
+
+/** The pattern of what is free, as dense in each view. */
+function hatching(id, scale) {
+  const line = draw('path', { d: 'M-1 7L7 -1M-1 1L1 -1M5 7L7 5', stroke: 'var(--hatch)', 'stroke-width': 0.7 });
+  return draw('defs', {}, draw('pattern', { id, width: 6, height: 6, patternUnits: 'userSpaceOnUse', patternTransform: `scale(${scale})` },
+    draw('rect', { width: 6, height: 6, fill: 'var(--sheet)' }), line));
+}
+
+/** A view of an atlas. Boxes have keys: one that was there before moves to its new place, so that the eye can follow. */
+export class View {
+  constructor(width, height, label) {
+    this.svg = draw('svg', { viewBox: `-1 -1 ${width + 2} ${height + 2}`, role: 'img', 'aria-label': label });
+    const id = `hatching-${views}`;
+    views += 1;
+    this.svg.append(hatching(id, width / 320));
+    this.svg.style.setProperty('--hatching', `url(#${id})`);
+    this.largest = width / 16; // of labels
+    this.boxes = new Map();
+    this.layer = this.svg.appendChild(draw('g'));
+    this.above = this.svg.appendChild(draw('g'));
+  }
+
+  /** Shows these boxes, each with a key, its sides, a label and the names of its looks. */
+  show(boxes) {
+    const keys = new Set(boxes.map(({ key }) => key));
+    for (const [key, each] of this.boxes) if (!keys.has(key)) this.leave(key, each);
+    for (const box of boxes) this.place(box);
+  }
+
+  place({ key, x, y, width, height, label = '', looks, pale = 1 }) {
+    let each = this.boxes.get(key);
+    const isNew = each === undefined;
+    if (isNew) {
+      each = { group: draw('g'), rect: draw('rect'), text: draw('text') };
+      each.group.append(each.rect, each.text);
+      this.boxes.set(key, each);
+    }
+    const { group, rect, text } = each;
+    this.layer.append(group);
+    group.setAttribute('class', `box ${looks}${isNew && !isStill() ? ' entering' : ''}`);
+    group.style.transform = `translate(${x}px, ${y}px)`;
+    Object.assign(rect.style, { width: `${width}px`, height: `${height}px`, fillOpacity: pale });
+    text.textContent = label;
+    const size = Math.min(height * 0.5, width / (0.66 * Math.max(1, label.length)), this.largest);
+    text.setAttribute('style', `font-size: ${size}px; transform: translate(${width / 2}px, ${height / 2}px)`);
+    if (isNew) requestAnimationFrame(() => requestAnimationFrame(() => group.classList.remove('entering')));
+  }
+
+  leave(key, { group }) {
+    this.boxes.delete(key);
+    if (isStill()) {
+      group.remove();
+      return;
+    }
+    group.classList.add('leaving');
+    setTimeout(() => group.remove(), LEAVE);
+  }
+
+  /** Draws what lies above the boxes anew. */
+  mark(...marks) {
+    this.above.replaceChildren(...marks);
+  }
+}
+
+export const frame = ({ x, y, width, height }, name) => draw('rect', { x, y, width, height, class: name });
+
+/** Lines of code beside a figure, one of which may be the one that is carried out now; and a button that copies them. */
+export class Code {
+  constructor(text) {
+    this.text = text;
+    this.lines = text.split('\n').map((line) => make('span', { textContent: line }));
+    const button = make('button', { className: 'copy', textContent: 'Copy these lines' });
+    button.addEventListener('click', async () => {
+      button.textContent = (await copy(this.text, 'The lines')) ? 'Copied' : 'Copy them by hand';
+      setTimeout(() => { button.textContent = 'Copy these lines'; }, 2000);
+    });
+    this.element = make('div', {}, make('pre', { tabIndex: 0 }, make('code', {}, ...this.lines)), button);
+    this.element.querySelector('pre').setAttribute('aria-label', 'The lines of JavaScript that do this');
+  }
+
+  point(number) {
+    this.lines.forEach((line, at) => line.classList.toggle('now', at === number));
+  }
+}
+
+export function slider(name, { least = 0, greatest, value, told, onInput }) {
+  const field = make('input', { type: 'range', min: least, max: greatest, value, step: 1 });
+  const output = make('output', { textContent: told(value) });
+  const set = (to) => {
+    field.value = to;
+    output.textContent = told(Number(field.value));
+    field.setAttribute('aria-valuetext', output.textContent);
+    onInput(Number(field.value));
+  };
+  field.addEventListener('input', () => set(field.value));
+  return { field, set, element: make('label', {}, name, field, output) };
+}
+
+/** Steps that a slider goes through, forth and back, and that a button plays. */
+export class Steps {
+  /** `show` is given the number of a step; `captions` has a sentence for each. */
+  constructor({ name, many, captions, show, pause, told = (at) => `${at + 1} of ${many}` }) {
+    this.caption = make('p', { className: 'caption' });
+    this.caption.setAttribute('aria-live', 'polite');
+    Object.assign(this, { many, captions, show, pause, at: 0, timer: null });
+    this.slider = slider(name, { greatest: many - 1, value: 0, told, onInput: (at) => this.go(at) });
+    this.slider.field.addEventListener('pointerdown', () => this.stop());
+    this.button = make('button', { className: 'main', textContent: 'Play' });
+    this.button.addEventListener('click', () => (this.timer === null ? this.play() : this.stop()));
+    this.element = make('div', {}, make('div', { className: 'controls' }, this.button, this.slider.element), this.caption);
+  }
+
+  go(at) {
+    this.at = at;
+    this.caption.textContent = this.captions(at);
+    this.show(at);
+  }
+
+  play() {
+    if (this.at === this.many - 1) this.slider.set(0);
+    this.button.textContent = 'Stop';
+    this.timer = setInterval(() => {
+      this.slider.set(this.at + 1);
+      if (this.at === this.many - 1) this.stop();
+    }, this.pause);
+  }
+
+  stop() {
+    clearInterval(this.timer);
+    this.timer = null;
+    this.button.textContent = 'Play';
+  }
+}
+
+/** Puts a figure together: what is seen and what moves it, and beside it the code. */
+export function fill(figure, seen, ...beside) {
+  figure.append(make('div', { className: 'view' }, ...seen), make('div', { className: 'side' }, ...beside));
+}

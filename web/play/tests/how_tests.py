@@ -1,0 +1,205 @@
+"""The page that explains: what each figure shows is what atlas_tool answers to the same calls, and its lines of code do it."""
+import re
+import time
+
+from page_tests import CONTRAST, NAMELESS
+
+SIZES = [(64, 52), (64, 24), (80, 64), (60, 44), (72, 28), (28, 24), (28, 40), (80, 28), (56, 64), (72, 16), (20, 48), (48, 64), (24, 48)]
+GROWING = [(48, 64), (30, 40), (50, 24), (30, 20), (20, 36), (34, 30)]
+CUTTING = ['alloc 48 60', 'alloc 44 40', 'alloc 30 30', 'free 7', 'free 3', 'free 11']
+# The boxes of a figure that aren't fading: whether each is live, and its corners.
+BOXES = '''const each = [...document.querySelectorAll(`#${arguments[0]} .box:not(.leaving)`)];
+  return each.map((group) => {
+    const [x, y = 0] = group.style.transform.match(/-?[0-9.]+/g).map(Number);
+    const { width, height } = group.querySelector('rect').style;
+    return [group.classList.contains('live'), x, y, x + parseFloat(width), y + parseFloat(height)];
+  })'''
+
+
+def open_page(page):
+    page.browser.open('about:blank')
+    page.browser.open(page.address + 'how.html')
+    page.wait('!!window.how')
+
+
+def boxes(page, figure):
+    told = page.run(BOXES, figure)
+    return [sorted(tuple(each[1:]) for each in told if each[0] == is_live) for is_live in (True, False)]
+
+
+def told_by_tool(page, lines):
+    _, _, live, holes = page.tool.boxes(lines)
+    return [sorted(live.values()), sorted(holes)]
+
+
+def test_cuts(page):
+    """Each step, forth and back."""
+    open_page(page)
+    for at in [*range(7), *range(5, -1, -1)]:
+        page.run('how.cut.steps.slider.set(arguments[0])', at)
+        assert boxes(page, 'cut') == told_by_tool(page, ['atlas 128 96'] + CUTTING[:at]), at
+        assert page.run('return [...document.querySelectorAll("#cut pre span")].findIndex((each) => each.classList.contains("now"))') == at
+    assert page.run('how.cut.steps.slider.set(5); return document.querySelectorAll("#cut .was").length') == 2
+
+
+def test_picks(page):
+    """The free box that is picked is the tool's, and each free box is told of as the rule has it."""
+    open_page(page)
+    lines = ['atlas 240 150'] + ['alloc %d %d' % size for size in SIZES]
+    ids = [int(line.split()[1]) for line in page.tool.replies(lines)[1:]]
+    lines += ['free %d' % number for number in ids[1::2]]
+    _, _, _, holes = page.tool.boxes(lines)
+    for width, height in [(20, 20), (25, 20), (24, 22), (4, 4), (60, 60), (110, 110), (90, 10), (30, 96), (50, 65)]:
+        page.run('how.pick.set(arguments[0], arguments[1])', width, height)
+        reply = page.tool.replies(lines + ['alloc %d %d' % (width, height)])[-1]
+        assert sorted(boxes(page, 'pick')[1]) == sorted(holes)
+        rows = page.run('return [...document.querySelectorAll("#pick tr")].slice(1).map((row) => [row.className, ...[...row.cells].map((each) => each.textContent)])')
+        picked = [row for row in rows if 'picked' in row[0]]
+        places = sorted(holes, key=lambda hole: (hole[1], hole[0]))
+        assert len(rows) == len(places)
+        if reply == 'none':
+            assert picked == [] and 'No free box' in page.run('return document.querySelector("#pick .caption").textContent')
+            continue
+        corner = tuple(int(word) for word in re.findall(r'\d+', reply)[1:3])
+        assert len(picked) == 1 and places[rows.index(picked[0])][:2] == corner, (width, height)
+        for (looks, _, sides, kind, words), (x0, y0, x1, y1) in zip(rows, places):
+            assert sides == '%d × %d' % (x1 - x0, y1 - y0) and kind == ('medium' if max(x1 - x0, y1 - y0) >= 32 else 'small')
+            has_room = x1 - x0 >= width and y1 - y0 >= height
+            assert ('dim' in looks) != has_room and words.startswith('too ') != has_room
+        assert page.run('return document.querySelector("#pick pre").textContent').startswith('const box = atlas.allocate(%d, %d);' % (width, height))
+
+
+def test_grows(page):
+    open_page(page)
+    lines = ['atlas 128 96'] + ['alloc %d %d' % size for size in GROWING]
+    for width, height in [(128, 96), (176, 96), (128, 130), (224, 160), (200, 97)]:
+        page.run('how.grow.set(arguments[0], arguments[1])', width, height)
+        assert boxes(page, 'grow') == told_by_tool(page, lines + ['grow %d %d' % (width, height)]), (width, height)
+
+
+def test_cache(page):
+    """In each frame its letters are held, and what went was used longest ago and isn't in the frame."""
+    open_page(page)
+    frames, letters = page.run('return [how.cache.frames, how.cache.frames.map((_, at) => how.cache.lettersOf(at))]')
+    used, evictions = {}, 0
+    for at, (frame, text) in enumerate(zip(frames, letters)):
+        held = {each['letter']: each for each in frame['held']}
+        before = {each['letter'] for each in frames[at - 1]['held']} if at else set()
+        used.update({letter: at for letter in text})
+        assert set(text) <= set(held) and set(frame['fresh']) == set(text) - (before - set(frame['evicted']))
+        assert not set(frame['evicted']) & set(text) and set(held) == (before | set(frame['fresh'])) - set(frame['evicted'])
+        assert all(each['last'] == used[letter] for letter, each in held.items())
+        for gone in frame['evicted']:
+            assert all(used[gone] <= used[letter] for letter in held if letter not in text)
+        evictions += len(frame['evicted'])
+    statistics = page.run('return how.cache.statistics')
+    assert statistics['evictions'] == evictions > 20 and statistics['misses'] == sum(len(frame['fresh']) for frame in frames)
+    for at in (0, 40, 99, 40):
+        page.run('how.cache.steps.slider.set(arguments[0])', at)
+        shown = page.run('return [...document.querySelectorAll("#cache .box.live:not(.leaving) text")].map((each) => each.textContent)')
+        assert sorted(shown) == sorted(each['letter'] for each in frames[at]['held'])
+        places = sorted((b['x'], b['y'], b['x'] + b['width'], b['y'] + b['height']) for b in (each['box'] for each in frames[at]['held']))
+        assert boxes(page, 'cache')[0] == places
+
+
+def test_moves(page):
+    """Where boxes were and where they are is what the tool tells of the same calls; in between each is on its way."""
+    open_page(page)
+    lines = page.run('return how.move.lines')
+    replies = page.tool.replies(lines + ['rearrange'])
+    moved = [[int(word) for word in re.findall(r'\d+', reply)] for reply in replies if reply.startswith('moved')]
+    assert len(moved) == 24 and replies[-1] == 'changes 24 failures 0'
+    before, after = ([tuple(each[at:at + 4]) for each in moved] for at in (1, 6))
+    page.run('how.move.set(0)')
+    assert boxes(page, 'move')[0] == sorted(before) == told_by_tool(page, lines)[0]
+    page.run('how.move.set(0.5)')
+    middle = boxes(page, 'move')[0]
+    assert middle != sorted(before) and middle != sorted(after)
+    page.run('how.move.set(1)')
+    assert boxes(page, 'move')[0] == sorted(after) == told_by_tool(page, lines + ['rearrange'])[0]
+
+
+def test_lines_do_it(page):
+    """The lines beside a figure, carried out as they stand, do what it shows."""
+    open_page(page)
+    assert page.run('''const { api, cut, cache } = how;
+        const [a, b, c] = new Function('Atlas', `${cut.code}; return [a, b, c]`)(api.Atlas);
+        const live = cut.states[3].live.map(({ name, ...box }) => box);
+        const [written, frames] = [[], cache.frames];
+        const drawFrame = new Function('TextureCache', 'sizeOf', 'follow', 'write', 'draw', `${cache.code}; return drawFrame`)(
+          api.TextureCache, cache.sizeOf, () => {}, (it) => written.push(it), () => {});
+        frames.forEach((_, at) => drawFrame(cache.lettersOf(at)));
+        return [JSON.stringify([a, b, c]) === JSON.stringify(live), written.join('') === frames.flatMap(({ fresh }) => fresh).join('')]''') == [True, True]
+
+
+def test_keys_and_buttons(page):
+    open_page(page)
+    page.run('how.cut.steps.slider.set(0); document.querySelector("#cut input").focus()')
+    page.browser.press('ArrowRight', 'ArrowRight', 'ArrowRight', 'ArrowLeft')
+    assert page.run('return how.cut.steps.at') == 2
+    page.run('how.cut.steps.pause = 30; how.cut.steps.slider.set(4)')
+    page.click('#cut button.main')
+    page.wait('how.cut.steps.at === 6')
+    assert page.run('return document.querySelector("#cut button.main").textContent') == 'Play'
+    page.click('#move button.main')
+    page.wait('document.querySelector("#move button.main").textContent === "Back"', 60)
+    page.click('#move button.main')
+    assert page.run('return document.querySelector("#move input").value') == '0'
+
+
+def test_reduced_motion(page):
+    """Where a person asked for less motion boxes jump."""
+    if not hasattr(page.browser, 'command'):
+        return
+    page.browser.command('Emulation.setEmulatedMedia', {'features': [{'name': 'prefers-reduced-motion', 'value': 'reduce'}]})
+    open_page(page)
+    page.click('#move button.main')
+    assert page.run('return document.querySelector("#move input").value') == '200'
+    assert page.run('return getComputedStyle(document.querySelector("#cut .box")).transitionDuration') in ('0s', '')
+    page.browser.command('Emulation.setEmulatedMedia', {'features': []})
+
+
+def test_can_be_read(page):
+    """In both colours, by names, on a screen of any width; the page loads itself and the module alone."""
+    open_page(page)
+    names = page.run('return performance.getEntriesByType("resource").map((each) => each.name.split("/").at(-1))')
+    assert names == ['wollemigo.wasm'], names
+    plain, packed = page.measure([page.address + 'how.html', page.address + 'wollemigo.wasm'])
+    assert plain < 230000 and packed < 90000, (plain, packed)
+    for colour in ('dark', 'light'):
+        if page.run('return document.documentElement.dataset.theme') != colour:
+            page.click('#theme')
+        assert page.run(CONTRAST) == [], colour
+    page.run('localStorage.clear()')
+    assert page.run(NAMELESS) == []
+    assert page.run('const ids = [...document.querySelectorAll("[id]")].map((each) => each.id);'
+                    'return ids.filter((id, at) => ids.indexOf(id) !== at)') == []
+    wide, screen = page.run('return [document.documentElement.scrollWidth, window.innerWidth]')
+    assert wide <= screen, (wide, screen)
+    text = page.run('return document.querySelector("main").innerText')
+    assert not re.search(r'undefined|NaN|\[object', text) and len(page.run('return [...document.querySelectorAll("figure")]')) == 5
+
+
+def test_pages_lead_to_one_another(page):
+    page.open()
+    page.click('header a')
+    page.wait('!!window.how')
+    page.click('header a')
+    page.wait('!!window.play')
+
+
+def shots(page, colour, path):
+    """A picture of each figure, in the midst of what it shows."""
+    open_page(page)
+    if page.run('return document.documentElement.dataset.theme') != colour:
+        page.click('#theme')
+    page.run('scrollTo(0, 0)')
+    page.browser.shot(path % 'top')
+    page.run('how.cut.steps.slider.set(5); how.pick.set(20, 20); how.grow.set(176, 120); how.cache.steps.slider.set(40); how.move.set(0.45)')
+    for name in ['cut', 'pick', 'grow', 'cache', 'move']:
+        page.run('document.querySelector("#%s figure").scrollIntoView({ block: "center" })' % name)
+        time.sleep(1)
+        page.browser.shot(path % name)
+
+
+TESTS = [each for name, each in sorted(globals().items()) if name.startswith('test_')]

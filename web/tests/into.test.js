@@ -1,0 +1,141 @@
+// Calls that write into what the caller has: they answer as those that make new objects.
+import assert from 'node:assert/strict';
+import { test } from 'node:test';
+
+import * as wollemigo from '../node.js';
+import { cacheState, refused, stateOf } from './support.js';
+
+const { Atlas, TextureCache } = wollemigo;
+await wollemigo.load();
+
+function drawFrom(seed) {
+  let state = seed;
+  return (bound) => {
+    state = (Math.imul(state, 1103515245) + 12345) >>> 0;
+    return (state >>> 8) % bound;
+  };
+}
+
+const blank = () => ({ number: -1, page: -1, rectangle: {}, inner: {} });
+const options = { page: { width: 32, height: 32 }, largestPage: { width: 64, height: 48 }, pages: 2, padding: 1 };
+const keysOf = { strings: (i) => `glyph ${i}`, numbers: (i) => i * 4294967297, bigints: (i) => (1n << 62n) + BigInt(i) };
+
+test('allocateInto answers as allocate', () => {
+  const [one, other, below] = [new Atlas(256, 256), new Atlas(256, 256), drawFrom(1)];
+  const box = { id: 0, x: 0, y: 0, width: 0, height: 0 };
+  let refusals = 0;
+  for (let i = 0; i < 3000; i++) {
+    const [width, height] = [below(40), 1 + below(40)];
+    const wanted = other.allocate(width, height);
+    const before = { ...box };
+    assert.equal(one.allocateInto(width, height, box), wanted !== null);
+    assert.deepEqual(box, wanted ?? before);
+    refusals += wanted === null;
+    const live = one.allocated();
+    if (live.length > 0 && below(2) === 0) for (const atlas of [one, other]) atlas.deallocate(live[i % live.length].id);
+  }
+  assert.ok(refusals > 100);
+  assert.deepEqual(stateOf(one), stateOf(other));
+});
+
+for (const [name, keyOf] of Object.entries(keysOf)) {
+  test(`touch and getInto answer as get; keys are ${name}`, () => {
+    const [one, other, third, below] = [new TextureCache(options), new TextureCache(options), new TextureCache(options), drawFrom(2)];
+    for (let i = 0; i < 4000; i++) {
+      const [key, place] = [keyOf(below(60)), blank()];
+      const wanted = other.get(key);
+      assert.equal(one.getInto(key, place), wanted !== null);
+      assert.deepEqual(place, wanted ?? blank());
+      assert.equal(third.touch(key), wanted !== null);
+      if (wanted === null) for (const cache of [one, other, third]) cache.insert(key, 13, 9);
+      if (i % 9 === 0) for (const cache of [one, other, third]) cache.beginFrame();
+    }
+    assert.ok(other.statistics.evictions > 100);
+    const keys = Array.from({ length: 60 }, (_, i) => keyOf(i));
+    const changes = [...other.changes()];
+    for (const cache of [one, third]) {
+      assert.deepEqual(cacheState(cache, keys), cacheState(other, keys));
+      assert.deepEqual(cache.oldest(), other.oldest());
+      assert.deepEqual([...cache.changes()], changes);
+    }
+  });
+
+  test(`insertAll answers as insert; keys are ${name}`, () => {
+    const [one, other, below] = [new TextureCache(options), new TextureCache(options), drawFrom(3)];
+    for (let frame = 0; frame < 200; frame++) {
+      const numbers = Array.from({ length: 1 + below(30) }, () => below(160));
+      const keys = numbers.map(keyOf);
+      const sizes = Int32Array.from(numbers.flatMap((number) => [number % 17, 4 + number % 11]));
+      const out = new Int32Array(11 * keys.length);
+      one.beginFrame();
+      other.beginFrame();
+      const many = one.insertAll(name === 'numbers' ? Float64Array.from(keys) : name === 'bigints' ? BigUint64Array.from(keys) : keys, sizes, out);
+      keys.forEach((key, i) => {
+        if (i > many) return;
+        const wanted = other.insert(key, sizes[2 * i], sizes[2 * i + 1]);
+        assert.equal(wanted === null, i === many);
+        if (wanted === null) return;
+        const { number, page, rectangle: r, inner: n, isNew } = wanted;
+        assert.deepEqual([...out.subarray(11 * i, 11 * i + 11)],
+          [isNew ? 1 : 0, number, page, r.x, r.y, r.width, r.height, n.x, n.y, n.width, n.height]);
+      });
+      assert.deepEqual([...one.changes()], [...other.changes()]);
+    }
+    assert.ok(one.statistics.evictions > 100);
+    assert.deepEqual(one.statistics, other.statistics);
+  });
+}
+
+test('insertAll stops where a frame is full, and at what is refused', () => {
+  const cache = new TextureCache({ page: { width: 64, height: 64 } });
+  const sizes = Int32Array.of(64, 40, 64, 24, 64, 10);
+  const out = new Int32Array(33).fill(7);
+  cache.beginFrame();
+  assert.equal(cache.insertAll(['a', 'b', 'c'], sizes, out), 2);
+  assert.deepEqual([...out.subarray(22)], Array(11).fill(7));
+  cache.beginFrame();
+  assert.equal(cache.insertAll(['c'], sizes.subarray(4), out), 1);
+  const cases = [
+    [['d', 'e'], [1, 1, 65, 1], 'NEVER_FITS', 1], [['d', 'c'], [1, 1, 9, 9], 'OTHER_SIZE', 1], [['d', null], [1, 1, 1, 1], 'BAD_KEY', 1],
+    [['d', 'e', 'f'], [1, 1, 1, 1, 0.5, 1], 'BAD_NUMBER', 2],
+  ];
+  for (const [keys, sides, code, index] of cases) {
+    cache.clear();
+    cache.insert('c', 64, 10);
+    assert.equal(refused(() => cache.insertAll(keys, sides, new Int32Array(33)), code, code).index, index);
+    assert.equal(cache.length, 1 + index);
+  }
+});
+
+test('what is written into', () => {
+  const [atlas, cache] = [new Atlas(64, 64), new TextureCache(options)];
+  cache.insert('a', 5, 5);
+  cache.insert('b', 5, 5);
+  const before = [stateOf(atlas), cache.length];
+  const thrown = new Error('of the caller');
+  const setter = { set x(_) { throw thrown; } };
+  for (const value of [null, undefined, 5, 'x', () => 5]) {
+    refused(() => atlas.allocateInto(5, 5, value), 'BAD_OPTION', String(value));
+    refused(() => cache.getInto('a', value), 'BAD_OPTION', String(value));
+    refused(() => cache.insertAll(['c'], [5, 5], value), 'BAD_OPTION', String(value));
+  }
+  assert.equal(refused(() => atlas.allocateInto(5, 5, setter), 'BAD_OPTION', 'setter').cause, thrown);
+  refused(() => atlas.allocateInto(5, 5, Object.freeze({ id: 5 })), 'BAD_OPTION', 'frozen');
+  for (const place of [{}, { rectangle: {} }, { rectangle: setter, inner: {} }, new Proxy({}, { get() { throw thrown; } })]) {
+    assert.ok(refused(() => cache.getInto('a', place), 'BAD_OPTION', 'place').cause instanceof Error);
+  }
+  for (const out of [new Int32Array(10), new Float64Array(11), new Proxy(new Int32Array(11), {}), [1, 2], Object.create(Int32Array.prototype)]) {
+    refused(() => cache.insertAll(['c'], [5, 5], out), 'BAD_OPTION', 'out');
+  }
+  for (const keys of [null, 5, { length: 1, 0: 'c' }]) refused(() => cache.insertAll(keys, [5, 5], new Int32Array(11)), 'BAD_OPTION', 'keys');
+  refused(() => cache.insertAll(['c'], [5], new Int32Array(11)), 'BAD_OPTION', 'sizes');
+  assert.deepEqual([stateOf(atlas), cache.length].map((each) => each.live ?? each), before.map((each) => each.live ?? each));
+  const meddling = { * [Symbol.iterator]() { yield 'c'; cache.dispose(); yield 'd'; } };
+  refused(() => cache.insertAll(meddling, [5, 5, 5, 5], new Int32Array(22)), 'DISPOSED', 'disposed');
+  const words = [];
+  const place = { rectangle: {}, inner: { set y(value) { words.push(value); } }, set number(_) { atlas.allocate(9, 9); } };
+  const other = new TextureCache(options);
+  other.insert('a', 5, 6);
+  other.getInto('a', place);
+  assert.deepEqual([place.rectangle, place.inner.width, words], [{ x: 0, y: 0, width: 7, height: 8 }, 5, [1]]);
+});
