@@ -13,13 +13,17 @@ pub mod turns;
 pub mod views;
 
 use crate::slots::lists::{enlist, give_back, take_slot, unlist};
+use crate::slots::piling::pile;
 use crate::slots::placing::{Parts, Plan, place_leaf};
 use crate::slots::{Node, NodeKind, Slot, join_next, lift, mark_free, read_node};
 use crate::store::turns::Turns;
 use atlas_search::bands::Scale;
 use atlas_search::link::{Link, NO_SLOT};
-use atlas_search::table::Table;
+use atlas_search::table::{LISTS, Table};
 use std::alloc::{AllocError, Allocator};
+
+/// How many grants don't look for a long chain after one that found none.
+const PAUSE: u32 = 31;
 
 /// The slots, the lists that run through them, and the options by which free slots are listed. `turns` counts the
 /// markings, joins and lifts, and is nothing at run time.
@@ -30,6 +34,8 @@ pub struct Store<A: Allocator> {
     unused: Link,
     options: Scale,
     turns: Turns,
+    // How many grants there are until one looks for a long chain.
+    due: u32,
 }
 
 impl<A: Allocator> Store<A> {
@@ -37,7 +43,7 @@ impl<A: Allocator> Store<A> {
     ghost use Rattle.atlas_store.specs.Store.Holdings.{shelf_of, node_in, turns_in, HasSlotsFor, IsDetachedLeaf};
     ghost use Rattle.atlas_store.specs.Store.Holdings.{IsHeld};
     ghost use Rattle.atlas_store.specs.Store.StoreCalls.{AreSlotsTaken, IsDetached, IsJoined, IsLeafPlaced, IsLifted};
-    ghost use Rattle.atlas_store.specs.Store.StoreCalls.{IsMarkedFree, CanCarryOut, IsSharpened, IsSlotTaken};
+    ghost use Rattle.atlas_store.specs.Store.StoreCalls.{IsMarkedFree, CanCarryOut, IsSharpened, IsSlotTaken, IsTidied};
     ghost use Rattle.atlas_store.specs.Store.StoreCalls.{ListsLeaf, UnlistsLeaf};
 
     /// A copy: the same slots and lists, in new memory of the same allocator. No turn was taken in it yet.
@@ -55,6 +61,7 @@ impl<A: Allocator> Store<A> {
             unused: self.unused,
             options: self.options.copy(),
             turns: Turns::new(),
+            due: self.due,
         })
     }
 
@@ -82,7 +89,36 @@ impl<A: Allocator> Store<A> {
         requires free { (node_in (shelf_of self.old) at.number).kind ≡ Free }
         ensures { UnlistsLeaf self.old self.new at.number }
     {
-        unlist(&mut self.slots, &mut self.lists, at);
+        unlist(&mut self.slots, &mut self.lists, &self.options, at);
+    }
+
+    /// What a grant does last: a long chain that its search went along, told by its list's number or by LISTS for none, is a
+    /// pile from now on. After a grant that looked for one and found none there is a pause.
+    #[inline(always)]
+    pub fn tidy(&mut self, long: usize)
+        requires { IsHeld (shelf_of self.old) }
+        ensures { IsTidied self.old self.new }
+    {
+        if self.due > 0 && long >= LISTS {
+            self.due -= 1;
+            return;
+        }
+        self.tidy_now(long);
+    }
+
+    // The same without a pause.
+    #[cold]
+    #[inline(never)]
+    fn tidy_now(&mut self, long: usize)
+        requires { IsHeld (shelf_of self.old) }
+        ensures { IsTidied self.old self.new }
+    {
+        if long >= LISTS {
+            self.due = PAUSE;
+            return;
+        }
+        self.due = 0;
+        pile(&mut self.slots, &mut self.lists, long);
     }
 
     /// `low` is at most the `min.y` of each slot of the list of this number.

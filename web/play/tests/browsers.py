@@ -39,15 +39,27 @@ class Browser:
         return self.send('findElement', {'using': 'css selector', 'value': selector})[ELEMENT]
 
     def click(self, selector, seconds=30):
-        """Clicks what is in sight. What the page writes meanwhile may move it below something else: then once more."""
+        """Clicks what is in sight, until that gets the click: what the page writes meanwhile may move it, or lay something over it."""
         end = time.time() + seconds
         while True:
-            self.run('document.querySelector(arguments[0]).scrollIntoView({ block: "center" })', selector)
+            self.run('const element = document.querySelector(arguments[0]); element.scrollIntoView({ block: "center" });'
+                     'window.clicked = false; element.addEventListener("click", () => { clicked = true; }, { once: true, capture: true })', selector)
             try:
-                return self.send('clickElement', {'id': self.element(selector)})
+                self.send('clickElement', {'id': self.element(selector)})
+                if time.time() > end or self.gets_click():
+                    return
             except Exception as fault:
                 if 'not clickable' not in str(fault) or time.time() > end:
                     raise
+
+    def gets_click(self):
+        """Whether the click came to the element, or went to another page."""
+        end = time.time() + 1
+        while self.run('return window.clicked === false'):
+            if time.time() > end:
+                return False
+            time.sleep(0.02)
+        return True
 
     def write(self, selector, text):
         """Types into a field, or gives a file to one."""
@@ -61,7 +73,7 @@ class Browser:
     def choose(self, selector, value):
         number = self.run('const { options } = document.querySelector(arguments[0]);'
                           'return [...options].findIndex((each) => each.value === arguments[1])', selector, value)
-        self.click('%s option:nth-child(%d)' % (selector, number + 1))
+        self.send('clickElement', {'id': self.element('%s option:nth-child(%d)' % (selector, number + 1))})
 
     def press(self, *keys):
         steps = [{'type': kind, 'value': KEYS.get(key, key)} for key in keys for kind in ('keyDown', 'keyUp')]
