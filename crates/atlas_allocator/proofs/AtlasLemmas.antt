@@ -3,6 +3,7 @@ pub mod CuttingFromLists
 pub mod ShownLists
 pub mod FreedLists
 pub mod GrantedAtlas
+pub mod TidiedAtlas
 pub mod GrownAtlas
 pub mod RefitRanks
 pub mod RefitSizes

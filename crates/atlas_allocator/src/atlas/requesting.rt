@@ -12,6 +12,7 @@ ghost use Rattle.atlas_store.specs.Stored.{state_of};
 
 use crate::atlas::AtlasAllocator;
 use atlas_model::{Allocation, AtlasError, Size};
+use atlas_search::table::LISTS;
 use atlas_tree::requests::{grant, plan_for, slots_needed};
 use std::alloc::Allocator;
 
@@ -33,13 +34,16 @@ impl<A: Allocator + Copy> AtlasAllocator<A> {
         let Some(size) = self.store.rounded(requested_size) else {
             return Ok(None);
         };
-        let Some(chosen) = self.store.choose(size) else {
+        let mut long = LISTS;
+        let Some(chosen) = self.store.choose(size, &mut long) else {
             return Ok(None);
         };
         let plan = plan_for(&self.store.node(chosen.at), size);
         let needed = slots_needed(plan);
         self.store.make_room(self.used, self.limit, needed)?;
         self.used += needed;
-        Ok(Some(grant(&mut self.store, chosen, plan)))
+        let granted = grant(&mut self.store, chosen, plan);
+        self.store.tidy(long);
+        Ok(Some(granted))
     }
 }
