@@ -6,8 +6,15 @@ use Rattle.guillotiere.specs.FreeBoxes.BoxShelves.{AreKept, stored_item}
 use Rattle.atlas_search.specs.Items.{Item}
 use Rattle.atlas_model.specs.Pixels.{options_of}
 use Rattle.atlas_search.specs.Tables.{low_of}
-use Rattle.guillotiere.proofs.SimpleLemmas.BoxStoring.{put-kept, boxes-with, exact-width}
+use Rattle.guillotiere.proofs.SimpleLemmas.BoxStoring.{put-kept, boxes-with, exact-width, untagged-path}
 use Rattle.guillotiere.proofs.simple.boxes.FreeBoxes.put.Goals as goal
+
+pub push-requires-clause-chain : goal.push-requires-clause-chain
+push-requires-clause-chain g c =
+    let place = c.place_for-place.ensures in
+    let kept = c.requires.claimed.kept in
+    untagged-path (map stored_item c.args.self.now.entries.items) _ _ kept.listed.short
+    (kept.chains (number_of c.place_for-place.result) (omega (arith, place.row_inside, place.column_inside)))
 
 pub returns-clause-kept : goal.returns-clause-kept
 returns-clause-kept g c =
