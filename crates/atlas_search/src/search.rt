@@ -19,12 +19,9 @@ use crate::best::{Best, Found, corner};
 use crate::cut::top_in;
 use crate::link::{Link, NO_SLOT, PILE};
 use crate::masks::Mask;
-use crate::table::{LISTS, Table};
+use crate::table::Table;
 use atlas_model::{Rectangle, Size};
 use std::alloc::Allocator;
-
-// A chain that has more entries is long.
-const LONG: u32 = 128;
 
 /// What a search reads of an entry of a list of free boxes.
 pub trait Entry {
@@ -79,29 +76,14 @@ fn show_top<E: Entry>(entries: &[E], tag: Link, list: usize, best: &mut Best)
     best.end_list(list, low);
 }
 
-// A list of this number was walked.
-fn note(long: &mut usize, list: usize, is_long: bool) {
-    if is_long {
-        *long = list;
-    }
-}
-
-// Shows the boxes of a list that is a chain to a search. Where `any`, `long` is its number if it has more than LONG.
+// Shows the boxes of a list that is a chain to a search.
 #[inline(always)]
-fn show_chain<E: Entry>(
-    entries: &[E],
-    head: Link,
-    list: usize,
-    any: bool,
-    best: &mut Best,
-    long: &mut usize,
-)
+fn show_chain<E: Entry>(entries: &[E], head: Link, list: usize, best: &mut Best)
     requires chain { IsTag head.number → ⊥ }
     requires showable { (xs : List ℕ) × IsShowable (map E.item entries.now) head.number xs }
     ensures { (xs : List ℕ) → IsShowable (map E.item entries.now) head.number xs
         → HasShown (map E.item entries.now) head.number list xs best.old best.new }
 {
-    let mut count: u32 = 0;
     let mut least = 4294967295;
     let mut at = head;
     let mut before = Link::NONE;
@@ -110,22 +92,13 @@ fn show_chain<E: Entry>(
         least = best.look(entry.rectangle(), at, before, list, least);
         before = at;
         at = entry.after();
-        count = count.wrapping_add(1);
     }
     best.end_list(list, least);
-    note(long, list, any & (count > LONG));
 }
 
 // Shows the boxes of a list to a search. Where `any` is false, none is a pile.
 #[inline(always)]
-fn show_list<E: Entry>(
-    entries: &[E],
-    head: Link,
-    list: usize,
-    any: bool,
-    best: &mut Best,
-    long: &mut usize,
-)
+fn show_list<E: Entry>(entries: &[E], head: Link, list: usize, any: bool, best: &mut Best)
     requires plain { any ≡ false → IsTag head.number → ⊥ }
     requires showable { (xs : List ℕ) × IsShowable (map E.item entries.now) head.number xs }
     ensures { (xs : List ℕ) → IsShowable (map E.item entries.now) head.number xs
@@ -134,7 +107,7 @@ fn show_list<E: Entry>(
     if any && head.number >= PILE && head.number < NO_SLOT {
         show_top(entries, head, list, best);
     } else {
-        show_chain(entries, head, list, any, best, long);
+        show_chain(entries, head, list, best);
     }
 }
 
@@ -146,7 +119,6 @@ fn search_list<A: Allocator, E: Entry>(
     place: Place,
     any: bool,
     best: &mut Best,
-    long: &mut usize,
 )
     requires row { place.row < BANDS }
     requires column { place.column < BANDS }
@@ -159,7 +131,7 @@ fn search_list<A: Allocator, E: Entry>(
 {
     if !best.settles(table.low(place)) {
         let list = BANDS * place.row + place.column;
-        show_list(entries, table.head(place), list, any, best, long);
+        show_list(entries, table.head(place), list, any, best);
     }
 }
 
@@ -172,7 +144,6 @@ fn search_row<A: Allocator, E: Entry>(
     columns: Mask,
     any: bool,
     best: &mut Best,
-    long: &mut usize,
 )
     requires row { row < BANDS }
     requires columns { (j : ℕ) → IsMarked columns j → j < BANDS }
@@ -184,7 +155,7 @@ fn search_row<A: Allocator, E: Entry>(
 {
     let mut left = columns;
     while let Some(column) = left.take_first() {
-        search_list(entries, table, Place { row, column }, any, best, long);
+        search_list(entries, table, Place { row, column }, any, best);
     }
 }
 
@@ -197,7 +168,6 @@ fn search_column<A: Allocator, E: Entry>(
     rows: Mask,
     any: bool,
     best: &mut Best,
-    long: &mut usize,
 )
     requires column { column < BANDS }
     requires rows { (i : ℕ) → IsMarked rows i → i < BANDS }
@@ -209,7 +179,7 @@ fn search_column<A: Allocator, E: Entry>(
 {
     let mut left = rows;
     while let Some(row) = left.take_first() {
-        search_list(entries, table, Place { row, column }, any, best, long);
+        search_list(entries, table, Place { row, column }, any, best);
     }
 }
 
@@ -237,7 +207,6 @@ fn search_rows<A: Allocator, E: Entry>(
     end: usize,
     any: bool,
     best: &mut Best,
-    long: &mut usize,
 )
     requires rows { (i : ℕ) → IsMarked rows i → i < end }
     requires first { first ≤ BANDS }
@@ -250,7 +219,7 @@ fn search_rows<A: Allocator, E: Entry>(
     let mut left = rows;
     while let Some(row) = left.take_first() {
         let columns = table.row(row).from(first).below(end);
-        search_row(entries, table, row, columns, any, best, long);
+        search_row(entries, table, row, columns, any, best);
     }
 }
 
@@ -273,8 +242,7 @@ fn least_from<A: Allocator>(table: &Table<A>, own: Place, far: usize, columns: M
 
 // Shows the free entries before a row and a column to a search that knows of none: those with an equal side first, which
 // stand in these columns of the request's own row and these rows of its column, and the others only if none of those is
-// free. Answers whether it saw that no list to the right and below has a slot. `long` is a long chain of those with an
-// equal side, or LISTS where none of those is free.
+// free. Answers whether it saw that no list to the right and below has a slot.
 #[inline(always)]
 fn search_before<A: Allocator, E: Entry>(
     entries: &[E],
@@ -285,7 +253,6 @@ fn search_before<A: Allocator, E: Entry>(
     end: usize,
     any: bool,
     best: &mut Best,
-    long: &mut usize,
 ) -> bool
     requires row { own.row < end }
     requires column { own.column < end }
@@ -298,16 +265,14 @@ fn search_before<A: Allocator, E: Entry>(
         → HasSeen best.old (class_of o r == 2) r [] → HasSearched o table.now (map E.item entries.now) end r best.new }
     ensures last { result ≡ true → AreNoneApart table.now own }
 {
-    search_row(entries, table, own.row, columns.below(end), any, best, long);
-    search_column(entries, table, own.column, rows.below(end), any, best, long);
+    search_row(entries, table, own.row, columns.below(end), any, best);
+    search_column(entries, table, own.column, rows.below(end), any, best);
     if best.has_equal_side() {
         return false;
     }
     let first = own.column + 1;
     let others = rows_with(table, first, BANDS).from(own.row + 1);
-    *long = LISTS;
-    let mut other = LISTS;
-    search_rows(entries, table, others.below(end), first, end, any, best, &mut other);
+    search_rows(entries, table, others.below(end), first, end, any, best);
     others.is_empty()
 }
 
@@ -319,7 +284,6 @@ fn pick_from<A: Allocator, E: Entry>(
     options: &Scale,
     size: Size,
     any: bool,
-    long: &mut usize,
 ) -> Option<Found>
     requires positive { IsPositive (sides_of size) }
     requires listed { AreListed (options_of options.now) table.now (map E.item entries.now) }
@@ -340,7 +304,7 @@ fn pick_from<A: Allocator, E: Entry>(
     let mut best = Best::new(size, is_large);
     while least < BANDS {
         let end = options.end_after(least);
-        let is_last = search_before(entries, table, own, columns, rows, end, any, &mut best, long);
+        let is_last = search_before(entries, table, own, columns, rows, end, any, &mut best);
         if let Some(spot) = best.spot() {
             let entry = &entries[spot.at.number as usize];
             return Some(spot.found(entry.rectangle()));
@@ -363,7 +327,6 @@ fn pick_any<A: Allocator, E: Entry>(
     table: &Table<A>,
     options: &Scale,
     size: Size,
-    long: &mut usize,
 ) -> Option<Found>
     requires positive { IsPositive (sides_of size) }
     requires listed { AreListed (options_of options.now) table.now (map E.item entries.now) }
@@ -374,18 +337,15 @@ fn pick_any<A: Allocator, E: Entry>(
         → IsPick free (options_of options.now) (sides_of size) (box_of found.rectangle)) }
     ensures standing { IfSome result (IsStanding (options_of options.now) table.now (map E.item entries.now)) }
 {
-    pick_from(entries, table, options, size, true, long)
+    pick_from(entries, table, options, size, true)
 }
 
-/// The free entry that a request of this rounded size takes. Where `counts`, `long` may become the number of a chain of
-/// more than LONG entries that the search went along: which one, no answer depends on.
+/// The free entry that a request of this rounded size takes.
 pub fn pick<A: Allocator, E: Entry>(
     entries: &[E],
     table: &Table<A>,
     options: &Scale,
     size: Size,
-    counts: bool,
-    long: &mut usize,
 ) -> Option<Found>
     requires positive { IsPositive (sides_of size) }
     requires listed { AreListed (options_of options.now) table.now (map E.item entries.now) }
@@ -396,9 +356,9 @@ pub fn pick<A: Allocator, E: Entry>(
         → IsPick free (options_of options.now) (sides_of size) (box_of found.rectangle)) }
     ensures standing { IfSome result (IsStanding (options_of options.now) table.now (map E.item entries.now)) }
 {
-    if counts || table.has_piles() {
-        pick_any(entries, table, options, size, long)
+    if table.has_piles() {
+        pick_any(entries, table, options, size)
     } else {
-        pick_from(entries, table, options, size, false, long)
+        pick_from(entries, table, options, size, false)
     }
 }

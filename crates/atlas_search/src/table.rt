@@ -137,16 +137,6 @@ impl<A: Allocator> Table<A> {
         self.piles != 0
     }
 
-    /// Whether the list at a place is a pile.
-    pub fn is_pile(&self, at: Place) -> bool
-        requires row { at.row < BANDS }
-        requires column { at.column < BANDS }
-        ensures pile { result ≡ true → IsTag (head_of self.now (number_of at)).number }
-        ensures chain { result ≡ false → IsTag (head_of self.now (number_of at)).number → ⊥ }
-    {
-        self.has_piles() && is_tag(self.head(at))
-    }
-
     /// The first slot of a list, or none, or the tag of a pile.
     pub fn head(&self, at: Place) -> Link
         requires row { at.row < BANDS }
@@ -173,25 +163,31 @@ impl<A: Allocator> Table<A> {
         self.heads[BANDS * at.row + at.column].low
     }
 
-    /// A slot with this `min.y` comes first in a list.
-    pub fn push(&mut self, at: Place, first: Link, top: u32)
+    /// A slot with this `min.y` comes first in a list. Answers false, and does nothing, if that is a pile.
+    pub fn push(&mut self, at: Place, first: Link, top: u32) -> bool
         requires row { at.row < BANDS }
         requires column { at.column < BANDS }
-        requires chain { IsTag (head_of self.old (number_of at)).number → ⊥ }
         requires slot { first.number < PILE }
-        ensures { IsPushed self.old self.new (number_of at) first top }
+        ensures pushed { result ≡ true → IsPushed self.old self.new (number_of at) first top }
+        ensures chain { result ≡ true → IsTag (head_of self.old (number_of at)).number → ⊥ }
+        ensures pile { result ≡ false → IsTag (head_of self.old (number_of at)).number }
+        ensures stays { result ≡ false → self.new ≡ self.old }
     {
         let head = &mut self.heads[BANDS * at.row + at.column];
-        if head.first.number == NO_SLOT {
-            head.first = first;
-            head.low = top;
-            if self.emptied != BANDS * at.row + at.column {
-                self.marks.mark(at);
-            }
-        } else {
+        if head.first.number < PILE {
             head.first = first;
             head.low = head.low.min(top);
+            return true;
         }
+        if head.first.number != NO_SLOT {
+            return false;
+        }
+        head.first = first;
+        head.low = top;
+        if self.emptied != BANDS * at.row + at.column {
+            self.marks.mark(at);
+        }
+        true
     }
 
     /// The list of this number, which has a slot, is a pile with this tag from now on.

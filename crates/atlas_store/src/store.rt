@@ -1,6 +1,8 @@
 //! The slots of an atlas with their lists: each call keeps the tree that the slots represent, and the lists, in order.
 ghost use Rattle.std.specs.Prelude.{◌≡◌, ◌≢◌, ◌<◌, ◌≤◌, ◌↔◌, ℕ, true, false, IsTrue, IfOk, length};
 ghost use Rattle.atlas_store.specs.declared.slots.NodeKind.TheVariants.{Alloc, Free};
+ghost use Rattle.atlas_model.specs.Boxes.{IsPositive};
+ghost use Rattle.atlas_model.specs.Pixels.{sides_of};
 ghost use Rattle.atlas_model.specs.Trees.{most_slots};
 ghost use Rattle.atlas_search.specs.Numbers.{no_slot};
 ghost use Rattle.atlas_store.specs.Slots.Standing.{IsSlot};
@@ -13,17 +15,18 @@ pub mod turns;
 pub mod views;
 
 use crate::slots::lists::{enlist, give_back, take_slot, unlist};
-use crate::slots::piling::pile;
+use crate::slots::piling::{long_chain, pile};
 use crate::slots::placing::{Parts, Plan, place_leaf};
 use crate::slots::{Node, NodeKind, Slot, join_next, lift, mark_free, read_node};
 use crate::store::turns::Turns;
 use atlas_search::bands::Scale;
 use atlas_search::link::{Link, NO_SLOT};
 use atlas_search::table::{LISTS, Table};
+use atlas_model::Size;
 use std::alloc::{AllocError, Allocator};
 
-/// How many grants don't look for a long chain after one that found none.
-const PAUSE: u32 = 31;
+// After a grant that found no long chain so many don't look for one, less one.
+const PAUSE: u32 = 64;
 
 /// The slots, the lists that run through them, and the options by which free slots are listed. `turns` counts the
 /// markings, joins and lifts, and is nothing at run time.
@@ -34,7 +37,7 @@ pub struct Store<A: Allocator> {
     unused: Link,
     options: Scale,
     turns: Turns,
-    // How many grants there are until one looks for a long chain.
+    // With how many grants one looks for a long chain.
     due: u32,
 }
 
@@ -92,33 +95,36 @@ impl<A: Allocator> Store<A> {
         unlist(&mut self.slots, &mut self.lists, &self.options, at);
     }
 
-    /// What a grant does last: a long chain that its search went along, told by its list's number or by LISTS for none, is a
-    /// pile from now on. After a grant that looked for one and found none there is a pause.
+    /// What a grant for a request of this rounded size does last. Once in a while it looks for a long chain along which such
+    /// requests are searched for, and makes it a pile.
     #[inline(always)]
-    pub fn tidy(&mut self, long: usize)
-        requires { IsHeld (shelf_of self.old) }
+    pub fn tidy(&mut self, size: Size)
+        requires positive { IsPositive (sides_of size) }
+        requires held { IsHeld (shelf_of self.old) }
         ensures { IsTidied self.old self.new }
     {
-        if self.due > 0 && long >= LISTS {
-            self.due -= 1;
-            return;
+        self.due = self.due.wrapping_sub(1);
+        if self.due == 0 {
+            self.tidy_now(size);
         }
-        self.tidy_now(long);
     }
 
-    // The same without a pause.
+    // Where a long chain is found another one is looked for at the next grant, and else after a pause.
     #[cold]
     #[inline(never)]
-    fn tidy_now(&mut self, long: usize)
-        requires { IsHeld (shelf_of self.old) }
+    fn tidy_now(&mut self, size: Size)
+        requires positive { IsPositive (sides_of size) }
+        requires held { IsHeld (shelf_of self.old) }
         ensures { IsTidied self.old self.new }
     {
-        if long >= LISTS {
+        let place = self.options.place_for(size);
+        let list = long_chain(&self.slots, &self.lists, place);
+        if list >= LISTS {
             self.due = PAUSE;
             return;
         }
-        self.due = 0;
-        pile(&mut self.slots, &mut self.lists, long);
+        self.due = 1;
+        pile(&mut self.slots, &mut self.lists, list);
     }
 
     /// `low` is at most the `min.y` of each slot of the list of this number.

@@ -23,7 +23,6 @@ use atlas_search::best::Found;
 use atlas_search::choice::rounded;
 use atlas_search::cut::{Rest, granted, guillotine};
 use atlas_search::search::pick;
-use atlas_search::table::LISTS;
 use std::alloc::{Allocator, Global};
 use std::marker::Model;
 
@@ -290,8 +289,7 @@ fn grant<A: Allocator>(
     let Some(size) = rounded(requested_size, options) else {
         return Ok(None);
     };
-    let mut long = LISTS;
-    let Some(found) = pick(&boxes.entries, &boxes.table, options, size, false, &mut long) else {
+    let Some(found) = pick(&boxes.entries, &boxes.table, options, size) else {
         return Ok(None);
     };
     let rectangle = granted(found.rectangle, size);

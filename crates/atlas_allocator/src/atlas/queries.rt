@@ -8,7 +8,6 @@ ghost use Rattle.atlas_store.specs.Stored.{state_of};
 
 use crate::atlas::AtlasAllocator;
 use atlas_model::{AllocatorOptions, Size};
-use atlas_search::table::LISTS;
 use std::alloc::Allocator;
 
 impl<A: Allocator + Copy> AtlasAllocator<A> {
@@ -33,9 +32,8 @@ impl<A: Allocator + Copy> AtlasAllocator<A> {
         ensures { IsTrue result ↔ HasRoom (free_in (state_of self.now)) (state_of self.now).options
             (sides_of requested_size) }
     {
-        let mut long = LISTS;
         match self.store.rounded(requested_size) {
-            Some(size) => self.store.choose(size, &mut long).is_some(),
+            Some(size) => self.store.choose(size).is_some(),
             None => false,
         }
     }

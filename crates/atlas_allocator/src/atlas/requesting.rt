@@ -12,7 +12,6 @@ ghost use Rattle.atlas_store.specs.Stored.{state_of};
 
 use crate::atlas::AtlasAllocator;
 use atlas_model::{Allocation, AtlasError, Size};
-use atlas_search::table::LISTS;
 use atlas_tree::requests::{grant, plan_for, slots_needed};
 use std::alloc::Allocator;
 
@@ -34,8 +33,7 @@ impl<A: Allocator + Copy> AtlasAllocator<A> {
         let Some(size) = self.store.rounded(requested_size) else {
             return Ok(None);
         };
-        let mut long = LISTS;
-        let Some(chosen) = self.store.choose(size, &mut long) else {
+        let Some(chosen) = self.store.choose(size) else {
             return Ok(None);
         };
         let plan = plan_for(&self.store.node(chosen.at), size);
@@ -43,7 +41,7 @@ impl<A: Allocator + Copy> AtlasAllocator<A> {
         self.store.make_room(self.used, self.limit, needed)?;
         self.used += needed;
         let granted = grant(&mut self.store, chosen, plan);
-        self.store.tidy(long);
+        self.store.tidy(size);
         Ok(Some(granted))
     }
 }

@@ -65,21 +65,30 @@ fn set_ring_previous(slots: &mut [Slot], at: Link, previous: Link)
     }
 }
 
-// `next` comes after `before`: in its chain if `before` is a slot, or else first in the one that it tells.
-fn lead<A: Allocator>(slots: &mut [Slot], lists: &mut Table<A>, before: Link, next: Link)
-    requires before { IsSlotOrTag (length slots.old) lists.old before.number }
-    requires next { IsTag next.number → ⊥ }
+// `next` comes after `before`: in its chain if `before` is a slot, or first in the one that it tells. Answers false, and does
+// nothing, if `before` is a tag of a pile or none.
+fn lead<A: Allocator>(slots: &mut [Slot], lists: &mut Table<A>, before: Link, next: Link) -> bool
+    requires before { before.number < PILE → IsSlotOrTag (length slots.old) lists.old before.number }
+    requires next { before.number < PILE → IsTag next.number → ⊥ }
     requires short { length slots.old < FIRST }
-    ensures written { rings slots.new ≡ with_next (rings slots.old) before.number next }
+    ensures chain { result ≡ true → before.number < PILE }
+    ensures written { result ≡ true → rings slots.new ≡ with_next (rings slots.old) before.number next }
     ensures same_nodes { nodes slots.new ≡ nodes slots.old }
-    ensures heads { (k : ℕ) → head_of lists.new k ≡ first_after before next (tag_of k) (head_of lists.old k) }
+    ensures heads { result ≡ true
+        → (k : ℕ) → head_of lists.new k ≡ first_after before next (tag_of k) (head_of lists.old k) }
     ensures lows { (k : ℕ) → low_of lists.new k ≡ low_of lists.old k }
+    ensures pile { result ≡ false → PILE ≤ before.number }
+    ensures stays { result ≡ false → (slots.new ≡ slots.old) × (lists.new ≡ lists.old) }
 {
     if before.number < FIRST {
         set_ring_next(slots, before, next);
-    } else {
-        lists.set_first((before.number - FIRST) as usize, next);
+        return true;
     }
+    if before.number < PILE {
+        lists.set_first((before.number - FIRST) as usize, next);
+        return true;
+    }
+    false
 }
 
 // Puts a slot in front of the list that begins with `first`, and after `before`.
@@ -113,11 +122,10 @@ pub fn unlist<A: Allocator>(slots: &mut [Slot], lists: &mut Table<A>, options: &
     ensures same_nodes { nodes slots.new ≡ nodes slots.old }
 {
     let ring = read_ring(slots, at);
-    if ring.previous.number >= PILE {
+    if !lead(slots, lists, ring.previous, ring.next) {
         leave_pile(slots, lists, options, at);
         return;
     }
-    lead(slots, lists, ring.previous, ring.next);
     set_ring_previous(slots, ring.next, ring.previous);
 }
 
@@ -137,12 +145,11 @@ pub fn enlist<A: Allocator>(slots: &mut [Slot], lists: &mut Table<A>, options: &
 {
     let node = read_node(slots, at);
     let place = options.place_for(exact_size(node.area));
-    if lists.is_pile(place) {
+    let first = lists.head(place);
+    if !lists.push(place, at, top_in(node.area)) {
         join_pile(slots, lists, options, place, at);
         return;
     }
-    let first = lists.head(place);
-    lists.push(place, at, top_in(node.area));
     push_front(slots, before_first(place), first, at);
 }
 

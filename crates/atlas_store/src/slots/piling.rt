@@ -4,6 +4,7 @@ ghost use Rattle.atlas_model.specs.Choice.{Options};
 ghost use Rattle.atlas_model.specs.Pixels.{options_of};
 ghost use Rattle.atlas_model.specs.Trees.{most_slots};
 ghost use Rattle.atlas_search.specs.Bands.{list_of, number_of};
+ghost use Rattle.atlas_search.specs.Masks.{IsMarked};
 ghost use Rattle.atlas_search.specs.Piles.{IsTag};
 ghost use Rattle.atlas_search.specs.Tables.{head_of};
 ghost use Rattle.atlas_search.specs.declared.link.Link.{Link};
@@ -18,8 +19,12 @@ use crate::slots::{Slot, read_node, read_ring};
 use atlas_search::bands::{BANDS, Place, Scale};
 use atlas_search::cut::{exact_size, top_in};
 use atlas_search::link::{Link, NO_SLOT, PILE};
+use atlas_search::masks::Mask;
 use atlas_search::table::{LISTS, Table};
 use std::alloc::Allocator;
+
+// A chain with more slots is long.
+const LONG: u32 = 128;
 
 /// Puts a free and detached slot into its list, that of this place, which is a pile.
 #[cold]
@@ -75,6 +80,61 @@ pub fn leave_pile<A: Allocator>(slots: &mut [Slot], lists: &mut Table<A>, option
     } else {
         lists.set_pile(list, rest);
     }
+}
+
+// Whether a chain that begins with this slot has more than LONG.
+fn is_long(slots: &[Slot], first: Link) -> bool {
+    let mut left = LONG;
+    let mut at = first;
+    while (at.number as usize) < slots.len() {
+        if left == 0 {
+            return true;
+        }
+        left -= 1;
+        at = slots[at.number as usize].ring.next;
+    }
+    false
+}
+
+// The number of a long chain in a row, in these columns; LISTS if there is none.
+fn long_in_row<A: Allocator>(slots: &[Slot], lists: &Table<A>, row: usize, columns: Mask) -> usize
+    requires row { row < BANDS }
+    requires columns { (j : ℕ) → IsMarked columns j → j < BANDS }
+{
+    let mut left = columns;
+    while let Some(column) = left.take_first() {
+        if is_long(slots, lists.head(Place { row, column })) {
+            return BANDS * row + column;
+        }
+    }
+    LISTS
+}
+
+// The number of a long chain in a column, in these rows; LISTS if there is none.
+fn long_in_column<A: Allocator>(slots: &[Slot], lists: &Table<A>, column: usize, rows: Mask) -> usize
+    requires column { column < BANDS }
+    requires rows { (i : ℕ) → IsMarked rows i → i < BANDS }
+{
+    let mut left = rows;
+    while let Some(row) = left.take_first() {
+        if is_long(slots, lists.head(Place { row, column })) {
+            return BANDS * row + column;
+        }
+    }
+    LISTS
+}
+
+/// The number of a long chain in the row of a place, from its column on, or in its column, below its row: there are the boxes
+/// that have a side of a request for that place. LISTS if there is none. No answer depends on it.
+pub fn long_chain<A: Allocator>(slots: &[Slot], lists: &Table<A>, place: Place) -> usize
+    requires row { place.row < BANDS }
+    requires column { place.column < BANDS }
+{
+    let list = long_in_row(slots, lists, place.row, lists.row(place.row).from(place.column));
+    if list < LISTS {
+        return list;
+    }
+    long_in_column(slots, lists, place.column, lists.column(place.column).from(place.row + 1))
 }
 
 /// A list becomes a pile; nothing happens if it is one, or is empty.

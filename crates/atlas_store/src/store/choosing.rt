@@ -31,16 +31,15 @@ impl<A: Allocator> Store<A> {
         rounded(size, &self.options)
     }
 
-    /// The free slot that a request of this rounded size takes; None if it fits none. `long` may become the number of a list
-    /// that `tidy` is to be told.
-    pub fn choose(&self, size: Size, long: &mut usize) -> Option<Found>
+    /// The free slot that a request of this rounded size takes; None if it fits none.
+    pub fn choose(&self, size: Size) -> Option<Found>
         requires positive { IsPositive (sides_of size) }
         requires rest { (h : Holding) × IsAtRest (shelf_of self.now) h }
         ensures none { result ≡ None → (free : List Box) → AreFreeBoxes (nodes (shelf_of self.now).slots) free
             → (b : Box) → IsFitting free (sides_of size) b → ⊥ }
         ensures some { IfSome result (IsChosen (shelf_of self.now) (sides_of size)) }
     {
-        pick(&self.slots, &self.lists, &self.options, size, self.due == 0, long)
+        pick(&self.slots, &self.lists, &self.options, size)
     }
 
     /// Makes room for slots in addition to those in use. `Slots` if there would be more than the limit; `Memory`, if

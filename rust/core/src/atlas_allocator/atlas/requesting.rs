@@ -29,6 +29,8 @@ impl<A: Allocator + Copy> AtlasAllocator<A> {
         let needed = slots_needed(plan);
         self.store.make_room(self.used, self.limit, needed)?;
         self.used += needed;
-        Ok(Some(grant(&mut self.store, chosen, plan)))
+        let granted = grant(&mut self.store, chosen, plan);
+        self.store.tidy(size);
+        Ok(Some(granted))
     }
 }

@@ -10,7 +10,7 @@ use Rattle.atlas_store.proofs.store.Store.tidy_now.Goals as goal
 
 pub pile-requires-clause-exact : goal.pile-requires-clause-exact
 pile-requires-clause-exact g c =
-    all-exact (shelf_of c.args.self.now) c.deref_mut.result.now c.requires.0 c.deref_mut.ensures.value c.requires.1
+    all-exact (shelf_of c.args.self.now) c.deref_mut.result.now c.requires.held.0 c.deref_mut.ensures.value c.requires.held.1
 
 pub returns : goal.returns
 returns g c =
