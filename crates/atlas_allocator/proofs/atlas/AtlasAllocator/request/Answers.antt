@@ -60,8 +60,8 @@ grant-granted-requires g c =
     some-grantable _ c.self.invariant (sides_of c.args.requested_size) c.in-Some.size c.in-Some.ensures c.in-Some-choose.chosen c.in-Some-choose.ensures.some
     c.node.result c.node.ensures c.plan_for-plan.result c.plan_for-plan.ensures.line c.plan_for-plan.ensures.feasible c.make_room.new.self c.make_room.ensures.same.shelf c.slots_needed-needed.result c.slots_needed-needed.ensures c.in_ok-make_room.ensures.ok
 
-pub tidy-requires : goal.tidy-requires
-tidy-requires g c =
+pub tidy-requires-clause-held : goal.tidy-requires-clause-held
+tidy-requires-clause-held g c =
     held-atlas _ (grant-done _ c.self.invariant (sides_of c.args.requested_size) c.in-Some.size c.in-Some.ensures c.in-Some-choose.chosen c.in-Some-choose.ensures.some
     c.node.result c.node.ensures c.plan_for-plan.result c.plan_for-plan.ensures.line c.plan_for-plan.ensures.feasible c.make_room.new.self c.make_room.ensures.same.shelf c.slots_needed-needed.result c.slots_needed-needed.ensures c.in_ok-make_room.ensures.ok
     c.grant-granted.new.store c.grant-granted.result c.grant-granted.ensures).atlas
