@@ -1,10 +1,7 @@
 -- An atlas of which a list became a pile.
 use Rattle.std.proofs.Common.{◌≡◌, ℕ, List, length, sym, ap, ◌∙◌, subst}
-use Rattle.atlas_model.specs.Boxes.{Box, Sides}
 use Rattle.atlas_model.specs.Pixels.{options_of, sides_of}
 use Rattle.atlas_model.specs.States.{State, IsSound}
-use Rattle.atlas_model.specs.Trees.{Grant}
-use Rattle.atlas_model.specs.Steps.{Grants}
 use Rattle.atlas_model.specs.declared.geometry.Size.{Size}
 use Rattle.atlas_model.specs.declared.options.AllocatorOptions.{AllocatorOptions}
 use Rattle.atlas_search.specs.declared.link.Link.{Link}
@@ -29,11 +26,6 @@ module _ {A : Type 0} (s t : Store A) (first : Link) (used : ℕ) (size : Size) 
       ap (λ ns. make ns t.options (length t.slots.items)) tidied.nodes
       ∙ ap (λ o. make (nodes s.slots.items) o (length t.slots.items)) tidied.takes.options
       ∙ ap (make (nodes s.slots.items) s.options) tidied.slots
-
-  pub tidied-grants : {old : State} {r : Sides} {f : Box} {g : Grant} (turns capacity turns' capacity' : ℕ)
-      → Grants old r f g (state_of (record { stored = record { shelf = shelf_of s; first = first; used = used; size = size; limit = limit }; turns = turns'; capacity = capacity' }))
-      → Grants old r f g (state_of (record { stored = record { shelf = shelf_of t; first = first; used = used; size = size; limit = limit }; turns = turns; capacity = capacity }))
-  tidied-grants {old} {r} {f} {g} turns capacity turns' capacity' h = subst (Grants old r f g) (sym (tidied-state turns capacity turns' capacity')) h
 
   pub tidied-atlas : IsAtlas (record { shelf = shelf_of s; first = first; used = used; size = size; limit = limit })
       → IsAtlas (record { shelf = shelf_of t; first = first; used = used; size = size; limit = limit })

@@ -29,8 +29,7 @@ impl<A: Allocator + Copy> AtlasAllocator<A> {
         let needed = slots_needed(plan);
         self.store.make_room(self.used, self.limit, needed)?;
         self.used += needed;
-        let granted = grant(&mut self.store, chosen, plan);
         self.store.tidy(size);
-        Ok(Some(granted))
+        Ok(Some(grant(&mut self.store, chosen, plan)))
     }
 }

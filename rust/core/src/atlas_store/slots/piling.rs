@@ -4,6 +4,7 @@
 use crate::atlas_search::bands::{Place, Scale, BANDS};
 use crate::atlas_search::cut::{exact_size, top_in};
 use crate::atlas_search::link::{Link, NO_SLOT, PILE};
+use crate::atlas_search::masks::Mask;
 use crate::atlas_search::table::{Table, LISTS};
 use crate::atlas_store::slots::piles::{insert, remove};
 use crate::atlas_store::slots::{read_node, read_ring, Slot};
@@ -63,37 +64,55 @@ fn is_long(slots: &[Slot], first: Link) -> bool {
     false
 }
 
-/// The number of a list that has more than LONG slots and is no pile, of those in the row of a place from its column on and
-/// in its column below it: these have the boxes that have a side of a request for that place. LISTS if there is none.
-#[cold]
-#[inline(never)]
-#[must_use]
-pub fn long_chain<A: Allocator>(slots: &[Slot], lists: &Table<A>, place: Place) -> usize {
-    let mut columns = lists.row(place.row).from(place.column);
-    while let Some(column) = columns.take_first() {
-        if is_long(
-            slots,
-            lists.head(Place {
-                row: place.row,
-                column,
-            }),
-        ) {
-            return BANDS * place.row + column;
-        }
-    }
-    let mut rows = lists.column(place.column).from(place.row + 1);
-    while let Some(row) = rows.take_first() {
-        if is_long(
-            slots,
-            lists.head(Place {
-                row,
-                column: place.column,
-            }),
-        ) {
-            return BANDS * row + place.column;
+// The number of a long chain in a row, in these columns; LISTS if there is none.
+#[inline]
+fn long_in_row<A: Allocator>(slots: &[Slot], lists: &Table<A>, row: usize, columns: Mask) -> usize {
+    let mut left = columns;
+    while let Some(column) = left.take_first() {
+        if is_long(slots, lists.head(Place { row, column })) {
+            return BANDS * row + column;
         }
     }
     LISTS
+}
+
+// The number of a long chain in a column, in these rows; LISTS if there is none.
+#[inline]
+fn long_in_column<A: Allocator>(
+    slots: &[Slot],
+    lists: &Table<A>,
+    column: usize,
+    rows: Mask,
+) -> usize {
+    let mut left = rows;
+    while let Some(row) = left.take_first() {
+        if is_long(slots, lists.head(Place { row, column })) {
+            return BANDS * row + column;
+        }
+    }
+    LISTS
+}
+
+/// The number of a long chain in the row of a place, from its column on, or in its column, below its row: there are the boxes
+/// that have a side of a request for that place. LISTS if there is none. No answer depends on it.
+#[inline]
+#[must_use]
+pub fn long_chain<A: Allocator>(slots: &[Slot], lists: &Table<A>, place: Place) -> usize {
+    let list = long_in_row(
+        slots,
+        lists,
+        place.row,
+        lists.row(place.row).from(place.column),
+    );
+    if list < LISTS {
+        return list;
+    }
+    long_in_column(
+        slots,
+        lists,
+        place.column,
+        lists.column(place.column).from(place.row + 1),
+    )
 }
 
 /// A list becomes a pile; nothing happens if it is one, or is empty.

@@ -116,7 +116,7 @@ impl<A: Allocator> FreeBoxes<A> {
         let place = options.place_for(exact_size(area));
         let after = self.table.head(place);
         self.entries[at.number as usize] = FreeBox { area, after };
-        self.table.push(place, at, top_in(area));
+        let _pushed = self.table.push(place, at, top_in(area));
     }
 
     /// Makes sure that n more entries can be used; nothing but the room changes. The only error is `Memory`, which comes only

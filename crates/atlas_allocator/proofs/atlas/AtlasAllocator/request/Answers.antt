@@ -1,4 +1,4 @@
-use Rattle.std.proofs.Common.{rules, ◌≡◌, ◌+◌, refl, ap, subst, sym, arith}
+use Rattle.std.proofs.Common.{rules, ◌≡◌, refl, ap, subst, sym, arith}
 use Rattle.std.specs.Prelude.{Err}
 use Rattle.atlas_model.specs.Boxes.{Fits, box_sides}
 use Rattle.atlas_model.specs.Pixels.{box_of, rectangle_of, sides_of}
@@ -11,8 +11,10 @@ use Rattle.atlas_store.specs.Stored.{state_of}
 use Rattle.atlas_store.proofs.WalkLemmas.Observing.{used-IsAtlas}
 use Rattle.atlas_store.proofs.StoreLemmas.Sizes.{natural-fits}
 use Rattle.atlas_allocator.proofs.AtlasLemmas.CuttingFromLists.{sides_of-size, unsigned-measurable}
-use Rattle.atlas_allocator.proofs.AtlasLemmas.GrantedAtlas.{no_room-unrounded, no_room-none, taken-inside, taken-exact, taken-fits, refused-step, some-grantable, grant-done}
-use Rattle.atlas_allocator.proofs.AtlasLemmas.TidiedAtlas.{held-atlas, tidied-atlas, tidied-grants}
+use Rattle.atlas_allocator.proofs.AtlasLemmas.GrantedAtlas.{no_room-unrounded, no_room-none, taken-inside, taken-exact, taken-fits, refused-step}
+use Rattle.atlas_allocator.proofs.AtlasLemmas.TidiedAtlas.{held-atlas}
+use Rattle.atlas_allocator.proofs.AtlasLemmas.TidiedGrants.{tidied-done, tidied-grantable}
+use Rattle.atlas_store.specs.Store.Holdings.{IsHeld}
 use Rattle.atlas_store.proofs.StoreLemmas.TakenOnce.{first-once, once-first, once-shelf}
 use Rattle.atlas_allocator.proofs.AtlasLemmas.Reserving.{request-few, plan-few}
 use Rattle.atlas_model.proofs.StepLemmas.CallerGrants.{no_room_answer, refused_answer, request_granted}
@@ -55,49 +57,41 @@ returns-in_err-make_room-clause-step g c =
     (refused-step _ c.self.invariant (sides_of c.args.requested_size) c.in-Some.size c.in-Some.ensures c.in-Some-choose.chosen c.in-Some-choose.ensures.some
     c.node.result c.node.ensures c.plan_for-plan.result c.plan_for-plan.ensures.line c.plan_for-plan.ensures.feasible c.make_room.new.self c.make_room.ensures.same.shelf c.slots_needed-needed.result c.slots_needed-needed.ensures c.from_residual.result c.in_err-make_room.field-0.0 same c.in_err-make_room.ensures.refused c.make_room.new.self.turns.count c.self.inside.store.turns.count)
 
-pub grant-granted-requires : goal.grant-granted-requires
-grant-granted-requires g c =
-    some-grantable _ c.self.invariant (sides_of c.args.requested_size) c.in-Some.size c.in-Some.ensures c.in-Some-choose.chosen c.in-Some-choose.ensures.some
-    c.node.result c.node.ensures c.plan_for-plan.result c.plan_for-plan.ensures.line c.plan_for-plan.ensures.feasible c.make_room.new.self c.make_room.ensures.same.shelf c.slots_needed-needed.result c.slots_needed-needed.ensures c.in_ok-make_room.ensures.ok
+pub grant-requires : goal.grant-requires
+grant-requires g c =
+    tidied-grantable c.make_room.new.self c.tidy.new.self c.tidy.ensures _ c.self.invariant (sides_of c.args.requested_size) c.in-Some.size c.in-Some.ensures c.in-Some-choose.chosen c.in-Some-choose.ensures.some
+    c.node.result c.node.ensures c.plan_for-plan.result c.plan_for-plan.ensures.line c.plan_for-plan.ensures.feasible c.make_room.ensures.same.shelf c.slots_needed-needed.result c.slots_needed-needed.ensures c.in_ok-make_room.ensures.ok
 
 pub tidy-requires-clause-held : goal.tidy-requires-clause-held
-tidy-requires-clause-held g c =
-    held-atlas _ (grant-done _ c.self.invariant (sides_of c.args.requested_size) c.in-Some.size c.in-Some.ensures c.in-Some-choose.chosen c.in-Some-choose.ensures.some
-    c.node.result c.node.ensures c.plan_for-plan.result c.plan_for-plan.ensures.line c.plan_for-plan.ensures.feasible c.make_room.new.self c.make_room.ensures.same.shelf c.slots_needed-needed.result c.slots_needed-needed.ensures c.in_ok-make_room.ensures.ok
-    c.grant-granted.new.store c.grant-granted.result c.grant-granted.ensures).atlas
+tidy-requires-clause-held g c = subst IsHeld (sym c.make_room.ensures.same.shelf) (held-atlas _ c.self.invariant)
 
 pub invariant_of-self-2 : goal.invariant_of-self-2
 invariant_of-self-2 g c =
-    tidied-atlas c.grant-granted.new.store c.tidy.new.self _ _ _ _ c.tidy.ensures (grant-done _ c.self.invariant (sides_of c.args.requested_size) c.in-Some.size c.in-Some.ensures c.in-Some-choose.chosen c.in-Some-choose.ensures.some
-    c.node.result c.node.ensures c.plan_for-plan.result c.plan_for-plan.ensures.line c.plan_for-plan.ensures.feasible c.make_room.new.self c.make_room.ensures.same.shelf c.slots_needed-needed.result c.slots_needed-needed.ensures c.in_ok-make_room.ensures.ok
-    c.grant-granted.new.store c.grant-granted.result c.grant-granted.ensures).atlas
+    (tidied-done c.make_room.new.self c.tidy.new.self c.tidy.ensures _ c.self.invariant (sides_of c.args.requested_size) c.in-Some.size c.in-Some.ensures c.in-Some-choose.chosen c.in-Some-choose.ensures.some
+    c.node.result c.node.ensures c.plan_for-plan.result c.plan_for-plan.ensures.line c.plan_for-plan.ensures.feasible c.make_room.ensures.same.shelf c.slots_needed-needed.result c.slots_needed-needed.ensures c.in_ok-make_room.ensures.ok
+    c.grant.new.store c.grant.result c.grant.ensures).atlas
 
 pub returns-clause-step : goal.returns-clause-step
 returns-clause-step g c =
-    let done = grant-done _ c.self.invariant (sides_of c.args.requested_size) c.in-Some.size c.in-Some.ensures c.in-Some-choose.chosen c.in-Some-choose.ensures.some
-    c.node.result c.node.ensures c.plan_for-plan.result c.plan_for-plan.ensures.line c.plan_for-plan.ensures.feasible c.make_room.new.self c.make_room.ensures.same.shelf c.slots_needed-needed.result c.slots_needed-needed.ensures c.in_ok-make_room.ensures.ok
-    c.grant-granted.new.store c.grant-granted.result c.grant-granted.ensures in
-    let got = done.granted c.grant-granted.new.store.turns.count c.self.inside.store.turns.count in
-    rw (← c.self.view_is) (
-      got.0,
-      tidied-grants c.grant-granted.new.store c.tidy.new.self c.self.inside.first (c.self.inside.used + c.slots_needed-needed.result) c.self.inside.size c.self.inside.limit
-          c.tidy.ensures c.tidy.new.self.turns.count 0 c.grant-granted.new.store.turns.count 0 got.1,
-    )
+    let done = tidied-done c.make_room.new.self c.tidy.new.self c.tidy.ensures _ c.self.invariant (sides_of c.args.requested_size) c.in-Some.size c.in-Some.ensures c.in-Some-choose.chosen c.in-Some-choose.ensures.some
+    c.node.result c.node.ensures c.plan_for-plan.result c.plan_for-plan.ensures.line c.plan_for-plan.ensures.feasible c.make_room.ensures.same.shelf c.slots_needed-needed.result c.slots_needed-needed.ensures c.in_ok-make_room.ensures.ok
+    c.grant.new.store c.grant.result c.grant.ensures in
+    rw (← c.self.view_is) (done.granted c.grant.new.store.turns.count c.self.inside.store.turns.count)
 
 pub returns-clause-exact : goal.returns-clause-exact
 returns-clause-exact g c =
-    (grant-done _ c.self.invariant (sides_of c.args.requested_size) c.in-Some.size c.in-Some.ensures c.in-Some-choose.chosen c.in-Some-choose.ensures.some
-    c.node.result c.node.ensures c.plan_for-plan.result c.plan_for-plan.ensures.line c.plan_for-plan.ensures.feasible c.make_room.new.self c.make_room.ensures.same.shelf c.slots_needed-needed.result c.slots_needed-needed.ensures c.in_ok-make_room.ensures.ok
-    c.grant-granted.new.store c.grant-granted.result c.grant-granted.ensures).exact
+    (tidied-done c.make_room.new.self c.tidy.new.self c.tidy.ensures _ c.self.invariant (sides_of c.args.requested_size) c.in-Some.size c.in-Some.ensures c.in-Some-choose.chosen c.in-Some-choose.ensures.some
+    c.node.result c.node.ensures c.plan_for-plan.result c.plan_for-plan.ensures.line c.plan_for-plan.ensures.feasible c.make_room.ensures.same.shelf c.slots_needed-needed.result c.slots_needed-needed.ensures c.in_ok-make_room.ensures.ok
+    c.grant.new.store c.grant.result c.grant.ensures).exact
 
 pub returns-clause-slots : goal.returns-clause-slots
 returns-clause-slots g c = record {
   used =
       request-few _ _ (sides_of c.args.requested_size)
-      (Allocated (grant_of c.grant-granted.result))
+      (Allocated (grant_of c.grant.result))
       (subst (λ w. IsSound (state_of w)) c.self.view_is c.self.invariant.sound) (returns-clause-step g c);
   capacity =
-      omega (arith, ap (λ v. v.capacity) c.self.view_is, c.make_room.ensures.same.capacity, c.grant-granted.ensures.takes.capacity, c.tidy.ensures.takes.capacity);
+      omega (arith, ap (λ v. v.capacity) c.self.view_is, c.make_room.ensures.same.capacity, c.grant.ensures.takes.capacity, c.tidy.ensures.takes.capacity);
 }
 
 pub returns-in_err-make_room-clause-memory : goal.returns-in_err-make_room-clause-memory
@@ -129,13 +123,13 @@ returns-in_err-make_room-clause-answer g c =
 pub returns-clause-answer : goal.returns-clause-answer
 returns-clause-answer g c =
     request_granted _ _ (subst (λ w. IsSound (state_of w)) c.self.view_is c.self.invariant.sound) c.args.requested_size
-    c.grant-granted.result.id c.grant-granted.result.rectangle (returns-clause-step g c) (returns-clause-exact g c)
-    (unsigned-measurable c.grant-granted.result.rectangle (returns-clause-exact g c) (search rules) (search rules) (search rules) (search rules))
+    c.grant.result.id c.grant.result.rectangle (returns-clause-step g c) (returns-clause-exact g c)
+    (unsigned-measurable c.grant.result.rectangle (returns-clause-exact g c) (search rules) (search rules) (search rules) (search rules))
 
 pub returns-clause-first : goal.returns-clause-first
 returns-clause-first g c =
     rw (← c.self.view_is) (λ f.
-    once-first _ (c.tidy.ensures.takes.once (c.grant-granted.ensures.takes.once (once-shelf _ _ c.make_room.ensures.same.shelf (first-once _ f)))))
+    once-first _ (c.grant.ensures.takes.once (c.tidy.ensures.takes.once (once-shelf _ _ c.make_room.ensures.same.shelf (first-once _ f)))))
 
 pub returns-in_err-make_room-clause-first : goal.returns-in_err-make_room-clause-first
 returns-in_err-make_room-clause-first g c =
