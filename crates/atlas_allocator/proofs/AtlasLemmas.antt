@@ -3,6 +3,8 @@ pub mod CuttingFromLists
 pub mod ShownLists
 pub mod FreedLists
 pub mod GrantedAtlas
+pub mod TidiedAtlas
+pub mod TidiedGrants
 pub mod GrownAtlas
 pub mod RefitRanks
 pub mod RefitSizes

@@ -15,3 +15,7 @@ pub mod SearchingBefore
 pub mod Windows
 pub mod ItemPicks
 pub mod Blanking
+pub mod Piling
+pub mod PileCounts
+pub mod PilePuts
+pub mod PileLifts

@@ -1,4 +1,4 @@
--- The entries that a search reads: each has a rectangle and an entry after it. No public clause cites this module.
+-- The entries that a search reads: each has a rectangle, and an entry after it and one before it. No public clause cites this module.
 use Rattle.std.specs.Prelude.{ℕ, ◌≡◌, ◌<◌, ◌≤◌, ◌⊎◌, pos, Bool, false, List, [], ◌∷◌, length, map, slice_index_or}
 use Rattle.atlas_model.specs.declared.geometry.Rectangle.{Rectangle}
 use Rattle.atlas_model.specs.Boxes.{Sides, Box, box_sides}
@@ -7,10 +7,12 @@ use Rattle.atlas_search.specs.Rectangles.{IsSolid}
 use Rattle.atlas_search.specs.Numbers.{occurs, no_slot}
 use Rattle.atlas_search.specs.Searches.{Shown, shown_at}
 
--- An entry: its rectangle, the number of the entry after it in its list, and whether it is a free box.
+-- An entry: its rectangle, the numbers of the entries after it and before it in its list, and whether it is a free box. In
+-- a pile these are the tags of what is below it, to the right and to the left.
 pub record Item : Type 0 where
   pub area : Rectangle
   pub after : ℕ
+  pub before : ℕ
   pub is_free : Bool
 
 -- What stands for an entry past the end.
@@ -19,6 +21,7 @@ no_item =
     record {
       area = record { min = record { x = pos 0; y = pos 0 }; max = record { x = pos 0; y = pos 0 } };
       after = 0;
+      before = 0;
       is_free = false;
     }
 
@@ -48,11 +51,3 @@ IsPath es from (x ∷ xs) to = (from ≡ x) × (x < length es) × IsPath es (ite
 abbrev pub IsPrevious : List Item → (head : ℕ) → List ℕ → (before at : ℕ) → Type 0
 IsPrevious es head xs before at =
     ((before ≡ no_slot) × (at ≡ head)) ⊎ ((0 < occurs before xs) × ((item_at es before).after ≡ at))
-
--- A list without repetition begins at `head`, and has exact rectangles alone.
-pub record IsShowable (es : List Item) (head : ℕ) : Type 0 where
-  pub xs : List ℕ
-  pub short : length es ≤ no_slot
-  pub path : IsPath es head xs no_slot
-  pub once : (i : ℕ) → occurs i xs ≤ 1
-  pub exact : (i : ℕ) → 0 < occurs i xs → IsSolid (item_at es i).area

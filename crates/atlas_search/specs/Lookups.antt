@@ -14,6 +14,7 @@ use Rattle.atlas_model.specs.Boxes.{Sides, Box, Fits}
 use Rattle.atlas_model.specs.Choice.{Options, AreValid, class_of}
 use Rattle.atlas_search.specs.Items.{Item, item_at, item_box, item_sides, shown_item, shown_items, IsPath}
 use Rattle.atlas_search.specs.Items.{IsPrevious}
+use Rattle.atlas_search.specs.Piles.{IsListed, IsTag, Pile, members}
 use Rattle.atlas_search.specs.Rectangles.{IsSolid}
 use Rattle.atlas_search.specs.Numbers.{occurs, no_slot}
 use Rattle.atlas_search.specs.Masks.{IsMarked}
@@ -22,11 +23,11 @@ use Rattle.atlas_search.specs.Ranks.{no_rank}
 use Rattle.atlas_search.specs.Searches.{Shown, shown_at, IsBestShown}
 use Rattle.atlas_search.specs.Tables.{head_of, low_of, is_used_at}
 
--- The best stands in the list xs that begins at `head`.
+-- The best stands in the list xs that begins at `head`; what stands before it is known in a chain.
 pub record IsSpot (es : List Item) (head : ℕ) (list : ℕ) (xs : List ℕ) (spot : Spot) : Type 0 where
   pub inside : 0 < occurs spot.at.number xs
   pub in_list : spot.list ≡ list
-  pub before : IsPrevious es head xs spot.before.number spot.at.number
+  pub before : (IsTag head → ⊥) → IsPrevious es head xs spot.before.number spot.at.number
 
 -- `low` is at most the `min.y` of each other entry of the list xs.
 abbrev pub IsLowBut : List Item → List ℕ → (at low : ℕ) → Type 0
@@ -37,23 +38,29 @@ abbrev pub IsSameIn : (list : ℕ) (before after : Best) → Type 0
 IsSameIn list s t =
     (s.spot.list ≡ list) × (t.rank ≡ s.rank) × (t.spot ≡ record s.spot { low = t.spot.low })
 
--- A search was shown the list that begins at `head`.
-pub record HasShown (es : List Item) (head : ℕ) (list : ℕ) (before after : Best) : Type 0 where
-  pub xs : List ℕ
-  pub path : IsPath es head xs no_slot
+-- A search was shown the list that begins at `head` and has the entries xs, in some order.
+pub record HasShown (es : List Item) (head : ℕ) (list : ℕ) (xs : List ℕ) (before after : Best) : Type 0 where
+  pub order : List ℕ
+  pub same : (i : ℕ) → occurs i order ≡ occurs i xs
   pub seen : (is_large : Bool) (r : Sides) (shown : List Shown) → HasSeen before is_large r shown
-      → HasSeen after is_large r (shown ++ shown_items es xs)
+      → HasSeen after is_large r (shown ++ shown_items es order)
   pub found : IsSameBest before after
-      ⊎ ((IsSpot es head list xs after.spot ⊎ IsSameIn list before after)
-      × IsLowBut es xs after.spot.at.number after.spot.low)
+      ⊎ ((IsSpot es head list order after.spot ⊎ IsSameIn list before after)
+      × IsLowBut es order after.spot.at.number after.spot.low)
+
+-- A search was shown a pile of a list.
+pub record HasShownPile (es : List Item) (list : ℕ) (p : Pile) (before after : Best) : Type 0 where
+  pub seen : (is_large : Bool) (r : Sides) (shown : List Shown) → HasSeen before is_large r shown
+      → HasSeen after is_large r (shown ++ shown_items es (members p))
+  pub found : IsSameBest before after ⊎ ((0 < occurs after.spot.at.number (members p)) × (after.spot.list ≡ list))
 
 -- Each free entry stands once in the list of its sides, and nothing else stands in a list; its rectangle is exact, and
 -- its `min.y` is at least the list's bound.
 pub record AreListed (o : Options) (heads : List ListHead) (es : List Item) : Type 0 where
   pub free_lists : ℕ → List ℕ
   pub valid : AreValid o
-  pub short : length es ≤ no_slot
-  pub path : (k : ℕ) → k < 2704 → IsPath es (head_of heads k).number (free_lists k) no_slot
+  pub short : length es ≤ 4261412864
+  pub lists : (k : ℕ) → k < 2704 → IsListed es (head_of heads k).number (free_lists k)
   pub own : (k i : ℕ) → k < 2704 → 0 < occurs i (free_lists k)
       → ((item_at es i).is_free ≡ true) × (list_of o (item_sides (item_at es i)) ≡ k)
   pub each : (i : ℕ) → (item_at es i).is_free ≡ true → 0 < occurs i (free_lists (list_of o (item_sides (item_at es i))))
@@ -62,14 +69,20 @@ pub record AreListed (o : Options) (heads : List ListHead) (es : List Item) : Ty
   pub low : (i : ℕ) → (item_at es i).is_free ≡ true
       → low_of heads (list_of o (item_sides (item_at es i))) ≤ (item_box (item_at es i)).min.y
 
--- What a search says of the best: a free entry, its list, the entry before it there, and at most the
+-- The same, and each list is a chain.
+pub record AreChained (o : Options) (heads : List ListHead) (es : List Item) : Type 0 where
+  pub listed : AreListed o heads es
+  pub chains : (k : ℕ) → k < 2704 → IsPath es (head_of heads k).number (listed.free_lists k) no_slot
+
+-- What a search says of the best: a free entry, its list, the entry before it there if that is a chain, and at most the
 -- `min.y` of each other entry of the list.
 pub record IsStanding (o : Options) (heads : List ListHead) (es : List Item) (found : Found) : Type 0 where
   pub free : (item_at es found.at.number).is_free ≡ true
   pub area : (item_at es found.at.number).area ≡ found.rectangle
   pub inside : found.list < 2704
   pub list : list_of o (item_sides (item_at es found.at.number)) ≡ found.list
-  pub before : ((found.before.number ≡ no_slot) × ((head_of heads found.list).number ≡ found.at.number))
+  pub before : (IsTag (head_of heads found.list).number → ⊥)
+      → ((found.before.number ≡ no_slot) × ((head_of heads found.list).number ≡ found.at.number))
       ⊎ (((item_at es found.before.number).is_free ≡ true)
       × (list_of o (item_sides (item_at es found.before.number)) ≡ found.list)
       × ((item_at es found.before.number).after ≡ found.at.number))

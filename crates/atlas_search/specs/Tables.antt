@@ -1,5 +1,5 @@
 -- The heads of the lists of free slots. No public clause cites this module.
-use Rattle.std.specs.Prelude.{ℕ, ◌≡◌, ◌≢◌, ◌+◌, ◌*◌, ◌<◌, ◌≤◌, ◌==◌, ◌||◌, Bool, true, not, List, length, slice_index_or}
+use Rattle.std.specs.Prelude.{ℕ, ◌≡◌, ◌≢◌, ◌+◌, ◌*◌, ◌<◌, ◌≤◌, ◌==◌, ◌||◌, ◌&&◌, Bool, true, not, if◌then◌else◌, nat_le, nat_lt, List, [], ◌∷◌, length, slice_index_or}
 use Rattle.atlas_search.specs.declared.link.Link.{Link}
 use Rattle.atlas_search.specs.declared.table.ListHead.{ListHead}
 use Rattle.atlas_search.specs.declared.masks.Mask.{Mask}
@@ -24,6 +24,15 @@ low_of heads k = (entry_at heads k).low
 -- Whether there is a slot in list k.
 abbrev pub is_used_at : List ListHead → ℕ → Bool
 is_used_at heads k = not ((head_of heads k).number == no_slot)
+
+-- 1 if a list is a pile.
+abbrev pub pile_count : ListHead → ℕ
+pile_count head = if nat_le 4261412864 head.first.number && nat_lt head.first.number no_slot then 1 else 0
+
+-- How many lists are piles.
+abbrev pub piles_in : List ListHead → ℕ
+piles_in [] = 0
+piles_in (head ∷ heads) = pile_count head + piles_in heads
 
 -- There is a head for each list; marked are the lists with a slot, and the one that was emptied last.
 pub record IsTable (heads : List ListHead) (rows : List Mask) (emptied : ℕ) : Type 0 where

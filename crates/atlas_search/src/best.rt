@@ -72,7 +72,7 @@ fn rank(is_large: bool, margin: i32) -> u32
 }
 
 // The `min` of a box as one number, the greater the later the box comes: the y, and below it the x.
-fn corner(rectangle: Rectangle) -> u64
+pub fn corner(rectangle: Rectangle) -> u64
     requires { IsUnsigned rectangle }
     ensures { result ≡ corner_of (box_of rectangle) }
 {
@@ -217,6 +217,14 @@ impl Best {
         ensures { IsTrue result → (self.now.rank ≡ 0) × (self.now.corner / 4294967296 < low) }
     {
         self.bar < low
+    }
+
+    /// Whether the best has an equal side and begins at this corner or before it: no box that begins there or later is
+    /// better.
+    pub fn passes(&self, corner: u64) -> bool
+        ensures { IsTrue result → (self.now.rank ≡ 0) × (self.now.corner ≤ corner) }
+    {
+        self.rank == 0 && self.corner <= corner
     }
 
     /// Where the best of the boxes shown is.

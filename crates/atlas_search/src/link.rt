@@ -13,3 +13,6 @@ impl Link {
 
 /// The number that means no entry.
 pub const NO_SLOT: u32 = 4294967295;
+
+/// A list that begins with this number or a greater one, but for `NO_SLOT`, is a pile, and the rest is the number of its top.
+pub const PILE: u32 = 4261412864;

@@ -1,13 +1,15 @@
 //! The table of the lists of free slots: the first slot of each, a bound of its slots' `min.y`, and marks of those that
 //! have a slot and of the one that was emptied last.
-ghost use Rattle.std.specs.Prelude.{◌≡◌, ◌≢◌, ◌+◌, ◌*◌, ◌<◌, ℕ, true, false, IfOk, length};
+ghost use Rattle.std.specs.Prelude.{◌≡◌, ◌≢◌, ◌+◌, ◌*◌, ◌<◌, ◌⊎◌, ◌↔◌, ℕ, IsTrue, true, false, IfOk, length};
 ghost use Rattle.atlas_search.specs.Bands.{number_of};
 ghost use Rattle.atlas_search.specs.Masks.{IsMarked, is_marked_at};
+
 ghost use Rattle.atlas_search.specs.Numbers.{no_slot};
+ghost use Rattle.atlas_search.specs.Piles.{IsTag};
 ghost use Rattle.atlas_search.specs.Tables.{IsPushed, head_of, is_used_at, low_of};
 
 use crate::bands::{BANDS, Place};
-use crate::link::{Link, NO_SLOT};
+use crate::link::{Link, NO_SLOT, PILE};
 use crate::marks::Marks;
 use crate::masks::Mask;
 use std::alloc::{AllocError, Allocator};
@@ -16,7 +18,7 @@ use std::marker::Model;
 /// How many lists of free slots there are.
 pub const LISTS: usize = 2704;
 
-/// The first slot of a list, or none, and a bound: at most the `min.y` of each of the list's slots.
+/// The first slot of a list, or none, or the tag of a pile; and a bound: at most the `min.y` of each of the list's slots.
 #[derive(Clone, Copy, Debug, PartialEq, Eq)]
 pub struct ListHead {
     pub first: Link,
@@ -28,6 +30,13 @@ const BLANK: ListHead = ListHead {
     first: Link::NONE,
     low: 0,
 };
+
+// Whether a list that begins so is a pile.
+fn is_tag(link: Link) -> bool
+    ensures { IsTrue result ↔ IsTag link.number }
+{
+    link.number >= PILE && link.number < NO_SLOT
+}
 
 // The lists of a row are empty in these columns from now on.
 fn blank_row(heads: &mut [ListHead], row: usize, columns: Mask)
@@ -68,18 +77,20 @@ pub struct Table<A: Allocator> {
     marks: Marks,
     // The list that was emptied last, whose mark is kept; LISTS if none was.
     emptied: usize,
+    // How many lists are piles.
+    piles: u32,
 }
 
 impl<A: Allocator> Model for Table<A> {
-    ghost use Rattle.std.specs.Prelude.{List};
+    ghost use Rattle.std.specs.Prelude.{List, ◌≡◌};
     ghost use Rattle.atlas_search.specs.declared.table.ListHead.{ListHead};
-    ghost use Rattle.atlas_search.specs.Tables.{IsTable};
+    ghost use Rattle.atlas_search.specs.Tables.{IsTable, piles_in};
 
     ghost Value = { List ListHead };
 
     ghost view = { λ t. t.heads.items };
 
-    ghost invariant = { λ t. IsTable t.heads.items t.marks t.emptied };
+    ghost invariant = { λ t. IsTable t.heads.items t.marks t.emptied × (t.piles ≡ piles_in t.heads.items) };
 }
 
 impl<A: Allocator> Table<A> {
@@ -91,6 +102,7 @@ impl<A: Allocator> Table<A> {
             heads: Vec::from_elem(alloc, BLANK, LISTS)?,
             marks: Marks::none(),
             emptied: LISTS,
+            piles: 0,
         })
     }
 
@@ -104,6 +116,7 @@ impl<A: Allocator> Table<A> {
             heads: Vec::from_slice(*self.heads.allocator(), &self.heads)?,
             marks: self.marks.copy(),
             emptied: self.emptied,
+            piles: self.piles,
         })
     }
 
@@ -114,15 +127,31 @@ impl<A: Allocator> Table<A> {
         blank_marked(&mut self.heads, &self.marks);
         self.marks = Marks::none();
         self.emptied = LISTS;
+        self.piles = 0;
     }
 
-    /// The first slot of a list, or none.
+    /// Whether a list is a pile.
+    pub fn has_piles(&self) -> bool
+        ensures { result ≡ false → (k : ℕ) → IsTag (head_of self.now k).number → ⊥ }
+    {
+        self.piles != 0
+    }
+
+    /// The first slot of a list, or none, or the tag of a pile.
     pub fn head(&self, at: Place) -> Link
         requires row { at.row < BANDS }
         requires column { at.column < BANDS }
         ensures { result ≡ head_of self.now (number_of at) }
     {
         self.heads[BANDS * at.row + at.column].first
+    }
+
+    /// The first slot of the list of this number, or none, or the tag of a pile.
+    pub fn first(&self, number: usize) -> Link
+        requires { number < LISTS }
+        ensures { result ≡ head_of self.now number }
+    {
+        self.heads[number].first
     }
 
     /// At most the `min.y` of each of the list's slots.
@@ -134,30 +163,66 @@ impl<A: Allocator> Table<A> {
         self.heads[BANDS * at.row + at.column].low
     }
 
-    /// A slot with this `min.y` comes first in a list.
-    pub fn push(&mut self, at: Place, first: Link, top: u32)
+    /// A slot with this `min.y` comes first in a list. Answers false, and does nothing, if that is a pile.
+    pub fn push(&mut self, at: Place, first: Link, top: u32) -> bool
         requires row { at.row < BANDS }
         requires column { at.column < BANDS }
-        requires slot { first.number ≢ no_slot }
-        ensures { IsPushed self.old self.new (number_of at) first top }
+        requires slot { first.number < PILE }
+        ensures pushed { result ≡ true → IsPushed self.old self.new (number_of at) first top }
+        ensures chain { result ≡ true → IsTag (head_of self.old (number_of at)).number → ⊥ }
+        ensures pile { result ≡ false → IsTag (head_of self.old (number_of at)).number }
+        ensures stays { result ≡ false → self.new ≡ self.old }
     {
         let head = &mut self.heads[BANDS * at.row + at.column];
-        if head.first.number == NO_SLOT {
-            head.first = first;
-            head.low = top;
-            if self.emptied != BANDS * at.row + at.column {
-                self.marks.mark(at);
-            }
-        } else {
+        if head.first.number < PILE {
             head.first = first;
             head.low = head.low.min(top);
+            return true;
         }
+        if head.first.number != NO_SLOT {
+            return false;
+        }
+        head.first = first;
+        head.low = top;
+        if self.emptied != BANDS * at.row + at.column {
+            self.marks.mark(at);
+        }
+        true
     }
 
-    /// Another slot, or none, comes first in the list of this number, which has a slot.
+    /// The list of this number, which has a slot, is a pile with this tag from now on.
+    pub fn set_pile(&mut self, number: usize, tag: Link)
+        requires number { number < LISTS }
+        requires used { is_used_at self.old number ≡ true }
+        requires tag { IsTag tag.number }
+        ensures head { head_of self.new number ≡ tag }
+        ensures heads { (k : ℕ) → k ≢ number → head_of self.new k ≡ head_of self.old k }
+        ensures lows { (k : ℕ) → low_of self.new k ≡ low_of self.old k }
+    {
+        let piles = if is_tag(self.heads[number].first) { self.piles } else { self.piles + 1 };
+        self.heads[number].first = tag;
+        self.piles = piles;
+    }
+
+    /// The list of this number, which is a pile, has no slot from now on.
+    pub fn end_pile(&mut self, number: usize)
+        requires number { number < LISTS }
+        requires pile { IsTag (head_of self.old number).number }
+        ensures head { (head_of self.new number).number ≡ no_slot }
+        ensures heads { (k : ℕ) → k ≢ number → head_of self.new k ≡ head_of self.old k }
+        ensures lows { (k : ℕ) → low_of self.new k ≡ low_of self.old k }
+    {
+        self.piles -= 1;
+        self.heads[number].first = Link { number: 0 };
+        self.set_first(number, Link::NONE);
+    }
+
+    /// Another slot, or none, comes first in the list of this number, which is a chain and has a slot.
     pub fn set_first(&mut self, number: usize, first: Link)
         requires number { number < LISTS }
         requires used { is_used_at self.old number ≡ true }
+        requires chain { IsTag (head_of self.old number).number → ⊥ }
+        requires slot { IsTag first.number → ⊥ }
         ensures head { head_of self.new number ≡ first }
         ensures heads { (k : ℕ) → k ≢ number → head_of self.new k ≡ head_of self.old k }
         ensures lows { (k : ℕ) → low_of self.new k ≡ low_of self.old k }

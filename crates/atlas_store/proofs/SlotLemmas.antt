@@ -29,3 +29,8 @@ pub mod Stretching
 pub mod Following
 pub mod Hanging
 pub mod Editing
+pub mod Entries
+pub mod PilePuts
+pub mod PileLifts
+pub mod PileLiftsLeft
+pub mod PileRemoves

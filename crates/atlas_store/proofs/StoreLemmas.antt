@@ -1,5 +1,6 @@
 -- Lemmas of the store: slots with their lists.
 pub mod Unlinking
+pub mod Linking
 pub mod Filing
 pub mod Taking
 pub mod Turning
@@ -9,6 +10,8 @@ pub mod StoreTakes
 pub mod UnusedCounts
 pub mod Choosing
 pub mod SlotLists
+pub mod PileFiling
+pub mod PileBuilding
 pub mod Sizes
 pub mod ExtendedTrees
 pub mod ExtendingSteps

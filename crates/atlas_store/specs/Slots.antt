@@ -1,6 +1,7 @@
 -- The two parts of stored slots. No public clause cites this module.
 pub mod Numbered
 pub mod Standing
+pub mod Entries
 pub mod Lists
 pub mod Reading
 pub mod Parts
@@ -11,6 +12,7 @@ pub mod Growing
 pub mod SlotCalls
 pub mod Placing
 pub mod Picks
+pub mod Piles
 use Rattle.std.specs.Prelude.{ℕ, ◌≡◌, List, map, pos, slice_index_or}
 use Rattle.atlas_store.specs.declared.slots.Slot.{Slot}
 use Rattle.atlas_search.specs.declared.link.Link.{Link}

@@ -16,13 +16,12 @@ ghost use Rattle.guillotiere.specs.SimpleStored.{LacksEntries};
 pub mod boxes;
 mod changes;
 
-use crate::simple::boxes::{FreeBox, FreeBoxes};
+use crate::simple::boxes::{FreeBox, FreeBoxes, MOST_BOXES};
 use atlas_model::{AllocatorOptions, AtlasError, DEFAULT_OPTIONS, Rectangle, Size, SlotCount};
 use atlas_search::bands::Scale;
 use atlas_search::best::Found;
 use atlas_search::choice::rounded;
 use atlas_search::cut::{Rest, granted, guillotine};
-use atlas_search::link::NO_SLOT;
 use atlas_search::search::pick;
 use std::alloc::{Allocator, Global};
 use std::marker::Model;
@@ -34,7 +33,7 @@ use std::marker::Model;
 /// its size and its options there.
 ///
 /// The table of its lists of free boxes takes 21,632 bytes on the heap, and each entry for a free box 20 more. Entries
-/// that aren't used any more are used first by later calls. There are at most 4,294,967,295 entries: where more would
+/// that aren't used any more are used first by later calls. There are at most 4,261,412,864 entries: where more would
 /// be used, `Memory` is the answer.
 #[derive(Drop)]
 pub struct SimpleAtlasAllocator<A: Allocator + Copy = Global> {
@@ -166,17 +165,17 @@ impl<A: Allocator + Copy> SimpleAtlasAllocator<A> {
         is_listed(&self.boxes.entries, &Rectangle::from(self.size))
     }
 
-    /// How many entries are used, one for each free box, how many there are, and how many there may be: 4,294,967,295.
+    /// How many entries are used, one for each free box, how many there are, and how many there may be: 4,261,412,864.
     pub fn slots(&self) -> SlotCount
         ensures used { result.used ≡ used_entries self.now }
         ensures kept { result.kept ≡ kept_entries self.now }
-        ensures limit { result.limit ≡ 4294967295 }
+        ensures limit { result.limit ≡ 4261412864 }
         ensures counted { used_entries self.now ≤ kept_entries self.now }
     {
         SlotCount {
             used: self.boxes.used,
             kept: self.boxes.entries.len() as u32,
-            limit: NO_SLOT,
+            limit: MOST_BOXES,
         }
     }
 }

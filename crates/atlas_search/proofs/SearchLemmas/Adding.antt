@@ -11,7 +11,8 @@ use Rattle.atlas_search.specs.Bands.{band_of, list_of, number_of}
 use Rattle.atlas_search.specs.Bests.{HasSeen, IsSameBest}
 use Rattle.atlas_model.specs.Boxes.{Sides, IsPositive}
 use Rattle.atlas_model.specs.Choice.{Options}
-use Rattle.atlas_search.specs.Items.{Item, item_at, item_box, item_sides, shown_item, shown_items, IsShowable}
+use Rattle.atlas_search.specs.Items.{Item, item_at, item_box, item_sides, shown_item, shown_items}
+use Rattle.atlas_search.specs.Piles.{IsListed, IsShowable, IsTag}
 use Rattle.atlas_search.specs.Numbers.{occurs}
 use Rattle.atlas_search.specs.Lookups.{IsSpot, IsLowBut, HasShown, AreListed, IsSameIn, IsStanding, AreBelow, HasAdded, IsItemBelow, found_in}
 use Rattle.atlas_search.specs.Ranks.{no_rank}
@@ -19,7 +20,8 @@ use Rattle.atlas_search.specs.Searches.{Shown}
 use Rattle.atlas_search.specs.Tables.{head_of, low_of, is_used_at}
 use Rattle.atlas_search.proofs.SearchLemmas.BandLaws.{band_below}
 use Rattle.atlas_search.proofs.SearchLemmas.Besting.{seen-passed}
-use Rattle.atlas_search.proofs.SearchLemmas.Showing.{path-stop, path-same, append-none, shown_items-has, shown_items-in}
+use Rattle.atlas_search.proofs.SearchLemmas.Showing.{append-none, shown_items-has, shown_items-in}
+use Rattle.atlas_search.proofs.SearchLemmas.Piling.{listed-some}
 
 -- Nothing was shown.
 pub added-none : (o : Options) (heads : List ListHead) (es : List Item) (end : ℕ) (r : Sides) (s : Best)
@@ -66,7 +68,7 @@ module _ (o : Options) (heads : List ListHead) (es : List Item) (end : ℕ) (r :
 
     -- A list with an entry isn't empty.
     pub used-at : (i : ℕ) → (item_at es i).is_free ≡ true → is_used_at heads (52 * row_at i + column_at i) ≡ true
-    used-at i free = grind (arith, list-below, band_below, ne_eqb, path-stop)
+    used-at i free = grind (arith, list-below, band_below, ne_eqb, listed-some)
 
     -- What holds of the lists that aren't empty.
     pub added-weaker : (V W : ℕ → ℕ → Type 0) (s t : Best)
@@ -90,15 +92,20 @@ module _ (o : Options) (heads : List ListHead) (es : List Item) (end : ℕ) (r :
           → (row_at i ≡ place.row) × (column_at i ≡ place.column)
       bands-of_list i e = grind (arith, band_below)
 
-      pub showable : IsShowable es (head_of heads (number_of place)).number
-      showable = grind (arith, number-below)
+      pub showable : IsShowable es (head_of heads (number_of place)).number (a.free_lists (number_of place))
+      showable = record {
+        short = a.short;
+        listed = a.lists (number_of place) number-below;
+        once = λ i. a.once (number_of place) i number-below;
+        exact = λ i h. a.exact i (a.own (number_of place) i number-below h).0;
+      }
 
-      module _ (w : AreBelow end place.row place.column) (xs : List ℕ) (same : xs ≡ a.free_lists (number_of place)) where
+      module _ (w : AreBelow end place.row place.column) (xs : List ℕ) (same : (i : ℕ) → occurs i xs ≡ occurs i (a.free_lists (number_of place))) where
         of_list : (c : Shown) → Contains (shown_items es xs) c
             → ((item_at es c.at).is_free ≡ true) × (c ≡ shown_item es c.at) × IsItemBelow o es end c.at
         of_list c h =
             let t = shown_items-in es xs c h in
-            let own = a.own (number_of place) t.0 number-below (subst (λ zs. 0 < occurs t.0 zs) same t.1) in
+            let own = a.own (number_of place) t.0 number-below (omega (arith, same t.0, t.1)) in
             let e = bands-of_list t.0 own.1 in
             let P : Shown → Type 0 = λ d. ((item_at es d.at).is_free ≡ true) × (d ≡ shown_item es d.at) × IsItemBelow o es end d.at in
             subst P (sym t.2) (own.0, refl, (omega (arith, e.0, w.0), omega (arith, e.1, w.1)))
@@ -117,7 +124,7 @@ module _ (o : Options) (heads : List ListHead) (es : List Item) (end : ℕ) (r :
               each = has-each;
               seen = λ is_large shown h. seen-passed s is_large r shown (shown_items es xs) h best_is (λ c has e.
                   let t = shown_items-in es xs c has in
-                  let own = a.own (number_of place) t.0 number-below (subst (λ zs. 0 < occurs t.0 zs) same t.1) in
+                  let own = a.own (number_of place) t.0 number-below (omega (arith, same t.0, t.1)) in
                   let low = subst (λ n. low_of heads n ≤ (item_box (item_at es t.0)).min.y) own.1 (a.low t.0 own.0) in
                   subst (λ (d : Shown). s.corner / 4294967296 < d.box.min.y) (sym t.2) (omega (arith, beyond, low)));
               known = λ k. k;
@@ -158,15 +165,15 @@ module _ (o : Options) (heads : List ListHead) (es : List Item) (end : ℕ) (r :
             }
 
       pub added-list : AreBelow end place.row place.column → (s t : Best)
-          → HasShown es (head_of heads (number_of place)).number (number_of place) s t
+          → HasShown es (head_of heads (number_of place)).number (number_of place) (a.free_lists (number_of place)) s t
           → HasAdded o heads es end r (λ i j. (i ≡ place.row) × (j ≡ place.column)) s t
       added-list w s t h =
-          added-shown w h.xs (path-same es _ h.xs (a.free_lists (number_of place)) a.short h.path (a.path (number_of place) number-below)) s t h.seen h.found
+          added-shown w h.order h.same s t h.seen h.found
 
       pub added-over : AreBelow end place.row place.column → (s : Best) → s.rank ≡ 0
           → s.corner / 4294967296 < low_of heads (number_of place)
           → HasAdded o heads es end r (λ i j. (i ≡ place.row) × (j ≡ place.column)) s s
-      added-over w s best_is beyond = added-passed w (a.free_lists (number_of place)) refl s best_is beyond
+      added-over w s best_is beyond = added-passed w (a.free_lists (number_of place)) (λ i. refl) s best_is beyond
 
 -- Nothing that is in question was shown.
 pub added-nothing : (o : Options) (heads : List ListHead) (es : List Item) (end : ℕ) (r : Sides) (W : ℕ → ℕ → Type 0)

@@ -208,12 +208,13 @@ pub least-ahead : (s : Best) (corner list least less : ℕ) (own : List Shown) (
     → ((list ≡ list) × (d.at ≡ c.at) × (corner / 4294967296 ≡ d.box.min.y)) ⊎ (less ≤ d.box.min.y)
 least-ahead s corner list least less own c all lower low row d has = grind (arith, Contains-push_cases own c d has, all d)
 
--- Boxes that are passed over: those with an equal side lie below the best, which has an equal side too.
-pub seen-passed : (s : Best) (is_large : Bool) (r : Sides) (shown more : List Shown) → HasSeen s is_large r shown
+-- Boxes that are passed over: those with an equal side come after the best, which has an equal side too.
+pub seen-over : (s : Best) (is_large : Bool) (r : Sides) (shown more : List Shown) → HasSeen s is_large r shown
     → s.rank ≡ 0
-    → ((c : Shown) → Contains more c → HasEqualSide r c.box → s.corner / 4294967296 < c.box.min.y)
+    → ((b : Box) → b.min.x < 4294967296 → s.corner ≡ corner_of b → (c : Shown) → Contains more c → HasEqualSide r c.box
+    → ComesFirst b c.box)
     → HasSeen s is_large r (shown ++ more)
-seen-passed s is_large r shown more seen zero below =
+seen-over s is_large r shown more seen zero below =
     record {
       positive = seen.positive;
       size = seen.size;
@@ -235,7 +236,6 @@ seen-passed s is_large r shown more seen zero below =
         → IsBestShown is_large r (shown ++ more) (shown_at k.box s.spot.at.number)
     still k =
         let b = k.box in
-        let row : s.corner / 4294967296 ≡ b.min.y = ap (λ n. n / 4294967296) k.cornered ∙ corner-row b k.narrow in
         let e : HasEqualSide r b = equal_side-margin r b k.best.fits (rank-zero is_large _ k.below (sym k.ranked ∙ zero)) in
         record {
           is_shown = Contains-append_left shown more _ k.best.is_shown;
@@ -243,6 +243,15 @@ seen-passed s is_large r shown more seen zero below =
           best = grind (arith, Contains-append_cases);
           first = λ d has fits h. elim (Contains-append_cases shown more d has) [
             | inl earlier ↦ k.best.first d earlier fits h
-            | inr later ↦ inl (omega (arith, row, below d later (equal is_large b d.box k.best.fits fits e h)))
+            | inr later ↦ below b k.narrow k.cornered d later (equal is_large b d.box k.best.fits fits e h)
           ];
         }
+
+pub seen-passed : (s : Best) (is_large : Bool) (r : Sides) (shown more : List Shown) → HasSeen s is_large r shown
+    → s.rank ≡ 0
+    → ((c : Shown) → Contains more c → HasEqualSide r c.box → s.corner / 4294967296 < c.box.min.y)
+    → HasSeen s is_large r (shown ++ more)
+seen-passed s is_large r shown more seen zero below =
+    seen-over s is_large r shown more seen zero (λ b narrow cornered c has e.
+    let row : s.corner / 4294967296 ≡ b.min.y = ap (λ n. n / 4294967296) cornered ∙ corner-row b narrow in
+    inl (omega (arith, row, below c has e)))

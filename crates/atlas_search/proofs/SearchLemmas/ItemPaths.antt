@@ -8,7 +8,7 @@ use Rattle.atlas_model.specs.Choice.{Options}
 use Rattle.atlas_search.specs.Items.{Item, item_at, item_box, item_sides, IsPath}
 use Rattle.atlas_search.specs.Rectangles.{IsSolid}
 use Rattle.atlas_search.specs.Numbers.{lists_with, occurs, without, same, no_slot}
-use Rattle.atlas_search.specs.Lookups.{AreListed}
+use Rattle.atlas_search.specs.Lookups.{AreChained, AreListed}
 use Rattle.atlas_search.specs.Tables.{head_of, low_of, is_used_at}
 use Rattle.atlas_search.proofs.Occurrences.{same-self, same-ne, occurs-without, without-none, without-other}
 use Rattle.atlas_search.proofs.SearchLemmas.TableHeads.{slot-is}
@@ -100,17 +100,17 @@ abbrev pub list_at : Options → List Item → ℕ → ℕ
 list_at o es i = list_of o (item_sides (item_at es i))
 
 -- An entry leaves its list k: the others keep their rectangles.
-module _ (o : Options) (heads heads' : List ListHead) (es es' : List Item) (listed : AreListed o heads es) (x : ℕ) (k : ℕ)
+module _ (o : Options) (heads heads' : List ListHead) (es es' : List Item) (chained : AreChained o heads es) (x : ℕ) (k : ℕ)
     (free : (item_at es x).is_free ≡ true) (list : list_at o es x ≡ k)
     (long : length es' ≡ length es) (gone : (item_at es' x).is_free ≡ false)
     (kept : (i : ℕ) → i ≢ x → ((item_at es' i).area ≡ (item_at es i).area) × ((item_at es' i).is_free ≡ (item_at es i).is_free))
-    (here : k < 2704 → IsPath es' (head_of heads' k).number (without x (listed.free_lists k)) no_slot)
-    (links : (j i : ℕ) → j ≢ k → j < 2704 → 0 < occurs i (listed.free_lists j) → (item_at es' i).after ≡ (item_at es i).after)
+    (here : k < 2704 → IsPath es' (head_of heads' k).number (without x (chained.listed.free_lists k)) no_slot)
+    (links : (j i : ℕ) → j ≢ k → j < 2704 → 0 < occurs i (chained.listed.free_lists j) → (item_at es' i).after ≡ (item_at es i).after)
     (other_heads : (j : ℕ) → j ≢ k → head_of heads' j ≡ head_of heads j)
     (low_here : (i : ℕ) → (item_at es i).is_free ≡ true → list_at o es i ≡ k → i ≢ x → low_of heads' k ≤ (item_box (item_at es i)).min.y)
     (other_lows : (j : ℕ) → j ≢ k → low_of heads' j ≡ low_of heads j) where
   same_list : (i : ℕ) → i ≢ x → list_at o es' i ≡ list_at o es i
-  same_list i ne = ap (λ (r : _). list_of o (item_sides (record { area = r; after = 0; is_free = true }))) (kept i ne).0
+  same_list i ne = ap (λ (r : _). list_of o (item_sides (record { area = r; after = 0; before = 0; is_free = true }))) (kept i ne).0
 
   not_x : (i : ℕ) → (item_at es' i).is_free ≡ true → i ≢ x
   not_x i f e = both_ways _ gone (ap (λ n. (item_at es' n).is_free) (sym e) ∙ f)
@@ -118,15 +118,15 @@ module _ (o : Options) (heads heads' : List ListHead) (es es' : List Item) (list
   was_free : (i : ℕ) → i ≢ x → (item_at es' i).is_free ≡ true → (item_at es i).is_free ≡ true
   was_free i ne f = sym (kept i ne).1 ∙ f
 
-  not_in : (j : ℕ) → j < 2704 → j ≢ k → occurs x (listed.free_lists j) ≡ 0
+  not_in : (j : ℕ) → j < 2704 → j ≢ k → occurs x (chained.listed.free_lists j) ≡ 0
   not_in j l ne = grind arith
 
   paths : (j : ℕ) → j < 2704 → (j ≡ k) ⊎ (j ≢ k)
-      → IsPath es' (head_of heads' j).number (without x (listed.free_lists j)) no_slot
-  paths j l (inl e) = subst (λ n. IsPath es' (head_of heads' n).number (without x (listed.free_lists n)) no_slot) (sym e) (here (omega arith))
-  paths j l (inr ne) = grind (arith, without-none, not_in, path-frame)
+      → IsPath es' (head_of heads' j).number (without x (chained.listed.free_lists j)) no_slot
+  paths j l (inl e) = subst (λ n. IsPath es' (head_of heads' n).number (without x (chained.listed.free_lists n)) no_slot) (sym e) (here (omega arith))
+  paths j l (inr ne) = grind (arith, without-none, not_in, path-frame, chained.chains)
 
-  owned : (j i : ℕ) → j < 2704 → 0 < occurs i (without x (listed.free_lists j)) → (i ≡ x) ⊎ (i ≢ x)
+  owned : (j i : ℕ) → j < 2704 → 0 < occurs i (without x (chained.listed.free_lists j)) → (i ≡ x) ⊎ (i ≢ x)
       → ((item_at es' i).is_free ≡ true) × (list_at o es' i ≡ j)
   owned j i l h (inl e) = grind (arith, occurs-without_self)
   owned j i l h (inr ne) = grind (arith, occurs-without_other, same_list)
@@ -134,24 +134,27 @@ module _ (o : Options) (heads heads' : List ListHead) (es es' : List Item) (list
   lows : (i : ℕ) → i ≢ x → (item_at es i).is_free ≡ true → (list_at o es i ≡ k) ⊎ (list_at o es i ≢ k)
       → low_of heads' (list_at o es i) ≤ (item_box (item_at es i)).min.y
   lows i ne f (inl e) = subst (λ n. low_of heads' n ≤ (item_box (item_at es i)).min.y) (sym e) (low_here i f e ne)
-  lows i ne f (inr e) = subst (λ n. n ≤ (item_box (item_at es i)).min.y) (sym (other_lows (list_at o es i) e)) (listed.low i f)
+  lows i ne f (inr e) = subst (λ n. n ≤ (item_box (item_at es i)).min.y) (sym (other_lows (list_at o es i) e)) (chained.listed.low i f)
 
-  pub listed-without : AreListed o heads' es'
-  listed-without =
+  abbrev without-listed : AreListed o heads' es'
+  without-listed =
       record {
-        free_lists = λ j. without x (listed.free_lists j);
-        valid = listed.valid;
-        short = omega (arith, long, listed.short);
-        path = λ j l. paths j l (cases_eq j k);
+        free_lists = λ j. without x (chained.listed.free_lists j);
+        valid = chained.listed.valid;
+        short = omega (arith, long, chained.listed.short);
+        lists = λ j l. inl (paths j l (cases_eq j k));
         own = λ j i l h. owned j i l h (cases_eq i x);
         each = grind (arith, not_x, same_list, was_free, occurs-without_other);
-        once = λ j i l. omega (arith, listed.once j i l, occurs-without_le x i (listed.free_lists j));
-        exact = λ i f. (let ne = not_x i f in subst IsSolid (sym (kept i ne).0) (listed.exact i (was_free i ne f)));
+        once = λ j i l. omega (arith, chained.listed.once j i l, occurs-without_le x i (chained.listed.free_lists j));
+        exact = λ i f. (let ne = not_x i f in subst IsSolid (sym (kept i ne).0) (chained.listed.exact i (was_free i ne f)));
         low = grind (arith, not_x, lows, was_free, same_list);
       }
 
+  pub listed-without : AreChained o heads' es'
+  listed-without = record { listed = without-listed; chains = λ j l. paths j l (cases_eq j k) }
+
 -- An entry e, at x, comes first in its list k: the others stay.
-module _ (o : Options) (heads heads' : List ListHead) (es es' : List Item) (listed : AreListed o heads es) (x : ℕ) (k : ℕ) (e : Item)
+module _ (o : Options) (heads heads' : List ListHead) (es es' : List Item) (chained : AreChained o heads es) (x : ℕ) (k : ℕ) (e : Item)
     (idle : (item_at es x).is_free ≡ false) (inside : x < length es) (long : length es' ≡ length es)
     (this : item_at es' x ≡ e) (others : (i : ℕ) → i ≢ x → item_at es' i ≡ item_at es i)
     (free : e.is_free ≡ true) (after : e.after ≡ (head_of heads k).number) (exact : IsSolid e.area) (list : list_of o (item_sides e) ≡ k)
@@ -160,19 +163,19 @@ module _ (o : Options) (heads heads' : List ListHead) (es es' : List Item) (list
     (lower : is_used_at heads k ≡ true → low_of heads' k ≤ low_of heads k)
     (other_lows : (j : ℕ) → j ≢ k → low_of heads' j ≡ low_of heads j) where
   abbrev added : ℕ → List ℕ
-  added = lists_with listed.free_lists k x
+  added = lists_with chained.listed.free_lists k x
 
-  added-here : added k ≡ x ∷ listed.free_lists k
-  added-here = cond-true (k == k) (x ∷ listed.free_lists k) (listed.free_lists k) (eq-eqb k k refl)
+  added-here : added k ≡ x ∷ chained.listed.free_lists k
+  added-here = cond-true (k == k) (x ∷ chained.listed.free_lists k) (chained.listed.free_lists k) (eq-eqb k k refl)
 
-  added-other : (j : ℕ) → j ≢ k → added j ≡ listed.free_lists j
-  added-other j ne = cond-false (j == k) (x ∷ listed.free_lists j) (listed.free_lists j) (ne_eqb j k ne)
+  added-other : (j : ℕ) → j ≢ k → added j ≡ chained.listed.free_lists j
+  added-other j ne = cond-false (j == k) (x ∷ chained.listed.free_lists j) (chained.listed.free_lists j) (ne_eqb j k ne)
 
-  not_in_lists : (j : ℕ) → j < 2704 → occurs x (listed.free_lists j) ≡ 0
+  not_in_lists : (j : ℕ) → j < 2704 → occurs x (chained.listed.free_lists j) ≡ 0
   not_in_lists j l = grind (arith, both_ways)
 
-  frame : (j : ℕ) → j < 2704 → IsPath es' (head_of heads j).number (listed.free_lists j) no_slot
-  frame j l = grind (arith, path-frame, not_in_lists)
+  frame : (j : ℕ) → j < 2704 → IsPath es' (head_of heads j).number (chained.listed.free_lists j) no_slot
+  frame j l = grind (arith, path-frame, not_in_lists, chained.chains)
 
   added-paths : (j : ℕ) → j < 2704 → (j ≡ k) ⊎ (j ≢ k) → IsPath es' (head_of heads' j).number (added j) no_slot
   added-paths j l (inl is) = grind (arith, added-here, frame)
@@ -184,11 +187,11 @@ module _ (o : Options) (heads heads' : List ListHead) (es es' : List Item) (list
   list-same : (i : ℕ) → i ≢ x → list_at o es' i ≡ list_at o es i
   list-same i ne = ap (λ (t : Item). list_of o (item_sides t)) (others i ne)
 
-  occurs-added : (j i : ℕ) → (j ≡ k) ⊎ (j ≢ k) → occurs i (listed.free_lists j) ≤ occurs i (added j)
-  occurs-added j i (inl is) = subst (λ n. occurs i (listed.free_lists n) ≤ occurs i (added n)) (sym is) (omega (arith, ap (occurs i) added-here))
+  occurs-added : (j i : ℕ) → (j ≡ k) ⊎ (j ≢ k) → occurs i (chained.listed.free_lists j) ≤ occurs i (added j)
+  occurs-added j i (inl is) = subst (λ n. occurs i (chained.listed.free_lists n) ≤ occurs i (added n)) (sym is) (omega (arith, ap (occurs i) added-here))
   occurs-added j i (inr ne) = omega (arith, ap (occurs i) (added-other j ne))
 
-  occurs-added_back : (j i : ℕ) → i ≢ x → (j ≡ k) ⊎ (j ≢ k) → occurs i (added j) ≡ occurs i (listed.free_lists j)
+  occurs-added_back : (j i : ℕ) → i ≢ x → (j ≡ k) ⊎ (j ≢ k) → occurs i (added j) ≡ occurs i (chained.listed.free_lists j)
   occurs-added_back j i ne (inl is) = grind (arith, added-here, same-ne)
   occurs-added_back j i ne (inr apart) = ap (occurs i) (added-other j apart)
 
@@ -203,30 +206,30 @@ module _ (o : Options) (heads heads' : List ListHead) (es es' : List Item) (list
 
   once-added : (j i : ℕ) → j < 2704 → (i ≡ x) ⊎ (i ≢ x) → (j ≡ k) ⊎ (j ≢ k) → occurs i (added j) ≤ 1
   once-added j i l (inl is) (inl jk) = grind (arith, added-here, same-self, not_in_lists)
-  once-added j i l (inl is) (inr ne) = omega (arith, listed.once j i l, ap (occurs i) (added-other j ne))
-  once-added j i l (inr apart) c = omega (arith, listed.once j i l, occurs-added_back j i apart c)
+  once-added j i l (inl is) (inr ne) = omega (arith, chained.listed.once j i l, ap (occurs i) (added-other j ne))
+  once-added j i l (inr apart) c = omega (arith, chained.listed.once j i l, occurs-added_back j i apart c)
 
   -- A list with a free entry has a head.
   used_list : (i : ℕ) → (item_at es i).is_free ≡ true → list_at o es i ≡ k → k < 2704 → is_used_at heads k ≡ true
-  used_list i f is l = slot-is (head_of heads k) (some (listed.free_lists k) (listed.path k l) (subst (λ n. 0 < occurs i (listed.free_lists n)) is (listed.each i f)))
+  used_list i f is l = slot-is (head_of heads k) (some (chained.listed.free_lists k) (chained.chains k l) (subst (λ n. 0 < occurs i (chained.listed.free_lists n)) is (chained.listed.each i f)))
     where
       some : (xs : List ℕ) → IsPath es (head_of heads k).number xs no_slot → 0 < occurs i xs
           → (head_of heads k).number ≢ no_slot
       some [] p h z = omega (arith, h)
-      some (y ∷ ys) p h z = omega (arith, z, p.0, p.1, listed.short)
+      some (y ∷ ys) p h z = omega (arith, z, p.0, p.1, chained.listed.short)
 
   low-added : k < 2704 → (i : ℕ) → (item_at es' i).is_free ≡ true → (i ≡ x) ⊎ (i ≢ x)
       → low_of heads' (list_at o es' i) ≤ (item_box (item_at es' i)).min.y
   low-added l i f (inl is) = grind arith
   low-added l i f (inr ne) = grind (arith, used_list)
 
-  pub listed-with : k < 2704 → AreListed o heads' es'
-  listed-with l =
+  abbrev with-listed : k < 2704 → AreListed o heads' es'
+  with-listed l =
       record {
         free_lists = added;
-        valid = listed.valid;
-        short = omega (arith, long, listed.short);
-        path = λ j p. added-paths j p (cases_eq j k);
+        valid = chained.listed.valid;
+        short = omega (arith, long, chained.listed.short);
+        lists = λ j p. inl (added-paths j p (cases_eq j k));
         own = λ j i p h. own-added j i p h (cases_eq i x);
         each = λ i f. each-added i f (cases_eq i x);
         once = λ j i p. once-added j i p (cases_eq i x) (cases_eq j k);
@@ -237,3 +240,6 @@ module _ (o : Options) (heads heads' : List ListHead) (es es' : List Item) (list
       exact-added : (i : ℕ) → (item_at es' i).is_free ≡ true → (i ≡ x) ⊎ (i ≢ x) → IsSolid (item_at es' i).area
       exact-added i f (inl is) = grind arith
       exact-added i f (inr ne) = grind (arith, others)
+
+  pub listed-with : k < 2704 → AreChained o heads' es'
+  listed-with l = record { listed = with-listed l; chains = λ j p. added-paths j p (cases_eq j k) }

@@ -20,7 +20,8 @@ use Rattle.atlas_search.proofs.SearchLemmas.Adding.{added-then, added-weaker}
 use Rattle.atlas_search.proofs.SearchLemmas.BandLaws.{band_mono, list_of-most}
 use Rattle.atlas_search.proofs.SearchLemmas.Besting.{seen-passed}
 use Rattle.atlas_search.proofs.Occurrences.{same-self, same-ne}
-use Rattle.atlas_search.proofs.SearchLemmas.Showing.{path-inside, shown_items-has, shown_items-in}
+use Rattle.atlas_search.proofs.SearchLemmas.Piling.{listed-inside}
+use Rattle.atlas_search.proofs.SearchLemmas.Showing.{shown_items-has, shown_items-in}
 
 -- The numbers below n that pass a test.
 numbers_where : (ℕ → Bool) → ℕ → List ℕ
@@ -109,7 +110,7 @@ module _ (o : Options) (heads : List ListHead) (es : List Item) (own : Place) (r
   inside-free : (i : ℕ) → (item_at es i).is_free ≡ true → i < length es
   inside-free i free =
       let k = 52 * row_of i + column_of i in
-      path-inside es _ (a.free_lists k) _ (a.path k (list_of-most o (item_sides (item_at es i)))) i (a.each i free)
+      listed-inside es _ (a.free_lists k) (a.lists k (list_of-most o (item_sides (item_at es i)))) i (a.each i free)
 
   -- Once an equal side is found, no list to the right and below holds the best.
   pub added-apart : (s : Best) → s.rank ≡ 0 → HasAdded o heads es end r IsApart s s

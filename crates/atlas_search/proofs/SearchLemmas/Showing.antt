@@ -10,7 +10,8 @@ use Rattle.atlas_model.specs.declared.geometry.Rectangle.{Rectangle}
 use Rattle.atlas_search.specs.declared.link.Link.{Link}
 use Rattle.atlas_search.specs.Bests.{HasSeen, IsLeast, IsLooked, IsSameBest}
 use Rattle.atlas_model.specs.Boxes.{Sides}
-use Rattle.atlas_search.specs.Items.{Item, no_item, item_at, shown_item, shown_items, IsPath, IsPrevious, IsShowable}
+use Rattle.atlas_search.specs.Items.{Item, no_item, item_at, shown_item, shown_items, IsPath, IsPrevious}
+use Rattle.atlas_search.specs.Piles.{IsListed, IsShowable, IsTag}
 use Rattle.atlas_search.specs.Rectangles.{IsSolid}
 use Rattle.atlas_search.specs.Numbers.{occurs, same, no_slot}
 use Rattle.atlas_search.specs.Lookups.{IsSpot, IsLowBut, HasShown}
@@ -35,7 +36,7 @@ pub path-stop : (es : List Item) (xs : List ℕ) → length es ≤ no_slot → (
 path-stop es [] short from e p = refl
 path-stop es (x ∷ xs) short from e p = absurd (omega (arith, e, p.0, p.1))
 
-path-more : (es : List Item) (at : ℕ) (xs : List ℕ) → IsPath es at xs no_slot → at ≢ no_slot
+pub path-more : (es : List Item) (at : ℕ) (xs : List ℕ) → IsPath es at xs no_slot → at ≢ no_slot
     → (ys : List ℕ) × (xs ≡ at ∷ ys) × (at < length es) × IsPath es (item_at es at).after ys no_slot
 path-more es at [] p ne = absurd (ne p)
 path-more es at (x ∷ ys) p ne =
@@ -105,15 +106,20 @@ pub record IsAlong (es : List Item) (head : ℕ) (list : ℕ) (start : Best) (at
 abbrev pub KeepsSeen : (before after : Best) → Type 0
 KeepsSeen s t = (is_large : Bool) (r : Sides) (shown : List Shown) → HasSeen s is_large r shown → HasSeen t is_large r shown
 
-pub along-begins : (es : List Item) (head list : ℕ) (start : Best) (low : ℕ) → IsShowable es head
-    → IsAlong es head list start head no_slot start low
-along-begins es head list start low s =
+-- A list that begins with no tag is a chain.
+pub chain-of : (es : List Item) (head : ℕ) (xs : List ℕ) → (IsTag head → ⊥) → IsListed es head xs → IsPath es head xs no_slot
+chain-of es head xs untagged (inl path) = path
+chain-of es head xs untagged (inr pile) = absurd (untagged pile.2)
+
+pub along-begins : (es : List Item) (head list : ℕ) (start : Best) (low : ℕ) (xs : List ℕ) → (IsTag head → ⊥)
+    → IsShowable es head xs → IsAlong es head list start head no_slot start low
+along-begins es head list start low xs untagged s =
     record {
       done = [];
-      rest = s.xs;
-      short = s.short;
+      rest = xs;
+      short = omega (arith, s.short);
       came = refl;
-      left = s.path;
+      left = chain-of es head xs untagged s.listed;
       once = λ i. omega (arith, s.once i);
       exact = s.exact;
       previous = inl (refl, refl);
@@ -129,7 +135,13 @@ previous-push es head xs x before at (inr p) = inr (omega (arith, p.0, occurs-pu
 
 spot-push : (es : List Item) (head : ℕ) (list : ℕ) (xs : List ℕ) (x : ℕ) (f g : Spot) → g ≡ f → IsSpot es head list xs f
     → IsSpot es head list (xs ++ x ∷ []) g
-spot-push es head list xs x f g e s = grind (arith, occurs-push, previous-push)
+spot-push es head list xs x f g e s =
+    subst (λ (h : Spot). IsSpot es head list (xs ++ x ∷ []) h) (sym e)
+    (record {
+      inside = omega (arith, s.inside, occurs-push f.at.number x xs);
+      in_list = s.in_list;
+      before = λ untagged. previous-push es head xs x f.before.number f.at.number (s.before untagged);
+    })
 
 module _ (es : List Item) (head : ℕ) (list : ℕ) (start now : Best) (low : ℕ) (at before : Link)
     (w : IsAlong es head list start at.number before.number now low) (more : at.number ≢ no_slot) where
@@ -180,7 +192,7 @@ module _ (es : List Item) (head : ℕ) (list : ℕ) (start now : Best) (low : �
               (record {
                 inside = omega (arith, occurs-push this this w.done, same-self this);
                 in_list = refl;
-                before = previous-push es head w.done this before.number this w.previous;
+                before = λ untagged. previous-push es head w.done this before.number this w.previous;
               }))
         ];
       }
@@ -190,7 +202,7 @@ pub entries_from : List Item → (bound at : ℕ) → ℕ
 entries_from es zero at = 0
 entries_from es (suc bound) at = if at == no_slot then 0 else suc (entries_from es bound (item_at es at).after)
 
-entries-path : (es : List Item) (bound at : ℕ) (xs : List ℕ) → length es ≤ no_slot → IsPath es at xs no_slot
+pub entries-path : (es : List Item) (bound at : ℕ) (xs : List ℕ) → length es ≤ no_slot → IsPath es at xs no_slot
     → length xs ≤ bound
     → entries_from es bound at ≡ length xs
 unfolding entries_from
@@ -224,11 +236,13 @@ pub along-ends : (es : List Item) (head list : ℕ) (start now after : Best) (lo
     → IsAlong es head list start at before now low
     → at ≡ no_slot → KeepsSeen now after → after.rank ≡ now.rank → (now.spot.list ≢ list → after.spot ≡ now.spot)
     → (now.spot.list ≡ list → after.spot ≡ record now.spot { low = low })
-    → HasShown es head list start after
-along-ends es head list start now after low at before w here seen rank other own =
-    record {
-      xs = w.done;
-      path = subst (λ n. IsPath es head w.done n) here w.came;
+    → (xs : List ℕ) → IsPath es head xs no_slot → HasShown es head list xs start after
+along-ends es head list start now after low at before w here seen rank other own xs path =
+    let all : w.done ≡ xs = path-same es head w.done xs w.short (subst (λ n. IsPath es head w.done n) here w.came) path in
+    subst (λ (zs : List ℕ). HasShown es head list zs start after) all
+    (record {
+      order = w.done;
+      same = λ i. refl;
       seen = λ is_large r shown h. seen is_large r _ (w.seen is_large r shown h);
       found = elim (cases_eq now.spot.list list) [
         | inl e ↦
@@ -251,4 +265,4 @@ along-ends es head list start now after low at before w here seen rank other own
           | inr some ↦ absurd (ne some.in_list)
         ]
       ];
-    }
+    })

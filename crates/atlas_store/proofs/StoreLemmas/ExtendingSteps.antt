@@ -7,20 +7,21 @@ use Rattle.atlas_store.specs.declared.slots.NodeKind.TheVariants as kind
 use Rattle.atlas_model.specs.declared.geometry.Size.{Size}
 use Rattle.atlas_model.specs.Boxes.{Axis, Sides, other, side, IsPositive}
 use Rattle.atlas_model.specs.Boxes.Axis.{Horizontal, Vertical}
-use Rattle.atlas_model.specs.Pixels.{sides_of}
+use Rattle.atlas_model.specs.Pixels.{options_of, sides_of}
 use Rattle.atlas_model.specs.Trees.{IsCut, total}
 use Rattle.atlas_store.specs.Slots.{nodes, rings, node_at, use_count}
 use Rattle.atlas_search.specs.Numbers.{no_slot, occurs, same}
-use Rattle.atlas_store.specs.Slots.Numbered.{Numbered, erase, tally}
+use Rattle.atlas_store.specs.Slots.Numbered.{Numbered, erase, tally, End, Free}
 use Rattle.atlas_store.specs.Slots.Standing.{Sequence, Stands}
 use Rattle.atlas_store.specs.Slots.Links.{with_mark}
 use Rattle.atlas_store.specs.Slots.SlotCalls.{CanAppendTo, CanNestTop, IsLeafStretched, IsLeafAppended, IsTopNested}
-use Rattle.atlas_store.specs.Stored.{Shelf, Holding, Holds, HoldsWith}
+use Rattle.atlas_store.specs.Slots.Lists.{AreFiled}
+use Rattle.atlas_store.specs.Stored.{Shelf, Holding, Holds, HoldsWith, places_of}
 use Rattle.atlas_store.specs.Store.Holdings.{shelf_of, HasSlotsFor, IsDetachedLeaf, with_unused_list}
 use Rattle.atlas_store.specs.Store.StoreCalls.{AreSlotsTaken}
 use Rattle.atlas_store.specs.Store.TopCalls.{IsExtendable, IsNestable}
 use Rattle.atlas_store.specs.declared.store.Store.{Store}
-use Rattle.atlas_store.specs.Slots.Growing.{IsEnd, IsLone, Reaches, last_slot, top_along, stretched, appended, nested, after_stretch, after_whole, after_append, after_nest}
+use Rattle.atlas_store.specs.Slots.Growing.{IsEnd, IsLone, Reaches, last_slot, top_along, stretched, appended, nested, after_stretch, after_whole, after_append, after_nest, whole_sequence}
 use Rattle.atlas_store.proofs.SlotLemmas.Frames.{same-self, same-ne}
 use Rattle.atlas_store.proofs.StoreLemmas.Filing.{with_mark-same, with_mark-other}
 use Rattle.atlas_store.proofs.StoreLemmas.Taking.{AreFiled-moved, StaysOrIsOut}
@@ -49,7 +50,11 @@ held_anew : (claimed : ℕ → ℕ) (v : Shelf) (new : List Slot) (h : Holding) 
     → HoldsWith claimed v h → AreUsed v.slots new claimed h.detached detached → s.parent ≡ no_slot
     → Stands (nodes new) s n → IsInBounds s n
     → Holds (record v { slots = new }) (record h { sequence = s; tree = n; detached = detached })
-held_anew claimed v new h s n detached long holds used top stands bounds = grind (arith, AreFiled-moved)
+held_anew claimed v new h s n detached long holds used top stands bounds =
+    let moved = AreFiled-moved (options_of v.options) (nodes v.slots) (nodes new) (rings v.slots) v.heads v.unused (places_of claimed h) (λ i. 0) detached
+        used.moved (λ i l. omega (arith, used.counted i)) holds.filed in
+    let filed : AreFiled (options_of v.options) (nodes new) (rings new) v.heads v.unused (places_of (λ i. 0) (record h { sequence = s; tree = n; detached = detached })) = rw used.same_rings moved in
+    grind arith
 
 -- Each side of a size is what an `i32` holds.
 pub sides-fit : (size : Size) → FitsSigned w32 size.width → FitsSigned w32 size.height → (a : Axis)
@@ -90,7 +95,11 @@ pub whole-holds : (v : Shelf) (old mid new : List Slot) (at : ℕ) (size : Size)
     → Holds (record v { slots = new }) (after_whole (sides_of size) at h)
 whole-holds v old mid new at size a fit positive w h leaf lone =
     let own = over-shelf (λ x y. IsLeafStretched x y at size) _ _ _ _ a w in
-    grind (arith, held_anew, used-leaf v.slots new at size h.detached own, long-over v.slots old mid new a)
+    let one : Stands (nodes v.slots) h.sequence (Free at lone.extent End) = rw (← lone.tree) leaf.holds.stands in
+    let bounds : IsInBounds (whole_sequence (sides_of size) h.sequence) (Free at (side h.sequence.axis (sides_of size)) End) = grind arith in
+    held_anew (λ i. 0) v new h (whole_sequence (sides_of size) h.sequence) (Free at (side h.sequence.axis (sides_of size)) End) h.detached
+    (long-over v.slots old mid new a) leaf.holds (used-leaf v.slots new at size h.detached own leaf.kind leaf.detached) leaf.holds.top
+    (own.whole h.sequence lone.extent one lone.start) bounds
 
 -- The last slot of a tree is used.
 last-used : (ns : List Node) (s : Sequence) (n : Numbered) (last : ℕ) → Stands ns s n → 0 < total (erase n)

@@ -1,6 +1,6 @@
 -- The lists of free slots and the list of unused ones, all together.
 use Rattle.std.proofs.Common.{ℕ, ◌<◌, ◌≤◌, ◌≡◌, List, [], ◌∷◌, refl, sym, ap, ◌∙◌, inl, inr, arith, length, Bool, true, false, eqb}
-use Rattle.std.specs.Prelude.{if◌then◌else◌, ◌≢◌}
+use Rattle.std.specs.Prelude.{if◌then◌else◌, ◌≢◌, not}
 use Rattle.std.proofs.lemmas.Bool.{cases_eq, cases_lt, cond_both, cond-true, cond-false, eq-eqb, ne_eqb, and_parts, and_from, and_right}
 use Rattle.std.proofs.lemmas.List.{length-map}
 use Rattle.atlas_store.specs.declared.slots.Slot.{Slot}
@@ -17,14 +17,16 @@ use Rattle.atlas_model.specs.Pixels.{sides_of, box_of}
 use Rattle.atlas_model.specs.Choice.{Options}
 use Rattle.atlas_store.specs.Slots.{nodes, rings, node_at, ring_at, use_count}
 use Rattle.atlas_search.specs.Numbers.{same, occurs, without, lists_with}
+use Rattle.atlas_search.specs.Piles.{IsTag}
 use Rattle.atlas_store.specs.Slots.Standing.{IsSlot}
-use Rattle.atlas_store.specs.Slots.Lists.{IsList, IsFiled, AreFiled, Places, filed, node_sides, node_top, is_free, tag_of}
+use Rattle.atlas_store.specs.Slots.Lists.{IsLinked, IsList, IsFiled, AreFiled, Places, filed, node_sides, node_top, is_free, tag_of}
 use Rattle.atlas_search.specs.Bands.{list_of, number_of}
 use Rattle.atlas_search.specs.Tables.{head_of, low_of, is_used_at}
 use Rattle.atlas_store.specs.Slots.Links.{IsSlotOrTag, IsFiledSlot, IsDetachedSlot, IsUnlisted, first_after, with_mark, with_count, with_next, with_ring_previous, unlisted, listed}
 use Rattle.atlas_search.proofs.Occurrences.{same-self, same-ne, ne-from_occurs, without-none, occurs-without}
 use Rattle.atlas_search.proofs.SearchLemmas.BandLaws.{list_of-most}
-use Rattle.atlas_store.proofs.StoreLemmas.Unlinking.{CanUnlink, IsList-kept, IsList-unlinked, Line-kept, Line-inside, can-unlink, others-unlinked, unlinked-by}
+use Rattle.atlas_store.proofs.StoreLemmas.Linking.{IsLinked-kept, chain-linked, chain-untagged, linked-chain, linked-inside, linked-some, untagged-chain}
+use Rattle.atlas_store.proofs.StoreLemmas.Unlinking.{CanUnlink, IsList-unlinked, Line-kept, Line-inside, can-unlink, others-unlinked, unlinked-by}
 pub use Rattle.atlas_store.proofs.SlotLemmas.Frames.{past-unused, used-inside}
 
 -- The list that a node belongs in if it is free.
@@ -54,6 +56,12 @@ filed-kind o k n = grind (arith, free_kind, and_parts)
 pub filed-use : (o : Options) (k : ℕ) (n : Node) → filed o k n ≤ use_count n.kind
 filed-use o k n = grind (arith, free_use, and_parts)
 
+use-most : (k : NodeKind) → use_count k ≤ 1
+use-most kind.Container = omega arith
+use-most kind.Alloc = omega arith
+use-most kind.Free = omega arith
+use-most kind.Unused = omega arith
+
 pub with_mark-same : (detached : ℕ → Bool) (i : ℕ) (mark : Bool) → with_mark detached i mark i ≡ mark
 with_mark-same detached i mark = cond-true _ mark (detached i) (eq-eqb i i refl)
 
@@ -80,6 +88,11 @@ unless-not b n e = cond-false b 0 n e
 pub unless-le : (b : Bool) (n : ℕ) → unless_detached b n ≤ n
 unless-le b n = cond_both b 0 n (λ v. v ≤ n) (λ _. omega arith) (λ _. omega arith)
 
+-- The slots xs are free, and each stands there once.
+pub record AreFreeOnce (ns : List Node) (xs : List ℕ) : Type 0 where
+  pub once : (k : ℕ) → occurs k xs ≤ 1
+  pub free : (k : ℕ) → 0 < occurs k xs → (node_at ns k).kind ≡ kind.Free
+
 module _ (o : Options) (ns : List Node) (rs : List Ring) (heads : List ListHead) (unused : Link) (p : Places) (f : AreFiled o ns rs heads unused p) where
   -- A slot that stands in a list belongs there.
   pub listed-list : (k i : ℕ) → k < 2704 → 0 < occurs i (p.free_lists k) → k ≡ list_for o (node_at ns i)
@@ -95,6 +108,12 @@ module _ (o : Options) (ns : List Node) (rs : List Ring) (heads : List ListHead)
   pub apart : (k m i : ℕ) → k < 2704 → m < 2704 → (k ≡ m → ⊥) → 0 < occurs i (p.free_lists k)
       → occurs i (p.free_lists m) ≡ 0
   apart k m i lk lm ne h = elsewhere m i lm (λ q. ne (listed-list k i lk h ∙ sym q))
+
+  pub listed-own : (k : ℕ) → k < 2704 → AreFreeOnce ns (p.free_lists k)
+  listed-own k l = record {
+    once = λ i. omega (arith, (f.free k l).each i, unless-le (p.detached i) (filed o k (node_at ns i)), filed-use o k (node_at ns i), use-most (node_at ns i).kind);
+    free = λ i h. listed-kind k i l h;
+  }
 
   -- A slot that is free and not detached stands in its list.
   pub listed-one : (i : ℕ) → (node_at ns i).kind ≡ kind.Free → p.detached i ≡ false
@@ -131,21 +150,27 @@ pub IsFiled-kept : (o : Options) (ns : List Node) (rs ts : List Ring) (heads hea
     → ((j : ℕ) → unless_detached (detached' j) (filed o k (node_at ns j)) ≡ unless_detached (detached j) (filed o k (node_at ns j)))
     → IsFiled o ns rs heads k xs detached → IsFiled o ns ts heads' k ys detached'
 IsFiled-kept o ns rs ts heads heads' k xs ys detached detached' eh el ey lt same_at marks h =
-    grind (arith, IsList-kept rs ts (tag_of k) (head_of heads k) xs lt same_at h.links)
+    record {
+      links = rw (eh, ey) (IsLinked-kept ns ns rs ts (tag_of k) (head_of heads k) xs lt same_at (λ j _. refl) h.links);
+      each = λ i. ap (occurs i) ey ∙ h.each i ∙ sym (marks i);
+      low = λ i l. rw el (h.low i (rw (← ey) l));
+    }
 
 -- Slot i left the list that comes after `before`.
-pub record IsTakenOut (rs ts : List Ring) (before : ℕ) (first new : Link) (i : ℕ) : Type 0 where
+pub record IsTakenOut (ns : List Node) (rs ts : List Ring) (before : ℕ) (first new : Link) (i : ℕ) : Type 0 where
   pub same_length : length ts ≡ length rs
-  pub links : (xs : List ℕ) → IsList rs before first xs → 0 < occurs i xs → IsList ts before new (without i xs)
-  pub others : (xs : List ℕ) (k : ℕ) → IsList rs before first xs → 0 < occurs i xs → occurs k xs ≡ 0
-      → ring_at ts k ≡ ring_at rs k
+  pub links : (xs : List ℕ) → IsLinked ns rs before first xs → AreFreeOnce ns xs → 0 < occurs i xs
+      → IsLinked ns ts before new (without i xs)
+  pub others : (xs : List ℕ) (k : ℕ) → IsLinked ns rs before first xs → AreFreeOnce ns xs → 0 < occurs i xs
+      → occurs k xs ≡ 0 → ring_at ts k ≡ ring_at rs k
 
--- Slot i joined the list that comes after `before`, in front.
-pub record IsPutIn (rs ts : List Ring) (before : ℕ) (first new : Link) (i : ℕ) : Type 0 where
+-- Slot i joined the list that comes after `before`.
+pub record IsPutIn (ns : List Node) (rs ts : List Ring) (before : ℕ) (first new : Link) (i : ℕ) : Type 0 where
   pub same_length : length ts ≡ length rs
-  pub links : (xs : List ℕ) → IsList rs before first xs → occurs i xs ≡ 0 → IsList ts before new (i ∷ xs)
-  pub others : (xs : List ℕ) (k : ℕ) → IsList rs before first xs → (k ≡ i → ⊥) → occurs k xs ≡ 0
-      → ring_at ts k ≡ ring_at rs k
+  pub links : (xs : List ℕ) → IsLinked ns rs before first xs → AreFreeOnce ns xs → occurs i xs ≡ 0
+      → IsLinked ns ts before new (i ∷ xs)
+  pub others : (xs : List ℕ) (k : ℕ) → IsLinked ns rs before first xs → AreFreeOnce ns xs → occurs i xs ≡ 0 → (k ≡ i → ⊥)
+      → occurs k xs ≡ 0 → ring_at ts k ≡ ring_at rs k
 
 -- The lists but list m stay.
 pub record ChangesList (heads heads' : List ListHead) (m : ℕ) : Type 0 where
@@ -166,14 +191,15 @@ module _ (o : Options) (ns : List Node) (rs ts : List Ring) (heads heads' : List
       → unless_detached (with_mark p.detached i mark j) (filed o k (node_at ns j)) ≡ unless_detached (p.detached j) (filed o k (node_at ns j))
   marks k mark ne j = grind (arith, filed-other, unless-le, with_mark-other)
 
-  pub AreFiled-unlisted : p.detached i ≡ false → IsTakenOut rs ts (tag_of m) (head_of heads m) (head_of heads' m) i
+  pub AreFiled-unlisted : p.detached i ≡ false → IsTakenOut ns rs ts (tag_of m) (head_of heads m) (head_of heads' m) i
       → low_of heads' m ≡ low_of heads m → AreFiled o ns ts heads' unused (unlisted p i)
   AreFiled-unlisted kept w same_low =
       let mine = f.free m below in
+      let own = listed-own o ns rs heads unused p f m below in
       let one : occurs i (p.free_lists m) ≡ 1 = rw em (listed-one o ns rs heads unused p f i is_free kept) in
       let on : 0 < occurs i (p.free_lists m) = omega arith in
-      let same_at : (j : ℕ) → occurs j (p.free_lists m) ≡ 0 → ring_at ts j ≡ ring_at rs j = (λ j z. w.others (p.free_lists m) j mine.links on z) in
-      let links : IsList ts (tag_of m) (head_of heads' m) (without i (p.free_lists m)) = w.links (p.free_lists m) mine.links on in
+      let same_at : (j : ℕ) → occurs j (p.free_lists m) ≡ 0 → ring_at ts j ≡ ring_at rs j = (λ j z. w.others (p.free_lists m) j mine.links own on z) in
+      let links : IsLinked ns ts (tag_of m) (head_of heads' m) (without i (p.free_lists m)) = w.links (p.free_lists m) mine.links own on in
       let changed : IsFiled o ns ts heads' m (without i (p.free_lists m)) (with_mark p.detached i true) =
       grind (arith, unless-detached, with_mark-same, occurs-without, same-self, same-ne, with_mark-other) in
       record {
@@ -186,16 +212,17 @@ module _ (o : Options) (ns : List Node) (rs ts : List Ring) (heads heads' : List
         each = λ j l. f.each j (omega (arith, w.same_length));
       }
 
-  pub AreFiled-listed : p.detached i ≡ true → IsPutIn rs ts (tag_of m) (head_of heads m) (head_of heads' m) i
+  pub AreFiled-listed : p.detached i ≡ true → IsPutIn ns rs ts (tag_of m) (head_of heads m) (head_of heads' m) i
       → low_of heads' m ≤ node_top (node_at ns i)
       → ((j : ℕ) → 0 < occurs j (p.free_lists m) → low_of heads' m ≤ low_of heads m)
       → AreFiled o ns ts heads' unused (listed p m i)
   AreFiled-listed kept w low lower =
       let mine = f.free m below in
+      let own = listed-own o ns rs heads unused p f m below in
       let none : occurs i (p.free_lists m) ≡ 0 = detached-nowhere o ns rs heads unused p f m i below kept in
-      let same_at : (j : ℕ) → (j ≡ i → ⊥) → occurs j (p.free_lists m) ≡ 0 → ring_at ts j ≡ ring_at rs j = (λ j nj z. w.others (p.free_lists m) j mine.links nj z) in
+      let same_at : (j : ℕ) → (j ≡ i → ⊥) → occurs j (p.free_lists m) ≡ 0 → ring_at ts j ≡ ring_at rs j = (λ j nj z. w.others (p.free_lists m) j mine.links own none nj z) in
       let changed : IsFiled o ns ts heads' m (i ∷ p.free_lists m) (with_mark p.detached i false) = record {
-        links = w.links (p.free_lists m) mine.links none;
+        links = w.links (p.free_lists m) mine.links own none;
         each = λ j. elim (cases_eq j i) [
           | inl e ↦
               let z : unless_detached (with_mark p.detached i false j) (filed o m (node_at ns j)) ≡ 1 = unless-not (with_mark p.detached i false j) (filed o m (node_at ns j)) (rw e (with_mark-same p.detached i false)) ∙ rw (e, em) (filed-free o (node_at ns i) is_free) in
@@ -240,32 +267,42 @@ pub number-is : (o : Options) (place : Place) (size : Size) (node n : Node)
 number-is o place size node n e s r = e ∙ ap (list_of o) s ∙ ap (list_for o) r
 
 -- No list holds a detached slot.
-pub is-unlisted : (o : Options) (slots : List Slot) (heads : List ListHead) (i m : ℕ) → IsDetachedSlot o slots heads i
-    → m ≡ list_for o (node_at (nodes slots) i) → IsUnlisted (rings slots) (tag_of m) (head_of heads m) i
-is-unlisted o slots heads i m k em =
-    let below : m < 2704 = rw em (list_of-most o (node_sides (node_at (nodes slots) i))) in
-    (k.places.free_lists m, (k.filed.free m below).links, detached-nowhere o _ _ heads k.unused k.places k.filed m i below k.is_detached)
+pub is-unlisted : (o : Options) (slots : List Slot) (heads : List ListHead) (i m : ℕ) → length slots < 2147483648
+    → IsDetachedSlot o slots heads i
+    → m ≡ list_for o (node_at (nodes slots) i) → (IsTag (head_of heads m).number → ⊥)
+    → IsUnlisted (rings slots) (tag_of m) (head_of heads m) i
+is-unlisted o slots heads i m short k em untagged =
+    let below : m < 2704 = rw em (list_of-most o (node_sides (node_at (nodes slots) i))) in (
+      k.places.free_lists m,
+      untagged-chain (nodes slots) (rings slots) (tag_of m) (head_of heads m) (k.places.free_lists m)
+          (omega (arith, short, length-map slots (λ (s : Slot). s.ring))) ((k.filed.free m below).links) untagged,
+      detached-nowhere o _ _ heads k.unused k.places k.filed m i below k.is_detached,
+    )
 
 -- A slot that stands in a list makes it one that is used.
-pub is-used : (rs : List Ring) (heads : List ListHead) (k j : ℕ) (xs : List ℕ) → length rs < 4294967295
-    → IsList rs (tag_of k) (head_of heads k) xs → 0 < occurs j xs → is_used_at heads k ≡ true
-is-used rs heads k j [] short h l = absurd (omega arith)
-is-used rs heads k j (x ∷ xs) short h l = grind (arith, ne_eqb)
+pub is-used : (ns : List Node) (rs : List Ring) (heads : List ListHead) (k j : ℕ) (xs : List ℕ) → length rs < 2147483648
+    → IsLinked ns rs (tag_of k) (head_of heads k) xs → 0 < occurs j xs → is_used_at heads k ≡ true
+is-used ns rs heads k j xs short h l =
+    ap not (ne_eqb _ _ (linked-some ns rs (tag_of k) (head_of heads k) xs short h j l))
 
 -- A free slot stands in its list.
 module _ (o : Options) (ns : List Node) (rs : List Ring) (heads : List ListHead) (unused : Link) (p : Places) (f : AreFiled o ns rs heads unused p)
-    (i : ℕ) (free : (node_at ns i).kind ≡ kind.Free) (kept : p.detached i ≡ false) (short : length rs < 2147483648) where
+    (i : ℕ) (free : (node_at ns i).kind ≡ kind.Free) (kept : p.detached i ≡ false) (short : length rs < 2147483648)
+    (chained : (ring_at rs i).previous.number < 4261412864) where
   abbrev own : ℕ
   own = list_for o (node_at ns i)
 
   own-below : own < 2704
   own-below = list_of-most o (node_sides (node_at ns i))
 
-  own-links : IsList rs (tag_of own) (head_of heads own) (p.free_lists own)
-  own-links = (f.free own own-below).links
+  own-linked : IsLinked ns rs (tag_of own) (head_of heads own) (p.free_lists own)
+  own-linked = (f.free own own-below).links
 
   own-stands : 0 < occurs i (p.free_lists own)
   own-stands = omega (arith, listed-one o ns rs heads unused p f i free kept)
+
+  own-links : IsList rs (tag_of own) (head_of heads own) (p.free_lists own)
+  own-links = linked-chain ns rs (tag_of own) (head_of heads own) (p.free_lists own) short own-linked i own-stands chained
 
   can-leave : CanUnlink rs (tag_of own) i
   can-leave = can-unlink rs (tag_of own) i (head_of heads own) (p.free_lists own) own-links own-stands (omega arith)
@@ -273,7 +310,9 @@ module _ (o : Options) (ns : List Node) (rs : List Ring) (heads : List ListHead)
   -- What comes before it is a slot, or tells its list.
   before-is : IsSlotOrTag (length rs) heads (ring_at rs i).previous.number
   before-is = elim can-leave.previous [
-    | inl e ↦ inr (own, own-below, e, is-used rs heads own i (p.free_lists own) (omega arith) own-links own-stands)
+    | inl e ↦ inr (
+        own, own-below, e, is-used ns rs heads own i (p.free_lists own) short own-linked own-stands,
+        chain-untagged rs (tag_of own) (head_of heads own) (p.free_lists own) short own-links)
     | inr l ↦ inl l
   ]
 
@@ -292,10 +331,13 @@ module _ (o : Options) (ns : List Node) (rs : List Ring) (heads : List ListHead)
         (record { firsts = other_firsts; lows = λ k _. lows k }) kept
         (record {
           same_length = w.same_length;
-          links = IsList-unlinked rs ts (tag_of own) (head_of heads own) (head_of heads' own) i ring (omega arith) (omega arith) w er (firsts own);
-          others = others-unlinked rs ts (tag_of own) (head_of heads own) (head_of heads' own) i ring (omega arith) (omega arith) w er;
+          links = λ xs h _ on. chain-linked ns ts (tag_of own) (head_of heads' own) (without i xs) (IsList-unlinked rs ts (tag_of own) (head_of heads own) (head_of heads' own) i ring (omega arith) (omega arith) w er (firsts own) xs (chain xs h on) on);
+          others = λ xs k h _ on. others-unlinked rs ts (tag_of own) (head_of heads own) (head_of heads' own) i ring (omega arith) (omega arith) w er xs k (chain xs h on) on;
         })
         (lows own))
+      where
+        chain : (xs : List ℕ) → IsLinked ns rs (tag_of own) (head_of heads own) xs → 0 < occurs i xs → IsList rs (tag_of own) (head_of heads own) xs
+        chain xs h on = linked-chain ns rs (tag_of own) (head_of heads own) xs short h i on chained
 
 -- What a call needs of it.
 module _ {o : Options} {slots : List Slot} {heads : List ListHead} {i : ℕ} (k : IsFiledSlot o slots heads i) (free : (node_at (nodes slots) i).kind ≡ kind.Free)
@@ -306,33 +348,42 @@ module _ {o : Options} {slots : List Slot} {heads : List ListHead} {i : ℕ} (k 
   pub few-rings : length (rings slots) < 2147483648
   few-rings = omega (arith, same_count)
 
-  leaves : CanUnlink (rings slots) (tag_of (list_for o (node_at (nodes slots) i))) i
-  leaves = can-leave o (nodes slots) (rings slots) heads k.unused k.places k.filed i free k.kept few-rings
-
   pub leaves-inside : i < length slots
-  leaves-inside = omega (arith, leaves.inside, same_count)
+  leaves-inside =
+      let own = list_for o (node_at (nodes slots) i) in
+      let one = listed-one o (nodes slots) (rings slots) heads k.unused k.places k.filed i free k.kept in
+      omega (arith, same_count, linked-inside (nodes slots) (rings slots) (tag_of own) (head_of heads own) (k.places.free_lists own)
+      ((k.filed.free own (list_of-most o (node_sides (node_at (nodes slots) i)))).links) i (omega (arith, one)))
 
-  module _ (ring : Ring) (er : ring ≡ ring_at (rings slots) i) where
+  module _ (ring : Ring) (er : ring ≡ ring_at (rings slots) i) (few : ring.previous.number < 4261412864) where
+    chained : (ring_at (rings slots) i).previous.number < 4261412864
+    chained = rw (← er) few
+
+    leaves : CanUnlink (rings slots) (tag_of (list_for o (node_at (nodes slots) i))) i
+    leaves = can-leave o (nodes slots) (rings slots) heads k.unused k.places k.filed i free k.kept few-rings chained
+
     pub leaves-before : IsSlotOrTag (length slots) heads ring.previous.number
-    leaves-before = rw (er, ← same_count) (before-is o (nodes slots) (rings slots) heads k.unused k.places k.filed i free k.kept few-rings)
+    leaves-before = rw (er, ← same_count) (before-is o (nodes slots) (rings slots) heads k.unused k.places k.filed i free k.kept few-rings chained)
 
     pub leaves-next : (count : ℕ) → count ≡ length slots → IsSlot count ring.next.number
     leaves-next count ec = rw (er, ec, ← same_count) leaves.next
 
+    pub leaves-untagged : IsTag ring.next.number → ⊥
+    leaves-untagged tag = elim (leaves-next (length slots) refl) [
+      | inl e ↦ omega (arith, e, tag.1)
+      | inr l ↦ omega (arith, l, short, tag.0)
+    ]
+
 pub listed-by : (o : Options) (ns ms : List Node) (rs ts : List Ring) (heads heads' : List ListHead) (i m top : ℕ)
     (new : Link)
-    → length rs < 4294967295 → ms ≡ ns → m ≡ list_for o (node_at ns i) → (node_at ns i).kind ≡ kind.Free
+    → length rs < 2147483648 → ms ≡ ns → m ≡ list_for o (node_at ns i) → (node_at ns i).kind ≡ kind.Free
     → ChangesList heads heads' m → head_of heads' m ≡ new → top ≡ node_top (node_at ns i) → low_of heads' m ≤ top
-    → (is_used_at heads m ≡ true → low_of heads' m ≤ low_of heads m) → IsPutIn rs ts (tag_of m) (head_of heads m) new i
+    → (is_used_at heads m ≡ true → low_of heads' m ≤ low_of heads m) → IsPutIn ns rs ts (tag_of m) (head_of heads m) new i
     → (unused : Link) (p : Places) → AreFiled o ns rs heads unused p → p.detached i ≡ true
     → AreFiled o ms ts heads' unused (listed p (list_for o (node_at ns i)) i)
 listed-by o ns ms rs ts heads heads' i m top new short en em free changes first es low lower w unused p f kept =
-    grind (
-      arith,
-      list_of-most o (node_sides (node_at ns i)),
-      AreFiled-listed o ns rs ts heads heads' unused p f i m em free changes kept,
-      is-used rs heads m,
-    )
+    rw (en, ← em) (AreFiled-listed o ns rs ts heads heads' unused p f i m em free changes kept (rw first w) (omega (arith, low, es))
+    (λ j h. lower (is-used ns rs heads m j (p.free_lists m) short ((f.free m (rw em (list_of-most o (node_sides (node_at ns i))))).links) h)))
 
 pub length-rings : (xs ys : List Slot) → length ys ≡ length xs → length (rings ys) ≡ length (rings xs)
 length-rings xs ys e = length-map ys _ ∙ e ∙ sym (length-map xs _)

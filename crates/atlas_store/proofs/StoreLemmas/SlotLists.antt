@@ -1,5 +1,5 @@
 -- The slots as entries of lists, in the words of the search.
-use Rattle.std.proofs.Common.{ℕ, ◌<◌, ◌≤◌, ◌≡◌, List, [], ◌∷◌, length, map, true, zero, suc, refl, sym, ap, subst, ◌∙◌, arith}
+use Rattle.std.proofs.Common.{ℕ, ◌<◌, ◌≤◌, ◌≡◌, List, [], ◌∷◌, length, map, true, zero, suc, inl, inr, refl, sym, ap, subst, ◌∙◌, arith}
 use Rattle.std.specs.Prelude.{Contains, Option, Some, None, IfSome}
 use Rattle.std.proofs.lemmas.List.{length-map}
 use Rattle.atlas_store.specs.declared.slots.Slot.{Slot}
@@ -10,13 +10,16 @@ use Rattle.atlas_model.specs.Choice.{Options}
 use Rattle.atlas_model.specs.Pixels.{box_of}
 use Rattle.atlas_search.specs.Items.{Item, item_at, item_box, item_sides, IsPath}
 use Rattle.atlas_search.specs.Rectangles.{IsSolid}
-use Rattle.atlas_store.specs.Slots.Lists.{Chain, is_free, node_sides, node_top, tag_of}
+use Rattle.atlas_store.specs.Slots.Lists.{Chain, IsLinked, is_free, node_sides, node_top, tag_of}
 use Rattle.atlas_search.specs.Numbers.{front, occurs, no_slot}
 use Rattle.atlas_search.specs.Lookups.{AreListed, AreFreeItems}
 use Rattle.atlas_store.specs.Slots.Picks.{slot_item, item_of, IsFreeSlot, IsSearchable, AreFreeBoxes}
 use Rattle.atlas_store.specs.Slots.{nodes, rings, node_at, ring_at}
 use Rattle.atlas_search.specs.Tables.{head_of, low_of}
-use Rattle.atlas_store.proofs.StoreLemmas.Filing.{list_for, listed-list, listed-kind, listed-one, free_kind}
+use Rattle.atlas_search.specs.declared.link.Link.{Link}
+use Rattle.atlas_search.specs.Piles.{IsListed, IsPile}
+use Rattle.atlas_store.proofs.SlotLemmas.Entries.{entries-of}
+use Rattle.atlas_store.proofs.StoreLemmas.Filing.{list_for, listed-own, listed-list, listed-kind, listed-one, free_kind}
 use Rattle.atlas_search.proofs.SearchLemmas.BandLaws.{list_of-most}
 
 -- The entries of slots.
@@ -41,12 +44,18 @@ area-is slots i = ap (λ (e : Item). e.area) (item-is slots i)
 pub sides-is : (slots : List Slot) (i : ℕ) → item_sides (item_at (items slots) i) ≡ node_sides (node_at (nodes slots) i)
 sides-is slots i = ap (λ r. box_sides (box_of r)) (area-is slots i)
 
-path-of : (slots : List Slot) (b from : ℕ) (xs : List ℕ) → Chain (rings slots) b xs → from ≡ front xs
+pub path-of : (slots : List Slot) (b from : ℕ) (xs : List ℕ) → Chain (rings slots) b xs → from ≡ front xs
     → IsPath (items slots) from xs no_slot
 path-of slots b from [] h e = e
 path-of slots b from (x ∷ xs) h e =
     let inside : x < length (items slots) = omega (arith, h.0, length-map slots (λ (s : Slot). s.ring), length-map slots slot_item) in
     (e, inside, path-of slots x (item_at (items slots) x).after xs h.3 (ap (λ (t : Item). t.after) (item-is slots x) ∙ h.2))
+
+listed-of : (slots : List Slot) (b : ℕ) (first : Link) (xs : List ℕ) → IsLinked (nodes slots) (rings slots) b first xs
+    → IsListed (items slots) first.number xs
+unfolding IsLinked
+listed-of slots b first xs (inl h) = inl (path-of slots b first.number xs h.chain h.begins)
+listed-of slots b first xs (inr h) = inr (h.0, subst (λ es. IsPile es 0 0 first.number h.0) (entries-of slots) h.1, h.2, h.3)
 
 -- Slots that can be searched are entries that stand in their lists.
 pub listed-slots : (o : Options) (slots : List Slot) (heads : List ListHead) → IsSearchable o slots heads
@@ -57,7 +66,7 @@ listed-slots o slots heads s =
       free_lists = s.places.free_lists;
       valid = s.valid;
       short = omega (arith, s.short, length-map slots slot_item);
-      path = λ k l. path-of slots (tag_of k) (head_of heads k).number (s.places.free_lists k) ((s.filed.free k l).links.chain) ((s.filed.free k l).links.begins);
+      lists = λ k l. listed-of slots (tag_of k) (head_of heads k) (s.places.free_lists k) ((s.filed.free k l).links);
       own = λ k i l h. (
         free-item slots i (listed-kind o ns (rings slots) heads s.unused s.places s.filed k i l h),
         ap (list_of o) (sides-is slots i) ∙ sym (listed-list o ns (rings slots) heads s.unused s.places s.filed k i l h),
@@ -65,7 +74,7 @@ listed-slots o slots heads s =
       each = λ i free.
           let one = listed-one o ns (rings slots) heads s.unused s.places s.filed i (item-free slots i free) (s.all_listed i) in
           subst (λ k. 0 < occurs i (s.places.free_lists k)) (ap (list_of o) (sym (sides-is slots i))) (omega arith);
-      once = λ k i l. (s.filed.free k l).links.once i;
+      once = λ k i l. (listed-own o ns (rings slots) heads s.unused s.places s.filed k l).once i;
       exact = λ i free. subst IsSolid (sym (area-is slots i)) (s.exact i (item-free slots i free));
       low = λ i free.
           let k = list_for o (node_at ns i) in

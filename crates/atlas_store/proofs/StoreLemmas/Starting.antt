@@ -1,5 +1,5 @@
 -- An atlas of one free slot.
-use Rattle.std.proofs.Common.{ℕ, ◌<◌, ◌≤◌, ◌≡◌, ◌^◌, false, List, [], ◌∷◌, length, refl, arith}
+use Rattle.std.proofs.Common.{ℕ, ◌<◌, ◌≤◌, ◌≡◌, ◌^◌, false, List, [], ◌∷◌, length, refl, ap, arith}
 use Rattle.std.proofs.lemmas.Bool.{eq-eqb, ne_eqb}
 use Rattle.std.proofs.lemmas.List.Elements.{All-nil}
 use Rattle.atlas_model.specs.declared.geometry.Size.{Size}
@@ -8,12 +8,13 @@ use Rattle.atlas_model.specs.Pixels.{sides_of, options_of, rectangle_of}
 use Rattle.atlas_model.specs.Choice.{AreValid}
 use Rattle.atlas_model.specs.Changes.{fresh}
 use Rattle.atlas_model.specs.States.{started}
-use Rattle.atlas_store.specs.Slots.{nodes}
 use Rattle.atlas_search.specs.Numbers.{no_slot}
 use Rattle.atlas_store.specs.Slots.Standing.{Stands, member_box}
 use Rattle.atlas_search.specs.Tables.{is_used_at}
 use Rattle.atlas_store.specs.Slots.Reading.{tree_of}
-use Rattle.atlas_store.specs.Stored.{Shelf, Stored, Holds, IsAtlas, state_of}
+use Rattle.atlas_store.specs.Slots.Lists.{AreFiled}
+use Rattle.atlas_store.specs.Slots.{nodes, node_at, rings}
+use Rattle.atlas_store.specs.Stored.{Shelf, Stored, Holds, IsAtlas, places_of, state_of}
 use Rattle.atlas_store.specs.Store.Holdings.{IsDetachedLeaf}
 use Rattle.atlas_store.specs.Store.Starts.{one_free_slot, detached_holding, start_holding}
 use Rattle.atlas_store.proofs.SlotLemmas.Frames.{same-self, same-ne}
@@ -41,13 +42,20 @@ whole_stands size h = grind (arith, whole_area, same-self, same-ne)
 whole_holds : (v : Shelf) (size : Size) → IsStart v size → IsPositive (sides_of size) → (sides_of size).width < 2 ^ 31
     → (sides_of size).height < 2 ^ 31
     → Holds v (detached_holding (sides_of size))
-whole_holds v size s h wide high = grind (arith, whole_stands, AreFiled-one)
+whole_holds v size s h wide high =
+    let one = AreFiled-one (options_of v.options) (one_free_slot size).node (one_free_slot size).ring v.heads v.unused refl s.lists s.unused in
+    let filed : AreFiled (options_of v.options) (nodes v.slots) (rings v.slots) v.heads v.unused (places_of (λ i. 0) (detached_holding (sides_of size))) = rw s.slots one in
+    grind (arith, whole_stands)
 
 -- The one slot is a detached leaf.
 pub whole_leaf : (v : Shelf) (size : Size) → IsStart v size → IsPositive (sides_of size)
     → (sides_of size).width < 2 ^ 31 → (sides_of size).height < 2 ^ 31
     → IsDetachedLeaf v 0 (detached_holding (sides_of size))
-whole_leaf v size s h wide high = grind (arith, whole_holds)
+whole_leaf v size s h wide high = record {
+  holds = whole_holds v size s h wide high;
+  kind = ap (λ slots. (node_at (nodes slots) 0).kind) s.slots;
+  detached = refl;
+}
 
 -- The state of an atlas of one slot.
 module _ (v : Stored) (free_lists : ℕ → List ℕ)

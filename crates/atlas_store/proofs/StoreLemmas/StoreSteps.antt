@@ -14,7 +14,7 @@ use Rattle.atlas_model.specs.Pixels.{options_of}
 use Rattle.atlas_search.specs.Tables.{head_of, low_of}
 use Rattle.atlas_store.specs.Slots.{nodes, rings, node_at, use_count, KeepsUse}
 use Rattle.atlas_search.specs.Numbers.{no_slot, front, occurs}
-use Rattle.atlas_store.specs.Slots.Numbered.{Numbered, joined, lifted}
+use Rattle.atlas_store.specs.Slots.Numbered.{Numbered, joined, lifted, marked}
 use Rattle.atlas_store.specs.Slots.Standing.{Sequence, Stands}
 use Rattle.atlas_store.specs.Slots.SlotCalls.{IsLeafFreed, IsNextJoined, IsChildLifted}
 use Rattle.atlas_store.specs.Slots.Placing.{granted_by, left_by, marks_of, planned, taken_by, CanPlace, IsCarriedOut}
@@ -30,6 +30,7 @@ use Rattle.atlas_store.proofs.StoreLemmas.Taking.{AreFiled-moved, AreFiled-nodes
 use Rattle.atlas_store.proofs.SlotLemmas.NumberedCuts.{IsRecut, recut-marked, recut-joined, recut-lifted, recut-planned}
 use Rattle.atlas_store.proofs.SlotLemmas.Placing.{Stands-placed, placed-leaf, placed-others, placed-part, untaken-unmarked, used_after}
 use Rattle.atlas_store.proofs.SlotLemmas.JoiningWrites.{none-unused}
+use Rattle.atlas_store.specs.Slots.Picks.{AreExact}
 use Rattle.atlas_store.proofs.SlotLemmas.SlotBoxes.{slot-exact}
 
 -- What is held once the slots and the unused list changed, and no list of free slots.
@@ -60,7 +61,21 @@ pub filed-one : (o : Options) (ns ms : List Node) (rs ts : List Ring) (heads : L
     → AreFiled o ns rs heads unused p
     → AreFiled o ms ts heads unused (record p { detached = with_mark p.detached i mark })
 filed-one o ns ms rs ts heads unused p i mark same here used others filed =
-    grind (arith, with_mark-same, moved-kept, with_mark-other, use-kept, AreFiled-moved)
+    rw same (AreFiled-moved o ns ms rs heads unused p p.claimed (with_mark p.detached i mark) moved counts filed)
+  where
+    moved : (j : ℕ) → StaysOrIsOut (node_at ns j) (node_at ms j) (p.detached j) (with_mark p.detached i mark j)
+    moved j = elim (cases_eq j i) [
+      | inl e ↦
+          subst (λ k. StaysOrIsOut (node_at ns k) (node_at ms k) (p.detached k) (with_mark p.detached i mark k)) (sym e)
+          (subst (StaysOrIsOut (node_at ns i) (node_at ms i) (p.detached i)) (sym (with_mark-same p.detached i mark)) here)
+      | inr ne ↦ moved-kept (node_at ns j) (node_at ms j) (p.detached j) (with_mark p.detached i mark j) (others j ne) (with_mark-other p.detached i mark j ne)
+    ]
+
+    counts : (j : ℕ) → j < length rs → p.claimed j + use_count (node_at ms j).kind ≡ p.claimed j + use_count (node_at ns j).kind
+    counts j l = ap (λ n. p.claimed j + n) (elim (cases_eq j i) [
+      | inl e ↦ subst (λ k. use_count (node_at ms k).kind ≡ use_count (node_at ns k).kind) (sym e) used
+      | inr ne ↦ use-kept (node_at ns j) (node_at ms j) (others j ne)
+    ])
 
 -- The slots of a shelf, and those that a call left.
 pub record AreSlots (own old mid new : List Slot) : Type 0 where
@@ -92,12 +107,13 @@ stands-before claimed v old h e holds = let Q : List Slot → Type 0 = λ slots.
 pub marked-holds : (v : Shelf) (new : List Slot) (at : ℕ) → length new ≡ length v.slots → IsLeafFreed v.slots new at
     → (node_in v at).kind ≡ kind.Alloc → (h : Holding) → Holds v h → Holds (record v { slots = new }) (after_mark at h)
 marked-holds v new at long w was h holds =
-    grind (
-      arith,
-      held_again,
-      filed-one (options_of v.options) (nodes v.slots) (nodes new) (rings v.slots) (rings new) v.heads v.unused,
-      recut-marked at h.sequence.width h.tree,
-    )
+    let here : StaysOrIsOut (node_in v at) (node_at (nodes new) at) (h.detached at) true = inr (inr (ap is_free was), inl refl) in
+    let used : use_count (node_at (nodes new) at).kind ≡ use_count (node_in v at).kind =
+    ap (λ (n : Node). use_count n.kind) w.leaf ∙ sym (ap use_count was) in
+    let filed = filed-one (options_of v.options) (nodes v.slots) (nodes new) (rings v.slots) (rings new) v.heads v.unused (places_of (λ i. 0) h) at true
+        w.same_rings here used w.others holds.filed in
+    held_again (λ i. 0) (λ i. 0) v new v.unused h (marked at h.tree) h.unused_list (with_mark h.detached at true) (omega (arith, long, holds.short))
+    holds (w.tree h.sequence h.tree holds.stands) filed (recut-marked at h.sequence.width h.tree)
 
 -- Two slots change: i stays in use, and j is claimed or was.
 pub record ChangesTwo (ns ms : List Node) (i j : ℕ) (claimed claimed' : ℕ → ℕ) (detached detached' : ℕ → Bool) : Type 0 where
@@ -161,6 +177,10 @@ pub leaf-exact : (v : Shelf) (old : List Slot) (at : ℕ) (h : Holding) → old 
     → (node_in v at).kind ≡ kind.Free
     → IsSolid (node_at (nodes old) at).area
 leaf-exact v old at h e holds free = grind (arith, slot-exact)
+
+pub all-exact : (v : Shelf) (old : List Slot) (h : Holding) → old ≡ v.slots → Holds v h → AreExact (nodes old)
+all-exact v old h e holds i free =
+    leaf-exact v old i h e holds (subst (λ (s : List Slot). (node_at (nodes s) i).kind ≡ kind.Free) e free)
 
 -- Slot j, which was claimed, is given back.
 pub record GivesBack (v : Shelf) (old new : List Slot) (unused : Link) (j : ℕ) : Type 0 where

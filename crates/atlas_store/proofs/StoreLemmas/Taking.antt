@@ -1,6 +1,6 @@
 -- Slots are taken and given back, and the nodes change under the lists.
-use Rattle.std.proofs.Common.{ℕ, ◌+◌, ◌<◌, ◌≡◌, List, [], ◌∷◌, ◌++◌, refl, sym, ap, ◌∙◌, ◌⊎◌, inl, inr, arith, length, set, get_or-set_same, get_or-set_other, length-set, Bool, true, false}
-use Rattle.std.proofs.lemmas.Bool.{cond-false, and_left, ne_eqb}
+use Rattle.std.proofs.Common.{ℕ, ◌+◌, ◌<◌, ◌≡◌, List, [], ◌∷◌, ◌++◌, refl, sym, ap, ◌∙◌, ◌⊎◌, inl, inr, arith, length, set, get_or-set_same, get_or-set_other, length-set, subst, Bool, true, false}
+use Rattle.std.proofs.lemmas.Bool.{cases_eq, cond-false, and_left, ne_eqb}
 use Rattle.std.proofs.lemmas.List.{get_or_past, length-map, get_or_append_left, get_or_push, length_push, map-append}
 use Rattle.atlas_store.specs.declared.slots.Slot.{Slot}
 use Rattle.atlas_search.specs.declared.link.Link.{Link}
@@ -12,11 +12,12 @@ use Rattle.atlas_search.specs.declared.table.ListHead.{ListHead}
 use Rattle.atlas_model.specs.Choice.{Options}
 use Rattle.atlas_store.specs.Slots.{nodes, rings, node_at, ring_at, use_count, blank_node, blank_ring, blank_slot}
 use Rattle.atlas_search.specs.Numbers.{no_slot, occurs, front}
-use Rattle.atlas_store.specs.Slots.Lists.{AreFiled, Places, IsList, Line, filed, is_free, tag_of}
+use Rattle.atlas_store.specs.Slots.Lists.{AreFiled, Places, IsLinked, Line, filed, is_free, tag_of}
 use Rattle.atlas_search.specs.Tables.{head_of, is_used_at}
-use Rattle.atlas_store.specs.Slots.Links.{with_count, with_mark, tail_of, renewed, given_back, IsTaken, TakesFirst}
+use Rattle.atlas_store.specs.Slots.Links.{with_claimed, with_count, with_mark, tail_of, renewed, given_back, IsTaken, TakesFirst}
 use Rattle.atlas_search.proofs.Occurrences.{same-self, same-ne, ne-from_occurs}
-use Rattle.atlas_store.proofs.StoreLemmas.Unlinking.{IsList-kept, Line-kept, Line-inside, Line-given}
+use Rattle.atlas_store.proofs.StoreLemmas.Linking.{IsLinked-kept}
+use Rattle.atlas_store.proofs.StoreLemmas.Unlinking.{Line-kept, Line-inside, Line-given}
 use Rattle.atlas_store.proofs.StoreLemmas.Filing.{unless-le, filed-use, with_mark-same, unless_detached, unless-detached, unused_list-use, unused-nowhere, with_count-same, with_count-other, past-unused}
 
 -- The lists stay in order where the nodes change: each slot is filed as before, is used or claimed as before, and keeps
@@ -28,7 +29,19 @@ pub AreFiled-nodes : (o : Options) (ns ms : List Node) (rs : List Ring) (heads :
     → ((k i : ℕ) → k < 2704 → 0 < occurs i (p.free_lists k) → (node_at ms i).area ≡ (node_at ns i).area)
     → AreFiled o ns rs heads unused p
     → AreFiled o ms rs heads unused (record p { claimed = claimed'; detached = detached' })
-AreFiled-nodes o ns ms rs heads unused p claimed' detached' files counts areas f = grind arith
+AreFiled-nodes o ns ms rs heads unused p claimed' detached' files counts areas f =
+    record {
+      free = λ k l.
+          let mine = f.free k l in
+          record {
+            links = IsLinked-kept ns ms rs rs (tag_of k) (head_of heads k) (p.free_lists k) (omega arith) (λ j _. refl) (λ j h. areas k j l h) mine.links;
+            each = λ i. mine.each i ∙ sym (files k i);
+            low = λ i h. rw (areas k i l h) (mine.low i h);
+          };
+      line = f.line;
+      begins = f.begins;
+      each = λ i l. omega (arith, f.each i l, counts i l);
+    }
 
 -- A slot stands in no list: it is detached or not free.
 abbrev pub IsOut : Bool → NodeKind → Type 0
@@ -55,7 +68,19 @@ pub AreFiled-moved : (o : Options) (ns ms : List Node) (rs : List Ring) (heads :
     → AreFiled o ns rs heads unused p
     → AreFiled o ms rs heads unused (record p { claimed = claimed'; detached = detached' })
 AreFiled-moved o ns ms rs heads unused p claimed' detached' moved counts f =
-    grind (arith, AreFiled-nodes, unless_detached, filed-same, filed-out)
+    AreFiled-nodes o ns ms rs heads unused p claimed' detached' files counts areas f
+  where
+    files : (k i : ℕ) → unless_detached (detached' i) (filed o k (node_at ms i)) ≡ unless_detached (p.detached i) (filed o k (node_at ns i))
+    files k i = elim (moved i) [
+      | inl same ↦ rw (same.2, filed-same o k (node_at ns i) (node_at ms i) same.0 same.1) refl
+      | inr out ↦ filed-out o k (node_at ms i) (detached' i) out.1 ∙ sym (filed-out o k (node_at ns i) (p.detached i) out.0)
+    ]
+
+    areas : (k i : ℕ) → k < 2704 → 0 < occurs i (p.free_lists k) → (node_at ms i).area ≡ (node_at ns i).area
+    areas k i l h = elim (moved i) [
+      | inl same ↦ same.1
+      | inr out ↦ absurd (omega (arith, h, (f.free k l).each i, filed-out o k (node_at ns i) (p.detached i) out.0))
+    ]
 
 -- The nodes stay as they were where a new slot comes.
 pub node_at-grown : (ns : List Node) (i : ℕ) → node_at (ns ++ blank_node ∷ []) i ≡ node_at ns i
@@ -73,7 +98,7 @@ module _ (o : Options) (ns : List Node) (rs : List Ring) (heads : List ListHead)
       let ms = ns ++ blank_node ∷ [] in
       let moved = AreFiled-nodes o ns ms rs heads unused p p.claimed p.detached (λ k i. ap (λ n. unless_detached (p.detached i) (filed o k n)) (node_at-grown ns i)) (λ i l. ap (λ (n : Node). p.claimed i + use_count n.kind) (node_at-grown ns i)) (λ k i l h. ap (λ (n : Node). n.area) (node_at-grown ns i)) f in
       record {
-        free = λ k l. let mine = moved.free k l in record { links = IsList-kept rs (rs ++ blank_ring ∷ []) (tag_of k) (head_of heads k) (p.free_lists k) (omega arith) (λ j h. ring_at-grown j) mine.links; each = mine.each; low = mine.low };
+        free = λ k l. let mine = moved.free k l in record { links = IsLinked-kept ms ms rs (rs ++ blank_ring ∷ []) (tag_of k) (head_of heads k) (p.free_lists k) (omega arith) (λ j h. ring_at-grown j) (λ j _. refl) mine.links; each = mine.each; low = mine.low };
         line = Line-kept rs (rs ++ blank_ring ∷ []) p.unused_list (omega arith) (λ j h. ring_at-grown j) f.line;
         begins = f.begins;
         each = grind (arith, node_at-grown, past-unused, with_count-same, Line-inside, with_count-other);
@@ -94,7 +119,7 @@ module _ (o : Options) (ns : List Node) (rs : List Ring) (heads : List ListHead)
       let same_at : (j : ℕ) → (j ≡ i → ⊥) → ring_at ts j ≡ ring_at rs j = (λ j ne. rw et (get_or-set_other rs i j ring blank_ring ne)) in
       let none : occurs i p.unused_list ≡ 0 = omega arith in
       record {
-        free = λ k l. let mine = f.free k l in record { links = IsList-kept rs ts (tag_of k) (head_of heads k) (p.free_lists k) (omega arith) (λ j h. same_at j (ne-from_occurs i j (p.free_lists k) (unused-nowhere o ns rs heads unused p f k i l unused_now) h)) mine.links; each = mine.each; low = mine.low };
+        free = λ k l. let mine = f.free k l in record { links = IsLinked-kept ns ns rs ts (tag_of k) (head_of heads k) (p.free_lists k) (omega arith) (λ j h. same_at j (ne-from_occurs i j (p.free_lists k) (unused-nowhere o ns rs heads unused p f k i l unused_now) h)) (λ j _. refl) mine.links; each = mine.each; low = mine.low };
         line = Line-given rs ts i ring li et p.unused_list f.line (ap (λ (l : Link). l.number) er ∙ f.begins) none;
         begins = en;
         each = grind (arith, with_count-same, same-self, with_count-other, same-ne);
@@ -137,8 +162,54 @@ taken-again : (o : Options) (old new : List Slot) (heads : List ListHead) (unuse
     → (unused.number ≡ no_slot → ⊥) → next ≡ (ring_at (rings old) unused.number).next
     → nodes new ≡ set (nodes old) unused.number (renewed (node_at (nodes old) unused.number)) → rings new ≡ rings old
     → (p : Places) → AreFiled o (nodes old) (rings old) heads unused p → IsTaken o old new heads next p unused.number
-taken-again o old new heads unused next some en em er p f =
-    grind (arith, length-map, same-self, unused_list-use, unused_kind, get_or-set_same, get_or-set_other, AreFiled-taken, AreFiled-moved)
+taken-again o old new heads unused next some en_next en er p f =
+    record {
+      filed = filed;
+      inside = omega (arith, inside, ap length er, length-map new (λ (s : Slot). s.ring));
+      was_unused = unused_kind _ spare.0;
+      is_unused = (stays unused.number).0 ∙ unused_kind _ spare.0;
+      apart = λ k l h e. omega (arith, h, spare.1, ap p.claimed e);
+    }
+  where
+    begun-by : (xs : List ℕ) → (front xs ≡ no_slot → ⊥) → (rest : List ℕ) × (xs ≡ front xs ∷ rest)
+    begun-by [] ne = absurd (ne refl)
+    begun-by (x ∷ xs) ne = (xs, refl)
+
+    begun : (rest : List ℕ) × (p.unused_list ≡ front p.unused_list ∷ rest)
+    begun = begun-by p.unused_list (λ e. some (f.begins ∙ e))
+
+    first : p.unused_list ≡ unused.number ∷ begun.0
+    first = begun.1 ∙ ap (λ x. x ∷ begun.0) (sym f.begins)
+
+    on : 0 < occurs unused.number p.unused_list
+    on = omega (arith, ap (occurs unused.number) first, same-self unused.number)
+
+    spare : (use_count (node_at (nodes old) unused.number).kind ≡ 0) × (p.claimed unused.number ≡ 0)
+    spare = unused_list-use o (nodes old) (rings old) heads unused p f unused.number on
+
+    inside : unused.number < length (rings old)
+    inside = Line-inside (rings old) unused.number p.unused_list f.line on
+
+    now : node_at (nodes new) unused.number ≡ renewed (node_at (nodes old) unused.number)
+    now = ap (λ ms. node_at ms unused.number) en
+        ∙ get_or-set_same (nodes old) unused.number (renewed (node_at (nodes old) unused.number)) blank_node
+        (omega (arith, inside, length-map old (λ (s : Slot). s.ring), length-map old (λ (s : Slot). s.node)))
+
+    stays : (i : ℕ) → ((node_at (nodes new) i).kind ≡ (node_at (nodes old) i).kind) × ((node_at (nodes new) i).area ≡ (node_at (nodes old) i).area) × (p.detached i ≡ p.detached i)
+    stays i = elim (cases_eq i unused.number) [
+      | inl e ↦
+          subst (λ k. ((node_at (nodes new) k).kind ≡ (node_at (nodes old) k).kind) × ((node_at (nodes new) k).area ≡ (node_at (nodes old) k).area) × (p.detached k ≡ p.detached k)) (sym e)
+          (ap (λ (n : Node). n.kind) now, ap (λ (n : Node). n.area) now, refl)
+      | inr ne ↦ (
+          let other : node_at (nodes new) i ≡ node_at (nodes old) i = ap (λ ms. node_at ms i) en ∙ get_or-set_other (nodes old) unused.number i (renewed (node_at (nodes old) unused.number)) blank_node ne in
+          (ap (λ (n : Node). n.kind) other, ap (λ (n : Node). n.area) other, refl))
+    ]
+
+    filed : AreFiled o (nodes new) (rings new) heads next (with_claimed p unused.number)
+    filed =
+        let taken = AreFiled-taken o (nodes old) (rings old) heads unused p f unused.number begun.0 next first en_next in
+        let moved = AreFiled-moved o (nodes old) (nodes new) (rings old) heads next _ _ p.detached (λ i. inl (stays i)) (λ i l. ap (λ k. with_count p.claimed unused.number 1 i + use_count k) (stays i).0) taken in
+        rw (er, ap tail_of first) moved
 
 -- The same where the slots are seen through another name.
 taken-again_by : (o : Options) (old items ys new : List Slot) (heads : List ListHead) (unused : Link) (ring : Ring)
@@ -194,8 +265,9 @@ given-by o old new heads unused at ring li er en es p f h =
     let inside : at.number < length (rings old) = rw (length-map old (λ (s : Slot). s.ring)) li in
     rw en (AreFiled-given o (nodes old) (rings old) heads unused p f (rings new) at.number ring at inside h er es refl)
 
-empty-list : (rs : List Ring) (b : ℕ) (first : Link) → first.number ≡ no_slot → IsList rs b first []
-empty-list rs b first none = record { chain = tt; begins = none; once = λ k. omega arith }
+empty-list : (ns : List Node) (rs : List Ring) (b : ℕ) (first : Link) → first.number ≡ no_slot → IsLinked ns rs b first []
+unfolding IsLinked
+empty-list ns rs b first none = inl (record { chain = tt; begins = none; once = λ k. omega arith })
 
 -- Slot 0 is detached, and nothing else stands anywhere.
 abbrev pub one_detached : Places

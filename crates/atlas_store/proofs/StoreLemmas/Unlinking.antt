@@ -43,7 +43,7 @@ previous-in_list rs b i [] h l nf = absurd (omega arith)
 previous-in_list rs b i (x ∷ []) h l nf = absurd (omega (arith, same-ne i x (λ q. nf (sym q))))
 previous-in_list rs b i (x ∷ (y ∷ ys)) h l nf = grind (arith, is_first, previous-in_list rs x i (y ∷ ys) h.3, same-ne)
 
-previous-first : (rs : List Ring) (b i : ℕ) (xs : List ℕ) → Chain rs b xs → 0 < occurs i xs → front xs ≡ i
+pub previous-first : (rs : List Ring) (b i : ℕ) (xs : List ℕ) → Chain rs b xs → 0 < occurs i xs → front xs ≡ i
     → (ring_at rs i).previous.number ≡ b
 previous-first rs b i [] h l e = absurd (omega arith)
 previous-first rs b i (x ∷ xs) h l e = rw (← e) h.1

@@ -10,7 +10,8 @@ use Rattle.atlas_search.specs.declared.bands.Place.{Place}
 use Rattle.atlas_search.specs.declared.table.ListHead.{ListHead}
 use Rattle.atlas_model.specs.Choice.{Options}
 use Rattle.atlas_store.specs.Slots.{nodes, rings, node_at, ring_at, blank_slot, AreTakenOnce}
-use Rattle.atlas_search.specs.Tables.{is_used_at}
+use Rattle.atlas_search.specs.Piles.{IsTag}
+use Rattle.atlas_search.specs.Tables.{head_of, is_used_at}
 use Rattle.atlas_store.specs.Slots.Lists.{IsList, AreFiled, Line, Places, tag_of}
 use Rattle.atlas_search.specs.Numbers.{front, lists_with, no_slot, occurs, without}
 
@@ -18,10 +19,11 @@ use Rattle.atlas_search.specs.Numbers.{front, lists_with, no_slot, occurs, witho
 abbrev pub IsUnlisted : List Ring → (before : ℕ) → Link → ℕ → Type 0
 IsUnlisted rs before first i = (xs : List ℕ) × IsList rs before first xs × (occurs i xs ≡ 0)
 
--- This is one of n slots, or comes before the first slot of a list that has one.
+-- This is one of n slots, or comes before the first slot of a chain that has one.
 abbrev pub IsSlotOrTag : (n : ℕ) → List ListHead → ℕ → Type 0
 IsSlotOrTag n heads before =
-    (before < n) ⊎ ((k : ℕ) × (k < 2704) × (before ≡ tag_of k) × (is_used_at heads k ≡ true))
+    (before < n)
+    ⊎ ((k : ℕ) × (k < 2704) × (before ≡ tag_of k) × (is_used_at heads k ≡ true) × (IsTag (head_of heads k).number → ⊥))
 
 -- What a list begins with once `next` comes after `before`; `tag` comes before its first slot, which was `first`.
 abbrev pub first_after : (before next : Link) → (tag : ℕ) → (first : Link) → Link
@@ -46,6 +48,11 @@ with_count claimed i n k = if k == i then n else claimed k
 -- Slot i is gone from each list.
 abbrev pub lists_without : (ℕ → List ℕ) → ℕ → ℕ → List ℕ
 lists_without free_lists i k = without i (free_lists k)
+
+-- The lists are in order.
+abbrev pub AreFiledSlots : List Slot → List ListHead → Type 0
+AreFiledSlots slots heads =
+    (o : Options) × (unused : Link) × (p : Places) × AreFiled o (nodes slots) (rings slots) heads unused p
 
 -- The lists are in order, and slot i is not detached.
 pub record IsFiledSlot (o : Options) (slots : List Slot) (heads : List ListHead) (i : ℕ) : Type 0 where

@@ -1,11 +1,9 @@
--- Lists of slots that run through the slots' rings. No public clause cites this module.
-use Rattle.std.specs.Prelude.{ℕ, ◌+◌, ◌≡◌, ◌<◌, ◌≤◌, ◌==◌, ◌&&◌, Bool, true, false, List, [], ◌∷◌, length}
+-- Lists of slots by the slots' rings: chains and piles. No public clause cites this module.
+use Rattle.std.specs.Prelude.{ℕ, ◌+◌, ◌≡◌, ◌<◌, ◌≤◌, ◌==◌, ◌&&◌, ◌⊎◌, Bool, true, false, List, [], ◌∷◌, length}
 use Rattle.std.specs.Prelude.{if◌then◌else◌}
 use Rattle.atlas_search.specs.declared.link.Link.{Link}
 use Rattle.atlas_store.specs.declared.slots.Node.{Node}
 use Rattle.atlas_store.specs.declared.slots.Ring.{Ring}
-use Rattle.atlas_store.specs.declared.slots.NodeKind.{NodeKind}
-use Rattle.atlas_store.specs.declared.slots.NodeKind.TheVariants as kind
 use Rattle.atlas_search.specs.declared.table.ListHead.{ListHead}
 use Rattle.atlas_model.specs.Boxes.{Sides, box_sides}
 use Rattle.atlas_model.specs.Pixels.{box_of}
@@ -14,6 +12,8 @@ use Rattle.atlas_search.specs.Bands.{list_of}
 use Rattle.atlas_search.specs.Tables.{head_of, low_of}
 use Rattle.atlas_store.specs.Slots.{node_at, ring_at, use_count}
 use Rattle.atlas_search.specs.Numbers.{front, no_slot, occurs, same}
+use Rattle.atlas_search.specs.Piles.{IsPile, IsTag, Pile, members}
+pub use Rattle.atlas_store.specs.Slots.Entries.{entries, is_free}
 
 -- The list xs runs through the rings in both directions; `before` comes before its first.
 abbrev pub Chain : List Ring → ℕ → List ℕ → Type 0
@@ -32,6 +32,15 @@ pub record IsList (rs : List Ring) (before : ℕ) (first : Link) (xs : List ℕ)
   pub begins : first.number ≡ front xs
   pub once : (k : ℕ) → occurs k xs ≤ 1
 
+-- The list that begins with this number is a pile, which holds the slots xs in some order.
+abbrev pub IsPiled : List Node → List Ring → (first : ℕ) → List ℕ → Type 0
+IsPiled ns rs first xs =
+    (p : Pile) × IsPile (entries ns rs) 0 0 first p × IsTag first × ((i : ℕ) → occurs i (members p) ≡ occurs i xs)
+
+-- The list that begins with this link, after `before`, holds the slots xs, as a chain or as a pile.
+unfoldable pub IsLinked : List Node → List Ring → (before : ℕ) → (first : Link) → List ℕ → Type 0
+IsLinked ns rs before first xs = IsList rs before first xs ⊎ IsPiled ns rs first.number xs
+
 -- The list xs runs through the rings forwards.
 abbrev pub Line : List Ring → List ℕ → Type 0
 Line rs [] = Unit {0}
@@ -45,10 +54,6 @@ node_sides n = box_sides (box_of n.area)
 abbrev pub node_top : Node → ℕ
 node_top n = (box_of n.area).min.y
 
-abbrev pub is_free : NodeKind → Bool
-is_free kind.Free = true
-is_free _ = false
-
 -- 1 if a slot belongs in list k.
 abbrev pub filed : Options → (k : ℕ) → Node → ℕ
 filed o k n = if is_free n.kind && list_of o (node_sides n) == k then 1 else 0
@@ -57,7 +62,7 @@ filed o k n = if is_free n.kind && list_of o (node_sides n) == k then 1 else 0
 -- each is at least the bound that is kept of the list.
 pub record IsFiled (o : Options) (ns : List Node) (rs : List Ring) (heads : List ListHead) (k : ℕ) (xs : List ℕ)
     (detached : ℕ → Bool) : Type 0 where
-  pub links : IsList rs (tag_of k) (head_of heads k) xs
+  pub links : IsLinked ns rs (tag_of k) (head_of heads k) xs
   pub each : (i : ℕ) → occurs i xs ≡ (if detached i then 0 else filed o k (node_at ns i))
   pub low : (i : ℕ) → 0 < occurs i xs → low_of heads k ≤ node_top (node_at ns i)
 

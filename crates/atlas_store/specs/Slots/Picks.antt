@@ -3,7 +3,6 @@ use Rattle.std.specs.Prelude.{ℕ, ◌≡◌, ◌≤◌, false, List, Contains, 
 use Rattle.atlas_store.specs.declared.slots.Slot.{Slot}
 use Rattle.atlas_search.specs.declared.link.Link.{Link}
 use Rattle.atlas_store.specs.declared.slots.Node.{Node}
-use Rattle.atlas_store.specs.declared.slots.Ring.{Ring}
 use Rattle.atlas_store.specs.declared.slots.NodeKind.TheVariants as kind
 use Rattle.atlas_search.specs.declared.table.ListHead.{ListHead}
 use Rattle.atlas_model.specs.Boxes.{Box}
@@ -11,23 +10,19 @@ use Rattle.atlas_model.specs.Pixels.{box_of}
 use Rattle.atlas_model.specs.Choice.{Options, AreValid}
 use Rattle.atlas_model.specs.Trees.{most_slots}
 use Rattle.atlas_store.specs.Slots.{nodes, rings, node_at}
-use Rattle.atlas_search.specs.Items.{Item}
-use Rattle.atlas_store.specs.Slots.Lists.{AreFiled, Places, is_free}
+use Rattle.atlas_store.specs.Slots.Lists.{AreFiled, Places}
+pub use Rattle.atlas_store.specs.Slots.Entries.{item_of, slot_item}
 use Rattle.atlas_search.specs.Rectangles.{IsSolid}
 
 abbrev pub node_box : Node → Box
 node_box n = box_of n.area
 
--- What a search reads of a slot with this node and this ring.
-abbrev pub item_of : Node → Ring → Item
-item_of n r = record { area = n.area; after = r.next.number; is_free = is_free n.kind }
-
--- A slot as an entry of a list.
-abbrev pub slot_item : Slot → Item
-slot_item s = item_of s.node s.ring
-
 abbrev pub IsFreeSlot : List Node → ℕ → Type 0
 IsFreeSlot ns i = (node_at ns i).kind ≡ kind.Free
+
+-- Each free slot has an exact rectangle.
+abbrev pub AreExact : List Node → Type 0
+AreExact ns = (i : ℕ) → IsFreeSlot ns i → IsSolid (node_at ns i).area
 
 -- The lists are in order, each free slot stands in one, and has an exact rectangle.
 pub record IsSearchable (o : Options) (slots : List Slot) (heads : List ListHead) : Type 0 where
@@ -35,7 +30,7 @@ pub record IsSearchable (o : Options) (slots : List Slot) (heads : List ListHead
   pub places : Places
   pub filed : AreFiled o (nodes slots) (rings slots) heads unused places
   pub all_listed : (i : ℕ) → places.detached i ≡ false
-  pub exact : (i : ℕ) → IsFreeSlot (nodes slots) i → IsSolid (node_at (nodes slots) i).area
+  pub exact : AreExact (nodes slots)
   pub short : length slots ≤ most_slots
   pub valid : AreValid o
 

@@ -48,6 +48,13 @@ pub record UnlistsLeaf {A : Type 0} (old new : Store A) (i : ℕ) : Type 0 where
   pub slots : length new.slots.items ≡ length old.slots.items
   pub takes : OnlyTakes old new
 
+-- A list may have become a pile. All else is stored as before.
+pub record IsTidied {A : Type 0} (old new : Store A) : Type 0 where
+  pub kept : (h : Holding) → Holds (shelf_of old) h → Holds (shelf_of new) h
+  pub nodes : nodes new.slots.items ≡ nodes old.slots.items
+  pub slots : length new.slots.items ≡ length old.slots.items
+  pub takes : OnlyTakes old new
+
 -- `low` is at most the `min.y` of each slot of list k.
 pub record IsSharpened {A : Type 0} (old new : Store A) (k low : ℕ) : Type 0 where
   pub kept : (h : Holding) → Holds (shelf_of old) h → IsLow (shelf_of old) h k low → Holds (shelf_of new) h

@@ -16,4 +16,8 @@ impl Entry for Slot {
     fn after(&self) -> Link {
         self.ring.next
     }
+
+    fn before(&self) -> Link {
+        self.ring.previous
+    }
 }

@@ -1,5 +1,6 @@
-//! The lists of free slots, by the bands of both sides, and the list of unused slots: links inside the slots.
-ghost use Rattle.std.specs.Prelude.{◌≡◌, ◌<◌, ℕ, true, false, List, ◌∷◌, length, slice_set, vec_capacity};
+//! The lists of free slots, by the bands of both sides, and the list of unused slots: links inside the slots. A list of free slots
+//! is a chain, or a pile.
+ghost use Rattle.std.specs.Prelude.{◌≡◌, ◌<◌, ◌≤◌, ℕ, true, false, List, ◌∷◌, length, slice_set, vec_capacity};
 ghost use Rattle.atlas_search.specs.Bands.{list_of, number_of};
 ghost use Rattle.atlas_search.specs.Tables.{head_of, low_of};
 ghost use Rattle.atlas_model.specs.Choice.{Options};
@@ -12,16 +13,19 @@ ghost use Rattle.atlas_store.specs.Slots.Lists.{AreFiled, IsList, Places, node_s
 ghost use Rattle.atlas_search.specs.Numbers.{occurs};
 ghost use Rattle.atlas_store.specs.declared.slots.NodeKind.TheVariants.{Free};
 ghost use Rattle.atlas_store.specs.Slots.Links.{CanTake, IsSlotOrTag, IsFiledSlot, IsInTable, IsDetachedSlot};
-ghost use Rattle.atlas_search.specs.Rectangles.{IsSolid};
+ghost use Rattle.atlas_model.specs.Trees.{most_slots};
+ghost use Rattle.atlas_search.specs.Piles.{IsTag};
+ghost use Rattle.atlas_store.specs.Slots.Picks.{AreExact};
 ghost use Rattle.atlas_store.specs.Slots.Links.{IsUnlisted, TakesFirst};
 ghost use Rattle.atlas_store.specs.Slots.Links.{first_after, given_back, listed, renewed, unlisted, with_next};
 ghost use Rattle.atlas_store.specs.Slots.Links.{with_ring_previous};
 
+use crate::slots::piling::{join_pile, leave_pile};
 use crate::slots::{Node, NodeKind, Ring, Slot, read_node, read_ring, write_node};
 use atlas_model::{Rectangle, point2};
 use atlas_search::bands::{BANDS, Place, Scale};
 use atlas_search::cut::{Orientation, exact_size, top_in};
-use atlas_search::link::{Link, NO_SLOT};
+use atlas_search::link::{Link, NO_SLOT, PILE};
 use atlas_search::table::Table;
 use std::alloc::Allocator;
 
@@ -61,20 +65,30 @@ fn set_ring_previous(slots: &mut [Slot], at: Link, previous: Link)
     }
 }
 
-// `next` comes after `before`: in its list if `before` is a slot, or else first in the list that it tells.
-fn lead<A: Allocator>(slots: &mut [Slot], lists: &mut Table<A>, before: Link, next: Link)
-    requires before { IsSlotOrTag (length slots.old) lists.old before.number }
+// `next` comes after `before`: in its chain if `before` is a slot, or first in the one that it tells. Answers false, and does
+// nothing, if `before` is a tag of a pile or none.
+fn lead<A: Allocator>(slots: &mut [Slot], lists: &mut Table<A>, before: Link, next: Link) -> bool
+    requires before { before.number < PILE → IsSlotOrTag (length slots.old) lists.old before.number }
+    requires next { before.number < PILE → IsTag next.number → ⊥ }
     requires short { length slots.old < FIRST }
-    ensures written { rings slots.new ≡ with_next (rings slots.old) before.number next }
+    ensures chain { result ≡ true → before.number < PILE }
+    ensures written { result ≡ true → rings slots.new ≡ with_next (rings slots.old) before.number next }
     ensures same_nodes { nodes slots.new ≡ nodes slots.old }
-    ensures heads { (k : ℕ) → head_of lists.new k ≡ first_after before next (tag_of k) (head_of lists.old k) }
+    ensures heads { result ≡ true
+        → (k : ℕ) → head_of lists.new k ≡ first_after before next (tag_of k) (head_of lists.old k) }
     ensures lows { (k : ℕ) → low_of lists.new k ≡ low_of lists.old k }
+    ensures pile { result ≡ false → PILE ≤ before.number }
+    ensures stays { result ≡ false → (slots.new ≡ slots.old) × (lists.new ≡ lists.old) }
 {
     if before.number < FIRST {
         set_ring_next(slots, before, next);
-    } else {
-        lists.set_first((before.number - FIRST) as usize, next);
+        return true;
     }
+    if before.number < PILE {
+        lists.set_first((before.number - FIRST) as usize, next);
+        return true;
+    }
+    false
 }
 
 // Puts a slot in front of the list that begins with `first`, and after `before`.
@@ -96,27 +110,32 @@ fn push_front(slots: &mut [Slot], before: Link, first: Link, at: Link)
 
 /// Takes a free slot out of its list; it is detached from then on.
 #[inline(always)]
-pub fn unlist<A: Allocator>(slots: &mut [Slot], lists: &mut Table<A>, at: Link)
+pub fn unlist<A: Allocator>(slots: &mut [Slot], lists: &mut Table<A>, options: &Scale, at: Link)
     requires free { (node_at (nodes slots.old) at.number).kind ≡ Free }
-    requires kept { (o : Options) × IsFiledSlot o slots.old lists.old at.number }
-    requires short { length slots.old < FIRST }
-    ensures filed { (o : Options) (unused : Link) (p : Places)
-        → AreFiled o (nodes slots.old) (rings slots.old) lists.old unused p → p.detached at.number ≡ false
-        → AreFiled o (nodes slots.new) (rings slots.new) lists.new unused (unlisted p at.number) }
+    requires exact { AreExact (nodes slots.old) }
+    requires kept { IsFiledSlot (options_of options.now) slots.old lists.old at.number }
+    requires short { length slots.old ≤ most_slots }
+    ensures filed { (unused : Link) (p : Places)
+        → AreFiled (options_of options.now) (nodes slots.old) (rings slots.old) lists.old unused p
+        → p.detached at.number ≡ false
+        → AreFiled (options_of options.now) (nodes slots.new) (rings slots.new) lists.new unused (unlisted p at.number) }
     ensures same_nodes { nodes slots.new ≡ nodes slots.old }
 {
     let ring = read_ring(slots, at);
-    lead(slots, lists, ring.previous, ring.next);
+    if !lead(slots, lists, ring.previous, ring.next) {
+        leave_pile(slots, lists, options, at);
+        return;
+    }
     set_ring_previous(slots, ring.next, ring.previous);
 }
 
-/// Puts a free and detached slot, whose rectangle is exact, into its list.
+/// Puts a free and detached slot into its list. Each free slot has an exact rectangle.
 #[inline(always)]
 pub fn enlist<A: Allocator>(slots: &mut [Slot], lists: &mut Table<A>, options: &Scale, at: Link)
     requires free { (node_at (nodes slots.old) at.number).kind ≡ Free }
-    requires exact { IsSolid (node_at (nodes slots.old) at.number).area }
+    requires exact { AreExact (nodes slots.old) }
     requires detached { IsDetachedSlot (options_of options.now) slots.old lists.old at.number }
-    requires short { length slots.old < FIRST }
+    requires short { length slots.old ≤ most_slots }
     ensures filed { (unused : Link) (p : Places)
         → AreFiled (options_of options.now) (nodes slots.old) (rings slots.old) lists.old unused p
         → p.detached at.number ≡ true
@@ -127,7 +146,10 @@ pub fn enlist<A: Allocator>(slots: &mut [Slot], lists: &mut Table<A>, options: &
     let node = read_node(slots, at);
     let place = options.place_for(exact_size(node.area));
     let first = lists.head(place);
-    lists.push(place, at, top_in(node.area));
+    if !lists.push(place, at, top_in(node.area)) {
+        join_pile(slots, lists, options, place, at);
+        return;
+    }
     push_front(slots, before_first(place), first, at);
 }
 

@@ -6,7 +6,7 @@ ghost use Rattle.atlas_model.specs.Pixels.{sides_of, options_of};
 ghost use Rattle.atlas_store.specs.Store.Starts.{IsBegun, IsStarted, one_free_slot};
 
 use crate::slots::{Node, NodeKind, Ring, Slot};
-use crate::store::Store;
+use crate::store::{PAUSE, Store};
 use crate::store::turns::Turns;
 use atlas_model::{AllocatorOptions, Rectangle, Size};
 use atlas_search::bands::Scale;
@@ -54,6 +54,7 @@ impl<A: Allocator> Store<A> {
             unused: Link::NONE,
             options: Scale::new(options),
             turns: Turns::new(),
+            due: PAUSE,
         };
         store.start(size, options);
         Ok(store)
@@ -70,6 +71,7 @@ impl<A: Allocator> Store<A> {
         self.slots.push_reserved(whole_slot(size));
         self.lists.clear();
         self.unused = Link::NONE;
+        self.due = PAUSE;
         self.options.set(options);
         self.list(Link { number: 0 });
     }
@@ -84,5 +86,6 @@ impl<A: Allocator> Store<A> {
         self.lists = other.lists;
         self.unused = other.unused;
         self.options = other.options;
+        self.due = other.due;
     }
 }

@@ -16,7 +16,8 @@ use Rattle.atlas_model.specs.Choice.{Options, AreValid}
 use Rattle.atlas_search.specs.Items.{Item, no_item, item_at, item_box, item_sides, IsPath}
 use Rattle.atlas_search.specs.Rectangles.{IsSolid}
 use Rattle.atlas_search.specs.Numbers.{occurs, without, same, no_slot}
-use Rattle.atlas_search.specs.Lookups.{AreListed, IsStanding}
+use Rattle.atlas_search.specs.Lookups.{AreChained, IsStanding}
+use Rattle.atlas_search.specs.Piles.{IsTag}
 use Rattle.atlas_model.specs.Pixels.{box_of}
 use Rattle.atlas_search.specs.Tables.{head_of, low_of, is_used_at}
 use Rattle.atlas_model.proofs.ListLemmas.Counting.{count_by-cons}
@@ -97,25 +98,67 @@ free-inside (t ∷ es) (suc i) f = omega (arith, free-inside es i f)
 pub exact-width : (r : Rectangle) → IsSolid r → has_width r ≡ true
 exact-width r e = grind (arith, lt-ltb)
 
+-- ---- no list is a pile
+
+-- What begins a chain of few entries is no tag.
+pub untagged-path : (es : List Item) (from : ℕ) (xs : List ℕ) → length es ≤ 4261412864 → IsPath es from xs no_slot
+    → IsTag from → ⊥
+untagged-path es from [] short path tag = omega (arith, path, tag.1)
+untagged-path es from (x ∷ xs) short path tag = omega (arith, path.0, path.1, short, tag.0)
+
+-- Nor is what comes after one of its entries.
+pub untagged-after : (es : List Item) (from x : ℕ) (xs : List ℕ) → length es ≤ 4261412864 → IsPath es from xs no_slot
+    → 0 < occurs x xs → IsTag (item_at es x).after → ⊥
+untagged-after es from x [] short path on tag = omega (arith, on)
+untagged-after es from x (y ∷ ys) short path on tag =
+    elim (cases_eq x y) [
+      | inl e ↦ untagged-path es (item_at es y).after ys short path.2 (subst (λ n. IsTag (item_at es n).after) e tag)
+      | inr ne ↦ untagged-after es (item_at es y).after x ys short path.2 (omega (arith, on, same-ne x y ne)) tag
+    ]
+
 -- ---- an entry is taken
 
-listed-same : (o : Options) (heads : List ListHead) (es es' : List Item) → ((i : ℕ) → item_at es' i ≡ item_at es i)
-    → length es ≤ length es' → length es' ≤ no_slot
-    → AreListed o heads es → AreListed o heads es'
-listed-same o heads es es' at longer short listed = grind (arith, path-frame)
+chained-same : (o : Options) (heads : List ListHead) (es es' : List Item) → ((i : ℕ) → item_at es' i ≡ item_at es i)
+    → length es ≤ length es' → length es' ≤ 4261412864
+    → AreChained o heads es → AreChained o heads es'
+chained-same o heads es es' at longer short c =
+    record {
+      listed = record {
+        free_lists = c.listed.free_lists;
+        valid = c.listed.valid;
+        short = short;
+        lists = λ k l. inl (paths k l);
+        own = λ k i l h. subst (λ (t : Item). (t.is_free ≡ true) × (list_of o (item_sides t) ≡ k)) (sym (at i)) (c.listed.own k i l h);
+        each = λ i f.
+            subst (λ (t : Item). 0 < occurs i (c.listed.free_lists (list_of o (item_sides t)))) (sym (at i))
+            (c.listed.each i (ap (λ (t : Item). t.is_free) (sym (at i)) ∙ f));
+        once = c.listed.once;
+        exact = λ i f. subst (λ (t : Item). IsSolid t.area) (sym (at i)) (c.listed.exact i (ap (λ (t : Item). t.is_free) (sym (at i)) ∙ f));
+        low = λ i f.
+            subst (λ (t : Item). low_of heads (list_of o (item_sides t)) ≤ (item_box t).min.y) (sym (at i))
+            (c.listed.low i (ap (λ (t : Item). t.is_free) (sym (at i)) ∙ f));
+      };
+      chains = paths;
+    }
+  where
+    paths : (k : ℕ) → k < 2704 → IsPath es' (head_of heads k).number (c.listed.free_lists k) no_slot
+    paths k l = path-frame es es' (head_of heads k).number (c.listed.free_lists k) no_slot longer (λ i _. ap (λ (t : Item). t.after) (at i)) (c.chains k l)
 
 past-idle : (es : List Item) → (item_at es (length es)).is_free ≡ false
 past-idle [] = refl
 past-idle (t ∷ es) = past-idle es
 
 -- A new entry at the end.
-pub taken-new : (o : Options) (heads : List ListHead) (es : List Item) (unused : Link) (used : ℕ) → length es < no_slot
+pub taken-new : (o : Options) (heads : List ListHead) (es : List Item) (unused : Link) (used : ℕ) → length es < 4261412864
     → AreKept o (record { entries = es; heads = heads; unused = unused; used = used })
     → IsClaimed o (record { entries = es ++ no_item ∷ []; heads = heads; unused = unused; used = used + 1 }) (length es)
 taken-new o heads es unused used short kept =
+    let c = chained-same o heads es (es ++ no_item ∷ []) (item_at-more es) (omega (arith, length-more es)) (omega (arith, length-more es, short))
+        (record { listed = kept.listed; chains = kept.chains }) in
     record {
       kept = record {
-        listed = grind (arith, listed-same, item_at-more, length-more);
+        listed = c.listed;
+        chains = c.chains;
         unused_list = kept.unused_list;
         chain = path-frame es (es ++ no_item ∷ []) unused.number kept.unused_list no_slot (omega (arith, length-more es))
             (λ i h. ap (λ (t : Item). t.after) (item_at-more es i)) kept.chain;
@@ -168,6 +211,7 @@ taken-again o heads es unused after used some leads kept = go kept.unused_list k
         record {
           kept = record {
             listed = kept.listed;
+            chains = kept.chains;
             unused_list = xs;
             chain = subst (λ n. IsPath es n xs no_slot) (ap (λ n. (item_at es n).after) (sym p.0) ∙ sym leads) p.2;
             each = λ i l. omega (arith, each i l, ap (λ n. same i n) p.0);
@@ -187,12 +231,11 @@ pub put-kept : (o : Options) (heads heads' : List ListHead) (es : List Item) (un
     → ((j : ℕ) → j ≢ k → low_of heads' j ≡ low_of heads j)
     → AreKept o (record { entries = slice_set es x e; heads = heads'; unused = unused; used = used })
 put-kept o heads heads' es unused used x k e claimed free after exact list few head other_heads low lower other_lows =
+    let c = listed-with o heads heads' es (slice_set es x e) (record { listed = claimed.kept.listed; chains = claimed.kept.chains }) x k e idle claimed.inside (length-set es x e)
+        (item_at-same es x e claimed.inside) (λ i ne. item_at-other es x i e ne) free after exact list head other_heads low lower other_lows few in
     record {
-      listed = grind (
-        arith,
-        listed-with o heads heads' es (slice_set es x e) claimed.kept.listed x k e idle claimed.inside (length-set es x e) (item_at-same es x e claimed.inside),
-        item_at-other es x,
-      );
+      listed = c.listed;
+      chains = c.chains;
       unused_list = claimed.kept.unused_list;
       chain = path-frame es (slice_set es x e) unused.number claimed.kept.unused_list no_slot (omega (arith, length-set es x e))
           (λ i h. ap (λ (t : Item). t.after) (item_at-other es x i e (not_unused i h))) claimed.kept.chain;
@@ -293,10 +336,11 @@ module _ (o : Options) (heads heads' : List ListHead) (es es1 : List Item) (unus
       → ((i : ℕ) → 0 < occurs i kept.unused_list → (item_at es1 i).after ≡ (item_at es i).after)
       → AreKept o (record { entries = es'; heads = heads'; unused = found.at; used = used' })
   finish long same_box here links unused_links =
+      let c = listed-without o heads heads' es es' (record { listed = kept.listed; chains = kept.chains }) x k standing.free standing.list (length-set es1 x _ ∙ long)
+          (ap (λ (t : Item). t.is_free) this) same_kept (λ _. here) (λ j i ne l h. still i (in_other j i ne l h) ∙ links j i ne l h) heads_stay lows lows_stay in
       record {
-        listed =
-            listed-without o heads heads' es es' kept.listed x k standing.free standing.list (length-set es1 x _ ∙ long)
-            (ap (λ (t : Item). t.is_free) this) same_kept (λ _. here) (λ j i ne l h. still i (in_other j i ne l h) ∙ links j i ne l h) heads_stay lows lows_stay;
+        listed = c.listed;
+        chains = c.chains;
         unused_list = x ∷ kept.unused_list;
         chain = (
           refl,
@@ -350,7 +394,14 @@ module _ (o : Options) (heads heads' : List ListHead) (es es1 : List Item) (unus
   -- The first of its list.
   pub first-removed : (head_of heads' k).number ≡ (item_at es x).after → (head_of heads k).number ≡ x → es1 ≡ es
       → AreKept o (record { entries = es'; heads = heads'; unused = found.at; used = used' })
-  first-removed leads was_first is = grind (arith, path-begun, length-set, few, in_list, item_at-other, finish)
+  first-removed leads was_first is =
+      finish (ap length is) (λ i. (ap (λ ts. (item_at ts i).area) is, ap (λ ts. (item_at ts i).is_free) is))
+      (subst (λ n. IsPath es' n (without x (kept.listed.free_lists k)) no_slot) (sym leads)
+      (path-begun es es' x (kept.listed.free_lists k) (omega (arith, length-set es1 x (idle_item unused.number), ap length is))
+      (λ i. kept.listed.once k i few) in_list
+      (λ i ne. ap (λ (t : Item). t.after) (item_at-other es1 x i (idle_item unused.number) ne) ∙ ap (λ ts. (item_at ts i).after) is)
+      (subst (λ n. IsPath es n (kept.listed.free_lists k) no_slot) was_first (kept.chains k few))))
+      (λ j i ne l h. ap (λ ts. (item_at ts i).after) is) (λ i h. ap (λ ts. (item_at ts i).after) is)
 
   -- Any other one, after b.
   pub next-removed : (b : ℕ) → (item_at es b).is_free ≡ true → list_at o es b ≡ k → (item_at es b).after ≡ x
@@ -361,7 +412,7 @@ module _ (o : Options) (heads heads' : List ListHead) (es es1 : List Item) (unus
       finish long same_box
       (subst (λ h. IsPath es' h.number (without x (kept.listed.free_lists k)) no_slot) (sym heads_same)
       (path-bypassed es es' x b (head_of heads k).number (kept.listed.free_lists k) no_slot (omega (arith, length-set es1 x (idle_item unused.number), long)) (λ z. omega (arith, z, inside, kept.listed.short))
-      (λ i. kept.listed.once k i few) b_in b_next skip others_after (kept.listed.path k few)))
+      (λ i. kept.listed.once k i few) b_in b_next skip others_after (kept.chains k few)))
       (λ j i ne l h. other_after i (λ e. ne (sym (kept.listed.own j i l h).1 ∙ ap (list_at o es) e ∙ b_list)))
       (λ i h. other_after i (λ e. both_ways _ (unused_list-idle (λ i. 0) o (record { entries = es; heads = heads; unused = unused; used = used }) kept i h) (ap (λ n. (item_at es n).is_free) e ∙ b_free)))
     where
@@ -396,7 +447,7 @@ module _ (o : Options) (heads heads' : List ListHead) (es es1 : List Item) (unus
           ]
 
       apart : b ≢ x
-      apart e = no_loop (kept.listed.free_lists k) (head_of heads k).number (λ i. kept.listed.once k i few) b_in (kept.listed.path k few)
+      apart e = no_loop (kept.listed.free_lists k) (head_of heads k).number (λ i. kept.listed.once k i few) b_in (kept.chains k few)
         where
           no_loop : (xs : List ℕ) (from : ℕ) → ((i : ℕ) → occurs i xs ≤ 1) → 0 < occurs b xs → IsPath es from xs no_slot
               → ⊥
@@ -427,18 +478,22 @@ empty-kept o heads unused valid none last =
             free_lists = λ k. [];
             valid = valid;
             short = omega arith;
-            path = λ k l. eqb-true (head_of heads k).number no_slot (not-false ((head_of heads k).number == no_slot) (none k));
+            lists = λ k l. inl (empty k);
             own = λ k i l h. absurd (omega (arith, h));
             each = λ i f. absurd (both_ways false refl f);
             once = λ k i l. omega arith;
             exact = λ i f. absurd (both_ways false refl f);
             low = λ i f. absurd (both_ways false refl f);
           };
+      chains = λ k l. empty k;
       unused_list = [];
       chain = last;
       each = λ i l. absurd (omega (arith, l));
       used = refl;
     }
+  where
+    empty : (k : ℕ) → (head_of heads k).number ≡ no_slot
+    empty k = eqb-true (head_of heads k).number no_slot (not-false ((head_of heads k).number == no_slot) (none k))
 
 -- Boxes that are the same as one box.
 pub alone : (xs : List Box) (b : Box) → AreSameBoxes xs (b ∷ []) → xs ≡ b ∷ []

@@ -11,10 +11,10 @@ use Rattle.atlas_search.specs.Tables.{head_of, low_of}
 use Rattle.guillotiere.specs.FreeBoxes.BoxShelves.{AreKept, BoxShelf, box_shelf, free_item_boxes, with_after}
 use Rattle.atlas_search.specs.Numbers.{no_slot}
 
--- n more entries can be used without memory, and each has a number.
+-- n more entries can be used without memory, and each has a number that is no tag of a pile.
 pub record HasEntriesFor {A : Type 0} (n : ℕ) (b : FreeBoxes A) : Type 0 where
   pub room : b.used + n ≤ vec_capacity b.entries
-  pub short : b.used + n ≤ no_slot
+  pub short : b.used + n ≤ 4261412864
 
 -- These boxes are free beside those of before.
 pub record AreFiledBoxes {A : Type 0} (o : Options) (added : List Box) (old new : FreeBoxes A) : Type 0 where

@@ -12,13 +12,14 @@ use Rattle.atlas_model.specs.Choice.{Options}
 use Rattle.atlas_search.specs.Items.{Item, no_item, item_at, item_box, IsPath}
 use Rattle.atlas_search.specs.Numbers.{occurs, same, no_slot}
 use Rattle.atlas_search.specs.Lookups.{AreListed}
+use Rattle.atlas_search.specs.Tables.{head_of}
 
 -- A free box has a width, an unused entry has none.
 abbrev pub has_width : Rectangle → Bool
 has_width r = int_lt r.min.x r.max.x
 
 abbrev pub stored_item : FreeBox → Item
-stored_item b = record { area = b.area; after = b.after.number; is_free = has_width b.area }
+stored_item b = record { area = b.area; after = b.after.number; before = 0; is_free = has_width b.area }
 
 -- An unused entry before this one.
 abbrev pub idle_item : ℕ → Item
@@ -48,11 +49,12 @@ free_item_boxes (e ∷ es) = if e.is_free then item_box e ∷ free_item_boxes es
 abbrev pub free_count : Item → ℕ
 free_count e = if e.is_free then 1 else 0
 
--- The free entries stand in their lists, and `unused_list` has the unused ones, from `unused` on. Each entry is a free
+-- The free entries stand in their lists, which are chains, and `unused_list` has the unused ones, from `unused` on. Each entry is a free
 -- one, an unused one or claimed, exactly one of these, and once; `claimed i` counts an entry that is taken and not used
 -- yet.
 pub record AreKeptWith (claimed : ℕ → ℕ) (o : Options) (v : BoxShelf) : Type 0 where
   pub listed : AreListed o v.heads v.entries
+  pub chains : (k : ℕ) → k < 2704 → IsPath v.entries (head_of v.heads k).number (listed.free_lists k) no_slot
   pub unused_list : List ℕ
   pub chain : IsPath v.entries v.unused.number unused_list no_slot
   pub each : (i : ℕ) → i < length v.entries → occurs i unused_list + claimed i + free_count (item_at v.entries i) ≡ 1

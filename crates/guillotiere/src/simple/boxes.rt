@@ -11,13 +11,14 @@ ghost use Rattle.atlas_search.specs.Rectangles.{IsSolid, IsUnsigned};
 ghost use Rattle.atlas_search.specs.Lookups.{IsStanding};
 ghost use Rattle.atlas_model.specs.Pixels.{box_of, options_of};
 ghost use Rattle.atlas_search.specs.Numbers.{no_slot};
-ghost use Rattle.atlas_search.specs.Tables.{is_used_at};
+ghost use Rattle.atlas_search.specs.Piles.{IsTag};
+ghost use Rattle.atlas_search.specs.Tables.{head_of, is_used_at};
 
 use atlas_model::{AtlasError, Rectangle, point2};
 use atlas_search::bands::Scale;
 use atlas_search::best::Found;
 use atlas_search::cut::{exact_size, top_in};
-use atlas_search::link::{Link, NO_SLOT};
+use atlas_search::link::{Link, NO_SLOT, PILE};
 use atlas_search::search::Entry;
 use atlas_search::table::{LISTS, Table};
 use std::alloc::Allocator;
@@ -41,6 +42,11 @@ impl Entry for FreeBox {
     fn after(&self) -> Link {
         self.after
     }
+
+    // No list is a pile, which alone has such links.
+    fn before(&self) -> Link {
+        Link { number: 0 }
+    }
 }
 
 /// Free boxes, each in the list of its size, and entries that are unused; `used` counts the others.
@@ -52,8 +58,8 @@ pub struct FreeBoxes<A: Allocator> {
     pub table: Table<A>,
 }
 
-// The most entries: `NO_SLOT` is the number of none.
-const MOST_BOXES: usize = 4294967295;
+/// The most entries: greater numbers are tags of piles, or none.
+pub const MOST_BOXES: u32 = PILE;
 
 // An unused entry before this one.
 fn unused_box(after: Link) -> FreeBox
@@ -145,7 +151,7 @@ impl<A: Allocator> FreeBoxes<A> {
         let place = options.place_for(exact_size(area));
         let after = self.table.head(place);
         self.entries[at.number as usize] = FreeBox { area, after };
-        self.table.push(place, at, top_in(area));
+        let _pushed = self.table.push(place, at, top_in(area));
     }
 
     /// Makes sure that n more entries can be used; nothing but the room changes. The only error is `Memory`, which comes only
@@ -162,7 +168,7 @@ impl<A: Allocator> FreeBoxes<A> {
         let all = self.used as usize + n as usize;
         let present = self.entries.len();
         if all > present {
-            if all > MOST_BOXES {
+            if all > MOST_BOXES as usize {
                 return Err(AtlasError::Memory);
             }
             self.entries.reserve(all - present)?;
@@ -204,6 +210,8 @@ impl<A: Allocator> FreeBoxes<A> {
         requires list { list < LISTS }
         requires used { before.number ≡ no_slot → is_used_at (box_shelf self.old).heads list ≡ true }
         requires inside { before.number ≢ no_slot → before.number < vec_len self.old.entries }
+        requires chain { before.number ≡ no_slot → IsTag (head_of (box_shelf self.old).heads list).number → ⊥ }
+        requires entry { IsTag after.number → ⊥ }
         ensures led { IsLed (box_shelf self.old) (box_shelf self.new) list before after }
         ensures entries { KeepsEntries self.old self.new }
     {

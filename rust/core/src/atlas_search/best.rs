@@ -64,7 +64,8 @@ fn rank(is_large: bool, margin: i32) -> u32 {
 
 // The `min` of a box as one number, the greater the later the box comes: the y, and below it the x.
 #[inline]
-fn corner(rectangle: Rectangle) -> u64 {
+#[must_use]
+pub fn corner(rectangle: Rectangle) -> u64 {
     rectangle.min.y as u32 as u64 * 4294967296 + rectangle.min.x as u32 as u64
 }
 
@@ -183,6 +184,14 @@ impl Best {
     #[must_use]
     pub fn settles(&self, low: u32) -> bool {
         self.bar < low
+    }
+
+    /// Whether the best has an equal side and begins at this corner or before it: no box that begins there or later is
+    /// better.
+    #[inline]
+    #[must_use]
+    pub fn passes(&self, corner: u64) -> bool {
+        self.rank == 0 && self.corner <= corner
     }
 
     /// Where the best of the boxes shown is.

@@ -3,8 +3,9 @@
 
 use crate::atlas_model::{Rectangle, Size};
 use crate::atlas_search::bands::{Place, Scale, BANDS};
-use crate::atlas_search::best::{Best, Found};
-use crate::atlas_search::link::{Link, NO_SLOT};
+use crate::atlas_search::best::{corner, Best, Found};
+use crate::atlas_search::cut::top_in;
+use crate::atlas_search::link::{Link, NO_SLOT, PILE};
 use crate::atlas_search::masks::Mask;
 use crate::atlas_search::table::Table;
 use wollemigo_support::alloc::Allocator;
@@ -14,13 +15,41 @@ pub trait Entry {
     /// The entry's rectangle.
     fn rectangle(&self) -> Rectangle;
 
-    /// The entry after it in its list.
+    /// The entry after it in its list; in a pile, the tag of what is below it to the right.
     fn after(&self) -> Link;
+
+    /// The entry before it in its list; in a pile, the tag of what is below it to the left.
+    fn before(&self) -> Link;
 }
 
-// Shows the boxes of a list to a search.
+// Shows a pile to a search, but for what lies below an entry that can't be the best.
+#[inline]
+fn show_pile<E: Entry>(entries: &[E], tag: Link, depth: u32, list: usize, best: &mut Best) {
+    if tag.number != NO_SLOT {
+        let at = Link {
+            number: tag.number - PILE,
+        };
+        let entry = &entries[at.number as usize];
+        let area = entry.rectangle();
+        if !best.passes(corner(area)) {
+            best.look(area, at, Link::NONE, list, 0);
+            show_pile(entries, entry.before(), depth + 1, list, best);
+            show_pile(entries, entry.after(), depth + 1, list, best);
+        }
+    }
+}
+
+// Shows the boxes of a list that is a pile to a search. None lies above its top, so the top's `min.y` is the list's bound.
+#[inline]
+fn show_top<E: Entry>(entries: &[E], tag: Link, list: usize, best: &mut Best) {
+    let low = top_in(entries[(tag.number - PILE) as usize].rectangle());
+    show_pile(entries, tag, 0, list, best);
+    best.end_list(list, low);
+}
+
+// Shows the boxes of a list that is a chain to a search.
 #[inline(always)]
-fn show_list<E: Entry>(entries: &[E], head: Link, list: usize, best: &mut Best) {
+fn show_chain<E: Entry>(entries: &[E], head: Link, list: usize, best: &mut Best) {
     let mut least = 4294967295;
     let mut at = head;
     let mut before = Link::NONE;
@@ -33,17 +62,28 @@ fn show_list<E: Entry>(entries: &[E], head: Link, list: usize, best: &mut Best) 
     best.end_list(list, least);
 }
 
+// Shows the boxes of a list to a search. Where `any` is false, none is a pile.
+#[inline(always)]
+fn show_list<E: Entry>(entries: &[E], head: Link, list: usize, any: bool, best: &mut Best) {
+    if any && head.number >= PILE && head.number < NO_SLOT {
+        show_top(entries, head, list, best);
+    } else {
+        show_chain(entries, head, list, best);
+    }
+}
+
 // Shows the list at a place to a search, unless nothing in it can be the best.
 #[inline(always)]
 fn search_list<A: Allocator, E: Entry>(
     entries: &[E],
     table: &Table<A>,
     place: Place,
+    any: bool,
     best: &mut Best,
 ) {
     if !best.settles(table.low(place)) {
         let list = BANDS * place.row + place.column;
-        show_list(entries, table.head(place), list, best);
+        show_list(entries, table.head(place), list, any, best);
     }
 }
 
@@ -54,11 +94,12 @@ fn search_row<A: Allocator, E: Entry>(
     table: &Table<A>,
     row: usize,
     columns: Mask,
+    any: bool,
     best: &mut Best,
 ) {
     let mut left = columns;
     while let Some(column) = left.take_first() {
-        search_list(entries, table, Place { row, column }, best);
+        search_list(entries, table, Place { row, column }, any, best);
     }
 }
 
@@ -69,11 +110,12 @@ fn search_column<A: Allocator, E: Entry>(
     table: &Table<A>,
     column: usize,
     rows: Mask,
+    any: bool,
     best: &mut Best,
 ) {
     let mut left = rows;
     while let Some(row) = left.take_first() {
-        search_list(entries, table, Place { row, column }, best);
+        search_list(entries, table, Place { row, column }, any, best);
     }
 }
 
@@ -95,12 +137,13 @@ fn search_rows<A: Allocator, E: Entry>(
     rows: Mask,
     first: usize,
     end: usize,
+    any: bool,
     best: &mut Best,
 ) {
     let mut left = rows;
     while let Some(row) = left.take_first() {
         let columns = table.row(row).from(first).below(end);
-        search_row(entries, table, row, columns, best);
+        search_row(entries, table, row, columns, any, best);
     }
 }
 
@@ -123,27 +166,28 @@ fn search_before<A: Allocator, E: Entry>(
     columns: Mask,
     rows: Mask,
     end: usize,
+    any: bool,
     best: &mut Best,
 ) -> bool {
-    search_row(entries, table, own.row, columns.below(end), best);
-    search_column(entries, table, own.column, rows.below(end), best);
+    search_row(entries, table, own.row, columns.below(end), any, best);
+    search_column(entries, table, own.column, rows.below(end), any, best);
     if best.has_equal_side() {
         return false;
     }
     let first = own.column + 1;
     let others = rows_with(table, first, BANDS).from(own.row + 1);
-    search_rows(entries, table, others.below(end), first, end, best);
+    search_rows(entries, table, others.below(end), first, end, any, best);
     others.is_empty()
 }
 
-/// The free entry that a request of this rounded size takes.
-#[inline]
-#[must_use]
-pub fn pick<A: Allocator, E: Entry>(
+// The same. Where `any` is false, no list is a pile.
+#[inline(always)]
+fn pick_from<A: Allocator, E: Entry>(
     entries: &[E],
     table: &Table<A>,
     options: &Scale,
     size: Size,
+    any: bool,
 ) -> Option<Found> {
     let own = options.place_for(size);
     let far = own.row.max(own.column);
@@ -154,7 +198,7 @@ pub fn pick<A: Allocator, E: Entry>(
     let mut best = Best::new(size, is_large);
     while least < BANDS {
         let end = options.end_after(least);
-        let is_last = search_before(entries, table, own, columns, rows, end, &mut best);
+        let is_last = search_before(entries, table, own, columns, rows, end, any, &mut best);
         if let Some(spot) = best.spot() {
             let entry = &entries[spot.at.number as usize];
             return Some(spot.found(entry.rectangle()));
@@ -167,4 +211,32 @@ pub fn pick<A: Allocator, E: Entry>(
         least = end;
     }
     None
+}
+
+// The same where lists may be piles.
+#[cold]
+#[inline(never)]
+fn pick_any<A: Allocator, E: Entry>(
+    entries: &[E],
+    table: &Table<A>,
+    options: &Scale,
+    size: Size,
+) -> Option<Found> {
+    pick_from(entries, table, options, size, true)
+}
+
+/// The free entry that a request of this rounded size takes.
+#[inline]
+#[must_use]
+pub fn pick<A: Allocator, E: Entry>(
+    entries: &[E],
+    table: &Table<A>,
+    options: &Scale,
+    size: Size,
+) -> Option<Found> {
+    if table.has_piles() {
+        pick_any(entries, table, options, size)
+    } else {
+        pick_from(entries, table, options, size, false)
+    }
 }

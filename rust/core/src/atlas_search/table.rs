@@ -3,7 +3,7 @@
 //! have a slot and of the one that was emptied last.
 
 use crate::atlas_search::bands::{Place, BANDS};
-use crate::atlas_search::link::{Link, NO_SLOT};
+use crate::atlas_search::link::{Link, NO_SLOT, PILE};
 use crate::atlas_search::marks::Marks;
 use crate::atlas_search::masks::Mask;
 use wollemigo_support::alloc::{AllocError, Allocator};
@@ -12,7 +12,7 @@ use wollemigo_support::prelude::Vec;
 /// How many lists of free slots there are.
 pub const LISTS: usize = 2704;
 
-/// The first slot of a list, or none, and a bound: at most the `min.y` of each of the list's slots.
+/// The first slot of a list, or none, or the tag of a pile; and a bound: at most the `min.y` of each of the list's slots.
 #[derive(Clone, Copy, Debug, PartialEq, Eq)]
 pub struct ListHead {
     pub first: Link,
@@ -24,6 +24,12 @@ const BLANK: ListHead = ListHead {
     first: Link::NONE,
     low: 0,
 };
+
+// Whether a list that begins so is a pile.
+#[inline]
+fn is_tag(link: Link) -> bool {
+    link.number >= PILE && link.number < NO_SLOT
+}
 
 // The lists of a row are empty in these columns from now on.
 #[inline]
@@ -52,6 +58,8 @@ pub struct Table<A: Allocator> {
     marks: Marks,
     // The list that was emptied last, whose mark is kept; LISTS if none was.
     emptied: usize,
+    // How many lists are piles.
+    piles: u32,
 }
 
 impl<A: Allocator> Table<A> {
@@ -62,6 +70,7 @@ impl<A: Allocator> Table<A> {
             heads: Vec::from_elem(alloc, BLANK, LISTS)?,
             marks: Marks::none(),
             emptied: LISTS,
+            piles: 0,
         })
     }
 
@@ -75,6 +84,7 @@ impl<A: Allocator> Table<A> {
             heads: Vec::from_slice(*self.heads.allocator(), &self.heads)?,
             marks: self.marks.copy(),
             emptied: self.emptied,
+            piles: self.piles,
         })
     }
 
@@ -84,13 +94,28 @@ impl<A: Allocator> Table<A> {
         blank_marked(&mut self.heads, &self.marks);
         self.marks = Marks::none();
         self.emptied = LISTS;
+        self.piles = 0;
     }
 
-    /// The first slot of a list, or none.
+    /// Whether a list is a pile.
+    #[inline]
+    #[must_use]
+    pub fn has_piles(&self) -> bool {
+        self.piles != 0
+    }
+
+    /// The first slot of a list, or none, or the tag of a pile.
     #[inline]
     #[must_use]
     pub fn head(&self, at: Place) -> Link {
         self.heads[BANDS * at.row + at.column].first
+    }
+
+    /// The first slot of the list of this number, or none, or the tag of a pile.
+    #[inline]
+    #[must_use]
+    pub fn first(&self, number: usize) -> Link {
+        self.heads[number].first
     }
 
     /// At most the `min.y` of each of the list's slots.
@@ -100,23 +125,47 @@ impl<A: Allocator> Table<A> {
         self.heads[BANDS * at.row + at.column].low
     }
 
-    /// A slot with this `min.y` comes first in a list.
+    /// A slot with this `min.y` comes first in a list. Answers false, and does nothing, if that is a pile.
     #[inline]
-    pub fn push(&mut self, at: Place, first: Link, top: u32) {
+    pub fn push(&mut self, at: Place, first: Link, top: u32) -> bool {
         let head = &mut self.heads[BANDS * at.row + at.column];
-        if head.first.number == NO_SLOT {
-            head.first = first;
-            head.low = top;
-            if self.emptied != BANDS * at.row + at.column {
-                self.marks.mark(at);
-            }
-        } else {
+        if head.first.number < PILE {
             head.first = first;
             head.low = head.low.min(top);
+            return true;
         }
+        if head.first.number != NO_SLOT {
+            return false;
+        }
+        head.first = first;
+        head.low = top;
+        if self.emptied != BANDS * at.row + at.column {
+            self.marks.mark(at);
+        }
+        true
     }
 
-    /// Another slot, or none, comes first in the list of this number, which has a slot.
+    /// The list of this number, which has a slot, is a pile with this tag from now on.
+    #[inline]
+    pub fn set_pile(&mut self, number: usize, tag: Link) {
+        let piles = if is_tag(self.heads[number].first) {
+            self.piles
+        } else {
+            self.piles + 1
+        };
+        self.heads[number].first = tag;
+        self.piles = piles;
+    }
+
+    /// The list of this number, which is a pile, has no slot from now on.
+    #[inline]
+    pub fn end_pile(&mut self, number: usize) {
+        self.piles -= 1;
+        self.heads[number].first = Link { number: 0 };
+        self.set_first(number, Link::NONE);
+    }
+
+    /// Another slot, or none, comes first in the list of this number, which is a chain and has a slot.
     #[inline]
     pub fn set_first(&mut self, number: usize, first: Link) {
         self.heads[number].first = first;

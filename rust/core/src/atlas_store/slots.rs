@@ -5,6 +5,8 @@ pub mod batch;
 pub mod entry;
 pub mod extending;
 pub mod lists;
+pub mod piles;
+pub mod piling;
 pub mod placing;
 pub mod walks;
 

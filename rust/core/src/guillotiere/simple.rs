@@ -11,9 +11,8 @@ use crate::atlas_search::bands::Scale;
 use crate::atlas_search::best::Found;
 use crate::atlas_search::choice::rounded;
 use crate::atlas_search::cut::{granted, guillotine, Rest};
-use crate::atlas_search::link::NO_SLOT;
 use crate::atlas_search::search::pick;
-use crate::guillotiere::simple::boxes::{FreeBox, FreeBoxes};
+use crate::guillotiere::simple::boxes::{FreeBox, FreeBoxes, MOST_BOXES};
 use wollemigo_support::alloc::{Allocator, Global};
 
 /// A simpler allocator, which hands out boxes and never takes one back: its free boxes make up no tree, and a part that
@@ -23,7 +22,7 @@ use wollemigo_support::alloc::{Allocator, Global};
 /// its size and its options there.
 ///
 /// The table of its lists of free boxes takes 21,632 bytes on the heap, and each entry for a free box 20 more. Entries
-/// that aren't used any more are used first by later calls. There are at most 4,294,967,295 entries: where more would
+/// that aren't used any more are used first by later calls. There are at most 4,261,412,864 entries: where more would
 /// be used, `Memory` is the answer.
 pub struct SimpleAtlasAllocator<A: Allocator + Copy = Global> {
     boxes: FreeBoxes<A>,
@@ -107,14 +106,14 @@ impl<A: Allocator + Copy> SimpleAtlasAllocator<A> {
         is_listed(&self.boxes.entries, &Rectangle::from(self.size))
     }
 
-    /// How many entries are used, one for each free box, how many there are, and how many there may be: 4,294,967,295.
+    /// How many entries are used, one for each free box, how many there are, and how many there may be: 4,261,412,864.
     #[inline]
     #[must_use]
     pub fn slots(&self) -> SlotCount {
         SlotCount {
             used: self.boxes.used,
             kept: self.boxes.entries.len() as u32,
-            limit: NO_SLOT,
+            limit: MOST_BOXES,
         }
     }
 }

@@ -1,15 +1,41 @@
-use Rattle.std.proofs.Common.{List, ◌∷◌, map, subst, ap, arith}
+use Rattle.std.proofs.Common.{rules, ◌≤◌, length, [], List, ◌∷◌, map, subst, ap, arith}
+use Rattle.std.proofs.lemmas.Bool.{cond_both}
 use Rattle.std.proofs.lemmas.List.{length-map}
 use Rattle.atlas_model.specs.Boxes.{Box, AreSameBoxes}
 use Rattle.guillotiere.specs.FreeBoxes.BoxShelves.{BoxShelf, box_shelf, free_item_boxes, stored_item}
+use Rattle.atlas_model.specs.Choice.{Options}
+use Rattle.atlas_model.specs.Simple.{is_kept}
+use Rattle.guillotiere.specs.FreeBoxes.FreeLists.{kept_of}
 use Rattle.atlas_model.specs.Pixels.{box_of, options_of, sides_of}
-use Rattle.atlas_allocator.proofs.AtlasLemmas.CuttingFromLists.{unsigned-measurable}
+use Rattle.atlas_allocator.proofs.AtlasLemmas.CuttingFromLists.{unsigned-fits, unsigned-measurable}
 use Rattle.guillotiere.proofs.SimpleLemmas.CuttingBoxes.{at_error, picked-exact, cut-same, length-kept}
 use Rattle.guillotiere.proofs.SimpleLemmas.EntryCounts.{used-few}
 use Rattle.guillotiere.proofs.simple.cut_picked.Goals as goal
 
 pub guillotine-rest-requires-clause-measurable : goal.guillotine-rest-requires-clause-measurable
-guillotine-rest-requires-clause-measurable g c = grind (arith, picked-exact, unsigned-measurable)
+guillotine-rest-requires-clause-measurable g c =
+    let exact = picked-exact (options_of c.args.options.now) c.args.boxes.now.table (map stored_item c.args.boxes.now.entries.items) c.args.found c.requires.kept.listed c.requires.standing in
+    unsigned-measurable c.args.found.rectangle exact.unsigned (search rules) (search rules) (search rules) (search rules)
+
+pub guillotine-rest-requires-clause-fits : goal.guillotine-rest-requires-clause-fits
+guillotine-rest-requires-clause-fits g c =
+    let exact = picked-exact (options_of c.args.options.now) c.args.boxes.now.table (map stored_item c.args.boxes.now.entries.items) c.args.found c.requires.kept.listed c.requires.standing in
+    unsigned-fits c.args.size c.args.found.rectangle exact.unsigned c.requires.positive c.requires.fits
+
+-- One box is kept or none.
+kept-few : (o : Options) (b : Box) → length (kept_of o b) ≤ 1
+kept-few o b = cond_both (is_kept o b) (b ∷ []) [] (λ bs. length bs ≤ 1) (λ _. omega arith) (λ _. omega arith)
+
+pub make_room-requires-clause-few : goal.make_room-requires-clause-few
+make_room-requires-clause-few g c =
+    let o = options_of c.args.options.now in
+    omega (
+      arith,
+      c.saturating_sub.ensures,
+      c.kept_count.ensures,
+      kept-few o (box_of c.guillotine-rest.result.split),
+      kept-few o (box_of c.guillotine-rest.result.leftover),
+    )
 
 pub returns-clause-ok : goal.returns-clause-ok
 returns-clause-ok g c =

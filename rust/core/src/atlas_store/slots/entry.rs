@@ -15,4 +15,9 @@ impl Entry for Slot {
     fn after(&self) -> Link {
         self.ring.next
     }
+
+    #[inline]
+    fn before(&self) -> Link {
+        self.ring.previous
+    }
 }

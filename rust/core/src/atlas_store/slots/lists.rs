@@ -1,11 +1,13 @@
 // Erased from crates/atlas_store/src/slots/lists.rt by rust/erase: don't edit.
-//! The lists of free slots, by the bands of both sides, and the list of unused slots: links inside the slots.
+//! The lists of free slots, by the bands of both sides, and the list of unused slots: links inside the slots. A list of free slots
+//! is a chain, or a pile.
 
 use crate::atlas_model::{point2, Rectangle};
 use crate::atlas_search::bands::{Place, Scale, BANDS};
 use crate::atlas_search::cut::{exact_size, top_in, Orientation};
-use crate::atlas_search::link::{Link, NO_SLOT};
+use crate::atlas_search::link::{Link, NO_SLOT, PILE};
 use crate::atlas_search::table::Table;
+use crate::atlas_store::slots::piling::{join_pile, leave_pile};
 use crate::atlas_store::slots::{read_node, read_ring, write_node, Node, NodeKind, Ring, Slot};
 use wollemigo_support::alloc::Allocator;
 use wollemigo_support::prelude::Vec;
@@ -37,14 +39,19 @@ fn set_ring_previous(slots: &mut [Slot], at: Link, previous: Link) {
     }
 }
 
-// `next` comes after `before`: in its list if `before` is a slot, or else first in the list that it tells.
+// `next` comes after `before`: in its chain if `before` is a slot, or first in the one that it tells. Answers false, and does
+// nothing, if `before` is a tag of a pile or none.
 #[inline]
-fn lead<A: Allocator>(slots: &mut [Slot], lists: &mut Table<A>, before: Link, next: Link) {
+fn lead<A: Allocator>(slots: &mut [Slot], lists: &mut Table<A>, before: Link, next: Link) -> bool {
     if before.number < FIRST {
         set_ring_next(slots, before, next);
-    } else {
-        lists.set_first((before.number - FIRST) as usize, next);
+        return true;
     }
+    if before.number < PILE {
+        lists.set_first((before.number - FIRST) as usize, next);
+        return true;
+    }
+    false
 }
 
 // Puts a slot in front of the list that begins with `first`, and after `before`.
@@ -58,19 +65,25 @@ fn push_front(slots: &mut [Slot], before: Link, first: Link, at: Link) {
 
 /// Takes a free slot out of its list; it is detached from then on.
 #[inline(always)]
-pub fn unlist<A: Allocator>(slots: &mut [Slot], lists: &mut Table<A>, at: Link) {
+pub fn unlist<A: Allocator>(slots: &mut [Slot], lists: &mut Table<A>, options: &Scale, at: Link) {
     let ring = read_ring(slots, at);
-    lead(slots, lists, ring.previous, ring.next);
+    if !lead(slots, lists, ring.previous, ring.next) {
+        leave_pile(slots, lists, options, at);
+        return;
+    }
     set_ring_previous(slots, ring.next, ring.previous);
 }
 
-/// Puts a free and detached slot, whose rectangle is exact, into its list.
+/// Puts a free and detached slot into its list. Each free slot has an exact rectangle.
 #[inline(always)]
 pub fn enlist<A: Allocator>(slots: &mut [Slot], lists: &mut Table<A>, options: &Scale, at: Link) {
     let node = read_node(slots, at);
     let place = options.place_for(exact_size(node.area));
     let first = lists.head(place);
-    lists.push(place, at, top_in(node.area));
+    if !lists.push(place, at, top_in(node.area)) {
+        join_pile(slots, lists, options, place, at);
+        return;
+    }
     push_front(slots, before_first(place), first, at);
 }
 

@@ -8,7 +8,7 @@ use crate::atlas_search::link::Link;
 use crate::atlas_search::table::Table;
 use crate::atlas_store::slots::{Node, NodeKind, Ring, Slot};
 use crate::atlas_store::store::turns::Turns;
-use crate::atlas_store::store::Store;
+use crate::atlas_store::store::{Store, PAUSE};
 use wollemigo_support::alloc::{AllocError, Allocator};
 use wollemigo_support::prelude::Vec;
 
@@ -45,6 +45,7 @@ impl<A: Allocator> Store<A> {
             unused: Link::NONE,
             options: Scale::new(options),
             turns: Turns::new(),
+            due: PAUSE,
         };
         store.start(size, options);
         Ok(store)
@@ -57,6 +58,7 @@ impl<A: Allocator> Store<A> {
         self.slots.push_reserved(whole_slot(size));
         self.lists.clear();
         self.unused = Link::NONE;
+        self.due = PAUSE;
         self.options.set(options);
         self.list(Link { number: 0 });
     }
@@ -68,5 +70,6 @@ impl<A: Allocator> Store<A> {
         self.lists = other.lists;
         self.unused = other.unused;
         self.options = other.options;
+        self.due = other.due;
     }
 }

@@ -5,7 +5,7 @@ use crate::atlas_model::{point2, AtlasError, Rectangle};
 use crate::atlas_search::bands::Scale;
 use crate::atlas_search::best::Found;
 use crate::atlas_search::cut::{exact_size, top_in};
-use crate::atlas_search::link::{Link, NO_SLOT};
+use crate::atlas_search::link::{Link, NO_SLOT, PILE};
 use crate::atlas_search::search::Entry;
 use crate::atlas_search::table::{Table, LISTS};
 use wollemigo_support::alloc::Allocator;
@@ -28,6 +28,12 @@ impl Entry for FreeBox {
     fn after(&self) -> Link {
         self.after
     }
+
+    // No list is a pile, which alone has such links.
+    #[inline]
+    fn before(&self) -> Link {
+        Link { number: 0 }
+    }
 }
 
 /// Free boxes, each in the list of its size, and entries that are unused; `used` counts the others.
@@ -38,8 +44,8 @@ pub struct FreeBoxes<A: Allocator> {
     pub table: Table<A>,
 }
 
-// The most entries: `NO_SLOT` is the number of none.
-const MOST_BOXES: usize = 4294967295;
+/// The most entries: greater numbers are tags of piles, or none.
+pub const MOST_BOXES: u32 = PILE;
 
 // An unused entry before this one.
 #[inline]
@@ -110,7 +116,7 @@ impl<A: Allocator> FreeBoxes<A> {
         let place = options.place_for(exact_size(area));
         let after = self.table.head(place);
         self.entries[at.number as usize] = FreeBox { area, after };
-        self.table.push(place, at, top_in(area));
+        let _pushed = self.table.push(place, at, top_in(area));
     }
 
     /// Makes sure that n more entries can be used; nothing but the room changes. The only error is `Memory`, which comes only
@@ -120,7 +126,7 @@ impl<A: Allocator> FreeBoxes<A> {
         let all = self.used as usize + n as usize;
         let present = self.entries.len();
         if all > present {
-            if all > MOST_BOXES {
+            if all > MOST_BOXES as usize {
                 return Err(AtlasError::Memory);
             }
             self.entries.reserve(all - present)?;

@@ -8,14 +8,14 @@ use Rattle.atlas_search.specs.Numbers.{lists_with}
 use Rattle.atlas_store.specs.Stored.{places_of}
 use Rattle.atlas_store.specs.Store.Holdings.{shelf_of}
 use Rattle.atlas_store.proofs.StoreLemmas.StoreFacts.{are-slots, across-call}
-use Rattle.atlas_store.proofs.StoreLemmas.StoreSteps.{listed-holds, leaf-exact, long-over}
+use Rattle.atlas_store.proofs.StoreLemmas.StoreSteps.{all-exact, listed-holds, long-over}
 use Rattle.atlas_store.proofs.StoreLemmas.TakenOnce.{once-same}
 use Rattle.atlas_store.proofs.store.Store.list.Goals as goal
 
 pub enlist-requires-clause-exact : goal.enlist-requires-clause-exact
 enlist-requires-clause-exact g c =
     let leaf = c.requires.1 in
-    leaf-exact (shelf_of c.args.self.now) c.deref_mut.result.now c.args.at.number c.requires.0 c.deref_mut.ensures.value leaf.holds leaf.kind
+    all-exact (shelf_of c.args.self.now) c.deref_mut.result.now c.requires.0 c.deref_mut.ensures.value leaf.holds
 
 pub returns : goal.returns
 returns g c =

@@ -5,9 +5,13 @@ use Rattle.atlas_store.specs.Slots.{nodes}
 use Rattle.atlas_store.specs.Stored.{places_of}
 use Rattle.atlas_store.specs.Store.Holdings.{shelf_of}
 use Rattle.atlas_store.proofs.StoreLemmas.StoreFacts.{are-slots, across-call}
-use Rattle.atlas_store.proofs.StoreLemmas.StoreSteps.{listed-holds, long-over}
+use Rattle.atlas_store.proofs.StoreLemmas.StoreSteps.{all-exact, listed-holds, long-over}
 use Rattle.atlas_store.proofs.StoreLemmas.TakenOnce.{once-same}
 use Rattle.atlas_store.proofs.store.Store.unlist.Goals as goal
+
+pub unlist-requires-clause-exact : goal.unlist-requires-clause-exact
+unlist-requires-clause-exact g c =
+    all-exact (shelf_of c.args.self.now) c.deref_mut.result.now c.requires.ready.0 c.deref_mut.ensures.value c.requires.ready.1
 
 pub returns : goal.returns
 returns g c =
@@ -18,7 +22,7 @@ returns g c =
         lists_without h.free_lists c.args.at.number,
         listed-holds (shelf_of c.args.self.now) c.deref_mut.result.now c.unlist.new.slots _ c.unlist.new.lists h
             (lists_without h.free_lists c.args.at.number) (with_mark h.detached c.args.at.number true) slots c.unlist.ensures.same_nodes
-            (λ filed. c.unlist.ensures.filed (options_of c.args.self.now.options) c.args.self.now.unused (places_of (λ i. 0) h) filed listed)
+            (λ filed. c.unlist.ensures.filed c.args.self.now.unused (places_of (λ i. 0) h) filed listed)
             holds,
       );
       nodes = same;

@@ -1,5 +1,6 @@
 use Rattle.std.proofs.Common.{◌++◌, ◌∙◌, ap, map, sym, subst, arith}
 use Rattle.atlas_model.specs.Boxes.{AreSameBoxes}
+use Rattle.atlas_model.specs.Choice.{AreValid}
 use Rattle.atlas_model.specs.Pixels.{box_of, options_of}
 use Rattle.atlas_store.specs.Slots.{nodes}
 use Rattle.atlas_store.specs.Stored as atlas
@@ -14,7 +15,9 @@ pub file_free-requires-clause-areas : goal.file_free-requires-clause-areas
 file_free-requires-clause-areas g c = grind (arith, areas-filed (atlas.state_of c.args.source.now))
 
 pub file_free-requires-clause-kept : goal.file_free-requires-clause-kept
-file_free-requires-clause-kept g c = grind arith
+file_free-requires-clause-kept g c =
+    let same = ap options_of c.scale-options.ensures ∙ c.store_of-store.ensures.options in
+    c.in_ok-boxes.ensures.kept _ (subst AreValid (sym same) c.size-size.ensures.sound.valid)
 
 pub invariant_of-self : goal.invariant_of-self
 invariant_of-self g c =

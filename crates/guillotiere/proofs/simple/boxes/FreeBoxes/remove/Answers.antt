@@ -6,9 +6,11 @@ use Rattle.atlas_search.specs.declared.link.Link.{Link}
 use Rattle.atlas_model.specs.Boxes.{AreSameBoxes}
 use Rattle.guillotiere.specs.FreeBoxes.BoxShelves.{AreKept, box_shelf, free_item_boxes, idle_item, stored_item, with_after}
 use Rattle.atlas_search.specs.Items.{Item}
+use Rattle.atlas_search.specs.Numbers.{occurs}
+use Rattle.atlas_search.specs.Piles.{IsTag}
 use Rattle.atlas_model.specs.Pixels.{box_of, options_of}
 use Rattle.atlas_search.specs.Tables.{head_of, low_of}
-use Rattle.guillotiere.proofs.SimpleLemmas.BoxStoring.{first-removed, next-removed, free-inside, read-item, IsSameButLinks, same-links, linked-after, boxes-left}
+use Rattle.guillotiere.proofs.SimpleLemmas.BoxStoring.{first-removed, next-removed, free-inside, read-item, IsSameButLinks, same-links, linked-after, boxes-left, untagged-after, untagged-path}
 use Rattle.guillotiere.proofs.SimpleLemmas.EntryCounts.{used-some}
 use Rattle.guillotiere.proofs.simple.boxes.FreeBoxes.remove.Goals as goal
 
@@ -21,6 +23,35 @@ entries-are bs x b link unused e f =
 
 pub lead-requires-clause-used : goal.lead-requires-clause-used
 lead-requires-clause-used g c = grind (arith, free-inside, ne_eqb)
+
+pub lead-requires-clause-chain : goal.lead-requires-clause-chain
+lead-requires-clause-chain g c = λ _.
+    untagged-path (map stored_item c.args.self.now.entries.items) _ _ c.requires.kept.listed.short (c.requires.kept.chains c.args.found.list c.requires.standing.inside)
+
+pub lead-requires-clause-entry : goal.lead-requires-clause-entry
+lead-requires-clause-entry g c =
+    let bs = c.args.self.now.entries.items in
+    let es = map stored_item bs in
+    let x = c.args.found.at.number in
+    let kept = c.requires.kept in
+    let standing = c.requires.standing in
+    let inside : x < length bs = omega (arith, free-inside es x standing.free, length-map bs stored_item) in
+    let read = ap (λ (t : Item). t.after) (read-item bs x c.index.result.now inside c.index.ensures) in
+    let on : 0 < occurs x (kept.listed.free_lists c.args.found.list) =
+    subst (λ n. 0 < occurs x (kept.listed.free_lists n)) standing.list (kept.listed.each x standing.free) in
+    subst (λ n. IsTag n → ⊥) (sym read)
+    (untagged-after es (head_of c.args.self.now.table c.args.found.list).number x (kept.listed.free_lists c.args.found.list) kept.listed.short
+    (kept.chains c.args.found.list standing.inside) on)
+
+pub lead-requires-clause-inside : goal.lead-requires-clause-inside
+lead-requires-clause-inside g c = λ ne.
+    let es = map stored_item c.args.self.now.entries.items in
+    let kept = c.requires.kept in
+    let untagged = untagged-path es (head_of c.args.self.now.table c.args.found.list).number _ kept.listed.short (kept.chains c.args.found.list c.requires.standing.inside) in
+    elim (c.requires.standing.before untagged) [
+      | inl first ↦ absurd (ne first.0)
+      | inr next ↦ omega (arith, free-inside es c.args.found.before.number next.0, length-map c.args.self.now.entries.items stored_item, c.args.self.now.entries.ok)
+    ]
 
 pub overflow_sub-self : goal.overflow_sub-self
 overflow_sub-self g c =
@@ -57,7 +88,7 @@ returns-clause-kept g c =
     let lows_stay : (j : ℕ) → j ≢ k → low_of heads' j ≡ low_of heads j = λ j ne. c.set_low.ensures.lows j ne ∙ c.lead.ensures.led.lows j in
     subst (λ (ts : List Item). AreKept o (record { entries = ts; heads = heads'; unused = c.args.found.at; used = c.lead.new.self.used - 1 }))
     (sym (entries-are c.lead.new.self.entries.items x c.unused_box.result c.lead.new.self.unused c.args.self.now.unused c.unused_box.ensures c.lead.ensures.led.unused))
-    (elim standing.before [
+    (elim (standing.before (untagged-path es (head_of heads k).number _ c.requires.kept.listed.short (c.requires.kept.chains k standing.inside))) [
       | inl first ↦
           let led = c.lead.ensures.led.first first.0 in
           first-removed o heads heads' es es1 c.args.self.now.unused c.args.self.now.used (c.lead.new.self.used - 1) c.args.found c.requires.kept less standing heads_stay c.set_low.ensures.low lows_stay
@@ -77,7 +108,7 @@ returns-clause-boxes g c =
     let x = c.args.found.at.number in
     let standing = c.requires.standing in
     let links : IsSameButLinks es es1 =
-    elim standing.before [
+    elim (standing.before (untagged-path es (head_of c.args.self.now.table c.args.found.list).number _ c.requires.kept.listed.short (c.requires.kept.chains c.args.found.list standing.inside))) [
       | inl first ↦ same-links es es1 (c.lead.ensures.led.first first.0).1
       | inr next ↦
           let b = c.args.found.before.number in

@@ -27,7 +27,7 @@ returns-then-at-clause-taken g c o kept =
     let unused = c.args.self.now.unused in
     let used = c.args.self.now.used in
     let all = used-all o (box_shelf c.args.self.now) kept c.if-at.true in
-    let short : length (map stored_item bs) < no_slot = omega (arith, all, c.requires.room.short) in
+    let short : length (map stored_item bs) < 4261412864 = omega (arith, all, c.requires.room.short) in
     let is : map stored_item c.push_reserved.new.self.items ≡ map stored_item bs ++ no_item ∷ [] =
     ap (map stored_item) c.push_reserved.ensures.items ∙ (map-append stored_item bs (c.unused_box.result ∷ []) ∙ ap (λ (t : Item). map stored_item bs ++ t ∷ []) c.unused_box.ensures) in
     let last : c.len-number.result ≡ length (map stored_item bs) = omega (arith, c.len-number.ensures, c.args.self.now.entries.ok, length-map bs stored_item) in

@@ -5,7 +5,7 @@ use Rattle.atlas_search.specs.Lookups.{IsBestBelow, IsStanding}
 use Rattle.atlas_model.specs.Pixels.{options_of, sides_of}
 use Rattle.atlas_search.proofs.SearchLemmas.ItemPicks.{best-found, free-inside, found-read, none-found, none-from, no_room-of_items, pick-of_items, seen-nothing}
 use Rattle.atlas_search.proofs.SearchLemmas.Windows.{fits-reaching, large-law, left-begin, left-next, none-left}
-use Rattle.atlas_search.proofs.search.pick.Goals as goal
+use Rattle.atlas_search.proofs.search.pick_from.Goals as goal
 
 pub loop-least-init : goal.loop-least-init
 loop-least-init g c =

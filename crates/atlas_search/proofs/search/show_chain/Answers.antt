@@ -6,12 +6,12 @@ use Rattle.atlas_model.specs.Pixels.{box_of}
 use Rattle.atlas_search.specs.Rectangles.{IsUnsigned}
 use Rattle.atlas_search.specs.Numbers.{no_slot}
 use Rattle.atlas_search.specs.Items.{Item}
-use Rattle.atlas_search.proofs.SearchLemmas.Showing.{item-read, along-begins, along-inside, along-exact, along-goes_on, along-ends, entries_from, fewer-left}
-use Rattle.atlas_search.proofs.search.show_list.Goals as goal
+use Rattle.atlas_search.proofs.SearchLemmas.Showing.{item-read, along-begins, chain-of, along-inside, along-exact, along-goes_on, along-ends, entries_from, fewer-left}
+use Rattle.atlas_search.proofs.search.show_chain.Goals as goal
 
 pub loop-at-init : goal.loop-at-init
 loop-at-init g c =
-    along-begins (map g.E.Entry.item c.args.entries.now) c.args.head.number c.args.list c.args.best.now 4294967295 c.requires
+    along-begins (map g.E.Entry.item c.args.entries.now) c.args.head.number c.args.list c.args.best.now 4294967295 c.requires.showable.0 c.requires.chain c.requires.showable.1
 
 pub offset_bounds-entries-at : goal.offset_bounds-entries-at
 offset_bounds-entries-at g c =
@@ -68,7 +68,9 @@ loop-at-smaller g c =
     (fewer-left es c.args.head.number c.args.list c.args.best.now l.best l.least l.at l.before l.invariant more)
 
 pub returns : goal.returns
-returns g c =
+returns g c xs showable =
     let l = c.loop-at in
-    along-ends (map g.E.Entry.item c.args.entries.now) c.args.head.number c.args.list c.args.best.now l.best c.end_list.new.self l.least l.at.number l.before.number
+    let es = map g.E.Entry.item c.args.entries.now in
+    along-ends es c.args.head.number c.args.list c.args.best.now l.best c.end_list.new.self l.least l.at.number l.before.number
     l.invariant c.loop-at-test.false c.end_list.ensures.seen c.end_list.ensures.rank c.end_list.ensures.other c.end_list.ensures.own
+    xs (chain-of es c.args.head.number xs c.requires.chain showable.listed)
