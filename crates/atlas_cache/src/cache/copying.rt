@@ -12,8 +12,13 @@ impl<K: Copy + Eq + Hash, S: BuildHasher + Clone, A: Allocator + Copy> TextureCa
     /// order, its frame and its counts are the same, and the atlas of each page stores the same. So are its answers to later calls,
     /// except where memory is refused: what is in reserve isn't copied. Goes over all slots of the pages and all numbers of entries.
     pub fn clone(&self) -> Result<Self, AllocError>
-        ensures same { IfOk result (λ copy. copy ≡ record self.now { pages = copy.pages; reserved = 0 }) }
+        ensures options { IfOk result (λ copy. copy.options ≡ self.now.options) }
         ensures stored { IfOk result (λ copy. stored_on copy.pages ≡ stored_on self.now.pages) }
+        ensures entries { IfOk result (λ copy. copy.entries ≡ self.now.entries) }
+        ensures numbers { IfOk result (λ copy. copy.numbers ≡ self.now.numbers) }
+        ensures reserved { IfOk result (λ copy. copy.reserved ≡ 0) }
+        ensures frame { IfOk result (λ copy. copy.frame ≡ self.now.frame) }
+        ensures counts { IfOk result (λ copy. copy.counts ≡ self.now.counts) }
     {
         let rooms = self.rooms.copy()?;
         let entries = self.entries.copy()?;

@@ -1,4 +1,3 @@
-use Rattle.std.proofs.Common.{refl}
 use Rattle.atlas_cache.specs.Caches.{entries_of}
 use Rattle.atlas_cache.specs.Entries.{lying}
 use Rattle.atlas_cache.proofs.HoldingLemmas.{stays}
@@ -17,9 +16,3 @@ invariant_of-result g c =
       bordered = was.bordered;
       frames = was.frames;
     })
-
-pub returns-clause-same : goal.returns-clause-same
-returns-clause-same g c = rw (← c.self.view_is, c.in_ok-rooms.ensures.options, c.in_ok-entries.ensures) refl
-
-pub returns-clause-stored : goal.returns-clause-stored
-returns-clause-stored g c = rw (← c.self.view_is) c.in_ok-rooms.ensures.stored

@@ -1,4 +1,4 @@
-use Rattle.std.proofs.Common.{◌≡◌, ◌∙◌, ap, arith, length, refl, vec_capacity}
+use Rattle.std.proofs.Common.{◌≡◌, ◌∙◌, ap, arith, length, vec_capacity}
 use Rattle.atlas_cache.proofs.EntryKeeping.{kept-alike, kept-unreserved}
 use Rattle.atlas_cache.proofs.ReserveLemmas.{entries-fit, memory-copied}
 use Rattle.atlas_cache.proofs.entries.Entries.copy.Goals as goal
@@ -18,8 +18,3 @@ invariant_of-result g c =
           (omega (arith, fit, ap length stored, items.ok.0, items.ok.1)),
       c.self.invariant.2,
     )
-
-pub returns : goal.returns
-returns g c =
-    let stored = c.in_ok-items.ensures.items ∙ c.deref.ensures.value in
-    rw (← c.self.view_is, c.in_ok-recency.ensures, stored) refl

@@ -1,4 +1,4 @@
-use Rattle.std.proofs.Common.{◌≡◌, ◌∙◌, ap, arith, length, refl, subst, sym}
+use Rattle.std.proofs.Common.{◌≡◌, ◌∙◌, ap, arith, length, subst, sym}
 use Rattle.atlas_cache.specs.Rings.{next_at, IsRecency}
 use Rattle.atlas_cache.proofs.RingLemmas.{length-line}
 use Rattle.atlas_cache.proofs.recency.Recency.copy.Goals as goal
@@ -12,8 +12,3 @@ invariant_of-result g c =
       subst (λ l. IsRecency l r.ends r.unused r.count) (sym same) was,
       omega (arith, ap length same, links.ok.0, links.ok.1, was.rest.all, length-line r.count (next_at r.links.items r.ends) r.ends.next),
     )
-
-pub returns : goal.returns
-returns g c =
-    let same = c.in_ok-links.ensures.items ∙ c.deref.ensures.value in
-    rw (← c.self.view_is, same) refl
