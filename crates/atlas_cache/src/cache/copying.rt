@@ -1,6 +1,6 @@
 //! A second cache like a first one.
 ghost use Rattle.std.specs.Prelude.{◌≡◌, IfOk};
-ghost use Rattle.atlas_cache.specs.Rooms.{stored_on};
+ghost use Rattle.atlas_cache.specs.Rooms.{page_sizes, stored_on};
 
 use crate::cache::TextureCache;
 use std::alloc::{AllocError, Allocator};
@@ -14,6 +14,7 @@ impl<K: Copy + Eq + Hash, S: BuildHasher + Clone, A: Allocator + Copy> TextureCa
     pub fn clone(&self) -> Result<Self, AllocError>
         ensures options { IfOk result (λ copy. copy.options ≡ self.now.options) }
         ensures stored { IfOk result (λ copy. stored_on copy.pages ≡ stored_on self.now.pages) }
+        ensures sizes { IfOk result (λ copy. page_sizes copy.pages ≡ page_sizes self.now.pages) }
         ensures entries { IfOk result (λ copy. copy.entries ≡ self.now.entries) }
         ensures numbers { IfOk result (λ copy. copy.numbers ≡ self.now.numbers) }
         ensures reserved { IfOk result (λ copy. copy.reserved ≡ 0) }

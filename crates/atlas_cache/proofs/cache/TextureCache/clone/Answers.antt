@@ -2,7 +2,7 @@ use Rattle.atlas_cache.specs.Caches.{entries_of}
 use Rattle.atlas_cache.specs.Entries.{lying}
 use Rattle.atlas_cache.proofs.HoldingLemmas.{stays}
 use Rattle.atlas_cache.proofs.RoomLemmas.Copying.{states_same}
-use Rattle.atlas_cache.proofs.RoomLemmas.Reserving.{same_rectangles}
+use Rattle.atlas_cache.proofs.RoomLemmas.Reserving.{same_rectangles, same_sizes}
 use Rattle.atlas_cache.proofs.cache.TextureCache.clone.Goals as goal
 
 pub invariant_of-result : goal.invariant_of-result
@@ -16,3 +16,9 @@ invariant_of-result g c =
       bordered = was.bordered;
       frames = was.frames;
     })
+
+pub returns-clause-sizes : goal.returns-clause-sizes
+returns-clause-sizes g c =
+    let old = c.self.inside.rooms.pages in
+    let new = c.in_ok-rooms.rooms.pages in
+    rw (← c.self.view_is) (same_sizes old new (states_same old new c.in_ok-rooms.ensures.stored))
