@@ -1,6 +1,6 @@
-use Rattle.std.proofs.Common.{◌≡◌, ◌∙◌, ℕ, None, ap, map, rules, sym}
+use Rattle.std.proofs.Common.{◌≡◌, ◌∙◌, ℕ, None, Some, ap, map, rules, sym}
 use Rattle.std.specs.HashMap.{get}
-use Rattle.std.specs.Map.{update_all}
+use Rattle.std.specs.Map.{update, update_all}
 use Rattle.std.specs.Map.Iter.{deref_pair}
 use Rattle.std.proofs.lemmas.List.{map_push}
 use Rattle.std.proofs.lemmas.Map.{update_all_push}
@@ -13,7 +13,8 @@ loop-key-preserved g c = λ q.
     let eq = g.K.PartialEq.eq in
     let given = map deref_pair c.loop-key.yielded in
     let one : g.row.K.Denot × ℕ = (c.in-Some.key.now, c.in-Some.number.now) in
-    c.in_ok-_new.ensures.updates.0 q
+    let put : get eq c.insert.new.self q ≡ update eq (get eq c.loop-key.copy) one.0 (Some one.1) q = search rules in
+    put
     ∙ update_all_push eq (λ _. None) (get eq c.loop-key.copy) given one q (c.loop-key.invariant q)
     ∙ ap (λ es. update_all eq (λ _. None) es q) (sym (map_push deref_pair c.loop-key.yielded (c.in-Some.key, c.in-Some.number)))
 
