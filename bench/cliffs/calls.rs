@@ -149,6 +149,7 @@ fn cache_calls(live: u64, run: &mut Run) {
     });
     once(run, "areas", &mut || drop(black_box((cache.live_area(0), cache.free_area(0)))));
     once(run, "unusable", &mut || drop(black_box(cache.unusable_area(0, size2(16, 16)).is_ok())));
+    once(run, "clone", &mut || drop(black_box(cache.clone().is_ok())));
     if live <= 100_000 {
         once(run, "repack", &mut || drop(black_box(cache.repack(0, &mut changes).is_ok())));
     }

@@ -84,6 +84,17 @@ module _ {K S : Type 0} (eq : K → K → Bool) (map : HashMap K ℕ S) (order :
     own = h.own;
   }
 
+  -- Nor if nothing is.
+  pub kept-unreserved : AreKept eq map (record order { reserved = 0 }) items
+  kept-unreserved = record {
+    made = h.made;
+    inside = h.inside;
+    once = h.once;
+    found = λ k m e. let w = h.found k m e in record { listed = w.listed; entry = w.entry; stored = w.stored; same = w.same };
+    known = λ k m w. h.known k m (record { listed = w.listed; entry = w.entry; stored = w.stored; same = w.same });
+    own = h.own;
+  }
+
   -- What belongs to one number changes, but not its key.
   module _ (n : ℕ) (e e' : Entry K) (new : List (Entry K)) (l : IsEntry n order) (s : slice_get items n ≡ Some e) (t : slice_get new n ≡ Some e') (key : e'.key ≡ e.key) (label : e'.number ≡ e.number) (size : length new ≡ length items) (o : (k : ℕ) → (k ≡ n → ⊥) → slice_get new k ≡ slice_get items k) where
     back : (k : K) (m : ℕ) (x : Entry K) → slice_get new m ≡ Some x → eq k x.key ≡ true

@@ -19,6 +19,7 @@ pub mod ListLemmas
 pub mod MarkLemmas
 pub mod ApartLemmas
 pub mod CacheLemmas
+pub mod CopyLemmas
 pub mod HoldingLemmas
 pub mod KeyLemmas
 pub mod InsertLemmas

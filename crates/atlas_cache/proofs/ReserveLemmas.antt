@@ -26,6 +26,16 @@ module _ {K S : Type 0} (map : HashMap K ℕ S) (order : Order) (room : ℕ) (h 
     items = omega (arith, h.items, items);
   }
 
+  -- Another map and another list with memory for the entries alone.
+  pub memory-copied : (new : HashMap K ℕ S) (more : ℕ) → hash_map_len map ≤ hash_map_len new
+      → length order.entries ≤ more → HasMemory new (record order { reserved = 0 }) more
+  memory-copied new more held items = record {
+    places = omega arith;
+    held = omega (arith, h.held, held);
+    few = h.few;
+    items = omega (arith, items);
+  }
+
   -- More is in reserve.
   pub memory-reserved : (new : HashMap K ℕ S) (more n : ℕ) → spare map ≤ spare new → n ≤ spare new
       → hash_map_len new ≡ hash_map_len map

@@ -1,4 +1,5 @@
 -- What the steps make of the pages of a cache.
+pub mod Copying
 pub mod Growing
 pub mod Ordering
 pub mod Paging

@@ -9,7 +9,7 @@ use Rattle.guillotiere.specs.Pages.{rectangle_on, HasRoomFor, NoneHasRoomBelow}
 use Rattle.guillotiere.specs.Pixels.{box_of, natural, options_of, sides_of, size_of}
 use Rattle.guillotiere.specs.Replies.{IsExact}
 use Rattle.guillotiere.specs.States.{IsSound}
-use Rattle.guillotiere.specs.Stored.{AtlasValue, state_of}
+use Rattle.guillotiere.specs.Stored.{AtlasValue, Stored, state_of}
 use Rattle.atlas_cache.specs.declared.error.CacheError.{CacheError}
 use Rattle.atlas_cache.specs.declared.error.CacheError.TheVariants.{Memory, Slots}
 use Rattle.atlas_cache.specs.declared.options.CacheOptions.{CacheOptions}
@@ -30,6 +30,10 @@ size_of_page s = size_of (state_of s).size
 -- The sizes of all pages.
 abbrev pub page_sizes : List AtlasValue → List Size
 page_sizes pages = map size_of_page pages
+
+-- What the atlas of each page stores.
+abbrev pub stored_on : List AtlasValue → List Stored
+stored_on pages = map (λ s. s.stored) pages
 
 -- The atlas of a page: it is sound, has the options of the cache and the greatest limit on slots, and its size is from
 -- `page` to `largest_page`.

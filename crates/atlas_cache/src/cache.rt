@@ -15,6 +15,7 @@ ghost use Rattle.atlas_cache.specs.declared.error.CacheError.TheVariants.{Memory
 ghost use Rattle.atlas_cache.specs.declared.inserted.Inserted.TheVariants.{FrameFull, Held, NeverFits, Placed};
 
 mod clearing;
+mod copying;
 mod figures;
 pub mod holding;
 mod repacking;

@@ -11,6 +11,8 @@ ghost use Rattle.atlas_cache.specs.Orders.{newest_of, oldest_of, IsEntry};
 ghost use Rattle.atlas_cache.specs.Refusals.{IsWithoutNumber};
 ghost use Rattle.atlas_cache.specs.declared.error.CacheError.TheVariants.{Memory};
 
+mod copying;
+
 use crate::error::CacheError;
 use crate::recency::Recency;
 use crate::recency::links::NO_ENTRY;

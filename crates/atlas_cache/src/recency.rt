@@ -13,7 +13,7 @@ pub mod links;
 
 use crate::error::CacheError;
 use crate::recency::links::{Link, NO_ENTRY, push_front, read_link, set_next, unlink};
-use std::alloc::{Allocator, Global};
+use std::alloc::{AllocError, Allocator, Global};
 use std::marker::Model;
 
 /// The numbers of entries in the order of their use. The number of an entry that is gone is given to a later one.
@@ -126,6 +126,22 @@ impl<A: Allocator> Recency<A> {
             count: 0,
             reserved: 0,
         }
+    }
+
+    /// A copy, in new memory of the same allocator: the same numbers in the same order. None are in reserve.
+    pub fn copy(&self) -> Result<Self, AllocError>
+    where
+        A: Copy,
+        ensures { IfOk result (λ copy. copy ≡ record self.now { reserved = 0 }) }
+    {
+        let links = Vec::from_slice(*self.links.allocator(), &self.links)?;
+        Ok(Recency {
+            links,
+            ends: self.ends,
+            unused: self.unused,
+            count: self.count,
+            reserved: 0,
+        })
     }
 
     /// How many entries there are, at most 4,294,967,295.

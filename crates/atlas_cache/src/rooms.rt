@@ -19,6 +19,7 @@ ghost use Rattle.atlas_cache.specs.Shrinking.{DropsIdle, IsLastInUse};
 ghost use Rattle.atlas_cache.specs.declared.error.CacheError.TheVariants.{Memory, Slots};
 
 mod asking;
+mod copying;
 mod repacking;
 mod reserving;
 mod usable;

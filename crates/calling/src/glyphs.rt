@@ -1,5 +1,5 @@
 //! Glyphs under keys in a cache: what is written once, and a frame that is drawn in several goes.
-ghost use Rattle.std.specs.Prelude.{◌≡◌, ◌≢◌, ◌<◌, None, Ok, OnOk, Some, true, false, length, nat_eq};
+ghost use Rattle.std.specs.Prelude.{◌≡◌, ◌≢◌, ◌<◌, None, IfOk, Ok, OnOk, Some, true, false, length, nat_eq};
 ghost use Rattle.atlas_cache.specs.Caches.{place_for};
 ghost use Rattle.atlas_cache.specs.Entries.{lying};
 ghost use Rattle.atlas_cache.specs.Shrinking.{pages_in_use};
@@ -8,7 +8,7 @@ ghost use Rattle.atlas_cache.specs.declared.inserted.Inserted.TheVariants.{Frame
 use atlas_cache::entries::DefaultHasher;
 use atlas_cache::{CacheError, Changes, Inserted, Place, TextureCache};
 use guillotiere::Size;
-use std::alloc::Allocator;
+use std::alloc::{AllocError, Allocator};
 
 /// A glyph's place and whether its pixels are to be written there, which is so of a new glyph alone; None if it has no
 /// place.
@@ -58,4 +58,26 @@ pub fn give_back<A: Allocator + Copy>(
 {
     cache.trim(frames, changes)?;
     cache.shrink(changes)
+}
+
+/// What a cache and a copy of it answer for a key: the same place, or none.
+pub fn asked_of_both<A: Allocator + Copy>(
+    cache: &mut TextureCache<u64, DefaultHasher, A>,
+    key: u64,
+) -> Result<(Option<Place>, Option<Place>), AllocError>
+    ensures { IfOk result (λ places. places.0 ≡ places.1) }
+{
+    let mut copy = cache.clone()?;
+    Ok((copy.get(&key), cache.get(&key)))
+}
+
+/// The size of a page of a cache, and of a copy of it: the same, or none.
+pub fn page_of_both<A: Allocator + Copy>(
+    cache: &TextureCache<u64, DefaultHasher, A>,
+    page: u32,
+) -> Result<(Option<Size>, Option<Size>), AllocError>
+    ensures { IfOk result (λ sizes. sizes.0 ≡ sizes.1) }
+{
+    let copy = cache.clone()?;
+    Ok((copy.page_size(page), cache.page_size(page)))
 }

@@ -74,6 +74,7 @@ pub use wollemigo_core::atlas_cache::entries::DefaultHasher;
 use wollemigo_support::alloc::Global;
 
 mod changes;
+mod copies;
 mod options;
 mod values;
 mod walks;

@@ -325,6 +325,24 @@ fn a_drain_hands_over_all_of_one_call() {
 }
 
 #[test]
+fn a_copy_goes_on_by_itself() {
+    let mut cache = TextureCache::new(&one_page()).unwrap();
+    let place = cache.insert(7, size2(3, 4)).unwrap().place();
+    let mut copy = cache.clone();
+    let added = CacheChange::PageAdded {
+        page: 0,
+        size: size2(16, 16),
+    };
+    assert!(cache.drain_changes().eq([added]));
+    assert!(copy.drain_changes().eq([added])); // no one had taken it yet
+    assert_eq!(copy.remove(7), place);
+    assert_eq!((cache.get(7), copy.get(7)), (place, None));
+    assert_eq!((cache.live_area(0), copy.live_area(0)), (Some(12), Some(0)));
+    let counts = [&cache, &copy].map(|it| (it.statistics().hits, it.statistics().misses));
+    assert_eq!(counts, [(1, 0), (0, 1)]);
+}
+
+#[test]
 fn keys_by_their_use() {
     let mut cache = TextureCache::new(&one_page()).unwrap();
     for key in 1..=4 {

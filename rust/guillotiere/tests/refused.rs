@@ -311,4 +311,9 @@ fn copies_are_refused() {
     let copy = granted_in_the_end(4, || atlas.try_clone(), AtlasError::Memory);
     assert_eq!(copy.recording(), atlas.recording());
     assert_eq!(copy.allocations(), atlas.allocations());
+    let mut cache = TextureCache::<u64>::new(&CacheOptions::new(size2(16, 16))).unwrap();
+    assert!(cache.insert(7, size2(6, 5)).is_ok());
+    // Its map, its entries, their order, its pages, what they refused, an atlas, and the changes.
+    let mut copy = granted_in_the_end(7, || cache.try_clone(), CacheError::Memory);
+    assert_eq!(copy.get(7), cache.get(7));
 }

@@ -161,6 +161,7 @@ fn a_cache_takes_keys_and_hashers_of_ones_own() {
     );
     assert_eq!((cache.live_area(1), cache.reserve(10)), (None, Ok(())));
     assert!(format!("{:?}", cache).contains("pages: 1"));
+    assert!(cache.clone().iter().eq(cache.iter()));
 }
 
 // A table that grows in one piece would be copied: its rectangles would lie elsewhere.

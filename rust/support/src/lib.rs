@@ -23,6 +23,7 @@ pub mod alloc;
 pub mod boxed;
 #[cfg(feature = "raw")]
 pub mod c_memory;
+pub mod clone;
 pub mod collections;
 pub mod error;
 pub mod hash;

@@ -2,6 +2,7 @@
 //! The cache.
 
 mod clearing;
+mod copying;
 mod figures;
 pub mod holding;
 mod repacking;

@@ -2,6 +2,8 @@
 //! Entries under their keys, in the order of their use: each call takes a few steps and at most one look-up by a hash,
 //! however many entries there are.
 
+mod copying;
+
 use crate::atlas_cache::error::CacheError;
 use crate::atlas_cache::recency::links::NO_ENTRY;
 use crate::atlas_cache::recency::Recency;

@@ -6,7 +6,7 @@ pub mod links;
 
 use crate::atlas_cache::error::CacheError;
 use crate::atlas_cache::recency::links::{push_front, read_link, set_next, unlink, Link, NO_ENTRY};
-use wollemigo_support::alloc::{Allocator, Global};
+use wollemigo_support::alloc::{AllocError, Allocator, Global};
 use wollemigo_support::prelude::Vec;
 
 /// The numbers of entries in the order of their use. The number of an entry that is gone is given to a later one.
@@ -71,6 +71,22 @@ impl<A: Allocator> Recency<A> {
             count: 0,
             reserved: 0,
         }
+    }
+
+    /// A copy, in new memory of the same allocator: the same numbers in the same order. None are in reserve.
+    #[inline]
+    pub fn copy(&self) -> Result<Self, AllocError>
+    where
+        A: Copy,
+    {
+        let links = Vec::from_slice(*self.links.allocator(), &self.links)?;
+        Ok(Recency {
+            links,
+            ends: self.ends,
+            unused: self.unused,
+            count: self.count,
+            reserved: 0,
+        })
     }
 
     /// How many entries there are, at most 4,294,967,295.

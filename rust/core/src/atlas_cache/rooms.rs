@@ -2,6 +2,7 @@
 //! The pages of a cache, each an atlas: small steps, of which none evicts.
 
 mod asking;
+mod copying;
 mod repacking;
 mod reserving;
 mod usable;

@@ -4,7 +4,7 @@
 use wollemigo_core::atlas_cache::entries::DefaultHasher;
 use wollemigo_core::atlas_cache::{CacheError, Changes, Inserted, Place, TextureCache};
 use wollemigo_core::guillotiere::Size;
-use wollemigo_support::alloc::Allocator;
+use wollemigo_support::alloc::{AllocError, Allocator};
 
 /// A glyph's place and whether its pixels are to be written there, which is so of a new glyph alone; None if it has no
 /// place.
@@ -46,4 +46,22 @@ pub fn give_back<A: Allocator + Copy>(
 ) -> Result<(), CacheError> {
     cache.trim(frames, changes)?;
     cache.shrink(changes)
+}
+
+/// What a cache and a copy of it answer for a key: the same place, or none.
+pub fn asked_of_both<A: Allocator + Copy>(
+    cache: &mut TextureCache<u64, DefaultHasher, A>,
+    key: u64,
+) -> Result<(Option<Place>, Option<Place>), AllocError> {
+    let mut copy = cache.clone()?;
+    Ok((copy.get(&key), cache.get(&key)))
+}
+
+/// The size of a page of a cache, and of a copy of it: the same, or none.
+pub fn page_of_both<A: Allocator + Copy>(
+    cache: &TextureCache<u64, DefaultHasher, A>,
+    page: u32,
+) -> Result<(Option<Size>, Option<Size>), AllocError> {
+    let copy = cache.clone()?;
+    Ok((copy.page_size(page), cache.page_size(page)))
 }

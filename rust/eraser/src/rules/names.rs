@@ -3,11 +3,12 @@ use super::Walk;
 use crate::fault::Fault;
 
 /// What the support crate has of Rattle's `std`: a module, and its names.
-const SUPPORTED: [(&str, &[&str]); 7] = [
+const SUPPORTED: [(&str, &[&str]); 8] = [
     (
         "alloc",
         &["AllocError", "AllocFailed", "Allocator", "Global"],
     ),
+    ("clone", &["Clone"]),
     (
         "collections",
         &["BTreeMap", "BTreeSet", "HashMap", "hash_map"],

@@ -26,6 +26,19 @@ impl<K: Copy> Waiting<K> {
         }
     }
 
+    pub(super) fn try_clone(&self) -> Result<Self, CacheError> {
+        let changes = LibraryVec::from_slice(Global, self.changes.as_slice());
+        let mut ends = VecDeque::new();
+        ends.try_reserve(self.ends.len())
+            .map_err(|_| CacheError::Memory)?;
+        ends.extend(&self.ends);
+        Ok(Waiting {
+            changes: changes.map_err(|_| CacheError::Memory)?,
+            handed: self.handed,
+            ends,
+        })
+    }
+
     /// Before a call: takes memory for its end, so that nothing is refused after it.
     #[inline]
     pub(super) fn begin(&mut self) -> Result<(), CacheError> {

@@ -1,5 +1,6 @@
-//! Tests of the cache that lines can't say: random calls beside a plain model, and memory that is refused.
+//! Tests of the cache that lines can't say: random calls beside a plain model, copies, and memory that is refused.
 
+mod clones;
 mod memory;
 mod plain;
 mod traces;
