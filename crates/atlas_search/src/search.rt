@@ -53,7 +53,9 @@ fn show_pile<E: Entry>(entries: &[E], tag: Link, depth: u32, list: usize, best: 
         → HasShownPile (map E.item entries.now) list p best.old best.new }
 {
     if tag.number != NO_SLOT {
-        let at = Link { number: tag.number - PILE };
+        let at = Link {
+            number: tag.number - PILE,
+        };
         let entry = &entries[at.number as usize];
         let area = entry.rectangle();
         if !best.passes(corner(area)) {

@@ -3,7 +3,6 @@
 ghost use Rattle.std.specs.Prelude.{◌≡◌, ◌≢◌, ◌+◌, ◌*◌, ◌<◌, ◌⊎◌, ◌↔◌, ℕ, IsTrue, true, false, IfOk, length};
 ghost use Rattle.atlas_search.specs.Bands.{number_of};
 ghost use Rattle.atlas_search.specs.Masks.{IsMarked, is_marked_at};
-
 ghost use Rattle.atlas_search.specs.Numbers.{no_slot};
 ghost use Rattle.atlas_search.specs.Piles.{IsTag};
 ghost use Rattle.atlas_search.specs.Tables.{IsPushed, head_of, is_used_at, low_of};
@@ -199,7 +198,11 @@ impl<A: Allocator> Table<A> {
         ensures heads { (k : ℕ) → k ≢ number → head_of self.new k ≡ head_of self.old k }
         ensures lows { (k : ℕ) → low_of self.new k ≡ low_of self.old k }
     {
-        let piles = if is_tag(self.heads[number].first) { self.piles } else { self.piles + 1 };
+        let piles = if is_tag(self.heads[number].first) {
+            self.piles
+        } else {
+            self.piles + 1
+        };
         self.heads[number].first = tag;
         self.piles = piles;
     }

@@ -19,10 +19,10 @@ use crate::slots::piling::{long_chain, pile};
 use crate::slots::placing::{Parts, Plan, place_leaf};
 use crate::slots::{Node, NodeKind, Slot, join_next, lift, mark_free, read_node};
 use crate::store::turns::Turns;
+use atlas_model::Size;
 use atlas_search::bands::Scale;
 use atlas_search::link::{Link, NO_SLOT};
 use atlas_search::table::{LISTS, Table};
-use atlas_model::Size;
 use std::alloc::{AllocError, Allocator};
 
 // After a grant that found no long chain so many don't look for one, less one.

@@ -83,17 +83,19 @@ module _ {A : Type 0} (made new : Store A) (tidied : IsTidied made new) where
         → IsDone v request (shelf_of last) needed allocation
     tidied-done last allocation told =
         let done = grant-done (record { shelf = shelf_of new; first = v.first; used = v.used; size = v.size; limit = v.limit }) atlas-now request size sized-now p chosen-now
-            leaf read-now plan line feasible new refl needed is_needed ok-now last allocation told in
+        leaf read-now plan line feasible new refl needed is_needed ok-now last allocation told in
         let was : (before : ℕ) → state_of (record { stored = record { shelf = shelf_of new; first = v.first; used = v.used; size = v.size; limit = v.limit }; turns = before; capacity = 0 })
-            ≡ state_of (record { stored = v; turns = before; capacity = 0 }) =
+        ≡ state_of (record { stored = v; turns = before; capacity = 0 }) =
         (λ before. tidied-state made new v.first v.used v.size v.limit tidied before 0 before 0
         ∙ ap (λ (s : Shelf). state_of (record { stored = record { shelf = s; first = v.first; used = v.used; size = v.size; limit = v.limit }; turns = before; capacity = 0 })) same) in
         record {
           atlas = done.atlas;
           granted = λ turns before.
-              let got = done.granted turns before in
-              (got.0, subst (λ (s : State). Grants s request got.0 (grant_of allocation)
-                  (state_of (record { stored = record { shelf = shelf_of last; first = v.first; used = v.used + needed; size = v.size; limit = v.limit }; turns = turns; capacity = 0 })))
-                  (was before) got.1);
+              let got = done.granted turns before in (
+                got.0,
+                subst (λ (s : State). Grants s request got.0 (grant_of allocation)
+                    (state_of (record { stored = record { shelf = shelf_of last; first = v.first; used = v.used + needed; size = v.size; limit = v.limit }; turns = turns; capacity = 0 })))
+                    (was before) got.1,
+              );
           exact = done.exact;
         }

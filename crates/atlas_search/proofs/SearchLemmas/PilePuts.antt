@@ -79,8 +79,14 @@ module _ (es fs gs : List Item) (depth bits t i upper lower fresh : ℕ) (left r
       ∙ kept j (member-right j lower left (out-right lower lower-right).0 k) (omega (arith, count-right j, k))
 
   below-right : (j : ℕ) → 0 < occurs j (members grown) → item_at gs j ≡ item_at fs j
-  below-right j k = others j (λ e. omega (arith, k, ap (λ n. occurs n (members grown)) e, has upper,
-    same-ne upper lower (λ q. apart-right (sym q)), (out-right upper upper-right).1))
+  below-right j k = others j (λ e. omega (
+    arith,
+    k,
+    ap (λ n. occurs n (members grown)) e,
+    has upper,
+    same-ne upper lower (λ q. apart-right (sym q)),
+    (out-right upper upper-right).1,
+  ))
 
   pub pile-put_right : IsPile gs depth bits (pile_tag upper) (Top upper left grown)
   pile-put_right = (
@@ -163,8 +169,14 @@ module _ (es fs gs : List Item) (depth bits t i upper lower fresh : ℕ) (left r
       ∙ kept j (member-left j lower right (out-left lower lower-left).1 k) (omega (arith, count-left j, k))
 
   below-left : (j : ℕ) → 0 < occurs j (members grown) → item_at gs j ≡ item_at fs j
-  below-left j k = others j (λ e. omega (arith, k, ap (λ n. occurs n (members grown)) e, has upper,
-    same-ne upper lower (λ q. apart-left (sym q)), (out-left upper upper-left).0))
+  below-left j k = others j (λ e. omega (
+    arith,
+    k,
+    ap (λ n. occurs n (members grown)) e,
+    has upper,
+    same-ne upper lower (λ q. apart-left (sym q)),
+    (out-left upper upper-left).0,
+  ))
 
   pub pile-put_left : IsPile gs depth bits (pile_tag upper) (Top upper grown right)
   pile-put_left = (

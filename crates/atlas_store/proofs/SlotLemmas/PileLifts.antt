@@ -146,8 +146,14 @@ module _ (slots mid new : List Slot) (depth bits tag : ℕ) (p : Pile) (ring : R
   once k = omega (arith, s.once k, ap (λ (q : Pile). occurs k (members q)) me.is)
 
   items-long : (ss : List Slot) → nodes ss ≡ nodes slots → length (items_of ss) ≡ length (items_of slots)
-  items-long ss same = omega (arith, length-map ss (λ (q : Slot). q.node), length-map slots (λ (q : Slot). q.node), ap length same,
-      length-map ss (λ (q : Slot). item_of q.node q.ring), length-map slots (λ (q : Slot). item_of q.node q.ring))
+  items-long ss same = omega (
+    arith,
+    length-map ss (λ (q : Slot). q.node),
+    length-map slots (λ (q : Slot). q.node),
+    ap length same,
+    length-map ss (λ (q : Slot). item_of q.node q.ring),
+    length-map slots (λ (q : Slot). item_of q.node q.ring),
+  )
 
   box-is : (ss : List Slot) (k : ℕ) → item_box (item_at (items_of ss) k) ≡ node_box (node_at (nodes ss) k)
   box-is ss k = ap box_of (area-is ss k)

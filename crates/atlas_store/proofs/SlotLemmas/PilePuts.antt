@@ -180,13 +180,13 @@ module _ (slots : List Slot) (depth bits tag : ℕ) (fresh top upper lower : Lin
       put-right = record {
         grown = Top upper.number t.left done.grown;
         pile = pile-put_right es (items_of mid) (items_of new) depth bits next.number t.at upper.number lower.number fresh.number t.left t.right done.grown
-        whole-right once-right apart-right pair-is first-is (omega (arith, upper-inside, length-map slots (λ (q : Slot). item_of q.node q.ring)))
-        (omega (arith, upper-inside, s.short)) (upper-is (λ n. n % 2 ^ depth ≡ bits) s.low t.lowest) (items-long mid old) (items-long new (still ∙ old))
-        boxes-are done.pile done.has kept-right others-right before-right after-right;
+            whole-right once-right apart-right pair-is first-is (omega (arith, upper-inside, length-map slots (λ (q : Slot). item_of q.node q.ring)))
+            (omega (arith, upper-inside, s.short)) (upper-is (λ n. n % 2 ^ depth ≡ bits) s.low t.lowest) (items-long mid old) (items-long new (still ∙ old))
+            boxes-are done.pile done.has kept-right others-right before-right after-right;
         has = λ k. has-put_right es (items_of mid) (items_of new) depth bits next.number t.at upper.number lower.number fresh.number t.left t.right done.grown
-        whole-right once-right apart-right pair-is first-is (omega (arith, upper-inside, length-map slots (λ (q : Slot). item_of q.node q.ring)))
-        (omega (arith, upper-inside, s.short)) (upper-is (λ n. n % 2 ^ depth ≡ bits) s.low t.lowest) (items-long mid old) (items-long new (still ∙ old))
-        boxes-are done.pile done.has kept-right others-right before-right after-right k
+            whole-right once-right apart-right pair-is first-is (omega (arith, upper-inside, length-map slots (λ (q : Slot). item_of q.node q.ring)))
+            (omega (arith, upper-inside, s.short)) (upper-is (λ n. n % 2 ^ depth ≡ bits) s.low t.lowest) (items-long mid old) (items-long new (still ∙ old))
+            boxes-are done.pile done.has kept-right others-right before-right after-right k
             ∙ ap (λ (q : Pile). same k fresh.number + occurs k (members q)) (sym t.is);
         others = λ k ne none. link-right k (out k ne none).0 ∙ done.others k (out k ne none).1 (omega (arith, none, counts k));
       }
@@ -225,13 +225,13 @@ module _ (slots : List Slot) (depth bits tag : ℕ) (fresh top upper lower : Lin
       put-left = record {
         grown = Top upper.number done.grown t.right;
         pile = pile-put_left es (items_of mid) (items_of new) depth bits previous.number t.at upper.number lower.number fresh.number t.left t.right done.grown
-        whole-left once-left apart-left pair-is first-is (omega (arith, upper-inside, length-map slots (λ (q : Slot). item_of q.node q.ring)))
-        (omega (arith, upper-inside, s.short)) (upper-is (λ n. n % 2 ^ depth ≡ bits) s.low t.lowest) (items-long mid old) (items-long new (still ∙ old))
-        boxes-are done.pile done.has kept-left others-left before-left after-left;
+            whole-left once-left apart-left pair-is first-is (omega (arith, upper-inside, length-map slots (λ (q : Slot). item_of q.node q.ring)))
+            (omega (arith, upper-inside, s.short)) (upper-is (λ n. n % 2 ^ depth ≡ bits) s.low t.lowest) (items-long mid old) (items-long new (still ∙ old))
+            boxes-are done.pile done.has kept-left others-left before-left after-left;
         has = λ k. has-put_left es (items_of mid) (items_of new) depth bits previous.number t.at upper.number lower.number fresh.number t.left t.right done.grown
-        whole-left once-left apart-left pair-is first-is (omega (arith, upper-inside, length-map slots (λ (q : Slot). item_of q.node q.ring)))
-        (omega (arith, upper-inside, s.short)) (upper-is (λ n. n % 2 ^ depth ≡ bits) s.low t.lowest) (items-long mid old) (items-long new (still ∙ old))
-        boxes-are done.pile done.has kept-left others-left before-left after-left k
+            whole-left once-left apart-left pair-is first-is (omega (arith, upper-inside, length-map slots (λ (q : Slot). item_of q.node q.ring)))
+            (omega (arith, upper-inside, s.short)) (upper-is (λ n. n % 2 ^ depth ≡ bits) s.low t.lowest) (items-long mid old) (items-long new (still ∙ old))
+            boxes-are done.pile done.has kept-left others-left before-left after-left k
             ∙ ap (λ (q : Pile). same k fresh.number + occurs k (members q)) (sym t.is);
         others = λ k ne none. link-left k (out k ne none).0 ∙ done.others k (out k ne none).1 (omega (arith, none, counts k));
       }

@@ -58,8 +58,14 @@ module _ (slots mid new : List Slot) (depth bits tag gone : ℕ) (p : Pile) (rin
   once-right k = omega (arith, s.once k, ap (λ (q : Pile). occurs k (members q)) me-right.is, occurs-top k me-right.at me-right.left me-right.right)
 
   long-right : (ss : List Slot) → nodes ss ≡ nodes slots → length (items_of ss) ≡ length (items_of slots)
-  long-right ss same = omega (arith, length-map ss (λ (q : Slot). q.node), length-map slots (λ (q : Slot). q.node), ap length same,
-      length-map ss (λ (q : Slot). item_of q.node q.ring), length-map slots (λ (q : Slot). item_of q.node q.ring))
+  long-right ss same = omega (
+    arith,
+    length-map ss (λ (q : Slot). q.node),
+    length-map slots (λ (q : Slot). q.node),
+    ap length same,
+    length-map ss (λ (q : Slot). item_of q.node q.ring),
+    length-map slots (λ (q : Slot). item_of q.node q.ring),
+  )
 
   boxes-right : (k : ℕ) → item_box (item_at (items_of new) k) ≡ item_box (item_at (items_of slots) k)
   boxes-right k = ap box_of (area-is new k) ∙ ap (λ ns. node_box (node_at ns k)) (still ∙ old) ∙ sym (ap box_of (area-is slots k))
@@ -107,8 +113,13 @@ module _ (slots mid new : List Slot) (depth bits tag gone : ℕ) (p : Pile) (rin
       ((λ j k. above-right j (whole-right.1.0 j k)), (λ j k. above-right j (whole-right.1.1 j (omega (arith, k, done.has j))))),
       (subst (λ n. IsPile (items_of new) (depth + 1) bits n me-right.left) (sym before-right) (pile-frame (items_of slots) (items_of new) (depth + 1) bits _ me-right.left (omega (arith, long-right new (still ∙ old))) stay-right me-right.low), subst (λ n. IsPile (items_of new) (depth + 1) (bits + 2 ^ depth) n done.less) (sym after-right) (pile-frame (items_of mid) (items_of new) (depth + 1) _ rest.number done.less (omega (arith, long-right mid old, long-right new (still ∙ old))) less-right done.pile)),
     );
-    has = λ k. omega (arith, done.has k, occurs-top k me-right.at me-right.left done.less, occurs-top k me-right.at me-right.left me-right.right,
-        ap (λ (q : Pile). occurs k (members q)) me-right.is);
+    has = λ k. omega (
+      arith,
+      done.has k,
+      occurs-top k me-right.at me-right.left done.less,
+      occurs-top k me-right.at me-right.left me-right.right,
+      ap (λ (q : Pile). occurs k (members q)) me-right.is,
+    );
     others = λ k none.
         let parts : same k me-right.at + (occurs k (members me-right.left) + occurs k (members me-right.right)) ≡ 0 =
         omega (arith, none, ap (λ (q : Pile). occurs k (members q)) me-right.is, occurs-top k me-right.at me-right.left me-right.right) in
@@ -134,8 +145,14 @@ module _ (slots mid new : List Slot) (depth bits tag gone : ℕ) (p : Pile) (rin
   once-left k = omega (arith, s.once k, ap (λ (q : Pile). occurs k (members q)) me-left.is, occurs-top k me-left.at me-left.left me-left.right)
 
   long-left : (ss : List Slot) → nodes ss ≡ nodes slots → length (items_of ss) ≡ length (items_of slots)
-  long-left ss same = omega (arith, length-map ss (λ (q : Slot). q.node), length-map slots (λ (q : Slot). q.node), ap length same,
-      length-map ss (λ (q : Slot). item_of q.node q.ring), length-map slots (λ (q : Slot). item_of q.node q.ring))
+  long-left ss same = omega (
+    arith,
+    length-map ss (λ (q : Slot). q.node),
+    length-map slots (λ (q : Slot). q.node),
+    ap length same,
+    length-map ss (λ (q : Slot). item_of q.node q.ring),
+    length-map slots (λ (q : Slot). item_of q.node q.ring),
+  )
 
   boxes-left : (k : ℕ) → item_box (item_at (items_of new) k) ≡ item_box (item_at (items_of slots) k)
   boxes-left k = ap box_of (area-is new k) ∙ ap (λ ns. node_box (node_at ns k)) (still ∙ old) ∙ sym (ap box_of (area-is slots k))
@@ -183,8 +200,13 @@ module _ (slots mid new : List Slot) (depth bits tag gone : ℕ) (p : Pile) (rin
       ((λ j k. above-left j (whole-left.1.0 j (omega (arith, k, done.has j)))), (λ j k. above-left j (whole-left.1.1 j k))),
       (subst (λ n. IsPile (items_of new) (depth + 1) bits n done.less) (sym before-left) (pile-frame (items_of mid) (items_of new) (depth + 1) bits rest.number done.less (omega (arith, long-left mid old, long-left new (still ∙ old))) less-left done.pile), subst (λ n. IsPile (items_of new) (depth + 1) (bits + 2 ^ depth) n me-left.right) (sym after-left) (pile-frame (items_of slots) (items_of new) (depth + 1) _ _ me-left.right (omega (arith, long-left new (still ∙ old))) stay-left me-left.high)),
     );
-    has = λ k. omega (arith, done.has k, occurs-top k me-left.at done.less me-left.right, occurs-top k me-left.at me-left.left me-left.right,
-        ap (λ (q : Pile). occurs k (members q)) me-left.is);
+    has = λ k. omega (
+      arith,
+      done.has k,
+      occurs-top k me-left.at done.less me-left.right,
+      occurs-top k me-left.at me-left.left me-left.right,
+      ap (λ (q : Pile). occurs k (members q)) me-left.is,
+    );
     others = λ k none.
         let parts : same k me-left.at + (occurs k (members me-left.left) + occurs k (members me-left.right)) ≡ 0 =
         omega (arith, none, ap (λ (q : Pile). occurs k (members q)) me-left.is, occurs-top k me-left.at me-left.left me-left.right) in
@@ -199,8 +221,13 @@ module _ (slots : List Slot) (depth bits tag : ℕ) (p : Pile) (ring : Ring) (s 
   top = t slots depth bits tag p ring s read
 
   counts : 0 < occurs gone (members top.left) + occurs gone (members top.right)
-  counts = omega (arith, has, ap (λ (q : Pile). occurs gone (members q)) top.is, occurs-top gone top.at top.left top.right,
-      same-ne gone top.at (λ e. below (let here : tag - 4261412864 ≡ top.at = omega (arith, top.number) in here ∙ sym e)))
+  counts = omega (
+    arith,
+    has,
+    ap (λ (q : Pile). occurs gone (members q)) top.is,
+    occurs-top gone top.at top.left top.right,
+    same-ne gone top.at (λ e. below (let here : tag - 4261412864 ≡ top.at = omega (arith, top.number) in here ∙ sym e)),
+  )
 
   lowest : gone % 2 ^ depth ≡ bits
   lowest = pile-bits (items_of slots) depth bits tag p s.pile gone has

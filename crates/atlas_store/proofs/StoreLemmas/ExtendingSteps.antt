@@ -52,7 +52,7 @@ held_anew : (claimed : ℕ → ℕ) (v : Shelf) (new : List Slot) (h : Holding) 
     → Holds (record v { slots = new }) (record h { sequence = s; tree = n; detached = detached })
 held_anew claimed v new h s n detached long holds used top stands bounds =
     let moved = AreFiled-moved (options_of v.options) (nodes v.slots) (nodes new) (rings v.slots) v.heads v.unused (places_of claimed h) (λ i. 0) detached
-        used.moved (λ i l. omega (arith, used.counted i)) holds.filed in
+    used.moved (λ i l. omega (arith, used.counted i)) holds.filed in
     let filed : AreFiled (options_of v.options) (nodes new) (rings new) v.heads v.unused (places_of (λ i. 0) (record h { sequence = s; tree = n; detached = detached })) = rw used.same_rings moved in
     grind arith
 

@@ -311,8 +311,12 @@ module _ (o : Options) (ns : List Node) (rs : List Ring) (heads : List ListHead)
   before-is : IsSlotOrTag (length rs) heads (ring_at rs i).previous.number
   before-is = elim can-leave.previous [
     | inl e ↦ inr (
-        own, own-below, e, is-used ns rs heads own i (p.free_lists own) short own-linked own-stands,
-        chain-untagged rs (tag_of own) (head_of heads own) (p.free_lists own) short own-links)
+      own,
+      own-below,
+      e,
+      is-used ns rs heads own i (p.free_lists own) short own-linked own-stands,
+      chain-untagged rs (tag_of own) (head_of heads own) (p.free_lists own) short own-links,
+    )
     | inr l ↦ inl l
   ]
 
@@ -352,8 +356,12 @@ module _ {o : Options} {slots : List Slot} {heads : List ListHead} {i : ℕ} (k 
   leaves-inside =
       let own = list_for o (node_at (nodes slots) i) in
       let one = listed-one o (nodes slots) (rings slots) heads k.unused k.places k.filed i free k.kept in
-      omega (arith, same_count, linked-inside (nodes slots) (rings slots) (tag_of own) (head_of heads own) (k.places.free_lists own)
-      ((k.filed.free own (list_of-most o (node_sides (node_at (nodes slots) i)))).links) i (omega (arith, one)))
+      omega (
+        arith,
+        same_count,
+        linked-inside (nodes slots) (rings slots) (tag_of own) (head_of heads own) (k.places.free_lists own)
+            ((k.filed.free own (list_of-most o (node_sides (node_at (nodes slots) i)))).links) i (omega (arith, one)),
+      )
 
   module _ (ring : Ring) (er : ring ≡ ring_at (rings slots) i) (few : ring.previous.number < 4261412864) where
     chained : (ring_at (rings slots) i).previous.number < 4261412864

@@ -58,7 +58,7 @@ pub chain-along : (o : Options) (slots : List Slot) (heads : List ListHead) (unu
     → IsPath (items_of slots) (head_of heads m).number (p.free_lists m) no_slot
 chain-along o slots heads unused p m short l few f =
     let h = untagged-chain (nodes slots) (rings slots) (tag_of m) (head_of heads m) (p.free_lists m) (few-slots slots short) ((f.free m l).links)
-        (λ tag. omega (arith, tag.0, few)) in
+    (λ tag. omega (arith, tag.0, few)) in
     path-of slots (tag_of m) (head_of heads m).number (p.free_lists m) h.chain h.begins
 
 -- Nothing stands in the pile yet.
@@ -210,7 +210,7 @@ module _ (old new : List Slot) (first at tag : Link) (heads heads' : List ListHe
   built-filed head firsts lows o unused p f =
       let along = chain-along o old heads unused p m short l (subst (λ (k : Link). k.number < 4261412864) ef few) f in
       let same : p.free_lists m ≡ w.chain = path-same (items_of old) first.number (p.free_lists m) w.chain (omega (arith, items-long old, short))
-          (subst (λ (k : Link). IsPath (items_of old) k.number (p.free_lists m) no_slot) (sym ef) along) w.along in
+      (subst (λ (k : Link). IsPath (items_of old) k.number (p.free_lists m) no_slot) (sym ef) along) w.along in
       rw w.same_nodes (AreFiled-relinked o (nodes old) (rings old) (rings new) heads heads' unused p m l
       (length-rings old new (size-same old new w.same_nodes))
       (λ j z. w.others j (sym (ap (occurs j) same) ∙ z)) firsts lows

@@ -143,9 +143,13 @@ module _ (o : Options) (slots new : List Slot) (heads heads' : List ListHead) (i
     joins-pile k =
         let own = listed-own o (nodes slots) (rings slots) heads k.unused k.places k.filed m below in
         let h = tagged-pile (nodes slots) (rings slots) (tag_of m) (head_of heads m) (k.places.free_lists m) few ((k.filed.free m below).links) tag in
-        rw ef (0, h.0, can-insert slots _ (k.places.free_lists m) i short exact own
-        (detached-nowhere o (nodes slots) (rings slots) heads k.unused k.places k.filed m i below k.is_detached) free h.0
-        (subst (λ es. IsPile es 0 0 (head_of heads m).number h.0) (entries-of slots) h.1) h.3)
+        rw ef (
+          0,
+          h.0,
+          can-insert slots _ (k.places.free_lists m) i short exact own
+              (detached-nowhere o (nodes slots) (rings slots) heads k.unused k.places k.filed m i below k.is_detached) free h.0
+              (subst (λ es. IsPile es 0 0 (head_of heads m).number h.0) (entries-of slots) h.1) h.3,
+        )
 
     module _ (inserts : (bits : ℕ) (p : Pile) → CanInsert slots 0 bits first.number i p → HasInserted slots new 0 bits rest.number i p)
         (en : nodes new ≡ nodes slots) (long : length new ≡ length slots) (head : (head_of heads' m).number ≡ rest.number)
@@ -157,7 +161,7 @@ module _ (o : Options) (slots new : List Slot) (heads heads' : List ListHead) (i
       came xs h own none =
           let pile = tagged-pile (nodes slots) (rings slots) (tag_of m) (head_of heads m) xs few h tag in
           let can : CanInsert slots 0 0 first.number i pile.0 = subst (λ (l : Link). CanInsert slots 0 0 l.number i pile.0) (sym ef) (can-insert slots _ xs i short exact own none free pile.0
-              (subst (λ es. IsPile es 0 0 (head_of heads m).number pile.0) (entries-of slots) pile.1) pile.3) in
+          (subst (λ es. IsPile es 0 0 (head_of heads m).number pile.0) (entries-of slots) pile.1) pile.3) in
           (pile.0, inserts 0 pile.0 can, pile.3)
 
       put-in : IsPutIn (nodes slots) (rings slots) (rings new) (tag_of m) (head_of heads m) (head_of heads' m) i

@@ -111,7 +111,7 @@ marked-holds v new at long w was h holds =
     let used : use_count (node_at (nodes new) at).kind ≡ use_count (node_in v at).kind =
     ap (λ (n : Node). use_count n.kind) w.leaf ∙ sym (ap use_count was) in
     let filed = filed-one (options_of v.options) (nodes v.slots) (nodes new) (rings v.slots) (rings new) v.heads v.unused (places_of (λ i. 0) h) at true
-        w.same_rings here used w.others holds.filed in
+    w.same_rings here used w.others holds.filed in
     held_again (λ i. 0) (λ i. 0) v new v.unused h (marked at h.tree) h.unused_list (with_mark h.detached at true) (omega (arith, long, holds.short))
     holds (w.tree h.sequence h.tree holds.stands) filed (recut-marked at h.sequence.width h.tree)
 

@@ -59,19 +59,27 @@ pub fn insert(slots: &mut [Slot], tag: Link, fresh: Link, depth: u32) -> Link
 {
     if tag.number == NO_SLOT {
         set_ring(slots, fresh, Link::NONE, Link::NONE);
-        return Link { number: PILE + fresh.number };
+        return Link {
+            number: PILE + fresh.number,
+        };
     }
-    let top = Link { number: tag.number - PILE };
+    let top = Link {
+        number: tag.number - PILE,
+    };
     let ring = read_ring(slots, top);
     let (upper, lower) = in_order(slots, fresh, top);
     if is_right(lower, depth) {
         let next = insert(slots, ring.next, lower, depth + 1);
         set_ring(slots, upper, ring.previous, next);
-        return Link { number: PILE + upper.number };
+        return Link {
+            number: PILE + upper.number,
+        };
     }
     let previous = insert(slots, ring.previous, lower, depth + 1);
     set_ring(slots, upper, previous, ring.next);
-    Link { number: PILE + upper.number }
+    Link {
+        number: PILE + upper.number,
+    }
 }
 
 // Whether the top on the right comes before the one on the left, or is alone.
@@ -91,8 +99,24 @@ fn is_right_first(slots: &[Slot], left: Link, right: Link) -> bool
     if right.number == NO_SLOT {
         return false;
     }
-    let on_left = corner(read_node(slots, Link { number: left.number - PILE }).area);
-    corner(read_node(slots, Link { number: right.number - PILE }).area) < on_left
+    let on_left = corner(
+        read_node(
+            slots,
+            Link {
+                number: left.number - PILE,
+            },
+        )
+        .area,
+    );
+    corner(
+        read_node(
+            slots,
+            Link {
+                number: right.number - PILE,
+            },
+        )
+        .area,
+    ) < on_left
 }
 
 /// Takes the top out of a pile. Answers what begins the rest.
@@ -102,17 +126,36 @@ pub fn remove_top(slots: &mut [Slot], tag: Link, depth: u32) -> Link
         → HasRemoved slots.old slots.new depth bits result.number (tag.number - PILE) p }
     ensures same_nodes { nodes slots.new ≡ nodes slots.old }
 {
-    let ring = read_ring(slots, Link { number: tag.number - PILE });
+    let ring = read_ring(
+        slots,
+        Link {
+            number: tag.number - PILE,
+        },
+    );
     if ring.previous.number == NO_SLOT && ring.next.number == NO_SLOT {
         return Link::NONE;
     }
     if is_right_first(slots, ring.previous, ring.next) {
         let next = remove_top(slots, ring.next, depth + 1);
-        set_ring(slots, Link { number: ring.next.number - PILE }, ring.previous, next);
+        set_ring(
+            slots,
+            Link {
+                number: ring.next.number - PILE,
+            },
+            ring.previous,
+            next,
+        );
         return ring.next;
     }
     let previous = remove_top(slots, ring.previous, depth + 1);
-    set_ring(slots, Link { number: ring.previous.number - PILE }, previous, ring.next);
+    set_ring(
+        slots,
+        Link {
+            number: ring.previous.number - PILE,
+        },
+        previous,
+        ring.next,
+    );
     ring.previous
 }
 
@@ -123,7 +166,9 @@ pub fn remove(slots: &mut [Slot], tag: Link, gone: Link, depth: u32) -> Link
         → HasRemoved slots.old slots.new depth bits result.number gone.number p }
     ensures same_nodes { nodes slots.new ≡ nodes slots.old }
 {
-    let top = Link { number: tag.number - PILE };
+    let top = Link {
+        number: tag.number - PILE,
+    };
     if top.number == gone.number {
         return remove_top(slots, tag, depth);
     }

@@ -111,7 +111,12 @@ fn long_in_row<A: Allocator>(slots: &[Slot], lists: &Table<A>, row: usize, colum
 }
 
 // The number of a long chain in a column, in these rows; LISTS if there is none.
-fn long_in_column<A: Allocator>(slots: &[Slot], lists: &Table<A>, column: usize, rows: Mask) -> usize
+fn long_in_column<A: Allocator>(
+    slots: &[Slot],
+    lists: &Table<A>,
+    column: usize,
+    rows: Mask,
+) -> usize
     requires column { column < BANDS }
     requires rows { (i : ℕ) → IsMarked rows i → i < BANDS }
 {
@@ -130,11 +135,21 @@ pub fn long_chain<A: Allocator>(slots: &[Slot], lists: &Table<A>, place: Place) 
     requires row { place.row < BANDS }
     requires column { place.column < BANDS }
 {
-    let list = long_in_row(slots, lists, place.row, lists.row(place.row).from(place.column));
+    let list = long_in_row(
+        slots,
+        lists,
+        place.row,
+        lists.row(place.row).from(place.column),
+    );
     if list < LISTS {
         return list;
     }
-    long_in_column(slots, lists, place.column, lists.column(place.column).from(place.row + 1))
+    long_in_column(
+        slots,
+        lists,
+        place.column,
+        lists.column(place.column).from(place.row + 1),
+    )
 }
 
 /// A list becomes a pile; nothing happens if it is one, or is empty.

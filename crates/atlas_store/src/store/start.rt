@@ -6,8 +6,8 @@ ghost use Rattle.atlas_model.specs.Pixels.{sides_of, options_of};
 ghost use Rattle.atlas_store.specs.Store.Starts.{IsBegun, IsStarted, one_free_slot};
 
 use crate::slots::{Node, NodeKind, Ring, Slot};
-use crate::store::{PAUSE, Store};
 use crate::store::turns::Turns;
+use crate::store::{PAUSE, Store};
 use atlas_model::{AllocatorOptions, Rectangle, Size};
 use atlas_search::bands::Scale;
 use atlas_search::cut::Orientation;

@@ -154,7 +154,7 @@ pub taken-new : (o : Options) (heads : List ListHead) (es : List Item) (unused :
     → IsClaimed o (record { entries = es ++ no_item ∷ []; heads = heads; unused = unused; used = used + 1 }) (length es)
 taken-new o heads es unused used short kept =
     let c = chained-same o heads es (es ++ no_item ∷ []) (item_at-more es) (omega (arith, length-more es)) (omega (arith, length-more es, short))
-        (record { listed = kept.listed; chains = kept.chains }) in
+    (record { listed = kept.listed; chains = kept.chains }) in
     record {
       kept = record {
         listed = c.listed;
@@ -232,7 +232,7 @@ pub put-kept : (o : Options) (heads heads' : List ListHead) (es : List Item) (un
     → AreKept o (record { entries = slice_set es x e; heads = heads'; unused = unused; used = used })
 put-kept o heads heads' es unused used x k e claimed free after exact list few head other_heads low lower other_lows =
     let c = listed-with o heads heads' es (slice_set es x e) (record { listed = claimed.kept.listed; chains = claimed.kept.chains }) x k e idle claimed.inside (length-set es x e)
-        (item_at-same es x e claimed.inside) (λ i ne. item_at-other es x i e ne) free after exact list head other_heads low lower other_lows few in
+    (item_at-same es x e claimed.inside) (λ i ne. item_at-other es x i e ne) free after exact list head other_heads low lower other_lows few in
     record {
       listed = c.listed;
       chains = c.chains;
@@ -337,7 +337,7 @@ module _ (o : Options) (heads heads' : List ListHead) (es es1 : List Item) (unus
       → AreKept o (record { entries = es'; heads = heads'; unused = found.at; used = used' })
   finish long same_box here links unused_links =
       let c = listed-without o heads heads' es es' (record { listed = kept.listed; chains = kept.chains }) x k standing.free standing.list (length-set es1 x _ ∙ long)
-          (ap (λ (t : Item). t.is_free) this) same_kept (λ _. here) (λ j i ne l h. still i (in_other j i ne l h) ∙ links j i ne l h) heads_stay lows lows_stay in
+      (ap (λ (t : Item). t.is_free) this) same_kept (λ _. here) (λ j i ne l h. still i (in_other j i ne l h) ∙ links j i ne l h) heads_stay lows lows_stay in
       record {
         listed = c.listed;
         chains = c.chains;

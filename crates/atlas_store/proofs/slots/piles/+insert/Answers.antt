@@ -43,16 +43,25 @@ in_order-requires-clause-solid n c =
 pub insert-next-requires : goal.insert-next-requires
 insert-next-requires n c =
     let can = can-right c.args.slots.now c.args.depth c.requires.0 c.args.tag.number c.args.fresh (record { number = c.args.tag.number - 4261412864 }) c.in_order.result.0 c.in_order.result.1 c.requires.1 c.read_ring-ring.result
-    c.requires.2 c.if-tag-eq-NO_SLOT.false refl c.in_order.ensures.both c.read_ring-ring.ensures (c.is_right.ensures.right c.if-is_right.true) in
-    (omega (arith, c.decreases, can.deep), (c.requires.0 + 2 ^ c.args.depth, (t c.args.slots.now c.args.depth c.requires.0 c.args.tag.number c.args.fresh (record { number = c.args.tag.number - 4261412864 }) c.in_order.result.0 c.in_order.result.1 c.requires.1 c.read_ring-ring.result
-    c.requires.2 c.if-tag-eq-NO_SLOT.false refl c.in_order.ensures.both c.read_ring-ring.ensures).right, can))
+    c.requires.2 c.if-tag-eq-NO_SLOT.false refl c.in_order.ensures.both c.read_ring-ring.ensures (c.is_right.ensures.right c.if-is_right.true) in (
+      omega (arith, c.decreases, can.deep),
+      (
+        c.requires.0 + 2 ^ c.args.depth,
+        (t c.args.slots.now c.args.depth c.requires.0 c.args.tag.number c.args.fresh (record { number = c.args.tag.number - 4261412864 }) c.in_order.result.0 c.in_order.result.1 c.requires.1 c.read_ring-ring.result
+            c.requires.2 c.if-tag-eq-NO_SLOT.false refl c.in_order.ensures.both c.read_ring-ring.ensures).right,
+        can,
+      ),
+    )
 
 pub set_ring-requires-then-is_right : goal.set_ring-requires-then-is_right
 set_ring-requires-then-is_right n c =
-    omega (arith, upper-inside c.args.slots.now c.args.depth c.requires.0 c.args.tag.number c.args.fresh (record { number = c.args.tag.number - 4261412864 }) c.in_order.result.0 c.in_order.result.1 c.requires.1 c.read_ring-ring.result
-    c.requires.2 c.if-tag-eq-NO_SLOT.false refl c.in_order.ensures.both c.read_ring-ring.ensures c.insert-next.new.slots c.insert-next.new.slots c.in_order.ensures.first c.insert-next.ensures.same_nodes refl,
-    size-is c.args.slots.now c.args.depth c.requires.0 c.args.tag.number c.args.fresh (record { number = c.args.tag.number - 4261412864 }) c.in_order.result.0 c.in_order.result.1 c.requires.1 c.read_ring-ring.result
-    c.requires.2 c.if-tag-eq-NO_SLOT.false refl c.in_order.ensures.both c.read_ring-ring.ensures c.insert-next.new.slots c.insert-next.ensures.same_nodes)
+    omega (
+      arith,
+      upper-inside c.args.slots.now c.args.depth c.requires.0 c.args.tag.number c.args.fresh (record { number = c.args.tag.number - 4261412864 }) c.in_order.result.0 c.in_order.result.1 c.requires.1 c.read_ring-ring.result
+          c.requires.2 c.if-tag-eq-NO_SLOT.false refl c.in_order.ensures.both c.read_ring-ring.ensures c.insert-next.new.slots c.insert-next.new.slots c.in_order.ensures.first c.insert-next.ensures.same_nodes refl,
+      size-is c.args.slots.now c.args.depth c.requires.0 c.args.tag.number c.args.fresh (record { number = c.args.tag.number - 4261412864 }) c.in_order.result.0 c.in_order.result.1 c.requires.1 c.read_ring-ring.result
+          c.requires.2 c.if-tag-eq-NO_SLOT.false refl c.in_order.ensures.both c.read_ring-ring.ensures c.insert-next.new.slots c.insert-next.ensures.same_nodes,
+    )
 
 pub returns-then-is_right-clause-filed : goal.returns-then-is_right-clause-filed
 returns-then-is_right-clause-filed n c bits p s =
@@ -68,16 +77,25 @@ returns-then-is_right-clause-filed n c bits p s =
 pub insert-previous-requires : goal.insert-previous-requires
 insert-previous-requires n c =
     let can = can-left c.args.slots.now c.args.depth c.requires.0 c.args.tag.number c.args.fresh (record { number = c.args.tag.number - 4261412864 }) c.in_order.result.0 c.in_order.result.1 c.requires.1 c.read_ring-ring.result
-    c.requires.2 c.if-tag-eq-NO_SLOT.false refl c.in_order.ensures.both c.read_ring-ring.ensures (c.is_right.ensures.left c.if-is_right.false) in
-    (omega (arith, c.decreases, can.deep), (c.requires.0, (t c.args.slots.now c.args.depth c.requires.0 c.args.tag.number c.args.fresh (record { number = c.args.tag.number - 4261412864 }) c.in_order.result.0 c.in_order.result.1 c.requires.1 c.read_ring-ring.result
-    c.requires.2 c.if-tag-eq-NO_SLOT.false refl c.in_order.ensures.both c.read_ring-ring.ensures).left, can))
+    c.requires.2 c.if-tag-eq-NO_SLOT.false refl c.in_order.ensures.both c.read_ring-ring.ensures (c.is_right.ensures.left c.if-is_right.false) in (
+      omega (arith, c.decreases, can.deep),
+      (
+        c.requires.0,
+        (t c.args.slots.now c.args.depth c.requires.0 c.args.tag.number c.args.fresh (record { number = c.args.tag.number - 4261412864 }) c.in_order.result.0 c.in_order.result.1 c.requires.1 c.read_ring-ring.result
+            c.requires.2 c.if-tag-eq-NO_SLOT.false refl c.in_order.ensures.both c.read_ring-ring.ensures).left,
+        can,
+      ),
+    )
 
 pub set_ring-requires-2 : goal.set_ring-requires-2
 set_ring-requires-2 n c =
-    omega (arith, upper-inside c.args.slots.now c.args.depth c.requires.0 c.args.tag.number c.args.fresh (record { number = c.args.tag.number - 4261412864 }) c.in_order.result.0 c.in_order.result.1 c.requires.1 c.read_ring-ring.result
-    c.requires.2 c.if-tag-eq-NO_SLOT.false refl c.in_order.ensures.both c.read_ring-ring.ensures c.insert-previous.new.slots c.insert-previous.new.slots c.in_order.ensures.first c.insert-previous.ensures.same_nodes refl,
-    size-is c.args.slots.now c.args.depth c.requires.0 c.args.tag.number c.args.fresh (record { number = c.args.tag.number - 4261412864 }) c.in_order.result.0 c.in_order.result.1 c.requires.1 c.read_ring-ring.result
-    c.requires.2 c.if-tag-eq-NO_SLOT.false refl c.in_order.ensures.both c.read_ring-ring.ensures c.insert-previous.new.slots c.insert-previous.ensures.same_nodes)
+    omega (
+      arith,
+      upper-inside c.args.slots.now c.args.depth c.requires.0 c.args.tag.number c.args.fresh (record { number = c.args.tag.number - 4261412864 }) c.in_order.result.0 c.in_order.result.1 c.requires.1 c.read_ring-ring.result
+          c.requires.2 c.if-tag-eq-NO_SLOT.false refl c.in_order.ensures.both c.read_ring-ring.ensures c.insert-previous.new.slots c.insert-previous.new.slots c.in_order.ensures.first c.insert-previous.ensures.same_nodes refl,
+      size-is c.args.slots.now c.args.depth c.requires.0 c.args.tag.number c.args.fresh (record { number = c.args.tag.number - 4261412864 }) c.in_order.result.0 c.in_order.result.1 c.requires.1 c.read_ring-ring.result
+          c.requires.2 c.if-tag-eq-NO_SLOT.false refl c.in_order.ensures.both c.read_ring-ring.ensures c.insert-previous.new.slots c.insert-previous.ensures.same_nodes,
+    )
 
 pub returns-clause-filed : goal.returns-clause-filed
 returns-clause-filed n c bits p s =

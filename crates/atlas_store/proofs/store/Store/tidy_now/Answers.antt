@@ -19,8 +19,8 @@ returns g c =
     record {
       kept = λ h holds.
           listed-holds (shelf_of c.args.self.now) c.deref_mut.result.now c.pile.new.slots _ c.pile.new.lists h h.free_lists h.detached slots c.pile.ensures.same_nodes
-              (λ filed. c.pile.ensures.filed (options_of c.args.self.now.options) c.args.self.now.unused (places_of (λ i. 0) h) filed)
-              holds;
+          (λ filed. c.pile.ensures.filed (options_of c.args.self.now.options) c.args.self.now.unused (places_of (λ i. 0) h) filed)
+          holds;
       nodes = same;
       slots = long-over _ _ _ _ slots;
       takes = record { options = refl; capacity = refl; turns = refl; once = once-same same };
