@@ -1,9 +1,12 @@
-use Rattle.std.proofs.Common.{◌≡◌, length}
-use Rattle.atlas_sheet.proofs.GroupRows.{AreRowsTo, with_one}
+use Rattle.std.proofs.Common.{◌≡◌, ℕ, Bool, length, take}
+use Rattle.atlas_sheet.specs.Grouping.{chosen_row, with_one}
+use Rattle.atlas_sheet.proofs.GroupRows.{AreRowsTo}
 use Rattle.atlas_sheet.proofs.choosing.row_with.Given as goal
 
 abbrev pub invariant-loop-number : goal.invariant-loop-number
 invariant-loop-number g l = record {
   rows : AreRowsTo l.groups l.row (with_one l.group) l.number l.all.items;
   long : length l.all.items ≡ l.number;
+  chosen : (there : ℕ → Bool) → l.row ≡ chosen_row there 0 l.groups
+      → l.all.items ≡ take l.number (chosen_row (with_one l.group there) 0 l.groups);
 }
