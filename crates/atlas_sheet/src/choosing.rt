@@ -1,6 +1,6 @@
 //! Sprites that are chosen for one sheet: whole groups, and sprites in no group.
-ghost use Rattle.std.specs.Prelude.{◌≡◌, ◌≢◌, ◌==◌, ◌||◌, ◌+◌, ◌-◌, ◌<◌, ◌≤◌, ◌↔◌, ◌⊎◌, ℕ, Bool, List, Option, false, is_none, is_some};
-ghost use Rattle.std.specs.Prelude.{length, map, All, IfNone, IfOk, IfSome, IsTrue, IsNone, IsOkUnless, IsSome, Some};
+ghost use Rattle.std.specs.Prelude.{◌≡◌, ◌==◌, ◌+◌, ◌-◌, ◌<◌, ◌≤◌, ◌⊎◌, ℕ, Bool, List, Option, false, is_none, is_some};
+ghost use Rattle.std.specs.Prelude.{length, map, All, IfNone, IfOk, IfSome, IsNone, IsOkUnless, IsSome, Some};
 ghost use Rattle.std.specs.List.{count_by};
 ghost use Rattle.guillotiere.specs.Boxes.{Sides};
 ghost use Rattle.guillotiere.specs.Pixels.{sides_of};
@@ -9,7 +9,7 @@ ghost use Rattle.atlas_sheet.specs.declared.ways.TheConstants.{WAYS};
 ghost use Rattle.atlas_sheet.specs.Allowances.{IsAllowed, IsGreatest, pixels};
 ghost use Rattle.atlas_sheet.specs.Dense.{IsNoLargerThanWays, NoWayFinds};
 ghost use Rattle.atlas_sheet.specs.Grouping.{AreChosen, AreGroupsThere, AreSpritesThere, AreTooMany, HasMember};
-ghost use Rattle.atlas_sheet.specs.Grouping.{IsClosed, IsFirstGroup, IsGroupPage, IsGroupSheet, chosen_row, is_in, members, picked};
+ghost use Rattle.atlas_sheet.specs.Grouping.{IsClosed, IsFirstGroup, IsGroupPage, IsGroupSheet, chosen_row, members, picked};
 ghost use Rattle.atlas_sheet.specs.Grouping.{pixels_together, spread, those_placed, with_one};
 ghost use Rattle.atlas_sheet.specs.Lying.{IsArranged, IsShown};
 ghost use Rattle.atlas_sheet.specs.Paging.{IsPage};
@@ -21,6 +21,7 @@ use crate::dense::{pixels_of, sprite_pixels};
 use crate::error::SheetError;
 use crate::options::SheetOptions;
 use crate::packing::packed;
+use crate::picking::{picked, row_of, row_with, row_with_single, spread};
 use crate::placed::Placed;
 use crate::search::greatest_sheet;
 use crate::sheets::{Filled, best_filled, filled_of};
@@ -44,145 +45,6 @@ pub struct Chosen<A: Allocator> {
     pub row: Vec<bool, A>,
     /// How they lie.
     pub page: Arrangement<A>,
-}
-
-/// Whether this is the number of the group.
-pub fn is_in(group: usize, number: Option<usize>) -> bool
-    ensures { result ≡ is_in group number }
-{
-    match number {
-        Some(number) => number == group,
-        None => false,
-    }
-}
-
-// Which sprites are in the group.
-fn row_of<A: Allocator>(
-    alloc: A,
-    group: usize,
-    groups: &[Option<usize>],
-) -> Result<Vec<bool, A>, SheetError>
-    ensures row { IfOk result (λ all. all.items ≡ map (is_in group) groups.now) }
-    ensures unless { IsOkUnless result Memory }
-{
-    let mut all = Vec::with_capacity(alloc, groups.len())?;
-    all.extend(groups.iter().map(|number| is_in(group, *number)))?;
-    Ok(all)
-}
-
-// Whether a sprite is chosen, or in the group.
-fn or_in(chosen: bool, group: usize, number: Option<usize>) -> bool
-    ensures { result ≡ (chosen || is_in group number) }
-{
-    chosen || is_in(group, number)
-}
-
-// A row with those that are in the group as well.
-fn row_with<A: Allocator>(
-    alloc: A,
-    row: &[bool],
-    group: usize,
-    groups: &[Option<usize>],
-) -> Result<Vec<bool, A>, SheetError>
-    requires { length row.now ≡ length groups.now }
-    ensures long { IfOk result (λ all. length all.items ≡ length row.now) }
-    ensures closed { IsClosed groups.now row.now → IfOk result (λ all. IsClosed groups.now all.items) }
-    ensures row { (there : ℕ → Bool) → row.now ≡ chosen_row there 0 groups.now
-        → IfOk result (λ all. all.items ≡ chosen_row (with_one group there) 0 groups.now) }
-    ensures unless { IsOkUnless result Memory }
-{
-    let mut all = Vec::new(alloc);
-    for (number, chosen) in row.iter().enumerate() {
-        let is_chosen = or_in(*chosen, group, groups[number]);
-        all.push(is_chosen)?;
-    }
-    Ok(all)
-}
-
-// Whether a sprite is chosen, or in no group where there is room for one.
-fn or_single(chosen: bool, room: usize, number: Option<usize>) -> bool
-    ensures group { IfSome number (λ n. result ≡ chosen) }
-    ensures none { IfNone number (chosen ≡ false → (IsTrue result ↔ (0 < room))) }
-{
-    chosen || (room > 0 && number.is_none())
-}
-
-// The room that is left: one less if the sprite wasn't chosen before.
-fn room_left(room: usize, is_chosen: bool, chosen: bool) -> usize
-    ensures same { is_chosen ≡ chosen → result ≡ room }
-    ensures less { is_chosen ≢ chosen → result ≡ room - 1 }
-{
-    if is_chosen == chosen {
-        room
-    } else {
-        room.saturating_sub(1)
-    }
-}
-
-// A row with so many more of those that are in no group, the first ones.
-fn row_with_single<A: Allocator>(
-    alloc: A,
-    row: &[bool],
-    many: usize,
-    groups: &[Option<usize>],
-) -> Result<Vec<bool, A>, SheetError>
-    requires { length row.now ≡ length groups.now }
-    ensures long { IfOk result (λ all. length all.items ≡ length row.now) }
-    ensures closed { IsClosed groups.now row.now → IfOk result (λ all. IsClosed groups.now all.items) }
-    ensures row { (there : ℕ → Bool) → row.now ≡ chosen_row there 0 groups.now
-        → IfOk result (λ all. all.items ≡ chosen_row there many groups.now) }
-    ensures unless { IsOkUnless result Memory }
-{
-    let mut all = Vec::new(alloc);
-    let mut room = many;
-    for (number, chosen) in row.iter().enumerate() {
-        let is_chosen = or_single(*chosen, room, groups[number]);
-        all.push(is_chosen)?;
-        room = room_left(room, is_chosen, *chosen);
-    }
-    Ok(all)
-}
-
-// The sprites where the row says so.
-fn picked<A: Allocator>(
-    alloc: A,
-    row: &[bool],
-    sprites: &[Size],
-) -> Result<Vec<Size, A>, SheetError>
-    requires { length row.now ≡ length sprites.now }
-    ensures picked { IfOk result (λ all. all.items ≡ picked row.now sprites.now) }
-    ensures unless { IsOkUnless result Memory }
-{
-    let mut all = Vec::new(alloc);
-    for (number, chosen) in row.iter().enumerate() {
-        if *chosen {
-            all.push(sprites[number])?;
-        }
-    }
-    Ok(all)
-}
-
-// What was found, where the row says so.
-fn spread<A: Allocator>(
-    alloc: A,
-    row: &[bool],
-    found: &[Option<Placed>],
-) -> Result<Vec<Option<Placed>, A>, SheetError>
-    requires { length found.now ≡ length (picked row.now row.now) }
-    ensures spread { IfOk result (λ all. all.items ≡ spread row.now found.now) }
-    ensures unless { IsOkUnless result Memory }
-{
-    let mut all = Vec::new(alloc);
-    let mut next = 0;
-    for chosen in row {
-        if *chosen {
-            all.push(found[next])?;
-            next += 1;
-        } else {
-            all.push(None)?;
-        }
-    }
-    Ok(all)
 }
 
 /// The first group of a sprite.

@@ -14,10 +14,11 @@ ghost use Rattle.atlas_sheet.specs.Paging.{ArePages, AreUsed, IsOnPage, IsPage, 
 ghost use Rattle.atlas_sheet.specs.Paging.{sprites_left};
 ghost use Rattle.atlas_sheet.specs.Settings.{CanPack, IsSheetFault};
 
-use crate::choosing::{OneSheet, first_group, group_sheet, is_in, opened};
+use crate::choosing::{OneSheet, first_group, group_sheet, opened};
 use crate::error::SheetError;
 use crate::options::SheetOptions;
 use crate::paging::{OnPage, Pages, all_on, is_bare, next_page, put_on, sprites_left};
+use crate::picking::is_in;
 use crate::sheets::{check_all, filled_of};
 use crate::slots::{asks, slots_of};
 use guillotiere::Size;
@@ -393,11 +394,11 @@ fn grouped<A: Allocator + Copy>(
 /// are ignored. All sprites of a group lie on one sheet, unless no way packs them by themselves into the greatest sheet that
 /// is allowed. Such a group is given up before the first sheet is begun: each of its sprites counts as one in no group.
 ///
-/// Groups are taken in the order of their first sprites. The first one opens a sheet; then each other group that the
-/// greatest sheet takes as well goes onto it, by the ways that `fill` tries first, and as many sprites in no group as it
-/// takes, in their order: with the next one these ways leave one without a place. Such a sheet is as small as `pack` finds
-/// it for what lies there. When no group is left, the other sprites are packed as `pack_pages` does, so with no number in
-/// `groups` this is `pack_pages`.
+/// The other groups are taken in the order of their first sprites. The first one opens a sheet; then each other group that
+/// the greatest sheet takes as well goes onto it, and then sprites in no group, in their order: all, or so many that it
+/// doesn't take the next one as well. A sheet takes sprites if they have no more pixels than it, and the best of the ways
+/// that `fill` tries first places them all. Such a sheet is as small as `pack` finds it for what lies there. When no group
+/// is left, the other sprites are packed as `pack_pages` does, so with no number in `groups` this is `pack_pages`.
 /// `effort` changes of the order are tried for each sheet. None only where a sprite, in each of the ways that
 /// it may lie, is too large for an empty sheet; then nothing is packed.
 ///

@@ -2,7 +2,7 @@ use Rattle.std.proofs.Common.{◌≡◌, ℕ, Bool, length}
 use Rattle.atlas_sheet.specs.Grouping.{chosen_row}
 use Rattle.atlas_sheet.proofs.GroupRows.{AreRowsTo, as_before}
 use Rattle.atlas_sheet.proofs.GroupTakes.{AreSinglesTo}
-use Rattle.atlas_sheet.proofs.choosing.row_with_single.Given as goal
+use Rattle.atlas_sheet.proofs.picking.row_with_single.Given as goal
 
 abbrev pub invariant-loop-number : goal.invariant-loop-number
 invariant-loop-number g l = record {

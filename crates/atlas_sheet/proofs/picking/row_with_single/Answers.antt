@@ -2,7 +2,7 @@ use Rattle.std.proofs.Common.{◌≡◌, ◌∙◌, [], ◌∷◌, ◌<◌, ◌+
 use Rattle.std.proofs.lemmas.List.{get_or_default, length-append}
 use Rattle.atlas_sheet.proofs.GroupRows.{as_before, closed_before, rows_more, says_before}
 use Rattle.atlas_sheet.proofs.GroupTakes.{single_end, single_more}
-use Rattle.atlas_sheet.proofs.choosing.row_with_single.Goals as goal
+use Rattle.atlas_sheet.proofs.picking.row_with_single.Goals as goal
 
 pub loop-number-preserved : goal.loop-number-preserved
 loop-number-preserved g c =

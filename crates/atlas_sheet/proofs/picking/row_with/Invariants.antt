@@ -1,7 +1,7 @@
 use Rattle.std.proofs.Common.{◌≡◌, ℕ, Bool, length, take}
 use Rattle.atlas_sheet.specs.Grouping.{chosen_row, with_one}
 use Rattle.atlas_sheet.proofs.GroupRows.{AreRowsTo}
-use Rattle.atlas_sheet.proofs.choosing.row_with.Given as goal
+use Rattle.atlas_sheet.proofs.picking.row_with.Given as goal
 
 abbrev pub invariant-loop-number : goal.invariant-loop-number
 invariant-loop-number g l = record {

@@ -3,7 +3,7 @@ use Rattle.atlas_sheet.specs.Grouping.{chosen_row, with_one}
 use Rattle.std.proofs.lemmas.List.{get_or_default, length-append}
 use Rattle.atlas_sheet.proofs.GroupRows.{closed_with, rows_more, says_with}
 use Rattle.atlas_sheet.proofs.GroupTakes.{chosen_long, with_more}
-use Rattle.atlas_sheet.proofs.choosing.row_with.Goals as goal
+use Rattle.atlas_sheet.proofs.picking.row_with.Goals as goal
 
 pub loop-number-preserved : goal.loop-number-preserved
 loop-number-preserved g c =
