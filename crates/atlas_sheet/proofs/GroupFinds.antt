@@ -1,5 +1,5 @@
 -- A sheet for chosen sprites, as it is found.
-use Rattle.std.proofs.Common.{◌≡◌, ◌<◌, ◌⊎◌, ℕ, Bool, inl, inr, List, length, map, All, Option, Some, None, IfNone, IsSome, is_some, refl, ap, sym, subst, ◌∙◌, arith}
+use Rattle.std.proofs.Common.{◌≡◌, ◌<◌, ℕ, Bool, inl, List, length, map, All, Option, Some, None, IfNone, IsSome, is_some, refl, ap, sym, subst, ◌∙◌, arith}
 use Rattle.std.proofs.lemmas.List.Elements.{All-weaker}
 use Rattle.guillotiere.specs.declared.Size.{Size}
 use Rattle.guillotiere.specs.Boxes.{Sides}
@@ -10,7 +10,7 @@ use Rattle.atlas_sheet.specs.declared.placed.Placed.{Placed}
 use Rattle.atlas_sheet.specs.declared.ways.TheConstants.{WAYS}
 use Rattle.atlas_sheet.specs.Allowances.{IsAllowed}
 use Rattle.atlas_sheet.specs.Dense.{IsNoLargerThanWays, NoWayFinds}
-use Rattle.atlas_sheet.specs.Grouping.{AreChosen, IsClosed, IsGroupPage, picked, spread, those_placed}
+use Rattle.atlas_sheet.specs.Grouping.{AreChosen, IsClosed, picked, spread, those_placed}
 use Rattle.atlas_sheet.specs.Lying.{IsArranged, IsShown, areas_of}
 use Rattle.atlas_sheet.specs.Packings.{NoneIsFound}
 use Rattle.atlas_sheet.specs.Paging.{IsPage}

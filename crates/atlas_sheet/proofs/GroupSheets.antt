@@ -1,19 +1,17 @@
 -- Sheets with groups on them, with the numbers of those that lie on no earlier one.
-use Rattle.std.proofs.Common.{◌≡◌, ◌≢◌, ◌-◌, ◌+◌, ◌<◌, ◌≤◌, ◌⊎◌, ◌++◌, ℕ, zero, suc, replicate, Bool, true, false, cond, nat_le, is_none, is_some, inl, inr, List, [], ◌∷◌, length, map, drop, take, get_or, All, Option, Some, None, IsNone, refl, ap, sym, subst, ◌∙◌, arith}
-use Rattle.std.specs.List.{AllZip}
+use Rattle.std.proofs.Common.{◌≡◌, ◌≢◌, ◌-◌, ◌<◌, ◌≤◌, ◌⊎◌, ◌++◌, ℕ, zero, suc, replicate, Bool, true, false, cond, nat_le, is_none, is_some, inl, inr, List, [], ◌∷◌, length, map, drop, take, get_or, All, Option, Some, None, IsNone, refl, ap, sym, subst, ◌∙◌, arith}
 use Rattle.std.proofs.lemmas.Bool.{cases_eq, cases_lt, eq-eqb, false≢true, le-leb, lt-leb}
 use Rattle.std.proofs.lemmas.List.{get_or_append_left, get_or_push, length-append, length-map}
 use Rattle.std.proofs.lemmas.List.Elements.{All-append, All-nil, All-cons, All-head, All-tail, All-weaker}
 use Rattle.guillotiere.specs.declared.Size.{Size}
-use Rattle.guillotiere.specs.Boxes.{Sides}
 use Rattle.guillotiere.specs.Pixels.{sides_of}
 use Rattle.atlas_sheet.specs.declared.options.SheetOptions.{SheetOptions}
 use Rattle.atlas_sheet.specs.declared.paging.OnPage.{OnPage}
 use Rattle.atlas_sheet.specs.declared.placed.Placed.{Placed}
 use Rattle.atlas_sheet.specs.declared.ways.TheConstants.{WAYS}
 use Rattle.atlas_sheet.specs.Dense.{NoWayFinds}
-use Rattle.atlas_sheet.specs.Grouping.{AreGroupPages, AreGroupSheets, AreKept, AreNextSheets, HasMember, IsFirstGroup, IsGroupSheet, IsKept, IsNextSheet, is_in, members, numbers_from, padded_to, picked, waiting, without_group}
-use Rattle.atlas_sheet.specs.Paging.{ArePages, ArePagesBy, IsPage, holes, is_from, page_sides, places_on, put_on, sprites_from, sprites_left}
+use Rattle.atlas_sheet.specs.Grouping.{AreGroupPages, AreGroupSheets, AreKept, AreNextSheets, IsFirstGroup, IsKept, IsNextSheet, is_in, members, numbers_from, padded_to, picked, waiting, without_group}
+use Rattle.atlas_sheet.specs.Paging.{ArePages, IsPage, holes, is_from, page_sides, places_on, put_on, sprites_from, sprites_left}
 use Rattle.atlas_sheet.proofs.GroupRows.{all_picked}
 use Rattle.atlas_sheet.proofs.GroupSteps.{without_other}
 use Rattle.atlas_sheet.proofs.GroupTakes.{has_at}
@@ -127,8 +125,10 @@ kept_without o sprites groups kept less group are none is = subst (AreKept o spr
     by_equal : (g : ℕ) → IsKept o sprites groups kept g → (g ≡ group) ⊎ (g ≢ group)
         → IsKept o sprites groups (without_group group kept) g
     by_equal g before (inl same) =
-        inl (subst (λ n. NoWayFinds o (members n groups sprites)) (sym same) none,
-          subst (λ n. All (λ h. h ≢ Some n) (without_group group kept)) (sym same) (without_none group kept))
+        inl (
+          subst (λ n. NoWayFinds o (members n groups sprites)) (sym same) none,
+          subst (λ n. All (λ h. h ≢ Some n) (without_group group kept)) (sym same) (without_none group kept),
+        )
     by_equal g (inl lost) (inr other) = inl (lost.0, still_none group g kept lost.1)
     by_equal g (inr alike) (inr other) = inr (without_other group g other kept ∙ alike)
 

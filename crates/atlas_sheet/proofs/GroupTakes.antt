@@ -1,5 +1,5 @@
 -- Which groups and which sprites in no group are taken for a sheet.
-use Rattle.std.proofs.Common.{◌≡◌, ◌≢◌, ◌==◌, ◌||◌, ◌&&◌, ◌+◌, ◌-◌, ◌<◌, ◌≤◌, ◌⊎◌, ℕ, zero, suc, Bool, true, false, cond, is_none, inl, inr, List, [], ◌∷◌, ◌++◌, length, map, drop, take, get_or, append-nil, add-one, All, Option, Some, None, IfNone, IfSome, IsNone, IsSome, IsTrue, ◌↔◌, refl, ap, sym, subst, ◌∙◌, arith}
+use Rattle.std.proofs.Common.{◌≡◌, ◌≢◌, ◌==◌, ◌||◌, ◌+◌, ◌-◌, ◌<◌, ◌≤◌, ◌⊎◌, ℕ, zero, suc, Bool, true, false, cond, is_none, inl, inr, List, [], ◌∷◌, ◌++◌, length, map, drop, take, get_or, append-nil, add-one, All, Option, Some, None, IfNone, IfSome, IsNone, IsTrue, ◌↔◌, refl, ap, sym, subst, ◌∙◌, arith}
 use Rattle.std.specs.List.{AllZip, count_by, slice_get}
 use Rattle.std.proofs.lemmas.Bool.{cases_lt, eq-eqb, eqb-true, false≢true}
 use Rattle.std.proofs.Math.ListN.{drop_of_length-le}
@@ -8,12 +8,10 @@ use Rattle.std.proofs.lemmas.List.{append_assoc}
 use Rattle.std.proofs.lemmas.List.Elements.{All-nil, All-cons, All-head, All-push, All-tail}
 use Rattle.std.proofs.lemmas.List.Sums.{sum_by-cons}
 use Rattle.guillotiere.specs.declared.Size.{Size}
-use Rattle.guillotiere.specs.Boxes.{Sides}
 use Rattle.guillotiere.specs.Pixels.{sides_of}
 use Rattle.atlas_sheet.specs.declared.options.SheetOptions.{SheetOptions}
-use Rattle.atlas_sheet.specs.Allowances.{IsGreatest, pixels}
-use Rattle.atlas_sheet.specs.Grouping.{AreGroupsThere, AreSpritesThere, AreTooMany, ComesEarlier, HasMember, IsFirstGroup, IsLeftOut, IsSlotIn, chosen_row, is_in, members, picked, pixels_together, with_one}
-use Rattle.atlas_sheet.proofs.TooMany.{too_many_pixels}
+use Rattle.atlas_sheet.specs.Allowances.{pixels}
+use Rattle.atlas_sheet.specs.Grouping.{AreGroupsThere, AreSpritesThere, AreTooMany, HasMember, IsFirstGroup, IsSlotIn, chosen_row, is_in, members, picked, pixels_together, with_one}
 
 -- A row has as many as the numbers.
 pub chosen_long : (there : ℕ → Bool) (many : ℕ) (groups : List (Option ℕ))

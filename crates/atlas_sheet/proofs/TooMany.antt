@@ -1,14 +1,13 @@
 -- Sprites of which one has no place have more pixels together than the places.
-use Rattle.std.proofs.Common.{◌≡◌, ◌+◌, ◌*◌, ◌<◌, ◌≤◌, ◌⊎◌, ℕ, zero, suc, min, Bool, true, false, cond, inl, inr, List, [], ◌∷◌, length, take, All, Option, Some, None, IfSome, IsSome, refl, ap, sym, subst, ◌∙◌, arith}
+use Rattle.std.proofs.Common.{◌≡◌, ◌+◌, ◌*◌, ◌<◌, ◌≤◌, ◌⊎◌, ℕ, zero, suc, min, Bool, inl, inr, List, [], ◌∷◌, length, take, All, Option, Some, None, IfSome, IsSome, refl, ap, ◌∙◌, arith}
 use Rattle.std.specs.List.{AllZip}
 use Rattle.std.proofs.Math.Nat.{mul_comm}
-use Rattle.std.proofs.lemmas.Bool.{false≢true}
 use Rattle.std.proofs.lemmas.List.Elements.{All-nil, All-cons, All-head, All-tail}
 use Rattle.std.proofs.lemmas.List.Sums.{sum_by-cons}
 use Rattle.guillotiere.specs.declared.Size.{Size}
 use Rattle.guillotiere.specs.declared.Rectangle.{Rectangle}
-use Rattle.guillotiere.specs.Boxes.{Sides, box_sides}
-use Rattle.guillotiere.specs.Pixels.{box_of, sides_of}
+use Rattle.guillotiere.specs.Boxes.{Sides}
+use Rattle.guillotiere.specs.Pixels.{sides_of}
 use Rattle.atlas_sheet.specs.declared.arrangement.Arrangement.{Arrangement}
 use Rattle.atlas_sheet.specs.declared.options.SheetOptions.{SheetOptions}
 use Rattle.atlas_sheet.specs.declared.options.Spacing.{Spacing}

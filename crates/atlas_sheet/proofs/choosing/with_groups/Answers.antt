@@ -1,4 +1,4 @@
-use Rattle.std.proofs.Common.{◌≡◌, ◌∙◌, ◌<◌, ◌≤◌, ℕ, ap, arith, get_or, false, true, length, replicate, None, rules, subst, sym, take_all}
+use Rattle.std.proofs.Common.{◌≡◌, ◌∙◌, ◌<◌, ◌≤◌, ℕ, ap, arith, get_or, false, length, replicate, None, rules, subst, sym, take_all}
 use Rattle.atlas_sheet.specs.Grouping.{AreChosen, members, pixels_together}
 use Rattle.atlas_sheet.proofs.GroupTakes.{written}
 use Rattle.std.proofs.lemmas.List.{get_or_read}

@@ -1,4 +1,4 @@
-use Rattle.std.proofs.Common.{◌≡◌, ◌∙◌, ap, inr, is_some, length, map, subst, sym}
+use Rattle.std.proofs.Common.{◌∙◌, ap, inr, is_some, length, map, subst, sym}
 use Rattle.std.specs.List.{AllZip}
 use Rattle.guillotiere.specs.Pixels.{sides_of}
 use Rattle.atlas_sheet.specs.Dense.{NoWayFinds}

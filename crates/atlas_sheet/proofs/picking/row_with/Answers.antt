@@ -1,4 +1,4 @@
-use Rattle.std.proofs.Common.{◌≡◌, ◌∙◌, [], ◌∷◌, ◌<◌, ◌≤◌, ◌+◌, length, get_or, take_all, false, None, arith, ap}
+use Rattle.std.proofs.Common.{◌∙◌, [], ◌∷◌, ◌<◌, length, get_or, take_all, false, None, arith, ap}
 use Rattle.atlas_sheet.specs.Grouping.{chosen_row, with_one}
 use Rattle.std.proofs.lemmas.List.{get_or_default, length-append}
 use Rattle.atlas_sheet.proofs.GroupRows.{closed_with, rows_more, says_with}

@@ -1,4 +1,4 @@
-use Rattle.std.proofs.Common.{◌≡◌, ◌∙◌, [], ◌∷◌, ◌<◌, ◌+◌, length, get_or, false, None, arith, ap, take_all}
+use Rattle.std.proofs.Common.{◌∙◌, [], ◌∷◌, ◌<◌, length, get_or, false, None, arith, ap, take_all}
 use Rattle.std.proofs.lemmas.List.{get_or_default, length-append}
 use Rattle.atlas_sheet.proofs.GroupRows.{as_before, closed_before, rows_more, says_before}
 use Rattle.atlas_sheet.proofs.GroupTakes.{single_end, single_more}

@@ -1,4 +1,4 @@
-use Rattle.std.proofs.Common.{◌≡◌, ◌+◌, ◌≤◌, ℕ, drop, get_or, length}
+use Rattle.std.proofs.Common.{◌+◌, ◌≤◌, ℕ, drop, get_or}
 use Rattle.atlas_sheet.specs.Grouping.{members, pixels_together}
 use Rattle.atlas_sheet.proofs.slots.slot_pixels.Given as goal
 
