@@ -34,6 +34,12 @@ ROWS = (
      b'sheet 4 4\nsheet 4 4\na/b/x 0 0 0 4 2\na/y 1 0 0 4 4\na/b/z 0 0 2 4 2\nfull 1000\n'),
     # No sheet takes this folder.
     (b'sheet one 4 4 pages 2 group\na/x 4 4\na/y 4 2\n', b'sheet 4 4\nsheet 4 4\na/x 0 0 0 4 4\na/y 1 0 0 4 2\nfull 750\n'),
+    # It is given up first, so three of it lie beside the other folder.
+    (b'sheet one 4 1 pages 2 group\na/p 1 1\nb/q 1 1\nb/r 1 1\nb/s 1 1\nb/t 1 1\nb/u 1 1\n',
+     b'sheet 4 1\nsheet 4 1\na/p 0 0 0 1 1\nb/q 0 1 0 1 1\nb/r 0 2 0 1 1\nb/s 0 3 0 1 1\nb/t 1 0 0 1 1\nb/u 1 1 0 1 1\nfull 750\n'),
+    # Beside the folder there is room for two of three sprites in none.
+    (b'sheet one 3 1 pages 2 group\nx 1 1\ny 1 1\nz 1 1\na/w 1 1\n',
+     b'sheet 3 1\nsheet 3 1\nx 0 0 0 1 1\ny 0 1 0 1 1\nz 1 0 0 1 1\na/w 0 2 0 1 1\nfull 666\n'),
     (b'sheet one 4 4 pages 1 group\na/x 4 2\nb/y 4 4\n', b'more sheets are needed than pages allows'),
     (b'sheet one 4 4 pages 9 group\na/x 5 1\n', b'no sheet that is allowed takes all sprites'),
     (b'sheet group\n', b'line 1: group needs pages'),

@@ -542,9 +542,11 @@ export function packPages(sprites: Iterable<Size>, options?: SheetOptions): Page
 /**
  * Packs as `packPages`, with all sprites of a group on one sheet. `groups` has the number of each sprite's group, a whole number from 0 to
  * 4294967294, in the order of the sprites; null, or no number where the list ends before, says that a sprite is in none, and what comes
- * after the last sprite is ignored. A group that no way packs by itself into the greatest sheet allowed isn't kept together: each of
- * its sprites is placed as if in none. Groups come in the order of their first sprites; the sheets of groups are as small as `pack` finds
- * them. null if a sprite is too large for an empty sheet. Throws as `pack`.
+ * after the last sprite is ignored. A group that no way packs by itself into the greatest sheet allowed is given up before the first
+ * sheet is begun: each of its sprites counts as one in none. The other groups come in the order of their first sprites. The first opens
+ * a sheet; then each other group that the greatest sheet takes as well goes onto it, and then sprites in none, in their order: all, or so
+ * many that it doesn't take the next one as well. Such a sheet is as small as `pack` finds it; the sprites that are left then are packed
+ * as by `packPages`. null if a sprite is too large for an empty sheet. Throws as `pack`.
  */
 export function packGroups(sprites: Iterable<Size>, groups: Iterable<number | null>, options?: SheetOptions): Pages | null;
 

@@ -1,5 +1,5 @@
 -- A sheet for chosen sprites, as it is found.
-use Rattle.std.proofs.Common.{◌≡◌, ◌<◌, ◌⊎◌, ℕ, Bool, inl, inr, List, length, map, All, Option, Some, None, IfNone, IsSome, is_some, refl, ap, sym, subst, ◌∙◌, arith}
+use Rattle.std.proofs.Common.{◌≡◌, ◌<◌, ℕ, Bool, inl, List, length, map, All, Option, Some, None, IfNone, IsSome, is_some, refl, ap, sym, subst, ◌∙◌, arith}
 use Rattle.std.proofs.lemmas.List.Elements.{All-weaker}
 use Rattle.guillotiere.specs.declared.Size.{Size}
 use Rattle.guillotiere.specs.Boxes.{Sides}
@@ -10,7 +10,7 @@ use Rattle.atlas_sheet.specs.declared.placed.Placed.{Placed}
 use Rattle.atlas_sheet.specs.declared.ways.TheConstants.{WAYS}
 use Rattle.atlas_sheet.specs.Allowances.{IsAllowed}
 use Rattle.atlas_sheet.specs.Dense.{IsNoLargerThanWays, NoWayFinds}
-use Rattle.atlas_sheet.specs.Grouping.{AreChosen, IsClosed, IsGroupPage, picked, spread, those_placed}
+use Rattle.atlas_sheet.specs.Grouping.{AreChosen, IsClosed, picked, spread, those_placed}
 use Rattle.atlas_sheet.specs.Lying.{IsArranged, IsShown, areas_of}
 use Rattle.atlas_sheet.specs.Packings.{NoneIsFound}
 use Rattle.atlas_sheet.specs.Paging.{IsPage}
@@ -62,7 +62,7 @@ module _ (o : SheetOptions) (sprites some : List Size) (groups : List (Option �
   chosen_closed = subst (IsClosed groups) (sym (ap (map is_some) placed_is ∙ spread_row row found found_long whole)) closed
 
   pub chosen_page : IsAllowed o.allowed sheet → IsNoLargerThanWays o some sheet
-      → IsGroupPage WAYS o sprites sheet placed
+      → IsPage WAYS o (those_placed placed sprites) sheet (those_placed placed placed)
   chosen_page allowed larger =
       let few : 0 < length (picked row row) = closed_some groups row closed in
       let page : IsPage WAYS o some sheet found =
@@ -71,4 +71,7 @@ module _ (o : SheetOptions) (sprites some : List Size) (groups : List (Option �
       some_is ∙ sym (spread_sprites row found found_long whole sprites) ∙ ap (λ ps. those_placed ps sprites) (sym placed_is) in
       let places_are : found ≡ those_placed placed placed =
       sym (spread_there row found found_long whole) ∙ ap (λ ps. those_placed ps ps) (sym placed_is) in
-      inr (chosen_long, subst (λ fs. IsPage WAYS o (those_placed placed sprites) sheet fs) places_are (subst (λ ss. IsPage WAYS o ss sheet found) sprites_are page))
+      subst (λ fs. IsPage WAYS o (those_placed placed sprites) sheet fs) places_are (subst (λ ss. IsPage WAYS o ss sheet found) sprites_are page)
+
+  pub chosen_row_is : map is_some placed ≡ row
+  chosen_row_is = ap (map is_some) placed_is ∙ spread_row row found found_long whole

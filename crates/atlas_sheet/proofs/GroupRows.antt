@@ -11,7 +11,7 @@ use Rattle.guillotiere.specs.declared.Size.{Size}
 use Rattle.atlas_sheet.specs.declared.options.SheetOptions.{SheetOptions}
 use Rattle.atlas_sheet.specs.declared.paging.OnPage.{OnPage}
 use Rattle.atlas_sheet.specs.declared.placed.Placed.{Placed}
-use Rattle.atlas_sheet.specs.Grouping.{HasMember, IsClosed, SaysOf, is_in, picked, spread, those_placed, waiting}
+use Rattle.atlas_sheet.specs.Grouping.{HasMember, IsClosed, SaysOf, is_in, picked, spread, those_placed, waiting, with_one}
 use Rattle.atlas_sheet.specs.Settings.{CanPack, spacing_of}
 use Rattle.atlas_sheet.specs.Sheets.{IsPackable}
 
@@ -225,9 +225,6 @@ module _ (groups : List (Option ℕ)) (row : List Bool) (turned : (ℕ → Bool)
   }
 
 -- With a group as well.
-abbrev pub with_one : (group : ℕ) → (ℕ → Bool) → ℕ → Bool
-with_one group whether n = whether n || (n == group)
-
 pub says_with : (group : ℕ) (g : Option ℕ) (b : Bool) (whether : ℕ → Bool) → SaysOf whether g b
     → SaysOf (with_one group whether) g (b || is_in group g)
 says_with group None b whether says = tt

@@ -1,7 +1,7 @@
 -- Sheets with groups on them, one after another.
 use Rattle.std.proofs.Common.{◌≡◌, ◌≢◌, ◌==◌, ◌-◌, ◌+◌, ◌<◌, ◌≤◌, ◌⊎◌, ℕ, zero, suc, replicate, Bool, true, false, cond, is_none, is_some, inl, inr, List, [], ◌∷◌, ◌++◌, length, map, take, All, Option, Some, None, IfSome, IsNone, pos, refl, ap, sym, subst, ◌∙◌, arith}
 use Rattle.std.specs.List.{AllZip, count_by}
-use Rattle.std.proofs.lemmas.Bool.{cases_eq, eq-eqb, eqb-true, false≢true, ne_eqb}
+use Rattle.std.proofs.lemmas.Bool.{eq-eqb, eqb-true, false≢true, ne_eqb}
 use Rattle.std.proofs.lemmas.List.{length-append, length-replicate, length-take}
 use Rattle.std.proofs.lemmas.List.Elements.{All-nil, All-cons, All-from_get_or, All-head, All-tail}
 use Rattle.guillotiere.specs.declared.Size.{Size}
@@ -172,20 +172,6 @@ number_or (Some n) d = n
 
 -- A group that no way packs is kept no longer.
 module _ (group : ℕ) where
-  kept_still : (page_of : ℕ → Option ℕ) (b : Bool) (n : ℕ) (p : Option OnPage) → LiesAs page_of (Some n) p
-      → LiesAs page_of (cond b None (Some n)) p
-  kept_still page_of true n p lies = tt
-  kept_still page_of false n p lies = lies
-
-  pub without_same : (page_of : ℕ → Option ℕ) (kept : List (Option ℕ)) (places : List (Option OnPage))
-      → AllZip (LiesAs page_of) kept places
-      → AllZip (LiesAs page_of) (without_group group kept) places
-  without_same page_of [] [] same = tt
-  without_same page_of [] (p ∷ places) same = absurd same
-  without_same page_of (g ∷ kept) [] same = absurd same
-  without_same page_of (None ∷ kept) (p ∷ places) same = (tt, without_same page_of kept places same.1)
-  without_same page_of (Some n ∷ kept) (p ∷ places) same = (kept_still page_of (n == group) n p same.0, without_same page_of kept places same.1)
-
   in_other : (other n : ℕ) (b : Bool) → (b ≡ true → n ≡ group) → other ≢ group
       → is_in other (cond b None (Some n)) ≡ is_in other (Some n)
   in_other other n true is differ = sym (ne_eqb n other (λ e. differ (sym e ∙ is refl)))
@@ -260,36 +246,6 @@ module _ (group : ℕ) where
           → count_by is_some (without_group group kept) < count_by is_some kept
       by_kept (inl fewer) = fewer
       by_kept (inr none) = absurd (there (all_picked (λ g. g ≢ Some group) (map is_none places) kept none))
-
--- The group that no way packs, and the others as before.
-pub groups_without : (o : SheetOptions) (sprites : List Size) (groups kept : List (Option ℕ)) (group : ℕ)
-    (places : List (Option OnPage))
-    (left : List Size) (page_of : ℕ → Option ℕ) → left ≡ sprites_left sprites places → length places ≡ length sprites
-    → AllZip (LiesAs page_of) kept places → HasMember group (waiting kept places)
-    → NoWayFinds o (members group (waiting kept places) left)
-    → ((g : ℕ) → NoWayFinds o (members g groups sprites) ⊎ (map (is_in g) kept ≡ map (is_in g) groups))
-    → (g : ℕ)
-    → NoWayFinds o (members g groups sprites) ⊎ (map (is_in g) (without_group group kept) ≡ map (is_in g) groups)
-groups_without o sprites groups kept group places left page_of left_is long same there none before g = by_before (before g)
-  where
-    nowhere : page_of group ≡ None
-    nowhere = lies_nowhere group page_of kept places same there
-
-    none_here : NoWayFinds o (members group kept sprites)
-    none_here =
-        subst (NoWayFinds o) (members_waiting group page_of nowhere kept places sprites long same)
-        (subst (λ xs. NoWayFinds o (members group (waiting kept places) xs)) left_is none)
-
-    by_equal : map (is_in g) kept ≡ map (is_in g) groups → (g ≡ group) ⊎ (g ≢ group)
-        → NoWayFinds o (members g groups sprites) ⊎ (map (is_in g) (without_group group kept) ≡ map (is_in g) groups)
-    by_equal e (inl is) =
-        inl (subst (λ row. NoWayFinds o (picked row sprites)) e (subst (λ n. NoWayFinds o (members n kept sprites)) (sym is) none_here))
-    by_equal e (inr differ) = inr (without_other group g differ kept ∙ e)
-
-    by_before : NoWayFinds o (members g groups sprites) ⊎ (map (is_in g) kept ≡ map (is_in g) groups)
-        → NoWayFinds o (members g groups sprites) ⊎ (map (is_in g) (without_group group kept) ≡ map (is_in g) groups)
-    by_before (inl packs) = inl packs
-    by_before (inr e) = by_equal e (cases_eq g group)
 
 -- Where each sprite has a place, each group that is kept lies on one sheet.
 module _ (group : ℕ) (page_of : ℕ → Option ℕ) where

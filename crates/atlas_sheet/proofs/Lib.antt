@@ -8,10 +8,13 @@ pub mod Flipping
 pub mod LaidWays
 pub mod Laying
 pub mod Gridding
+pub mod GroupAsks
 pub mod GroupFinds
 pub mod GroupMore
 pub mod GroupRows
+pub mod GroupSheets
 pub mod GroupSteps
+pub mod GroupTakes
 pub mod Maybes
 pub mod Numbering
 pub mod Ordering
@@ -25,4 +28,5 @@ pub mod Showing
 pub mod Steps
 pub mod Taking
 pub mod Telling
+pub mod TooMany
 pub mod WholeSheets

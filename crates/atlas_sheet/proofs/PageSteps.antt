@@ -17,7 +17,7 @@ abbrev pub LiesEarlier : (page : ℕ) → Option OnPage → Type 0
 LiesEarlier page p = IfSome p (λ q. q.page < page)
 
 -- What a sheet adds leaves who is from an earlier one on.
-same_from : (j k : ℕ) → j ≤ k → (sprites : List Size) (places : List (Option OnPage)) (found : List (Option Placed))
+pub same_from : (j k : ℕ) → j ≤ k → (sprites : List Size) (places : List (Option OnPage)) (found : List (Option Placed))
     → sprites_from j sprites (put_on k places found) ≡ sprites_from j sprites places
 same_from j k le [] places found = refl
 same_from j k le (s ∷ sprites) [] found = refl
@@ -30,7 +30,7 @@ same_from j k le (s ∷ sprites) (None ∷ places) (Some f ∷ found) =
     ∙ ap (λ xs. s ∷ xs) (same_from j k le sprites places found)
 
 -- Nor does it add a place on an earlier one.
-same_on : (j k : ℕ) → j < k → (places : List (Option OnPage)) (found : List (Option Placed))
+pub same_on : (j k : ℕ) → j < k → (places : List (Option OnPage)) (found : List (Option Placed))
     → places_on j (put_on k places found) ≡ places_on j places
 same_on j k less [] found = refl
 same_on j k less (Some p ∷ places) found =
@@ -42,7 +42,7 @@ same_on j k less (None ∷ places) (Some f ∷ found) =
     ∙ (λ i. cond-false (k == j) (Some f) None (ne_eqb k j (λ e. let same : k ≡ j = e in absurd (omega (arith, less)))) i ∷ same_on j k less places found i)
 
 -- Of places on earlier sheets, those from this one on are those that are missing.
-left_from : (k : ℕ) (sprites : List Size) (places : List (Option OnPage)) → All (LiesEarlier k) places
+pub left_from : (k : ℕ) (sprites : List Size) (places : List (Option OnPage)) → All (LiesEarlier k) places
     → sprites_from k sprites places ≡ sprites_left sprites places
 left_from k [] places before = refl
 left_from k (s ∷ sprites) [] before = refl
@@ -53,7 +53,7 @@ left_from k (s ∷ sprites) (Some p ∷ places) before =
     ∙ left_from k sprites places (All-tail (LiesEarlier k) (Some p) places before)
 
 -- What was found on the new sheet is what lies there.
-found_there : (k : ℕ) (places : List (Option OnPage)) (found : List (Option Placed)) → All (LiesEarlier k) places
+pub found_there : (k : ℕ) (places : List (Option OnPage)) (found : List (Option Placed)) → All (LiesEarlier k) places
     → length found ≡ holes places
     → places_on k (put_on k places found) ≡ found
 found_there k [] [] before long = refl

@@ -1,13 +1,18 @@
 //! Sprites that are chosen for one sheet: whole groups, and sprites in no group.
-ghost use Rattle.std.specs.Prelude.{◌≡◌, ◌||◌, ℕ, List, Option, is_some, length, map, All, IfNone, IfOk, IfSome, IsNone, IsOkUnless};
-ghost use Rattle.std.specs.Prelude.{IsSome, Some};
+ghost use Rattle.std.specs.Prelude.{◌≡◌, ◌==◌, ◌+◌, ◌-◌, ◌<◌, ◌≤◌, ◌⊎◌, ℕ, Bool, List, Option, false, is_none, is_some};
+ghost use Rattle.std.specs.Prelude.{length, map, All, IfNone, IfOk, IfSome, IsNone, IsOkUnless, IsSome, Some};
+ghost use Rattle.std.specs.List.{count_by};
+ghost use Rattle.guillotiere.specs.Boxes.{Sides};
 ghost use Rattle.guillotiere.specs.Pixels.{sides_of};
 ghost use Rattle.atlas_sheet.specs.declared.error.SheetError.TheVariants.{Memory};
 ghost use Rattle.atlas_sheet.specs.declared.ways.TheConstants.{WAYS};
-ghost use Rattle.atlas_sheet.specs.Allowances.{IsAllowed};
+ghost use Rattle.atlas_sheet.specs.Allowances.{IsAllowed, IsGreatest, pixels};
 ghost use Rattle.atlas_sheet.specs.Dense.{IsNoLargerThanWays, NoWayFinds};
-ghost use Rattle.atlas_sheet.specs.Grouping.{AreChosen, HasMember, IsClosed, IsFirstGroup, IsGroupPage, is_in, members, picked, spread};
+ghost use Rattle.atlas_sheet.specs.Grouping.{AreChosen, AreGroupsThere, AreSpritesThere, AreTooMany, HasMember};
+ghost use Rattle.atlas_sheet.specs.Grouping.{IsClosed, IsFirstGroup, IsGroupPage, IsGroupSheet, chosen_row, members, picked};
+ghost use Rattle.atlas_sheet.specs.Grouping.{pixels_together, spread, those_placed, with_one};
 ghost use Rattle.atlas_sheet.specs.Lying.{IsArranged, IsShown};
+ghost use Rattle.atlas_sheet.specs.Paging.{IsPage};
 ghost use Rattle.atlas_sheet.specs.Settings.{CanPack, spacing_of};
 
 use crate::arrangement::Arrangement;
@@ -16,10 +21,11 @@ use crate::dense::{pixels_of, sprite_pixels};
 use crate::error::SheetError;
 use crate::options::SheetOptions;
 use crate::packing::packed;
+use crate::picking::{picked, row_of, row_with, row_with_single, spread};
 use crate::placed::Placed;
 use crate::search::greatest_sheet;
 use crate::sheets::{Filled, best_filled, filled_of};
-use crate::slots::{asks, is_over, slot_pixels, slots_of};
+use crate::slots::{is_open, slot_pixels, slots_of};
 use guillotiere::Size;
 use std::alloc::{Allocator, Global};
 
@@ -39,130 +45,6 @@ pub struct Chosen<A: Allocator> {
     pub row: Vec<bool, A>,
     /// How they lie.
     pub page: Arrangement<A>,
-}
-
-/// Whether this is the number of the group.
-pub fn is_in(group: usize, number: Option<usize>) -> bool
-    ensures { result ≡ is_in group number }
-{
-    match number {
-        Some(number) => number == group,
-        None => false,
-    }
-}
-
-// Which sprites are in the group.
-fn row_of<A: Allocator>(
-    alloc: A,
-    group: usize,
-    groups: &[Option<usize>],
-) -> Result<Vec<bool, A>, SheetError>
-    ensures row { IfOk result (λ all. all.items ≡ map (is_in group) groups.now) }
-    ensures unless { IsOkUnless result Memory }
-{
-    let mut all = Vec::with_capacity(alloc, groups.len())?;
-    all.extend(groups.iter().map(|number| is_in(group, *number)))?;
-    Ok(all)
-}
-
-// Whether a sprite is chosen, or in the group.
-fn or_in(chosen: bool, group: usize, number: Option<usize>) -> bool
-    ensures { result ≡ (chosen || is_in group number) }
-{
-    chosen || is_in(group, number)
-}
-
-// A row with those that are in the group as well.
-fn row_with<A: Allocator>(
-    alloc: A,
-    row: &[bool],
-    group: usize,
-    groups: &[Option<usize>],
-) -> Result<Vec<bool, A>, SheetError>
-    requires { length row.now ≡ length groups.now }
-    ensures long { IfOk result (λ all. length all.items ≡ length row.now) }
-    ensures closed { IsClosed groups.now row.now → IfOk result (λ all. IsClosed groups.now all.items) }
-    ensures unless { IsOkUnless result Memory }
-{
-    let mut all = Vec::new(alloc);
-    for (number, chosen) in row.iter().enumerate() {
-        let is_chosen = or_in(*chosen, group, groups[number]);
-        all.push(is_chosen)?;
-    }
-    Ok(all)
-}
-
-// Whether a sprite is chosen, or in no group where there is room for one.
-fn or_single(chosen: bool, has_room: bool, number: Option<usize>) -> bool
-    ensures { IfSome number (λ n. result ≡ chosen) }
-{
-    chosen || (has_room && number.is_none())
-}
-
-// A row with so many more of those that are in no group, the first ones.
-fn row_with_single<A: Allocator>(
-    alloc: A,
-    row: &[bool],
-    many: usize,
-    groups: &[Option<usize>],
-) -> Result<Vec<bool, A>, SheetError>
-    requires { length row.now ≡ length groups.now }
-    ensures long { IfOk result (λ all. length all.items ≡ length row.now) }
-    ensures closed { IsClosed groups.now row.now → IfOk result (λ all. IsClosed groups.now all.items) }
-    ensures unless { IsOkUnless result Memory }
-{
-    let mut all = Vec::new(alloc);
-    let mut room = many;
-    for (number, chosen) in row.iter().enumerate() {
-        let is_chosen = or_single(*chosen, room > 0, groups[number]);
-        all.push(is_chosen)?;
-        if is_chosen != *chosen {
-            room = room.saturating_sub(1);
-        }
-    }
-    Ok(all)
-}
-
-// The sprites where the row says so.
-fn picked<A: Allocator>(
-    alloc: A,
-    row: &[bool],
-    sprites: &[Size],
-) -> Result<Vec<Size, A>, SheetError>
-    requires { length row.now ≡ length sprites.now }
-    ensures picked { IfOk result (λ all. all.items ≡ picked row.now sprites.now) }
-    ensures unless { IsOkUnless result Memory }
-{
-    let mut all = Vec::new(alloc);
-    for (number, chosen) in row.iter().enumerate() {
-        if *chosen {
-            all.push(sprites[number])?;
-        }
-    }
-    Ok(all)
-}
-
-// What was found, where the row says so.
-fn spread<A: Allocator>(
-    alloc: A,
-    row: &[bool],
-    found: &[Option<Placed>],
-) -> Result<Vec<Option<Placed>, A>, SheetError>
-    requires { length found.now ≡ length (picked row.now row.now) }
-    ensures spread { IfOk result (λ all. all.items ≡ spread row.now found.now) }
-    ensures unless { IsOkUnless result Memory }
-{
-    let mut all = Vec::new(alloc);
-    let mut next = 0;
-    for chosen in row {
-        if *chosen {
-            all.push(found[next])?;
-            next += 1;
-        } else {
-            all.push(None)?;
-        }
-    }
-    Ok(all)
 }
 
 /// The first group of a sprite.
@@ -188,6 +70,7 @@ fn plainly_filled<A: Allocator + Copy>(
     requires { CanPack options.now sprites.now }
     ensures arranged { IfOk result (IsArranged options.now sprites.now) }
     ensures allowed { IfOk result (λ a. IsAllowed options.now.allowed (sides_of a.size)) }
+    ensures whole { IfOk result (λ a. All IsSome a.places.items ⊎ AreTooMany options.now sprites.now) }
     ensures unless { IsOkUnless result Memory }
 {
     let plain = SheetOptions {
@@ -230,6 +113,8 @@ fn all_of<A: Allocator + Copy>(
     requires long { length row.items ≡ length sprites.now }
     ensures chosen { IfOk result (λ found. IfSome found (λ c. (groups : List (Option ℕ)) → IsClosed groups row.items
         → AreChosen options.now sprites.now groups c)) }
+    ensures row { IfOk result (λ found. IfSome found (λ c. c.row ≡ row)) }
+    ensures many { IfOk result (λ found. IfNone found (AreTooMany options.now (picked row.items sprites.now))) }
     ensures unless { IsOkUnless result Memory }
 {
     let some = picked(alloc, &row, sprites)?;
@@ -257,6 +142,10 @@ fn with_group<A: Allocator + Copy>(
     requires long { length groups.now ≡ length sprites.now }
     requires chosen { AreChosen options.now sprites.now groups.now chosen }
     ensures chosen { IfOk result (AreChosen options.now sprites.now groups.now) }
+    ensures taken { (there : ℕ → Bool) → chosen.row.items ≡ chosen_row there 0 groups.now
+        → IfOk result (λ c. (c.row.items ≡ chosen_row (with_one group there) 0 groups.now)
+        ⊎ ((c.row.items ≡ chosen.row.items)
+        × AreTooMany options.now (picked (chosen_row (with_one group there) 0 groups.now) sprites.now))) }
     ensures unless { IsOkUnless result Memory }
 {
     let row = row_with(alloc, &chosen.row, group, groups)?;
@@ -275,6 +164,8 @@ fn room_beside<A: Allocator>(
 ) -> Result<u64, SheetError>
     requires good { CanPack options.now sprites.now }
     requires long { length row.now ≡ length sprites.now }
+    ensures room { IfOk result (λ room. (sheet : Sides) × IsGreatest options.now.allowed sheet
+        × (pixels sheet ≤ room + pixels_together (picked row.now sprites.now))) }
     ensures unless { IsOkUnless result Memory }
 {
     let some = picked(alloc, row, sprites)?;
@@ -294,7 +185,11 @@ fn with_groups<A: Allocator + Copy>(
     requires good { CanPack options.now sprites.now }
     requires long { length groups.now ≡ length sprites.now }
     requires chosen { AreChosen options.now sprites.now groups.now first }
+    requires first { (group : ℕ) × IsFirstGroup group groups.now
+        × (first.row.items ≡ chosen_row (λ n. n == group) 0 groups.now) }
     ensures chosen { IfOk result (AreChosen options.now sprites.now groups.now) }
+    ensures there { IfOk result (λ c. (there : ℕ → Bool) × AreGroupsThere options.now sprites.now groups.now there
+        × (c.row.items ≡ chosen_row there 0 groups.now)) }
     ensures unless { IsOkUnless result Memory }
 {
     let slots = slots_of(alloc, groups)?;
@@ -304,9 +199,8 @@ fn with_groups<A: Allocator + Copy>(
     let mut chosen = first;
     for (number, place) in groups.iter().enumerate() {
         if let Some(group) = place {
-            let slot = slots[number];
-            let is_new = asks(&mut asked, slot);
-            if is_new && !chosen.row[number] && !is_over(&pixels, slot, room) {
+            let is_chosen = chosen.row[number];
+            if is_open(&mut asked, slots[number], is_chosen, &pixels, room) {
                 chosen = with_group(alloc, sprites, groups, options, *group, chosen)?;
                 room = room_beside(alloc, &chosen.row, sprites, options)?;
             }
@@ -315,7 +209,14 @@ fn with_groups<A: Allocator + Copy>(
     Ok(chosen)
 }
 
-// With as many sprites in no group as the sheet takes, by halving.
+// How many sprites are in no group.
+fn single_count(groups: &[Option<usize>]) -> usize
+    ensures { result ≡ count_by is_none groups.now }
+{
+    groups.iter().filter(|number| number.is_none()).count()
+}
+
+// With as many sprites in no group as the sheet takes, by bisection: with one more it doesn't take them, or there are no more.
 fn with_singles<A: Allocator + Copy>(
     alloc: A,
     sprites: &[Size],
@@ -326,17 +227,26 @@ fn with_singles<A: Allocator + Copy>(
     requires good { CanPack options.now sprites.now }
     requires long { length groups.now ≡ length sprites.now }
     requires chosen { AreChosen options.now sprites.now groups.now first }
+    requires there { (there : ℕ → Bool) × AreGroupsThere options.now sprites.now groups.now there
+        × (first.row.items ≡ chosen_row there 0 groups.now) }
     ensures chosen { IfOk result (AreChosen options.now sprites.now groups.now) }
+    ensures there { IfOk result (λ c. AreSpritesThere options.now sprites.now groups.now c.row.items) }
     ensures unless { IsOkUnless result Memory }
 {
+    let whole = Vec::from_slice(alloc, &first.row)?;
     let mut chosen = first;
-    let mut many = groups.iter().filter(|number| number.is_none()).count();
-    while many > 0 {
-        let row = row_with_single(alloc, &chosen.row, many, groups)?;
-        if let Some(more) = all_of(alloc, row, sprites, options)? {
-            chosen = more;
+    let mut taken = 0;
+    let mut refused = single_count(groups) + 1;
+    while taken + 1 < refused {
+        let many = taken + (refused - taken) / 2;
+        let row = row_with_single(alloc, &whole, many, groups)?;
+        match all_of(alloc, row, sprites, options)? {
+            Some(more) => {
+                chosen = more;
+                taken = many;
+            }
+            None => refused = many,
         }
-        many /= 2;
     }
     Ok(chosen)
 }
@@ -398,9 +308,11 @@ fn sheet_of_chosen<A: Allocator + Copy>(
 ) -> Result<OneSheet<A>, SheetError>
     requires good { CanPack options.now sprites.now }
     requires chosen { AreChosen options.now sprites.now groups.now chosen }
-    ensures page { IfOk result (λ s. IsGroupPage WAYS options.now sprites.now (sides_of s.size) s.places.items) }
+    ensures page { IfOk result (λ s. IsPage WAYS options.now (those_placed s.places.items sprites.now) (sides_of s.size)
+        (those_placed s.places.items s.places.items)) }
     ensures count { IfOk result (λ s. length s.places.items ≡ length sprites.now) }
     ensures closed { IfOk result (λ s. IsClosed groups.now (map is_some s.places.items)) }
+    ensures row { IfOk result (λ s. map is_some s.places.items ≡ chosen.row.items) }
     ensures unless { IsOkUnless result Memory }
 {
     let some = picked(alloc, &chosen.row, sprites)?;
@@ -412,8 +324,8 @@ fn sheet_of_chosen<A: Allocator + Copy>(
     })
 }
 
-// The sprites of a group in the smallest sheet that one of the ways finds for them.
-fn opened<A: Allocator + Copy>(
+/// The sprites of a group in the smallest sheet that one of the ways finds for them.
+pub fn opened<A: Allocator + Copy>(
     alloc: A,
     sprites: &[Size],
     groups: &[Option<usize>],
@@ -424,6 +336,7 @@ fn opened<A: Allocator + Copy>(
     requires long { length groups.now ≡ length sprites.now }
     requires there { HasMember group groups.now }
     ensures chosen { IfOk result (λ found. IfSome found (AreChosen options.now sprites.now groups.now)) }
+    ensures row { IfOk result (λ found. IfSome found (λ c. c.row.items ≡ chosen_row (λ n. n == group) 0 groups.now)) }
     ensures none { IfOk result (λ found. IfNone found (NoWayFinds options.now (members group groups.now sprites.now))) }
     ensures unless { IsOkUnless result Memory }
 {
@@ -447,8 +360,11 @@ pub fn group_sheet<A: Allocator + Copy>(
     requires good { CanPack options.now sprites.now }
     requires long { length groups.now ≡ length sprites.now }
     requires there { HasMember group groups.now }
+    requires first { IsFirstGroup group groups.now }
     ensures page { IfOk result (λ found. IfSome found (λ s.
         IsGroupPage WAYS options.now sprites.now (sides_of s.size) s.places.items)) }
+    ensures sheet { IfOk result (λ found. IfSome found (λ s.
+        IsGroupSheet options.now sprites.now groups.now (sides_of s.size) s.places.items)) }
     ensures count { IfOk result (λ found. IfSome found (λ s. length s.places.items ≡ length sprites.now)) }
     ensures closed { IfOk result (λ found. IfSome found (λ s. IsClosed groups.now (map is_some s.places.items))) }
     ensures none { IfOk result (λ found. IfNone found (NoWayFinds options.now (members group groups.now sprites.now))) }

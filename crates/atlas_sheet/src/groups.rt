@@ -7,18 +7,20 @@ ghost use Rattle.atlas_sheet.specs.declared.error.SheetError.TheVariants.{Memory
 ghost use Rattle.atlas_sheet.specs.declared.ways.TheConstants.{WAYS};
 ghost use Rattle.atlas_sheet.specs.Allowances.{IsAllowed};
 ghost use Rattle.atlas_sheet.specs.Dense.{NoWayFinds};
-ghost use Rattle.atlas_sheet.specs.Grouping.{AreGroupPages, HasMember, IsGroupPage, IsSoFar, LieTogether, SaysOf};
-ghost use Rattle.atlas_sheet.specs.Grouping.{is_in, members};
-ghost use Rattle.atlas_sheet.specs.Grouping.{padded_to, to_do, waiting, without_group};
-ghost use Rattle.atlas_sheet.specs.Paging.{AreUsed, IsOnPage, IsPage, NoPlacesOverlap, OneIsTooLarge, holes, put_on};
+ghost use Rattle.atlas_sheet.specs.Grouping.{AreGroupPages, AreGroupSheets, AreKept, HasMember, IsFirstGroup, IsGroupPage};
+ghost use Rattle.atlas_sheet.specs.Grouping.{IsNextSheet, IsSoFar, LieTogether, SaysOf, is_in, members, padded_to, to_do, waiting};
+ghost use Rattle.atlas_sheet.specs.Grouping.{without_group};
+ghost use Rattle.atlas_sheet.specs.Paging.{ArePages, AreUsed, IsOnPage, IsPage, NoPlacesOverlap, OneIsTooLarge, holes, put_on};
 ghost use Rattle.atlas_sheet.specs.Paging.{sprites_left};
 ghost use Rattle.atlas_sheet.specs.Settings.{CanPack, IsSheetFault};
 
-use crate::choosing::{OneSheet, first_group, group_sheet, is_in};
+use crate::choosing::{OneSheet, first_group, group_sheet, opened};
 use crate::error::SheetError;
 use crate::options::SheetOptions;
 use crate::paging::{OnPage, Pages, all_on, is_bare, next_page, put_on, sprites_left};
+use crate::picking::is_in;
 use crate::sheets::{check_all, filled_of};
+use crate::slots::{asks, slots_of};
 use guillotiere::Size;
 use std::alloc::{Allocator, Global};
 
@@ -152,18 +154,98 @@ fn after_sheet<A: Allocator + Copy>(
 ) -> Result<SoFar<A>, SheetError>
     requires so_far { IsSoFar options.now sprites.now groups.now so_far }
     requires page { IsGroupPage WAYS options.now so_far.left.items (sides_of sheet.size) sheet.places.items }
+    requires next { IsNextSheet options.now so_far.left.items (waiting so_far.kept.items so_far.places.items)
+        (sides_of sheet.size) sheet.places.items }
     requires count { length sheet.places.items ≡ length so_far.left.items }
     requires says { (whether : ℕ → Bool)
         × AllZip (SaysOf whether) (waiting so_far.kept.items so_far.places.items) (map is_some sheet.places.items) }
     ensures so_far { IfOk result (IsSoFar options.now sprites.now groups.now) }
-    ensures less { IfOk result (λ s. to_do s.left.items s.kept.items < to_do so_far.left.items so_far.kept.items) }
+    ensures less { IfOk result (λ s. to_do sprites.now s.left.items s.kept.items
+        < to_do sprites.now so_far.left.items so_far.kept.items) }
     ensures unless { IsOkUnless result Memory }
 {
     let more = with_sheet(alloc, sprites, so_far, sheet)?;
     Ok(more)
 }
 
-// After a group that no way packs into one sheet.
+// No sheets yet, with the groups that are kept.
+fn begun<A: Allocator + Copy>(
+    alloc: A,
+    sprites: &[Size],
+    groups: &[Option<usize>],
+    options: &SheetOptions,
+    kept: Vec<Option<usize>, A>,
+) -> Result<SoFar<A>, SheetError>
+    requires long { length groups.now ≡ length sprites.now }
+    requires kept { AreKept options.now sprites.now groups.now kept.items }
+    ensures so_far { IfOk result (IsSoFar options.now sprites.now groups.now) }
+    ensures left { IfOk result (λ s. s.left.items ≡ sprites.now) }
+    ensures kept { IfOk result (λ s. s.kept ≡ kept) }
+    ensures unless { IsOkUnless result Memory }
+{
+    let places = vec![in alloc; None; sprites.len()]?;
+    let left = Vec::from_slice(alloc, sprites)?;
+    let sizes = Vec::new(alloc);
+    Ok(SoFar {
+        sizes,
+        places,
+        left,
+        kept,
+    })
+}
+
+// Without a group, if no way packs it into one sheet.
+fn kept_unless_lost<A: Allocator + Copy>(
+    alloc: A,
+    sprites: &[Size],
+    groups: &[Option<usize>],
+    options: &SheetOptions,
+    kept: Vec<Option<usize>, A>,
+    group: usize,
+) -> Result<Vec<Option<usize>, A>, SheetError>
+    requires good { CanPack options.now sprites.now }
+    requires long { length groups.now ≡ length sprites.now }
+    requires there { HasMember group groups.now }
+    requires kept { AreKept options.now sprites.now groups.now kept.items }
+    ensures kept { IfOk result (λ all. AreKept options.now sprites.now groups.now all.items) }
+    ensures unless { IsOkUnless result Memory }
+{
+    let found = opened(alloc, sprites, groups, options, group)?;
+    if found.is_some() {
+        return Ok(kept);
+    }
+    let less = without(alloc, group, &kept)?;
+    Ok(less)
+}
+
+// The groups that a way packs into one sheet, each by itself. Each is asked for once.
+fn kept_groups<A: Allocator + Copy>(
+    alloc: A,
+    sprites: &[Size],
+    groups: &[Option<usize>],
+    options: &SheetOptions,
+) -> Result<Vec<Option<usize>, A>, SheetError>
+    requires good { CanPack options.now sprites.now }
+    requires long { length groups.now ≡ length sprites.now }
+    ensures kept { IfOk result (λ all. AreKept options.now sprites.now groups.now all.items) }
+    ensures unless { IsOkUnless result Memory }
+{
+    let slots = slots_of(alloc, groups)?;
+    let mut asked = vec![in alloc; false; slots.len()]?;
+    let mut kept = Vec::from_slice(alloc, groups)?;
+    for (number, place) in groups.iter().enumerate() {
+        if let Some(group) = place {
+            let slot = slots[number];
+            let is_new = asks(&mut asked, slot);
+            if is_new {
+                kept = kept_unless_lost(alloc, sprites, groups, options, kept, *group)?;
+            }
+        }
+    }
+    Ok(kept)
+}
+
+// A group that was kept and that no way packs is given up, and the sheets begin anew.
 fn after_group<A: Allocator + Copy>(
     alloc: A,
     sprites: &[Size],
@@ -172,16 +254,19 @@ fn after_group<A: Allocator + Copy>(
     so_far: SoFar<A>,
     group: usize,
 ) -> Result<SoFar<A>, SheetError>
+    requires long { length groups.now ≡ length sprites.now }
     requires so_far { IsSoFar options.now sprites.now groups.now so_far }
     requires there { HasMember group (waiting so_far.kept.items so_far.places.items) }
     requires none { NoWayFinds options.now
         (members group (waiting so_far.kept.items so_far.places.items) so_far.left.items) }
     ensures so_far { IfOk result (IsSoFar options.now sprites.now groups.now) }
-    ensures less { IfOk result (λ s. to_do s.left.items s.kept.items < to_do so_far.left.items so_far.kept.items) }
+    ensures less { IfOk result (λ s. to_do sprites.now s.left.items s.kept.items
+        < to_do sprites.now so_far.left.items so_far.kept.items) }
     ensures unless { IsOkUnless result Memory }
 {
     let kept = without(alloc, group, &so_far.kept)?;
-    Ok(SoFar { kept, ..so_far })
+    let again = begun(alloc, sprites, groups, options, kept)?;
+    Ok(again)
 }
 
 // The next sheet has a group on it; or no way packs it into one.
@@ -195,11 +280,14 @@ fn group_step<A: Allocator + Copy>(
     group: usize,
 ) -> Result<SoFar<A>, SheetError>
     requires good { CanPack options.now sprites.now }
+    requires long { length groups.now ≡ length sprites.now }
     requires so_far { IsSoFar options.now sprites.now groups.now so_far }
     requires numbers { numbers.now ≡ waiting so_far.kept.items so_far.places.items }
     requires there { HasMember group numbers.now }
+    requires first { IsFirstGroup group numbers.now }
     ensures so_far { IfOk result (IsSoFar options.now sprites.now groups.now) }
-    ensures less { IfOk result (λ s. to_do s.left.items s.kept.items < to_do so_far.left.items so_far.kept.items) }
+    ensures less { IfOk result (λ s. to_do sprites.now s.left.items s.kept.items
+        < to_do sprites.now so_far.left.items so_far.kept.items) }
     ensures unless { IsOkUnless result Memory }
 {
     let found = group_sheet(alloc, &so_far.left, numbers, options, group)?;
@@ -223,7 +311,8 @@ fn plain_step<A: Allocator + Copy>(
     requires no_group { All IsNone (waiting so_far.kept.items so_far.places.items) }
     ensures so_far { IfOk result (λ found. IfSome found (IsSoFar options.now sprites.now groups.now)) }
     ensures less { IfOk result (λ found. IfSome found (λ s.
-        to_do s.left.items s.kept.items < to_do so_far.left.items so_far.kept.items)) }
+        to_do sprites.now s.left.items s.kept.items
+        < to_do sprites.now so_far.left.items so_far.kept.items)) }
     ensures none { IfOk result (λ found. IfNone found (OneIsTooLarge options.now sprites.now)) }
     ensures unless { IsOkUnless result Memory }
 {
@@ -251,7 +340,8 @@ fn step<A: Allocator + Copy>(
     requires some { 0 < length so_far.left.items }
     ensures so_far { IfOk result (λ found. IfSome found (IsSoFar options.now sprites.now groups.now)) }
     ensures less { IfOk result (λ found. IfSome found (λ s.
-        to_do s.left.items s.kept.items < to_do so_far.left.items so_far.kept.items)) }
+        to_do sprites.now s.left.items s.kept.items
+        < to_do sprites.now so_far.left.items so_far.kept.items)) }
     ensures none { IfOk result (λ found. IfNone found (OneIsTooLarge options.now sprites.now)) }
     ensures unless { IsOkUnless result Memory }
 {
@@ -263,29 +353,6 @@ fn step<A: Allocator + Copy>(
         }
         None => plain_step(alloc, sprites, groups, options, so_far),
     }
-}
-
-// No sheets yet.
-fn begun<A: Allocator + Copy>(
-    alloc: A,
-    sprites: &[Size],
-    groups: &[Option<usize>],
-    options: &SheetOptions,
-) -> Result<SoFar<A>, SheetError>
-    requires long { length groups.now ≡ length sprites.now }
-    ensures so_far { IfOk result (IsSoFar options.now sprites.now groups.now) }
-    ensures unless { IsOkUnless result Memory }
-{
-    let places = vec![in alloc; None; sprites.len()]?;
-    let left = Vec::from_slice(alloc, sprites)?;
-    let kept = Vec::from_slice(alloc, groups)?;
-    let sizes = Vec::new(alloc);
-    Ok(SoFar {
-        sizes,
-        places,
-        left,
-        kept,
-    })
 }
 
 // One sheet after another, until each sprite has a place or one fits no empty sheet.
@@ -302,10 +369,13 @@ fn grouped<A: Allocator + Copy>(
     ensures together { IfOk result (λ found. IfSome found (λ p. (group : ℕ)
         → LieTogether group groups.now p.places.items
         ⊎ NoWayFinds options.now (members group groups.now sprites.now))) }
+    ensures sheets { IfOk result (λ found. IfSome found (λ p.
+        AreGroupSheets options.now sprites.now groups.now p.sizes.items (map Some p.places.items))) }
     ensures none { IfOk result (λ found. IfNone found (OneIsTooLarge options.now sprites.now)) }
     ensures unless { IsOkUnless result Memory }
 {
-    let mut so_far = begun(alloc, sprites, groups, options)?;
+    let kept = kept_groups(alloc, sprites, groups, options)?;
+    let mut so_far = begun(alloc, sprites, groups, options, kept)?;
     while !so_far.left.is_empty() {
         let Some(more) = step(alloc, sprites, groups, options, so_far)? else {
             return Ok(None);
@@ -322,11 +392,13 @@ fn grouped<A: Allocator + Copy>(
 /// `pack_pages`, with the sprites of a group on one sheet: `groups` has the number of each sprite's group, in the order of
 /// the sprites. A sprite is in no group where that is None, or where the list ends before; entries past the last sprite
 /// are ignored. All sprites of a group lie on one sheet, unless no way packs them by themselves into the greatest sheet that
-/// is allowed; then each of them is placed as if in no group.
+/// is allowed. Such a group is given up before the first sheet is begun: each of its sprites counts as one in no group.
 ///
-/// Groups are taken in the order of their first sprites. The first one opens a sheet; then each other group that the
-/// greatest sheet takes as well goes onto it, and as many sprites in no group as it takes, in their order. Such a sheet
-/// is as small as `pack` finds it for what lies there. The sprites that are left then are packed as `pack_pages` does.
+/// The other groups are taken in the order of their first sprites. The first one opens a sheet; then each other group that
+/// the greatest sheet takes as well goes onto it, and then sprites in no group, in their order: all, or so many that it
+/// doesn't take the next one as well. A sheet takes sprites if they have no more pixels than it, and the best of the ways
+/// that `fill` tries first places them all. Such a sheet is as small as `pack` finds it for what lies there. When no group
+/// is left, the other sprites are packed as `pack_pages` does, so with no number in `groups` this is `pack_pages`.
 /// `effort` changes of the order are tried for each sheet. None only where a sprite, in each of the ways that
 /// it may lie, is too large for an empty sheet; then nothing is packed.
 ///
@@ -351,6 +423,10 @@ pub fn pack_groups<A: Allocator + Copy>(
         ⊎ NoWayFinds options.now (members group groups.now sprites.now))) }
     ensures pages { IfOk result (λ found. IfSome found (λ p.
         AreGroupPages WAYS options.now sprites.now p.sizes.items (map Some p.places.items))) }
+    ensures sheets { IfOk result (λ found. IfSome found (λ p. AreGroupSheets options.now sprites.now
+        (padded_to (length sprites.now) groups.now) p.sizes.items (map Some p.places.items))) }
+    ensures plain { All IsNone groups.now → IfOk result (λ found. IfSome found (λ p.
+        ArePages WAYS options.now sprites.now p.sizes.items (map Some p.places.items))) }
     ensures none { IfOk result (λ found. IfNone found (OneIsTooLarge options.now sprites.now)) }
     ensures fault { IfErr result (λ e. IsSheetFault options.now sprites.now e) }
 {

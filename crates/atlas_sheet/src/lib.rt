@@ -15,6 +15,7 @@ mod options;
 mod orders;
 mod packing;
 mod paging;
+mod picking;
 mod placed;
 mod places;
 mod random;

@@ -408,11 +408,13 @@ pub fn pack_pages(sprites: &[Size], options: &SheetOptions) -> Result<Option<Pag
 
 /// `pack_pages`, with all sprites of a group on one sheet: `groups` has the number of each sprite's group, in the order of the
 /// sprites. A sprite is in no group where that is None, or where `groups` ends before; numbers past the last sprite are
-/// ignored. If no way packs a group by itself into the greatest sheet that is allowed, its sprites are placed as if in no group.
+/// ignored. A group that no way packs by itself into the greatest sheet that is allowed is given up before the first sheet is
+/// begun: each of its sprites counts as one in no group.
 ///
-/// Groups are taken in the order of their first sprites. The first opens a sheet; then each other group that the greatest sheet
-/// takes as well goes onto it, and as many sprites in no group as it takes; then the sheet is made as small as `pack` finds it.
-/// The sprites that are left then are packed as `pack_pages` does. None only where a sprite is too large for an empty sheet.
+/// The other groups are taken in the order of their first sprites. The first opens a sheet; then each other group that the
+/// greatest sheet takes as well goes onto it, and then sprites in no group, in their order: all, or so many that it doesn't take
+/// the next one as well. Then the sheet is made as small as `pack` finds it. When no group is left, the other sprites are packed
+/// as `pack_pages` does. None only where a sprite is too large for an empty sheet.
 ///
 /// ```
 /// use guillotiere::sheet::{pack_groups, Allowed, SheetOptions};

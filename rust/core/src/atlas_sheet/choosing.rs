@@ -7,10 +7,11 @@ use crate::atlas_sheet::dense::{pixels_of, sprite_pixels};
 use crate::atlas_sheet::error::SheetError;
 use crate::atlas_sheet::options::SheetOptions;
 use crate::atlas_sheet::packing::packed;
+use crate::atlas_sheet::picking::{picked, row_of, row_with, row_with_single, spread};
 use crate::atlas_sheet::placed::Placed;
 use crate::atlas_sheet::search::greatest_sheet;
 use crate::atlas_sheet::sheets::{best_filled, filled_of, Filled};
-use crate::atlas_sheet::slots::{asks, is_over, slot_pixels, slots_of};
+use crate::atlas_sheet::slots::{is_open, slot_pixels, slots_of};
 use crate::guillotiere::Size;
 use wollemigo_support::alloc::{Allocator, Global};
 use wollemigo_support::prelude::{vec, Vec};
@@ -29,112 +30,6 @@ pub struct Chosen<A: Allocator> {
     pub row: Vec<bool, A>,
     /// How they lie.
     pub page: Arrangement<A>,
-}
-
-/// Whether this is the number of the group.
-#[inline]
-#[must_use]
-pub fn is_in(group: usize, number: Option<usize>) -> bool {
-    match number {
-        Some(number) => number == group,
-        None => false,
-    }
-}
-
-// Which sprites are in the group.
-#[inline]
-fn row_of<A: Allocator>(
-    alloc: A,
-    group: usize,
-    groups: &[Option<usize>],
-) -> Result<Vec<bool, A>, SheetError> {
-    let mut all = Vec::with_capacity(alloc, groups.len())?;
-    all.extend(groups.iter().map(|number| is_in(group, *number)))?;
-    Ok(all)
-}
-
-// Whether a sprite is chosen, or in the group.
-#[inline]
-fn or_in(chosen: bool, group: usize, number: Option<usize>) -> bool {
-    chosen || is_in(group, number)
-}
-
-// A row with those that are in the group as well.
-#[inline]
-fn row_with<A: Allocator>(
-    alloc: A,
-    row: &[bool],
-    group: usize,
-    groups: &[Option<usize>],
-) -> Result<Vec<bool, A>, SheetError> {
-    let mut all = Vec::new(alloc);
-    for (number, chosen) in row.iter().enumerate() {
-        let is_chosen = or_in(*chosen, group, groups[number]);
-        all.push(is_chosen)?;
-    }
-    Ok(all)
-}
-
-// Whether a sprite is chosen, or in no group where there is room for one.
-#[inline]
-fn or_single(chosen: bool, has_room: bool, number: Option<usize>) -> bool {
-    chosen || (has_room && number.is_none())
-}
-
-// A row with so many more of those that are in no group, the first ones.
-#[inline]
-fn row_with_single<A: Allocator>(
-    alloc: A,
-    row: &[bool],
-    many: usize,
-    groups: &[Option<usize>],
-) -> Result<Vec<bool, A>, SheetError> {
-    let mut all = Vec::new(alloc);
-    let mut room = many;
-    for (number, chosen) in row.iter().enumerate() {
-        let is_chosen = or_single(*chosen, room > 0, groups[number]);
-        all.push(is_chosen)?;
-        if is_chosen != *chosen {
-            room = room.saturating_sub(1);
-        }
-    }
-    Ok(all)
-}
-
-// The sprites where the row says so.
-#[inline]
-fn picked<A: Allocator>(
-    alloc: A,
-    row: &[bool],
-    sprites: &[Size],
-) -> Result<Vec<Size, A>, SheetError> {
-    let mut all = Vec::new(alloc);
-    for (number, chosen) in row.iter().enumerate() {
-        if *chosen {
-            all.push(sprites[number])?;
-        }
-    }
-    Ok(all)
-}
-
-// What was found, where the row says so.
-#[inline]
-fn spread<A: Allocator>(
-    alloc: A,
-    row: &[bool],
-    found: &[Option<Placed>],
-) -> Result<Vec<Option<Placed>, A>, SheetError> {
-    let mut all = Vec::new(alloc);
-    let mut next = 0;
-    for chosen in row {
-        if *chosen {
-            all.push(found[next])?;
-            next += 1;
-        } else {
-            all.push(None)?;
-        }
-    }
-    Ok(all)
 }
 
 /// The first group of a sprite.
@@ -246,9 +141,8 @@ fn with_groups<A: Allocator + Copy>(
     let mut chosen = first;
     for (number, place) in groups.iter().enumerate() {
         if let Some(group) = place {
-            let slot = slots[number];
-            let is_new = asks(&mut asked, slot);
-            if is_new && !chosen.row[number] && !is_over(&pixels, slot, room) {
+            let is_chosen = chosen.row[number];
+            if is_open(&mut asked, slots[number], is_chosen, &pixels, room) {
                 chosen = with_group(alloc, sprites, groups, options, *group, chosen)?;
                 room = room_beside(alloc, &chosen.row, sprites, options)?;
             }
@@ -257,7 +151,13 @@ fn with_groups<A: Allocator + Copy>(
     Ok(chosen)
 }
 
-// With as many sprites in no group as the sheet takes, by halving.
+// How many sprites are in no group.
+#[inline]
+fn single_count(groups: &[Option<usize>]) -> usize {
+    groups.iter().filter(|number| number.is_none()).count()
+}
+
+// With as many sprites in no group as the sheet takes, by bisection: with one more it doesn't take them, or there are no more.
 #[inline]
 fn with_singles<A: Allocator + Copy>(
     alloc: A,
@@ -266,14 +166,20 @@ fn with_singles<A: Allocator + Copy>(
     options: &SheetOptions,
     first: Chosen<A>,
 ) -> Result<Chosen<A>, SheetError> {
+    let whole = Vec::from_slice(alloc, &first.row)?;
     let mut chosen = first;
-    let mut many = groups.iter().filter(|number| number.is_none()).count();
-    while many > 0 {
-        let row = row_with_single(alloc, &chosen.row, many, groups)?;
-        if let Some(more) = all_of(alloc, row, sprites, options)? {
-            chosen = more;
+    let mut taken = 0;
+    let mut refused = single_count(groups) + 1;
+    while taken + 1 < refused {
+        let many = taken + (refused - taken) / 2;
+        let row = row_with_single(alloc, &whole, many, groups)?;
+        match all_of(alloc, row, sprites, options)? {
+            Some(more) => {
+                chosen = more;
+                taken = many;
+            }
+            None => refused = many,
         }
-        many /= 2;
     }
     Ok(chosen)
 }
@@ -324,9 +230,9 @@ fn sheet_of_chosen<A: Allocator + Copy>(
     })
 }
 
-// The sprites of a group in the smallest sheet that one of the ways finds for them.
+/// The sprites of a group in the smallest sheet that one of the ways finds for them.
 #[inline]
-fn opened<A: Allocator + Copy>(
+pub fn opened<A: Allocator + Copy>(
     alloc: A,
     sprites: &[Size],
     groups: &[Option<usize>],

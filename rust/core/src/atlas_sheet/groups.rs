@@ -1,11 +1,13 @@
 // Erased from crates/atlas_sheet/src/groups.rt by rust/erase: don't edit.
 //! All sprites on several sheets, those of a group on one.
 
-use crate::atlas_sheet::choosing::{first_group, group_sheet, is_in, OneSheet};
+use crate::atlas_sheet::choosing::{first_group, group_sheet, opened, OneSheet};
 use crate::atlas_sheet::error::SheetError;
 use crate::atlas_sheet::options::SheetOptions;
 use crate::atlas_sheet::paging::{all_on, is_bare, next_page, put_on, sprites_left, OnPage, Pages};
+use crate::atlas_sheet::picking::is_in;
 use crate::atlas_sheet::sheets::{check_all, filled_of};
+use crate::atlas_sheet::slots::{asks, slots_of};
 use crate::guillotiere::Size;
 use wollemigo_support::alloc::{Allocator, Global};
 use wollemigo_support::prelude::{vec, Vec};
@@ -123,7 +125,68 @@ fn after_sheet<A: Allocator + Copy>(
     Ok(more)
 }
 
-// After a group that no way packs into one sheet.
+// No sheets yet, with the groups that are kept.
+#[inline]
+fn begun<A: Allocator + Copy>(
+    alloc: A,
+    sprites: &[Size],
+    groups: &[Option<usize>],
+    options: &SheetOptions,
+    kept: Vec<Option<usize>, A>,
+) -> Result<SoFar<A>, SheetError> {
+    let places = vec![in alloc; None; sprites.len()]?;
+    let left = Vec::from_slice(alloc, sprites)?;
+    let sizes = Vec::new(alloc);
+    Ok(SoFar {
+        sizes,
+        places,
+        left,
+        kept,
+    })
+}
+
+// Without a group, if no way packs it into one sheet.
+#[inline]
+fn kept_unless_lost<A: Allocator + Copy>(
+    alloc: A,
+    sprites: &[Size],
+    groups: &[Option<usize>],
+    options: &SheetOptions,
+    kept: Vec<Option<usize>, A>,
+    group: usize,
+) -> Result<Vec<Option<usize>, A>, SheetError> {
+    let found = opened(alloc, sprites, groups, options, group)?;
+    if found.is_some() {
+        return Ok(kept);
+    }
+    let less = without(alloc, group, &kept)?;
+    Ok(less)
+}
+
+// The groups that a way packs into one sheet, each by itself. Each is asked for once.
+#[inline]
+fn kept_groups<A: Allocator + Copy>(
+    alloc: A,
+    sprites: &[Size],
+    groups: &[Option<usize>],
+    options: &SheetOptions,
+) -> Result<Vec<Option<usize>, A>, SheetError> {
+    let slots = slots_of(alloc, groups)?;
+    let mut asked = vec![in alloc; false; slots.len()]?;
+    let mut kept = Vec::from_slice(alloc, groups)?;
+    for (number, place) in groups.iter().enumerate() {
+        if let Some(group) = place {
+            let slot = slots[number];
+            let is_new = asks(&mut asked, slot);
+            if is_new {
+                kept = kept_unless_lost(alloc, sprites, groups, options, kept, *group)?;
+            }
+        }
+    }
+    Ok(kept)
+}
+
+// A group that was kept and that no way packs is given up, and the sheets begin anew.
 #[inline]
 fn after_group<A: Allocator + Copy>(
     alloc: A,
@@ -134,7 +197,8 @@ fn after_group<A: Allocator + Copy>(
     group: usize,
 ) -> Result<SoFar<A>, SheetError> {
     let kept = without(alloc, group, &so_far.kept)?;
-    Ok(SoFar { kept, ..so_far })
+    let again = begun(alloc, sprites, groups, options, kept)?;
+    Ok(again)
 }
 
 // The next sheet has a group on it; or no way packs it into one.
@@ -193,26 +257,6 @@ fn step<A: Allocator + Copy>(
     }
 }
 
-// No sheets yet.
-#[inline]
-fn begun<A: Allocator + Copy>(
-    alloc: A,
-    sprites: &[Size],
-    groups: &[Option<usize>],
-    options: &SheetOptions,
-) -> Result<SoFar<A>, SheetError> {
-    let places = vec![in alloc; None; sprites.len()]?;
-    let left = Vec::from_slice(alloc, sprites)?;
-    let kept = Vec::from_slice(alloc, groups)?;
-    let sizes = Vec::new(alloc);
-    Ok(SoFar {
-        sizes,
-        places,
-        left,
-        kept,
-    })
-}
-
 // One sheet after another, until each sprite has a place or one fits no empty sheet.
 #[inline]
 fn grouped<A: Allocator + Copy>(
@@ -221,7 +265,8 @@ fn grouped<A: Allocator + Copy>(
     groups: &[Option<usize>],
     options: &SheetOptions,
 ) -> Result<Option<Pages<A>>, SheetError> {
-    let mut so_far = begun(alloc, sprites, groups, options)?;
+    let kept = kept_groups(alloc, sprites, groups, options)?;
+    let mut so_far = begun(alloc, sprites, groups, options, kept)?;
     while !so_far.left.is_empty() {
         let more = match step(alloc, sprites, groups, options, so_far)? {
             Some(more) => more,
@@ -241,11 +286,13 @@ fn grouped<A: Allocator + Copy>(
 /// `pack_pages`, with the sprites of a group on one sheet: `groups` has the number of each sprite's group, in the order of
 /// the sprites. A sprite is in no group where that is None, or where the list ends before; entries past the last sprite
 /// are ignored. All sprites of a group lie on one sheet, unless no way packs them by themselves into the greatest sheet that
-/// is allowed; then each of them is placed as if in no group.
+/// is allowed. Such a group is given up before the first sheet is begun: each of its sprites counts as one in no group.
 ///
-/// Groups are taken in the order of their first sprites. The first one opens a sheet; then each other group that the
-/// greatest sheet takes as well goes onto it, and as many sprites in no group as it takes, in their order. Such a sheet
-/// is as small as `pack` finds it for what lies there. The sprites that are left then are packed as `pack_pages` does.
+/// The other groups are taken in the order of their first sprites. The first one opens a sheet; then each other group that
+/// the greatest sheet takes as well goes onto it, and then sprites in no group, in their order: all, or so many that it
+/// doesn't take the next one as well. A sheet takes sprites if they have no more pixels than it, and the best of the ways
+/// that `fill` tries first places them all. Such a sheet is as small as `pack` finds it for what lies there. When no group
+/// is left, the other sprites are packed as `pack_pages` does, so with no number in `groups` this is `pack_pages`.
 /// `effort` changes of the order are tried for each sheet. None only where a sprite, in each of the ways that
 /// it may lie, is too large for an empty sheet; then nothing is packed.
 ///

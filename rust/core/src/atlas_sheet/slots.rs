@@ -47,15 +47,15 @@ pub fn slots_of<A: Allocator + Copy>(
 
 // Adds the pixels of a sprite to those of its slot.
 #[inline]
-fn add_pixels(pixels: &mut [u64], slot: Option<usize>, sprite: Size) {
+fn add_pixels(all: &mut [u64], slot: Option<usize>, sprite: Size) {
     let number = match slot {
         Some(number) => number,
         _ => {
             return;
         }
     };
-    if number < pixels.len() {
-        pixels[number] = pixels[number].saturating_add(pixels_of(sprite));
+    if number < all.len() {
+        all[number] = all[number].saturating_add(pixels_of(sprite));
     }
 }
 
@@ -101,4 +101,17 @@ pub fn asks(asked: &mut [bool], slot: Option<usize>) -> bool {
     let is_new = !asked[number];
     asked[number] = true;
     is_new
+}
+
+/// Whether a group is to be asked for: a sprite of it isn't chosen yet, its slot wasn't asked for before, and its sprites don't have
+/// more pixels than there is room for. From now on its slot has been asked for.
+#[inline]
+pub fn is_open(
+    asked: &mut [bool],
+    slot: Option<usize>,
+    is_chosen: bool,
+    pixels: &[u64],
+    room: u64,
+) -> bool {
+    asks(asked, slot) && !is_chosen && !is_over(pixels, slot, room)
 }

@@ -45,11 +45,11 @@ fn found(
 /// Packs as `guillotiere_pack_pages`, with all sprites of a group on one sheet. `groups` has the number of each sprite's
 /// group, in the order of the sprites; `GUILLOTIERE_NO_GROUP`, or no number where groups_len is below sprites_len, says that
 /// a sprite is in none, and numbers past the last sprite are ignored. A group that none of the ten ways packs by itself into
-/// the greatest of the sheets allowed isn't kept together: each of its sprites is placed as if in no group. Groups come in
-/// the order of their first sprites. The first opens a sheet; then each other group that this sheet takes as well goes onto
-/// it, and as many of the sprites in no group as it takes; then the sheet is made as small as `guillotiere_pack` finds it.
-/// Once no group is left, the sprites without a place are packed as by `guillotiere_pack_pages`. All else as
-/// `guillotiere_pack_pages`.
+/// the greatest of the sheets allowed is given up before the first sheet is begun: each of its sprites counts as one in no
+/// group. The other groups come in the order of their first sprites. The first opens a sheet; then each other group that the
+/// greatest sheet takes as well goes onto it, and then sprites in no group, in their order: all, or so many that it doesn't
+/// take the next one as well. Then the sheet is made as small as `guillotiere_pack` finds it. Once no group is left, the
+/// sprites without a place are packed as by `guillotiere_pack_pages`. All else as `guillotiere_pack_pages`.
 #[no_mangle]
 pub extern "C" fn guillotiere_pack_groups(
     sprites: *const PlainSize,

@@ -21,7 +21,7 @@ fn digits(pages: &Pages) -> u64 {
 }
 
 // Six squares of 4, of which a square of 8 takes four. Each row: the group of each, 9 for none, and then its sheet.
-const ROWS: [([usize; 6], u64); 7] = [
+const ROWS: [([usize; 6], u64); 11] = [
     // A second group of three has no room beside the first.
     ([1, 2, 2, 2, 1, 1], 11100),
     ([1, 2, 1, 2, 1, 2], 10101),
@@ -33,6 +33,13 @@ const ROWS: [([usize; 6], u64); 7] = [
     ([9, 9, 9, 9, 1, 1], 1100),
     // No square of 8 takes five: they are placed as sprites in no group.
     ([1, 1, 1, 1, 1, 9], 11),
+    // They are given up before the first sheet is begun, so three of them lie beside the other group.
+    ([2, 1, 1, 1, 1, 1], 11),
+    // A group of three has no room beside one of two, and the next, of one, has.
+    ([1, 1, 2, 2, 2, 3], 1110),
+    // Beside a group of one there is room for three of five in no group, the first ones.
+    ([1, 9, 9, 9, 9, 9], 11),
+    ([9, 9, 9, 9, 9, 1], 110),
     ([9, 9, 9, 9, 9, 9], 11),
 ];
 
@@ -47,6 +54,24 @@ fn six_squares() {
             digits(&pages) == wanted && pages.sizes.len() == 2,
             "{numbers:?}"
         );
+    }
+}
+
+// Sheets of 8 x 1, and sprites of one pixel: so many in no group, and one in a group. It lies on the first sheet, with the first
+// seven of the others; eight more lie on each sheet after it.
+#[test]
+fn as_many_as_there_is_room_for() {
+    for many in 0..24 {
+        let sprites = vec![size2(1, 1); many + 1];
+        let mut groups = vec![None; many];
+        groups.push(Some(3));
+        let options = sheet_options(size2(8, 1), 0);
+        let found = pack_groups(Global, &sprites, &groups, &options).expect("memory");
+        let pages = found.expect("sheets");
+        for (number, place) in pages.places.iter().enumerate() {
+            let wanted = if number == many { 0 } else { (number + 1) / 8 };
+            assert_eq!(place.page, wanted, "{number} of {many}");
+        }
     }
 }
 

@@ -5,6 +5,7 @@ use Rattle.atlas_sheet.specs.Grouping.{IsClosed, is_in, picked}
 use Rattle.atlas_sheet.specs.Settings.{CanPack}
 use Rattle.atlas_sheet.proofs.GroupFinds.{are_chosen}
 use Rattle.atlas_sheet.proofs.GroupRows.{can_pack_picked, closed_in}
+use Rattle.atlas_sheet.proofs.GroupTakes.{chosen_in}
 use Rattle.atlas_sheet.proofs.choosing.opened.Goals as goal
 
 pub picked-requires : goal.picked-requires
@@ -32,3 +33,6 @@ returns-in-None-clause-none g c =
     subst (NoWayFinds c.args.options.now)
     (c.deref-2.ensures.value ∙ c.in_ok-some.ensures.picked ∙ ap (λ r. picked r c.args.sprites.now) (c.deref.ensures.value ∙ c.in_ok-row.ensures.row))
     (rw c.in-None.is at c.in_ok-found.ensures.none)
+
+pub returns-in-Some-clause-row : goal.returns-in-Some-clause-row
+returns-in-Some-clause-row g c = c.in_ok-row.ensures.row ∙ chosen_in c.args.group c.args.groups.now

@@ -3,7 +3,7 @@ use Rattle.guillotiere.specs.Pixels.{sides_of}
 use Rattle.atlas_sheet.specs.Grouping.{picked, spread}
 use Rattle.atlas_sheet.specs.Lying.{IsArranged}
 use Rattle.atlas_sheet.specs.Settings.{CanPack}
-use Rattle.atlas_sheet.proofs.GroupFinds.{chosen_closed, chosen_long, chosen_page, found_long}
+use Rattle.atlas_sheet.proofs.GroupFinds.{chosen_closed, chosen_long, chosen_page, chosen_row_is, found_long}
 use Rattle.atlas_sheet.proofs.GroupRows.{can_pack_picked}
 use Rattle.atlas_sheet.proofs.choosing.sheet_of_chosen.Goals as goal
 
@@ -70,4 +70,16 @@ returns-clause-closed g c =
     let placed : places ≡ spread row f.places.items =
     c.in_ok-places.ensures.spread ∙ ap (λ r. spread r c.deref-4.result.now) c.deref-3.ensures.value ∙ ap (spread row) c.deref-4.ensures.value in
     chosen_closed c.args.options.now c.args.sprites.now c.deref-2.result.now c.args.groups.now row (sides_of f.size) f.order.items f.places.items places
+    some_is c.requires.chosen.long c.requires.chosen.closed placed c.in_ok-filled.ensures.shown c.in_ok-filled.ensures.whole
+
+pub returns-clause-row : goal.returns-clause-row
+returns-clause-row g c =
+    let f = c.in_ok-filled.filled in
+    let row = c.args.chosen.row.items in
+    let places = c.in_ok-places.places.items in
+    let some_is : c.deref-2.result.now ≡ picked row c.args.sprites.now =
+    c.deref-2.ensures.value ∙ c.in_ok-some.ensures.picked ∙ ap (λ r. picked r c.args.sprites.now) c.deref.ensures.value in
+    let placed : places ≡ spread row f.places.items =
+    c.in_ok-places.ensures.spread ∙ ap (λ r. spread r c.deref-4.result.now) c.deref-3.ensures.value ∙ ap (spread row) c.deref-4.ensures.value in
+    chosen_row_is c.args.options.now c.args.sprites.now c.deref-2.result.now c.args.groups.now row (sides_of f.size) f.order.items f.places.items places
     some_is c.requires.chosen.long c.requires.chosen.closed placed c.in_ok-filled.ensures.shown c.in_ok-filled.ensures.whole

@@ -1,7 +1,8 @@
-use Rattle.std.proofs.Common.{◌≡◌, ◌∙◌, ap, is_some, length, map, subst, sym}
+use Rattle.std.proofs.Common.{◌∙◌, ap, inr, is_some, length, map, subst, sym}
 use Rattle.std.specs.List.{AllZip}
+use Rattle.guillotiere.specs.Pixels.{sides_of}
 use Rattle.atlas_sheet.specs.Dense.{NoWayFinds}
-use Rattle.atlas_sheet.specs.Grouping.{HasMember, SaysOf, members, waiting}
+use Rattle.atlas_sheet.specs.Grouping.{HasMember, IsGroupSheet, SaysOf, members, waiting}
 use Rattle.atlas_sheet.specs.Settings.{CanPack}
 use Rattle.atlas_sheet.proofs.GroupMore.{numbers_long, so_can_pack}
 use Rattle.atlas_sheet.proofs.groups.group_step.Goals as goal
@@ -17,6 +18,14 @@ group_sheet-requires-clause-long g c =
 
 pub after_sheet-requires-clause-page : goal.after_sheet-requires-clause-page
 after_sheet-requires-clause-page g c = rw c.deref.ensures.value at (rw c.in-Some.is at c.in_ok-found.ensures.page)
+
+pub after_sheet-requires-clause-next : goal.after_sheet-requires-clause-next
+after_sheet-requires-clause-next g c =
+    let s = c.in-Some.sheet in
+    let o = c.args.options.now in
+    inr (subst (λ ns. IsGroupSheet o c.args.so_far.left.items ns (sides_of s.size) s.places.items) c.requires.numbers
+    (subst (λ ls. IsGroupSheet o ls c.args.numbers.now (sides_of s.size) s.places.items) c.deref.ensures.value
+    (rw c.in-Some.is at c.in_ok-found.ensures.sheet)))
 
 pub after_sheet-requires-clause-count : goal.after_sheet-requires-clause-count
 after_sheet-requires-clause-count g c = (rw c.in-Some.is at c.in_ok-found.ensures.count) ∙ ap length c.deref.ensures.value

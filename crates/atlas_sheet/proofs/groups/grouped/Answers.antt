@@ -1,5 +1,5 @@
 use Rattle.std.proofs.Common.{◌∙◌, All, IsSome, subst, sym}
-use Rattle.atlas_sheet.proofs.GroupMore.{so_pages, so_together}
+use Rattle.atlas_sheet.proofs.GroupMore.{so_pages, so_sheets, so_together}
 use Rattle.atlas_sheet.proofs.PageFinds.{empty_left, none_left, some_left}
 use Rattle.atlas_sheet.proofs.groups.grouped.Goals as goal
 
@@ -23,3 +23,7 @@ returns-clause-pages g c =
 pub returns-clause-together : goal.returns-clause-together
 returns-clause-together g c =
     so_together c.loop-so_far.invariant c.in_ok-all.all.items (c.in_ok-all.ensures.all ∙ c.deref.ensures.value)
+
+pub returns-clause-sheets : goal.returns-clause-sheets
+returns-clause-sheets g c =
+    so_sheets c.loop-so_far.invariant c.in_ok-all.all.items (c.in_ok-all.ensures.all ∙ c.deref.ensures.value)

@@ -18,6 +18,9 @@ plain_sheet-requires-clause-some g c = subst (λ ls. 0 < length ls) (sym c.deref
 pub after_sheet-requires-clause-page : goal.after_sheet-requires-clause-page
 after_sheet-requires-clause-page g c = inl (rw c.deref.ensures.value at (rw c.in-Some.is at c.in_ok-found.ensures.page))
 
+pub after_sheet-requires-clause-next : goal.after_sheet-requires-clause-next
+after_sheet-requires-clause-next g c = inl (c.requires.no_group, rw c.deref.ensures.value at (rw c.in-Some.is at c.in_ok-found.ensures.page))
+
 pub after_sheet-requires-clause-count : goal.after_sheet-requires-clause-count
 after_sheet-requires-clause-count g c = (rw c.in-Some.is at c.in_ok-found.ensures.count) ∙ ap length c.deref.ensures.value
 

@@ -2,8 +2,8 @@ use Rattle.std.proofs.Common.{◌≡◌, ◌<◌, length, get_or, true, false, a
 use Rattle.std.proofs.lemmas.List.{get_or_default}
 use Rattle.atlas_sheet.proofs.Finding.{no_sprite}
 use Rattle.atlas_sheet.proofs.GroupRows.{picked_less, picked_more}
-use Rattle.atlas_sheet.proofs.choosing.picked.Goals as goal
-use Rattle.atlas_sheet.proofs.choosing.picked.Goals.{then-chosen+in_ok-push, else-chosen}
+use Rattle.atlas_sheet.proofs.picking.picked.Goals as goal
+use Rattle.atlas_sheet.proofs.picking.picked.Goals.{then-chosen+in_ok-push, else-chosen}
 
 pub loop-number-preserved : goal.loop-number-preserved
 loop-number-preserved g c =

@@ -1,7 +1,9 @@
-use Rattle.std.proofs.Common.{◌≡◌, ◌∙◌, [], ◌∷◌, ◌<◌, ◌≤◌, ◌+◌, length, get_or, take_all, false, None, arith, ap}
+use Rattle.std.proofs.Common.{◌∙◌, [], ◌∷◌, ◌<◌, length, get_or, take_all, false, None, arith, ap}
+use Rattle.atlas_sheet.specs.Grouping.{chosen_row, with_one}
 use Rattle.std.proofs.lemmas.List.{get_or_default, length-append}
-use Rattle.atlas_sheet.proofs.GroupRows.{closed_with, rows_more, says_with, with_one}
-use Rattle.atlas_sheet.proofs.choosing.row_with.Goals as goal
+use Rattle.atlas_sheet.proofs.GroupRows.{closed_with, rows_more, says_with}
+use Rattle.atlas_sheet.proofs.GroupTakes.{chosen_long, with_more}
+use Rattle.atlas_sheet.proofs.picking.row_with.Goals as goal
 
 pub loop-number-preserved : goal.loop-number-preserved
 loop-number-preserved g c =
@@ -18,6 +20,9 @@ loop-number-preserved g c =
           (λ whether says. rw c.or_in-is_chosen.ensures (says_with c.args.group n b whether says)) c.in_ok-push.ensures.items
           c.loop-number.invariant.rows;
       long = omega (arith, longer, c.loop-number.invariant.long);
+      chosen = λ there row_is.
+          with_more c.args.group there groups row k c.loop-number.all.items c.push.new.self.items c.or_in-is_chosen.result inside row_is
+          c.or_in-is_chosen.ensures c.in_ok-push.ensures.items (c.loop-number.invariant.chosen there row_is);
     }
 
 pub returns-clause-closed : goal.returns-clause-closed
@@ -26,3 +31,11 @@ returns-clause-closed g c closed =
     let groups = c.args.groups.now in
     closed_with groups c.args.row.now c.loop-number.all.items c.args.group k c.loop-number.invariant.rows
     (take_all k groups (omega (arith, c.loop-number-test.false, c.requires))) closed
+
+pub returns-clause-row : goal.returns-clause-row
+returns-clause-row g c there row_is =
+    let k = c.loop-number.number in
+    let groups = c.args.groups.now in
+    let full = chosen_row (with_one c.args.group there) 0 groups in
+    let long = chosen_long (with_one c.args.group there) 0 groups in
+    c.loop-number.invariant.chosen there row_is ∙ take_all k full (omega (arith, c.loop-number-test.false, c.requires, long))

@@ -2,7 +2,7 @@ use Rattle.std.proofs.Common.{rules}
 use Rattle.std.proofs.lemmas.Iterator.{YieldsList-from_map, YieldsList-from_slice}
 use Rattle.std.proofs.lemmas.Iterator.Adapters.{items_from_extend}
 use Rattle.atlas_sheet.specs.Grouping.{is_in}
-use Rattle.atlas_sheet.proofs.choosing.row_of.Goals as goal
+use Rattle.atlas_sheet.proofs.picking.row_of.Goals as goal
 
 pub returns-clause-row : goal.returns-clause-row
 returns-clause-row g c =
