@@ -72,7 +72,9 @@ class Trial:
         written = {"::".join(path.parent.relative_to(proofs).parts) for path in proofs.rglob("*.antt") if path.name in PROOFS}
         for path in sorted({*written, *functions_of(self.crate)}):
             folder = proofs.joinpath(*path.split("::"))
-            if folder.name.startswith("+") or any(path == it or path.endswith(f"::{it}") for it in only):
+            # The proof of functions that call themselves stands in a folder with a plus, and stays.
+            recursive = folder.name.startswith("+") or folder.with_name(f"+{folder.name}").is_dir()
+            if recursive or any(path == it or path.endswith(f"::{it}") for it in only):
                 continue
             for name in PROOFS:
                 (folder / name).unlink(missing_ok=True)
