@@ -297,7 +297,7 @@ export class SimpleAtlas {
 
   readonly size: Size;
   readonly options: Required<AtlasOptions>;
-  /** Counts of entries, of which each free box takes one: how many are used, and how many there are. The limit is 4294967295. */
+  /** Counts of entries, of which each free box takes one: how many are used, and how many there are. The limit is 4261412864. */
   readonly slots: Slots;
   /** Whether one free box has the size of the whole. */
   readonly isEmpty: boolean;

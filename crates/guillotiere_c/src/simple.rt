@@ -318,7 +318,7 @@ pub extern "C" fn guillotiere_simple_options(
 pub extern "C" fn guillotiere_simple_slots(simple: &SimpleReader, slots: &mut PlainSlots) -> u32
     ensures used { IfSome simple.now.kept (λ v. slots.new.used ≡ used_entries v) }
     ensures kept { IfSome simple.now.kept (λ v. slots.new.kept ≡ kept_entries v) }
-    ensures limit { IsSome simple.now.kept → slots.new.limit ≡ 4294967295 }
+    ensures limit { IsSome simple.now.kept → slots.new.limit ≡ 4261412864 }
     ensures done { IsSome simple.now.kept → result ≡ DONE }
     ensures empty { IsNone simple.now.kept → (result ≡ EMPTY) × (slots.new ≡ slots.old) }
 {

@@ -170,7 +170,7 @@ fn entries_of_a_simple_allocator() {
         SlotCount {
             used: 1,
             kept: 1,
-            limit: u32::MAX
+            limit: 4_261_412_864
         }
     );
     simple.allocate(size2(10, 20)).unwrap();
@@ -179,7 +179,7 @@ fn entries_of_a_simple_allocator() {
         SlotCount {
             used: 2,
             kept: 2,
-            limit: u32::MAX
+            limit: 4_261_412_864
         }
     );
     assert!(simple.allocate(size2(64, 64)).is_none());
