@@ -198,7 +198,7 @@ typedef struct guillotiere_options {
 
 /* How many slots are used, the most that were used at once since the last start, and how many may be used. Each live and
  * each free box takes a slot, and so does each container of the tree of cuts. Of a simple allocator: its entries, one for
- * each free box; how many there are, used and unused; and 4294967295. */
+ * each free box; how many there are, used and unused; and 4261412864. */
 typedef struct guillotiere_slots {
     uint32_t used;
     uint32_t kept;

@@ -185,7 +185,7 @@ pub struct PlainOptions {
 
 /// How many slots are used, the most that were used at once since the last start, and how many may be used. Each live and
 /// each free box takes a slot, and so does each container of the tree of cuts. Of a simple allocator: its entries, one for
-/// each free box; how many there are, used and unused; and 4294967295.
+/// each free box; how many there are, used and unused; and 4261412864.
 #[repr(C)]
 #[derive(Clone, Copy)]
 pub struct PlainSlots {
