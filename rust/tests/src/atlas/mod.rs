@@ -3,6 +3,7 @@
 //! an answer of the code under test.
 
 mod churn;
+mod equal_sides;
 mod errors;
 mod geometry;
 mod pages;
