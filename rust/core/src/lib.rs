@@ -13,6 +13,7 @@
     clippy::match_like_matches_macro,
     clippy::needless_range_loop,
     clippy::new_without_default,
+    clippy::only_used_in_recursion,
     clippy::should_implement_trait,
     clippy::too_many_arguments
 )]

@@ -186,6 +186,7 @@ const LIBRARY_HEAD: &str = "\
     clippy::match_like_matches_macro,
     clippy::needless_range_loop,
     clippy::new_without_default,
+    clippy::only_used_in_recursion,
     clippy::should_implement_trait,
     clippy::too_many_arguments
 )]

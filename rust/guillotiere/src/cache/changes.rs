@@ -2,6 +2,7 @@
 use super::values::{change_of, CacheChange};
 use super::CacheError;
 use alloc::collections::VecDeque;
+use alloc::vec::Vec;
 use core::fmt;
 use core::iter::FusedIterator;
 use wollemigo_core::atlas_cache as library;
@@ -28,14 +29,16 @@ impl<K: Copy> Waiting<K> {
 
     pub(super) fn try_clone(&self) -> Result<Self, CacheError> {
         let changes = LibraryVec::from_slice(Global, self.changes.as_slice());
-        let mut ends = VecDeque::new();
-        ends.try_reserve(self.ends.len())
+        // Before Rust 1.67 an empty `VecDeque` takes memory that can't be refused, and one of a `Vec` only where its room is no
+        // power of two.
+        let mut ends = Vec::new();
+        ends.try_reserve_exact((self.ends.len().max(1) + 1).next_power_of_two())
             .map_err(|_| CacheError::Memory)?;
         ends.extend(&self.ends);
         Ok(Waiting {
             changes: changes.map_err(|_| CacheError::Memory)?,
             handed: self.handed,
-            ends,
+            ends: VecDeque::from(ends),
         })
     }
 
