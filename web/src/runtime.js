@@ -215,6 +215,9 @@ export let isOf;
 export let runtimeOf;
 export let handle;
 
+/** Whether a value is an owner of any kind. Terser 5.16, which webpack brings, loses the parentheses of `!(#kind in value)`. */
+let isOwner;
+
 /** An object that owns what stands behind a handle. */
 export class Owner {
   #runtime;
@@ -222,6 +225,7 @@ export class Owner {
   #kind;
 
   static {
+    isOwner = (value) => typeof value === 'object' && value !== null && #kind in value;
     isOf = (value, kind) => typeof value === 'object' && value !== null && #kind in value && value.#kind === kind;
     runtimeOf = (owner, kind) => {
       if (!isOf(owner, kind)) throw new WollemigoError('BAD_THIS', `a call of ${kind.name} was made on what is no ${kind.name}`);
@@ -251,12 +255,12 @@ export class Owner {
   /** What Node and others that follow it show in a console. */
   [Symbol.for('nodejs.util.inspect.custom')](depth, settings, inspect) {
     const name = this.constructor?.name ?? 'Object';
-    if (typeof inspect !== 'function' || !(#kind in this) || typeof depth === 'number' && depth < 0) return `${name} {}`;
+    if (typeof inspect !== 'function' || !isOwner(this) || typeof depth === 'number' && depth < 0) return `${name} {}`;
     return `${name} ${inspect(this.toJSON(), settings)}`;
   }
 
   dispose() {
-    if (typeof this !== 'object' || this === null || !(#kind in this)) {
+    if (!isOwner(this)) {
       throw new WollemigoError('BAD_THIS', 'dispose was called on what has no memory of the module');
     }
     const cell = this.#cell;

@@ -132,6 +132,18 @@ def test_lines_do_it(page):
         return [JSON.stringify([a, b, c]) === JSON.stringify(live), written.join('') === frames.flatMap(({ fresh }) => fresh).join('')]''') == [True, True]
 
 
+def test_lines_are_copied(page):
+    """Each figure has a button that copies its lines, as they are seen beside it."""
+    open_page(page)
+    page.run('navigator.clipboard.writeText = (text) => { window.copied = text; return Promise.resolve(); }')
+    seen = page.run('return [...document.querySelectorAll("figure")].map((each) => [...each.querySelectorAll("pre span")].map((line) => line.textContent).join("\\n"))')
+    assert len(seen) == 5 and all(seen)
+    for at, lines in enumerate(seen):
+        page.run('window.copied = null; document.querySelectorAll("figure button.copy")[arguments[0]].click()', at)
+        assert page.wait('window.copied').strip() == lines.strip()
+        page.wait('document.querySelectorAll("figure button.copy")[%d].textContent === "Copied"' % at)
+
+
 def test_keys_and_buttons(page):
     open_page(page)
     page.run('how.cut.steps.slider.set(0); document.querySelector("#cut input").focus()')
