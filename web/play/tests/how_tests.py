@@ -165,7 +165,7 @@ def test_can_be_read(page):
     names = page.run('return performance.getEntriesByType("resource").map((each) => each.name.split("/").at(-1))')
     assert names == ['wollemigo.wasm'], names
     plain, packed = page.measure([page.address + 'how.html', page.address + 'wollemigo.wasm'])
-    assert plain < 230000 and packed < 90000, (plain, packed)
+    assert plain < 240000 and packed < 94000, (plain, packed)
     for colour in ('dark', 'light'):
         if page.run('return document.documentElement.dataset.theme') != colour:
             page.click('#theme')
