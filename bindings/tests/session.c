@@ -89,7 +89,7 @@ static void grant_beside(guillotiere_atlas *atlas) {
     CHECK(guillotiere_simple_new(10, 10, &simple) == GUILLOTIERE_DONE);
     CHECK(guillotiere_simple_init_from_allocator(&simple, atlas) == GUILLOTIERE_DONE);
     CHECK(guillotiere_atlas_free_boxes(atlas, &granted, 0, &free_count) == GUILLOTIERE_DONE);
-    CHECK(guillotiere_simple_slots(&simple, &slots) == GUILLOTIERE_DONE && slots.limit == UINT32_MAX);
+    CHECK(guillotiere_simple_slots(&simple, &slots) == GUILLOTIERE_DONE && slots.limit == 4261412864u);
     CHECK(slots.used == free_count && slots.kept == free_count);
     while (guillotiere_simple_allocate(&simple, 40, 30, &granted) == GUILLOTIERE_DONE)
         for (size_t i = 0; i < held_count; i++) CHECK(are_apart(&granted, &held[i].rectangle));
