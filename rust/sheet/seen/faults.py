@@ -18,6 +18,7 @@ import time
 import zlib
 
 PROGRAM = os.path.abspath(sys.argv[1]) if len(sys.argv) == 2 else sys.exit(__doc__)
+ROOT = os.path.dirname(os.path.dirname(os.path.dirname(os.path.dirname(os.path.abspath(__file__)))))
 
 
 class Count:
@@ -399,6 +400,8 @@ def printed():
     page = run(['--man']).stdout
     check('printed: all words', len(switches) > 40 and not {each for each in switches if each.replace('-', r'\-') not in page}, switches)
     check('printed: alone', run(['--man', 'F', 'O']).returncode == 2)
+    engines = ['PixiJS', 'Phaser', 'libGDX', 'Godot 4', 'Godot 3', 'Starling', 'Web pages', 'Unity', 'cocos2d']
+    check('printed: engines', all(engine in told for engine in engines), engines)
     with tempfile.TemporaryDirectory() as room:
         put(room, {'page.1': page.encode(), 'words': run(['--completions', 'bash']).stdout.encode()})
         if shutil.which('man') and shutil.which('groff'):
@@ -409,6 +412,30 @@ def printed():
         check('printed: bash', done.returncode == 0 and '--power-of-two' in open(room + '/words').read(), done.stderr)
 
 
+def on_the_page():
+    """docs/PACK.md has each switch in its table, and begins with lines that do what they say."""
+    with open(os.path.join(ROOT, 'docs', 'PACK.md'), encoding='utf-8') as file:
+        page = file.read()
+    switches = set(re.findall(r'^ +(?:-\w, )?(--[a-z-]+)', run(['--help']).stdout, re.M))
+    rows = ' '.join(line.split(' | ')[0] for line in page.splitlines() if line.startswith('| `--'))
+    # Of these two the first is the default, and stands in the row of the other.
+    lacking = {each for each in switches if each + '`' not in rows and each + ' ' not in rows} - {'--keep-numbers'}
+    check('on the page: all words', len(switches) > 40 and not lacking and '`--keep-numbers`' in page, lacking)
+    start = page.split('## ')[1]
+    check('on the page: it begins', start.startswith('Quick start') and start.count('\n    ') <= 14, start)
+    lines = re.findall(r'^    guillotiere-sheet (icons game/icons .*?)(?: +#.*)?$', page, re.M)
+    check('on the page: lines', len(lines) >= 8, lines)
+    for line in lines:
+        with tempfile.TemporaryDirectory() as room:
+            put(room + '/icons', {'%d/%d.png' % (number % 2, number): png(8 + number, 8, number) for number in range(9)})
+            os.mkdir(room + '/game')
+            os.symlink(os.path.join(ROOT, 'rust'), room + '/rust')
+            words = line.split()
+            done = run([word for word in words if word != '--watch'], cwd=room)
+            check('on the page: ' + line, done.returncode == (5 if '--check' in words else 0)
+                  and ('--check' in words) == (written(room + '/game') == []), (done.returncode, done.stderr))
+
+
 for each in CASES:
     case(*each)
 left_out()
@@ -417,6 +444,7 @@ no_space()
 no_permission()
 devices()
 printed()
+on_the_page()
 watched()
 replaced()
 unmoved()
