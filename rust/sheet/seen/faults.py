@@ -85,6 +85,8 @@ CASES = [
     ('filter', GOOD, ['F', 'O', '--filter', 'nearest'], 2, [r'--filter and --wrap need --form libgdx or libgdx-new']),
     ('no template', GOOD, ['F', 'O', '--template', 'none.json.tera'], 1, [r'none\.json\.tera: ' + NOT_THERE]),
     ('template and form', GOOD, ['F', 'O', '--template', 'x.json.tera', '--form', 'css'], 2, [r'.*cannot be used with.*']),
+    ('a folder for a template', GOOD, ['F', 'O', '--template', 'F'], 1, [r".*: it isn't a file"]),
+    ('a folder for anchors', {**GOOD, 'anchors.txt/x': b''}, ['F', 'O'], 1, [r".*anchors\.txt: it isn't a file"]),
     ('bad template', {**GOOD, 'x.json.tera': b'{{ pages'}, ['F', 'O', '--template', 'F/x.json.tera'], 1,
      [r'x\.json\.tera: Failed to parse .*']),
     ('nothing of this name', {**GOOD, 'x.json.tera': b'{{ pager }}'}, ['F', 'O', '--template', 'F/x.json.tera'], 1,
@@ -350,6 +352,34 @@ def replaced():
             check('replaced: another', wait_for(lambda: '"other.png"' in watch.text()), watch.lines())
 
 
+def templated():
+    """The template is followed, wherever it lies, also where another file gets its name; while it is bad the last record stays."""
+    with tempfile.TemporaryDirectory() as room:
+        put(room + '/in', GOOD)
+        put(room, {'own.json.tera': b'{{ stem }} 1'})
+        with Watch(room, '--template', room + '/own.json.tera') as watch:
+            check('templated: first', wait_for(lambda: watch.text() == 'sheet 1'))
+            put(room, {'own.json.tera': b'{{ stem }} of 2'})
+            check('templated: changed', wait_for(lambda: watch.text() == 'sheet of 2'), watch.lines())
+            put(room, {'next': b'{{ stem'})
+            os.rename(room + '/next', room + '/own.json.tera')
+            check('templated: bad', wait_for(lambda: any('own.json.tera: ' in line for line in watch.lines()))
+                  and watch.text() == 'sheet of 2', watch.lines())
+            put(room, {'own.json.tera': b'3'})
+            check('templated: good again', wait_for(lambda: watch.text() == '3'), watch.lines())
+
+
+def never_ending():
+    """Pipes in the place of a text that is read."""
+    for name, words in (('anchors.txt', []), ('x.json.tera', ['--template', 'in/x.json.tera'])):
+        with tempfile.TemporaryDirectory() as room:
+            put(room + '/in', GOOD)
+            os.mkfifo(room + '/in/' + name)
+            done = run([room + '/in', room + '/sheet'] + words, cwd=room, timeout=30)
+            check('never ending: ' + name, done.returncode == 1 and done.stderr.endswith(name + ": it isn't a file\n")
+                  and written(room) == sorted(['in', *GOOD, name]), (done.returncode, done.stderr, written(room)))
+
+
 def unmoved():
     """What doesn't count changes nothing: other files, hidden and excluded ones, and a touch."""
     with tempfile.TemporaryDirectory() as room:
@@ -447,6 +477,8 @@ printed()
 on_the_page()
 watched()
 replaced()
+templated()
+never_ending()
 unmoved()
 checked()
 print('%d passed, %d failed' % (Count.passed, Count.failed))
