@@ -394,17 +394,19 @@ export class TextureCache {
   /** The place of a key; null where it isn't held. This doesn't count as a use, a hit or a miss. */
   peek(key: Key): Place | null;
   /**
-   * A place for a key, which is used in this frame. A key that is held keeps its place. For a new key a page may grow, one may
-   * be added, and keys that this frame didn't use may be evicted; what was done is handed over by `changes`: follow it before the place
-   * is used, even if the call throws. Null where this frame uses all that the pages have room for: draw what is batched,
-   * call `beginFrame`, and insert again.
+   * A place for a key, which is used in this frame. A key that is held keeps its place. For a new key a page may grow, one may be
+   * added, and keys that this frame didn't use may be evicted; what was done is handed over by `changes`: follow it after each
+   * insertion, before the place or its number is noted, even if the call throws. Null where this frame uses all that the pages
+   * have room for: draw what is batched, call `beginFrame`, and insert again.
    *
    * A key with an empty size (a side below 1) takes no room and is never evicted to make room for another. Both rectangles of
-   * its place are empty, on page 0, also where there is no page yet: there is nothing to write or to draw.
+   * its place are 0, and so is its page, but it is on no page: there is nothing to write or to draw, no `repack` reports it, and
+   * `shrink` leaves no page for it.
    *
    * Quads that are drawn page by page lie in another order than they were batched in, which shows where they overlap.
    *
-   * Throws `OTHER_SIZE`, `NEVER_FITS`, and then nothing changed; `NUMBERS`, `SLOTS`, `MEMORY`.
+   * Throws `OTHER_SIZE`, `NEVER_FITS`, and then nothing changed; `NUMBERS`, `SLOTS`, `MEMORY`. After `SLOTS` keys have to be removed or
+   * trimmed: none is evicted for the new one, in no later frame either, and another page with room isn't tried.
    */
   insert(key: Key, width: number, height: number): Entry | null;
   /**
@@ -429,8 +431,8 @@ export class TextureCache {
   trim(frames: number | bigint): void;
   /** Removes the pages after the last one with a key, each reported as removed, the last one first; after `clear` all. Throws `MEMORY`. */
   shrink(): void;
-  /** Repacks the keys of a page, so that what is free comes together; each key is reported by a change. Throws `NO_PAGE`, `SLOTS`,
-   * `MEMORY`. */
+  /** Repacks the keys of a page, so that what is free comes together; each key is reported by a change. Follow the changes that wait, copy
+   * the page, then call this, and copy all pixels from that copy. Throws `NO_PAGE`, `SLOTS`, `MEMORY`. */
   repack(page: number): void;
 
   /** Takes memory for this many more keys. Throws `MEMORY`. */
@@ -447,7 +449,7 @@ export class TextureCache {
   readonly length: number;
   readonly pageCount: number;
   /** How many numbers keys have had since the cache was made or cleared: the number of each place is below this. Those of keys that
-   * are gone are reused first, so what is kept of each key fits an array. */
+   * are gone are reused first, which of them isn't said, so what is kept of each key fits an array. */
   readonly numbers: number;
   /** Throws `NO_PAGE`. */
   pageSize(page: number): Size;
@@ -455,8 +457,8 @@ export class TextureCache {
   areas(page: number): Areas;
   /**
    * How much of a page's free area lies in free boxes which have no room for a key of this size, with its padding and rounded
-   * up. Asked with the size of a usual key it says how fragmented the page is: where that is much, it is time to repack it. Throws
-   * `NO_PAGE`, `MEMORY`.
+   * up; a side below 0 counts as 0. Asked with the size of a usual key it says how fragmented the page is: where that is much, it is
+   * time to repack it. Throws `NO_PAGE`, `MEMORY`.
    */
   unusableArea(page: number, width: number, height: number): number;
   /** Those with which it was made, with the defaults of what was left out. */
@@ -488,7 +490,7 @@ export interface SheetOptions {
   /** Pixels between two sprites, and between a sprite and the border: at most 65535. By default 0. */
   padding?: number;
   /** Each place, with the padding at its left and above, begins on multiples of these sides and takes multiples of them, also at
-   * the right and lower border. By default 1 and 1. */
+   * the right and lower border; the padding at its right and below comes after that. By default 1 and 1. */
   alignment?: PlainSize;
   /** Whether a sprite may lie turned by 90 degrees. By default false. */
   turn?: boolean;
@@ -518,7 +520,8 @@ export function pack(sprites: Iterable<Size>, options?: SheetOptions): Sheet | n
 
 /**
  * The sheet of `pack`, or one with fewer pixels, laid out without guillotine cuts and with no sprite turned: each, the highest first,
- * lies as high up as it can, and there as far left. Never one with more pixels. Takes longer. Throws as `pack`.
+ * lies as high up as it can, and there as far left. Never one with more pixels; where `pack` finds none it may find one. Takes longer.
+ * Throws as `pack`.
  */
 export function packDense(sprites: Iterable<Size>, options?: SheetOptions): Sheet | null;
 

@@ -131,7 +131,7 @@ private:
     void draw_new(std::uint64_t key, int x, int y, const bitmap &pixels) {
         for (;;) {
             const auto answer = cache_.insert(key, {pixels.width, pixels.height});
-            follow(); // also after an error, and before the place is used
+            follow(); // also after an error, and before the place or its number is noted
             if (!answer) fail(guillotiere::text(answer.error()));
             switch (answer->answer) {
             case guillotiere::insertion::fresh:

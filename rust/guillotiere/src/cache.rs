@@ -198,14 +198,16 @@ impl<K: Copy + Eq + Hash, S: BuildHasher> TextureCache<K, S> {
     /// doubles, but no further than the largest page. If none can grow, one is added; and if no more are allowed, the
     /// least recently used entry that lies on a page and that this frame didn't use is evicted; and so on.
     ///
-    /// A new key with an empty size, of which a side is 0 or below, becomes a blank entry: `Placed` with a place that is
-    /// empty. It takes no room, so no page changes and nothing is evicted for it, nor is it ever evicted for another key: it stays until
-    /// `trim`, `remove` or `clear`, and takes the memory of an entry. The first eviction that meets it passes it, and none after that
-    /// until it is used. Where many of them come, as one for each space of a text under a key of its own, call `trim` now and then, or
-    /// give all of them one key.
+    /// A new key with an empty size, of which a side is 0 or below, becomes a blank entry: `Placed` with a place that is empty.
+    /// Its page is 0, but it is on no page: no `repack` reports it, and `shrink` leaves no page for it. It takes no room, so no
+    /// page changes and nothing is evicted for it, nor is it ever evicted for another key: it stays until `trim`, `remove` or
+    /// `clear`, and takes the memory of an entry. The first eviction that meets it passes it, and none after that until it is
+    /// used. Where many of them come, as one for each space of a text under a key of its own, call `trim` now and then, or give
+    /// all of them one key.
     ///
     /// What was done to other keys and to pages is reported by `drain_changes`, also after `FrameFull` and after an error: follow
-    /// it before the place is used.
+    /// it after each insertion, before the place or its number is noted. A key that was evicted and came back is reported as
+    /// evicted all the same.
     ///
     /// ```
     /// use guillotiere::cache::{CacheOptions, TextureCache};
@@ -315,8 +317,8 @@ impl<K: Copy + Eq + Hash, S: BuildHasher> TextureCache<K, S> {
 
     /// Repacks the keys of a page, the largest first, and among equal areas the most recently used, so that what is free
     /// comes together. Returns whether there is such a page. Each of its keys is reported by a change, as moved, even if it stays,
-    /// or as evicted, where it found no room. A place that a key moves to can overlap one that a later change moves from: copy
-    /// all pixels from the page as it was.
+    /// or as evicted, where it found no room. A place that a key moves to can overlap one that a later change moves from: follow the
+    /// changes that wait, copy the page, then call this, and copy all pixels from that copy.
     ///
     /// ```
     /// use guillotiere::cache::{CacheChange, CacheOptions, TextureCache};
@@ -338,9 +340,9 @@ impl<K: Copy + Eq + Hash, S: BuildHasher> TextureCache<K, S> {
         self.reporting(|cache, changes| cache.repack(page, changes))
     }
 
-    /// The area of a page, in pixels, that is free in rectangles which have no room for an entry of this size, with its
-    /// padding and rounded up to the alignment; None if there is no such page. Where much of the free area is of no use
-    /// for entries of the usual size, it is time to repack the page.
+    /// The area of a page, in pixels, that is free in rectangles which have no room for an entry of this size, with its padding
+    /// and rounded up to the alignment; a side below 0 counts as 0. None if there is no such page. Where much of the free area is
+    /// of no use for entries of the usual size, it is time to repack the page.
     pub fn unusable_area(&self, page: u32, size: Size) -> Result<Option<u64>, CacheError> {
         Ok(self
             .cache

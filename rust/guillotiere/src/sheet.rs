@@ -74,7 +74,17 @@ pub struct SheetOptions {
     /// The least number of pixels between two sprites, and between a sprite and the border.
     pub padding: u16,
     /// Each place, with the padding at its left and above, begins on multiples of these sides and takes multiples of them, also
-    /// at the right and lower border; both are above 0.
+    /// at the right and lower border; the padding at its right and below comes after that. Both are above 0.
+    ///
+    /// ```
+    /// use guillotiere::sheet::{pack, Allowed, SheetOptions};
+    /// use guillotiere::size2;
+    ///
+    /// let squares = SheetOptions::new(Allowed::Squares { least: 1, greatest: 99 });
+    /// let options = SheetOptions { padding: 1, alignment: size2(4, 4), ..squares };
+    /// assert_eq!(pack(&[size2(1, 1)], &options)?.unwrap().size, size2(5, 5)); // 1 + 1, rounded up to 4, and 1
+    /// # Ok::<(), guillotiere::sheet::SheetError>(())
+    /// ```
     pub alignment: Size,
     /// Whether a sprite may lie turned by 90 degrees.
     pub turn: bool,
@@ -338,7 +348,8 @@ pub fn pack_telling(
 }
 
 /// The sheet of `pack`, or a smaller one laid out without guillotine cuts, which is fuller as a rule, and the more so the more
-/// sprites there are. It never has more pixels than that of `pack`. In a smaller one no sprite is turned.
+/// sprites there are. It never has more pixels than that of `pack`. In a smaller one no sprite is turned. Where `pack`
+/// finds none it may find one.
 ///
 /// ```
 /// use guillotiere::sheet::{pack_dense, Allowed, SheetOptions};

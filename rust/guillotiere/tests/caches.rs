@@ -241,12 +241,36 @@ fn pages_at_the_end_that_hold_nothing_go() {
     assert_eq!(cache.pages(), 0);
 }
 
+// The padding of all sides is rounded up with the size: 1 + 1 + 1 to 4.
+#[test]
+fn padding_before_the_rounding() {
+    for (side, fits) in [(3, false), (4, true)] {
+        let atlas = AllocatorOptions {
+            alignment: size2(4, 4),
+            ..DEFAULT_OPTIONS
+        };
+        let options = CacheOptions {
+            padding: 1,
+            atlas,
+            ..CacheOptions::new(size2(side, side))
+        };
+        let found = TextureCache::new(&options);
+        assert_eq!(found.is_ok(), fits);
+        if let Ok(mut cache) = found {
+            let place = cache.insert(7, size2(1, 1)).unwrap().place().unwrap();
+            assert_eq!(place.rectangle.size(), size2(4, 4));
+            assert_eq!(cache.insert(8, size2(3, 1)), Ok(Inserted::NeverFits));
+        }
+    }
+}
+
 #[test]
 fn free_area_of_no_use() {
     let mut cache = TextureCache::new(&one_page()).unwrap();
     let _ = cache.insert(7, size2(8, 16)).unwrap();
     assert_eq!(cache.unusable_area(0, size2(9, 9)), Ok(Some(128)));
     assert_eq!(cache.unusable_area(0, size2(8, 16)), Ok(Some(0)));
+    assert_eq!(cache.unusable_area(0, size2(-3, -9)), Ok(Some(0)));
     assert_eq!(cache.unusable_area(1, size2(8, 16)), Ok(None));
 }
 

@@ -18,6 +18,7 @@ import time
 import zlib
 
 PROGRAM = os.path.abspath(sys.argv[1]) if len(sys.argv) == 2 else sys.exit(__doc__)
+ROOT = os.path.dirname(os.path.dirname(os.path.dirname(os.path.dirname(os.path.abspath(__file__)))))
 
 
 class Count:
@@ -84,6 +85,8 @@ CASES = [
     ('filter', GOOD, ['F', 'O', '--filter', 'nearest'], 2, [r'--filter and --wrap need --form libgdx or libgdx-new']),
     ('no template', GOOD, ['F', 'O', '--template', 'none.json.tera'], 1, [r'none\.json\.tera: ' + NOT_THERE]),
     ('template and form', GOOD, ['F', 'O', '--template', 'x.json.tera', '--form', 'css'], 2, [r'.*cannot be used with.*']),
+    ('a folder for a template', GOOD, ['F', 'O', '--template', 'F'], 1, [r".*: it isn't a file"]),
+    ('a folder for anchors', {**GOOD, 'anchors.txt/x': b''}, ['F', 'O'], 1, [r".*anchors\.txt: it isn't a file"]),
     ('bad template', {**GOOD, 'x.json.tera': b'{{ pages'}, ['F', 'O', '--template', 'F/x.json.tera'], 1,
      [r'x\.json\.tera: Failed to parse .*']),
     ('nothing of this name', {**GOOD, 'x.json.tera': b'{{ pager }}'}, ['F', 'O', '--template', 'F/x.json.tera'], 1,
@@ -349,6 +352,34 @@ def replaced():
             check('replaced: another', wait_for(lambda: '"other.png"' in watch.text()), watch.lines())
 
 
+def templated():
+    """The template is followed, wherever it lies, also where another file gets its name; while it is bad the last record stays."""
+    with tempfile.TemporaryDirectory() as room:
+        put(room + '/in', GOOD)
+        put(room, {'own.json.tera': b'{{ stem }} 1'})
+        with Watch(room, '--template', room + '/own.json.tera') as watch:
+            check('templated: first', wait_for(lambda: watch.text() == 'sheet 1'))
+            put(room, {'own.json.tera': b'{{ stem }} of 2'})
+            check('templated: changed', wait_for(lambda: watch.text() == 'sheet of 2'), watch.lines())
+            put(room, {'next': b'{{ stem'})
+            os.rename(room + '/next', room + '/own.json.tera')
+            check('templated: bad', wait_for(lambda: any('own.json.tera: ' in line for line in watch.lines()))
+                  and watch.text() == 'sheet of 2', watch.lines())
+            put(room, {'own.json.tera': b'3'})
+            check('templated: good again', wait_for(lambda: watch.text() == '3'), watch.lines())
+
+
+def never_ending():
+    """Pipes in the place of a text that is read."""
+    for name, words in (('anchors.txt', []), ('x.json.tera', ['--template', 'in/x.json.tera'])):
+        with tempfile.TemporaryDirectory() as room:
+            put(room + '/in', GOOD)
+            os.mkfifo(room + '/in/' + name)
+            done = run([room + '/in', room + '/sheet'] + words, cwd=room, timeout=30)
+            check('never ending: ' + name, done.returncode == 1 and done.stderr.endswith(name + ": it isn't a file\n")
+                  and written(room) == sorted(['in', *GOOD, name]), (done.returncode, done.stderr, written(room)))
+
+
 def unmoved():
     """What doesn't count changes nothing: other files, hidden and excluded ones, and a touch."""
     with tempfile.TemporaryDirectory() as room:
@@ -399,6 +430,8 @@ def printed():
     page = run(['--man']).stdout
     check('printed: all words', len(switches) > 40 and not {each for each in switches if each.replace('-', r'\-') not in page}, switches)
     check('printed: alone', run(['--man', 'F', 'O']).returncode == 2)
+    engines = ['PixiJS', 'Phaser', 'libGDX', 'Godot 4', 'Godot 3', 'Starling', 'Web pages', 'Unity', 'cocos2d']
+    check('printed: engines', all(engine in told for engine in engines), engines)
     with tempfile.TemporaryDirectory() as room:
         put(room, {'page.1': page.encode(), 'words': run(['--completions', 'bash']).stdout.encode()})
         if shutil.which('man') and shutil.which('groff'):
@@ -409,6 +442,30 @@ def printed():
         check('printed: bash', done.returncode == 0 and '--power-of-two' in open(room + '/words').read(), done.stderr)
 
 
+def on_the_page():
+    """docs/PACK.md has each switch in its table, and begins with lines that do what they say."""
+    with open(os.path.join(ROOT, 'docs', 'PACK.md'), encoding='utf-8') as file:
+        page = file.read()
+    switches = set(re.findall(r'^ +(?:-\w, )?(--[a-z-]+)', run(['--help']).stdout, re.M))
+    rows = ' '.join(line.split(' | ')[0] for line in page.splitlines() if line.startswith('| `--'))
+    # Of these two the first is the default, and stands in the row of the other.
+    lacking = {each for each in switches if each + '`' not in rows and each + ' ' not in rows} - {'--keep-numbers'}
+    check('on the page: all words', len(switches) > 40 and not lacking and '`--keep-numbers`' in page, lacking)
+    start = page.split('## ')[1]
+    check('on the page: it begins', start.startswith('Quick start') and start.count('\n    ') <= 14, start)
+    lines = re.findall(r'^    guillotiere-sheet (icons game/icons .*?)(?: +#.*)?$', page, re.M)
+    check('on the page: lines', len(lines) >= 8, lines)
+    for line in lines:
+        with tempfile.TemporaryDirectory() as room:
+            put(room + '/icons', {'%d/%d.png' % (number % 2, number): png(8 + number, 8, number) for number in range(9)})
+            os.mkdir(room + '/game')
+            os.symlink(os.path.join(ROOT, 'rust'), room + '/rust')
+            words = line.split()
+            done = run([word for word in words if word != '--watch'], cwd=room)
+            check('on the page: ' + line, done.returncode == (5 if '--check' in words else 0)
+                  and ('--check' in words) == (written(room + '/game') == []), (done.returncode, done.stderr))
+
+
 for each in CASES:
     case(*each)
 left_out()
@@ -417,8 +474,11 @@ no_space()
 no_permission()
 devices()
 printed()
+on_the_page()
 watched()
 replaced()
+templated()
+never_ending()
 unmoved()
 checked()
 print('%d passed, %d failed' % (Count.passed, Count.failed))

@@ -10,6 +10,7 @@ import os
 import random
 import re
 import resource
+import struct
 import subprocess
 import sys
 import tempfile
@@ -151,6 +152,14 @@ def ignored(room):
     assert done.returncode in (0, 1) and len(done.lines) <= 1, done.lines
 
 
+def beyond(room):
+    """A pixel whose colour the palette doesn't have is opaque and black, as elsewhere; the others are as they are."""
+    put(room + '/in', 'a.png', icons.png(4, 1, 8, 3, [bytes([0, 1, 2, 255])], [(b'PLTE', bytes([1, 2, 3, 4, 5, 6]))]))
+    assert run(room + '/in', room + '/sheet').returncode == 0
+    found = readers.read('json-hash', room + '/sheet')['a.png']
+    assert list(found.getdata()) == [(1, 2, 3, 255), (4, 5, 6, 255), (0, 0, 0, 255), (0, 0, 0, 255)], list(found.getdata())
+
+
 def kinds(room):
     """Each kind that Pillow writes and we read, against what Pillow reads."""
     picture = Image.effect_mandelbrot((41, 23), (-2, -1, 1, 1), 50).convert('RGB')
@@ -164,6 +173,8 @@ def kinds(room):
     icons.save(folder, 'see-through.png', picture.convert('P', palette=Image.ADAPTIVE), transparency=3)
     icons.save(folder, 'interlaced.gif', picture.convert('P', palette=Image.ADAPTIVE), interlace=1)
     icons.save(folder, 'moving.png', alpha, save_all=True, append_images=[alpha.rotate(90)])
+    put(folder, 'interlaced.png', interlaced(picture))
+    icons.save(folder, 'a GIF.png', picture.convert('P', palette=Image.ADAPTIVE), format='gif')
     for ending, more in (('gif', {}), ('bmp', {}), ('tga', {}), ('tif', {}), ('tiff', {'compression': 'tiff_lzw'}), ('TGA', {'rle': True})):
         icons.save(folder, 'as.' + ending, picture if ending != 'gif' else picture.convert('P', palette=Image.ADAPTIVE), **more)
     icons.save(folder, 'alpha.tga', alpha)
@@ -177,6 +188,17 @@ def kinds(room):
     assert found.keys() == wanted.keys()
     for name in wanted:
         assert ImageChops.difference(found[name], wanted[name]).getbbox() is None, name
+
+
+def interlaced(picture):
+    """A PNG whose pixels come in the seven passes of Adam7."""
+    lines = b''
+    for left, top, right, down in ((0, 0, 8, 8), (4, 0, 8, 8), (0, 4, 4, 8), (2, 0, 4, 4), (0, 2, 2, 4), (1, 0, 2, 2), (0, 1, 1, 2)):
+        for y in range(top, picture.height, down):
+            row = [picture.getpixel((x, y)) for x in range(left, picture.width, right)]
+            lines += b'\0' + b''.join(map(bytes, row)) if row else b''
+    head = icons.chunk(b'IHDR', struct.pack('>IIBBBBB', *picture.size, 8, 2, 0, 0, 1))
+    return b'\x89PNG\r\n\x1a\n' + head + icons.chunk(b'IDAT', zlib.compress(lines)) + icons.chunk(b'IEND', b'')
 
 
 def top_first(picture):
@@ -342,6 +364,7 @@ def all_tests():
     test('four huge ones', huge, (20000, 20000), 4, 3, ['--trim', '--memory', '4G'])
     test('left out', left_out)
     test('ignored', ignored)
+    test('beyond', beyond)
     test('kinds', kinds)
     test('photographs', photographs)
     if features.check('webp_anim'):

@@ -1,6 +1,6 @@
 //! Anchors: the point of a picture that lies where the engine puts it.
 use crate::fault::{Fault, FILES};
-use crate::folder::{Named, Patterns};
+use crate::folder::{self, Named, Patterns};
 use std::path::Path;
 use std::str::FromStr;
 
@@ -48,17 +48,17 @@ fn line(text: &str) -> Option<(Patterns, Anchor)> {
 
 /// The anchor of each file: that of the last line in the folder's file that is like it, and else `usual`. A line that is like none is told.
 pub fn anchors(
-    folder: &Path,
+    inside: &Path,
     files: &[Named],
     usual: Option<Anchor>,
     notes: &mut Vec<String>,
 ) -> Result<Vec<Option<Anchor>>, Fault> {
-    let path = folder.join(FILE);
+    let path = inside.join(FILE);
     let mut anchors = vec![usual; files.len()];
     if !path.exists() {
         return Ok(anchors);
     }
-    let text = std::fs::read_to_string(&path).map_err(|error| Fault::file(&path, error))?;
+    let text = folder::text(&path)?;
     let lines = text.lines().enumerate();
     for (number, text) in
         lines.filter(|(_, text)| !text.trim().is_empty() && !text.starts_with('#'))
@@ -68,7 +68,7 @@ pub fn anchors(
             line(text).ok_or_else(|| Fault::new(FILES, told("it isn't PATTERN X Y")))?;
         let mut is_used = false;
         for ((_, file), place) in files.iter().zip(&mut anchors) {
-            if pattern.has(file.strip_prefix(folder).unwrap_or(file)) {
+            if pattern.has(file.strip_prefix(inside).unwrap_or(file)) {
                 *place = Some(anchor);
                 is_used = true;
             }

@@ -69,6 +69,14 @@ fn has_ending(path: &Path, endings: &[&str]) -> bool {
     ending.map_or(false, |ending| endings.contains(&ending.as_str()))
 }
 
+/// The text of a file. What isn't a file may never end.
+pub fn text(path: &Path) -> Result<String, Fault> {
+    match std::fs::metadata(path) {
+        Ok(there) if !there.is_file() => Err(Fault::file(path, "it isn't a file")),
+        _ => std::fs::read_to_string(path).map_err(|error| Fault::file(path, error)),
+    }
+}
+
 /// Whether a file is read, by its ending.
 pub fn is_picture(path: &Path) -> bool {
     has_ending(path, &ENDINGS)

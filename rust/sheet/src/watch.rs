@@ -54,12 +54,14 @@ impl Watched {
         }
     }
 
-    /// Waits until something may have changed, and then until nothing does for a while; false where it is another folder.
-    fn wait(&self, path: &Path) -> bool {
+    /// Waits until something may have changed, in the folder or `elsewhere`, and then until nothing in it does for a while; false where it
+    /// is another folder.
+    fn wait(&self, path: &Path, elsewhere: impl Fn() -> bool) -> bool {
         loop {
             match self.events.recv_timeout(EACH) {
                 Ok(event) if is_change(&event) => break,
                 Ok(_) => {}
+                Err(_) if elsewhere() => break,
                 Err(RecvTimeoutError::Timeout) if self.is_there(path) => {}
                 Err(RecvTimeoutError::Timeout) => return false,
                 // Nothing is watched.
@@ -74,8 +76,17 @@ impl Watched {
     }
 }
 
-// What a run reads: files, with their sizes and times, and what is told of the folder.
-type Seen = (Vec<(PathBuf, u64, Option<SystemTime>)>, Vec<String>);
+// A file, with its size and its time.
+type Stamp = (PathBuf, u64, Option<SystemTime>);
+
+// What a run reads: files, and what is told of the folder.
+type Seen = (Vec<Stamp>, Vec<String>);
+
+fn stamp(path: PathBuf) -> Stamp {
+    let file = path.metadata().ok();
+    let time = file.as_ref().and_then(|file| file.modified().ok());
+    (path, file.map_or(0, |file| file.len()), time)
+}
 
 fn seen(words: &Words) -> Seen {
     let excluded = Patterns::new(&words.exclude);
@@ -92,12 +103,8 @@ fn seen(words: &Words) -> Seen {
         Err(error) => (Vec::new(), vec![error.to_string()]),
     };
     paths.push(words.folder.join(anchor::FILE));
-    let one = |path: PathBuf| {
-        let file = path.metadata().ok();
-        let time = file.as_ref().and_then(|file| file.modified().ok());
-        (path, file.map_or(0, |file| file.len()), time)
-    };
-    (paths.into_iter().map(one).collect(), lines)
+    paths.extend(words.template.clone());
+    (paths.into_iter().map(stamp).collect(), lines)
 }
 
 /// Writes the sheets, and anew after each change of what is read, until the program is ended. Files of an earlier time that aren't written
@@ -123,7 +130,10 @@ pub fn watch(words: &Words) -> Result<Done, Fault> {
         }
         // What changed while it ran was told, and what doesn't count changes nothing.
         while seen(words) == before {
-            if !watched.wait(&words.folder) {
+            // The template may lie in another folder; where there is one, it was looked at last.
+            let template = words.template.as_ref().and(before.0.last());
+            let is_new = || template.map_or(false, |one| stamp(one.0.clone()) != *one);
+            if !watched.wait(&words.folder, is_new) {
                 watched = Watched::new(&words.folder);
             }
         }

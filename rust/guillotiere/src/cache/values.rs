@@ -20,7 +20,8 @@ use wollemigo_core::atlas_cache as library;
 #[derive(Copy, Clone, Debug, PartialEq, Eq, Hash)]
 pub struct Place {
     /// The number of the entry. It stays until the entry is gone, and no other entry has it meanwhile; the numbers of
-    /// entries that are gone are given out again before new ones, so what a caller keeps of each entry fits a list.
+    /// entries that are gone are given out again before new ones, which of them isn't said, so what a caller keeps of each
+    /// entry fits a list.
     pub number: u32,
     /// The page, counted from 0; of a blank entry 0, also where there is no page yet.
     pub page: u32,
@@ -171,7 +172,8 @@ pub enum CacheError {
     Memory,
     /// All 4,294,967,295 numbers of entries are in use.
     Numbers,
-    /// The slots of a page's atlas don't suffice.
+    /// The slots of a page's atlas don't suffice. No entry is evicted for it, in no later frame either, and another page with
+    /// room isn't tried: remove or trim some.
     Slots,
     /// The key is held with another size.
     OtherSize,

@@ -1,6 +1,7 @@
 //! Files by templates, so that an engine is a file away: that of the user, and those of forms that are templates themselves.
 use super::{beside, File};
 use crate::fault::{Fault, FILES, WORDS};
+use crate::folder;
 use crate::sheet::{Frame, Page, Sheet};
 use serde_json::{json, Value};
 use std::error::Error;
@@ -62,7 +63,7 @@ impl Template {
         let name = path
             .file_name()
             .map_or_else(String::new, |name| name.to_string_lossy().into_owned());
-        let text = std::fs::read_to_string(path).map_err(|error| Fault::file(path, error))?;
+        let text = folder::text(path)?;
         Template::new(&name, &text)
     }
 

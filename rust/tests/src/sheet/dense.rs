@@ -21,6 +21,16 @@ fn by_height() {
     assert!(sheet.size == size2(10, 10) && sheet.used_area == 100);
 }
 
+// It may find a sheet where no way packs all sprites.
+#[test]
+fn where_pack_finds_none() {
+    let sprites = [size2(1, 1), size2(1, 2), size2(2, 1)];
+    let options = SheetOptions::new(Allowed::One(size2(2, 3)));
+    let first = pack(Global, &sprites, &options).expect("memory");
+    let found = pack_dense(Global, &sprites, &options).expect("memory");
+    assert!(first.is_none() && found.is_some());
+}
+
 // Whether the sheet of random sprites is good, and no larger than that of `pack`.
 fn is_dense(seed: u32, options: &SheetOptions) -> Result<bool, Fail> {
     let sprites = sprites_of(seed, 40, 40);

@@ -3,7 +3,9 @@
 use super::filling::{are_apart, is_good, sprites_of, upright};
 use super::sides;
 use test_tables::rectangle;
-use wollemigo_core::atlas_sheet::{pack, Allowed, Placed, SheetError, SheetOptions};
+use wollemigo_core::atlas_sheet::{
+    pack, pack_dense, pack_pages, Allowed, Placed, SheetError, SheetOptions,
+};
 use wollemigo_core::guillotiere::{size2, Size};
 use wollemigo_support::alloc::Global;
 
@@ -163,6 +165,29 @@ fn aligned_at_the_border() {
     };
     let found = pack(Global, &[size2(33, 33)], &options).expect("memory");
     assert_eq!(found.map(|sheet| sheet.size), Some(size2(48, 48)));
+}
+
+// The padding at the right and below comes after the rounding: 1 and 1, rounded up to 4, and 1.
+#[test]
+fn padding_after_the_rounding() {
+    let sprite = [size2(1, 1)];
+    for (side, has_room) in [(4, false), (5, true)] {
+        let options = SheetOptions {
+            padding: 1,
+            alignment: size2(4, 4),
+            ..SheetOptions::new(Allowed::Squares {
+                least: 1,
+                greatest: side,
+            })
+        };
+        let found = pack(Global, &sprite, &options).expect("memory");
+        let wanted = if has_room { Some(size2(5, 5)) } else { None };
+        assert_eq!(found.map(|sheet| sheet.size), wanted);
+        let dense = pack_dense(Global, &sprite, &options).expect("memory");
+        assert_eq!(dense.map(|sheet| sheet.size), wanted);
+        let pages = pack_pages(Global, &sprite, &options).expect("memory");
+        assert_eq!(pages.is_some(), has_room);
+    }
 }
 
 // Sprites that count alike by a key keep their order, and may find a sheet in one order only.
