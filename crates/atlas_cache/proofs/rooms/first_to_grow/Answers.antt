@@ -1,4 +1,5 @@
 use Rattle.std.proofs.Common.{◌≡◌, ◌∙◌, ap, slice_get, Some}
+use Rattle.std.proofs.lemmas.Bool.{both_ways}
 use Rattle.atlas_cache.specs.Rooms.{page_sizes}
 use Rattle.atlas_cache.proofs.RoomLemmas.Paging.{size_read}
 use Rattle.atlas_cache.proofs.rooms.first_to_grow.Goals as goal
@@ -16,3 +17,6 @@ loop-page-preserved g c =
     let same = c.is_largest.ensures.0 c.if-not-is_largest.false in
     below_more (λ k. slice_get (page_sizes c.args.pages.now) k ≡ Some c.args.largest) c.loop-page.page
     c.loop-page.invariant (here ∙ ap Some same)
+
+pub returns-then-not-is_largest-clause-smaller : goal.returns-then-not-is_largest-clause-smaller
+returns-then-not-is_largest-clause-smaller g c = λ e. both_ways _ c.if-not-is_largest.true (c.is_largest.ensures.1 e)
