@@ -38,7 +38,7 @@ class Browser:
     def element(self, selector):
         return self.send('findElement', {'using': 'css selector', 'value': selector})[ELEMENT]
 
-    def click(self, selector, seconds=30):
+    def click(self, selector, seconds=60):
         """Clicks what is in sight, until that gets the click: what the page writes meanwhile may move it, or lay something over it."""
         end = time.time() + seconds
         while True:
@@ -53,8 +53,8 @@ class Browser:
                     raise
 
     def gets_click(self):
-        """Whether the click came to the element, or went to another page."""
-        end = time.time() + 1
+        """Whether the click came to the element, or went to another page; on a busy machine it may be late."""
+        end = time.time() + 15
         while self.run('return window.clicked === false'):
             if time.time() > end:
                 return False
