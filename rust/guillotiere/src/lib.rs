@@ -54,7 +54,7 @@
 //! | call | its time grows by |
 //! |---|---|
 //! | [`AtlasAllocator::new`] | nothing; it takes 21,672 bytes |
-//! | [`allocate`](AtlasAllocator::allocate), [`can_fit`](AtlasAllocator::can_fit) | the lists of free boxes with a side as it is asked for, at most 103, since boxes are listed by 52 bands of their widths and 52 of their heights; in a list of more than 48 the logarithm of their number |
+//! | [`allocate`](AtlasAllocator::allocate), [`can_fit`](AtlasAllocator::can_fit) | the lists of free boxes with a side as it is asked for, at most 103, since boxes are listed by 52 bands of their widths and 52 of their heights; in a list of more than 96 the logarithm of their number |
 //! | [`deallocate`](AtlasAllocator::deallocate) | the slots that go where free space is joined, each of which goes once |
 //! | `atlas[id]`, [`get`](AtlasAllocator::get), [`size`](AtlasAllocator::size), [`is_empty`](AtlasAllocator::is_empty) | nothing |
 //! | [`allocations`](AtlasAllocator::allocations), [`free_rectangles`](AtlasAllocator::free_rectangles), the `for_each` calls, [`areas`](AtlasAllocator::areas), `clone` | the most slots that were used at once |

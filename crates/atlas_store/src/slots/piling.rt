@@ -24,7 +24,7 @@ use atlas_search::table::{LISTS, Table};
 use std::alloc::Allocator;
 
 // A chain with more slots is long.
-const LONG: u32 = 48;
+const LONG: u32 = 96;
 
 /// Puts a free and detached slot into its list, that of this place, which is a pile.
 #[cold]

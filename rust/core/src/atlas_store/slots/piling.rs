@@ -11,7 +11,7 @@ use crate::atlas_store::slots::{read_node, read_ring, Slot};
 use wollemigo_support::alloc::Allocator;
 
 // A chain with more slots is long.
-const LONG: u32 = 48;
+const LONG: u32 = 96;
 
 /// Puts a free and detached slot into its list, that of this place, which is a pile.
 #[cold]
