@@ -42,8 +42,10 @@ class Browser:
         """Clicks what is in sight, until that gets the click: what the page writes meanwhile may move it, or lay something over it."""
         end = time.time() + seconds
         while True:
-            self.run('const element = document.querySelector(arguments[0]); element.scrollIntoView({ block: "center" });'
-                     'window.clicked = false; element.addEventListener("click", () => { clicked = true; }, { once: true, capture: true })', selector)
+            # Firefox runs each script apart from the page's own names, so the page's element says it.
+            self.run('const element = document.querySelector(arguments[0]), { dataset } = document.documentElement;'
+                     'element.scrollIntoView({ block: "center" }); dataset.clicked = "no";'
+                     'element.addEventListener("click", () => { dataset.clicked = "yes"; }, { once: true, capture: true })', selector)
             try:
                 self.send('clickElement', {'id': self.element(selector)})
                 if time.time() > end or self.gets_click():
@@ -55,7 +57,7 @@ class Browser:
     def gets_click(self):
         """Whether the click came to the element, or went to another page; on a busy machine it may be late."""
         end = time.time() + 15
-        while self.run('return window.clicked === false'):
+        while self.run('return document.documentElement.dataset.clicked === "no"'):
             if time.time() > end:
                 return False
             time.sleep(0.02)
