@@ -6,6 +6,7 @@ import re
 
 import player
 from measure import ROOT
+from runner import Suite
 
 PATH = os.path.join(ROOT, 'bench', 'cliffs', 'list')
 # How much a call may grow from n to 4n, and how much more than it is known to.
@@ -43,7 +44,7 @@ def verdict(known, growth):
 
 def run(mode, path, program, has_crate):
     """Prints a row for each line, and for the test its counts."""
-    passed = failed = 0
+    suite = Suite()
     print('| n | 4n | growth |%s | genome |\n%s|' % (' the crate, n | 4n | ratio |' if has_crate else '', '|---' * (8 if has_crate else 5)))
     with concurrent.futures.ThreadPoolExecutor(2) as pool:
         listed = list(lines(path))
@@ -51,10 +52,8 @@ def run(mode, path, program, has_crate):
         for (known, genome, name), future in zip(listed, futures):
             here, large, crate, crate_large = future.result()
             said, passes = verdict(known, large / here)
-            passed, failed = passed + passes, failed + (not passes)
+            suite.passed, suite.failed = suite.passed + passes, suite.failed + (not passes)
             beside = ' %.0f | %.0f | %.1f |' % (crate, crate_large, large / crate_large) if has_crate else ''
             print('| %.0f | %.0f | %.2f |%s %s | %s`%s` |' % (
                 here, large, large / here, beside, said, name + ': ' if name else '', genome), flush=True)
-    if mode == 'test':
-        print('%d passed, %d failed' % (passed, failed))
-    return 1 if mode == 'test' and failed else 0
+    return suite.end() if mode == 'test' else 0

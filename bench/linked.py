@@ -50,7 +50,7 @@ def build(folder, has_own_cache=False):
     files = {'package_cache.rs': 'cache.rs', 'cache.rs': 'by_hand.rs'} if has_own_cache else {'cache.rs': 'cache.rs'}
     for file, name in files.items():
         shutil.copy(os.path.join(ROOT, 'bench', file), os.path.join(here, 'src', name))
-    call(['cargo'] + cargo_here.from_debian() + ['build', '--release'], 'cargo build of bench/driver.rs', cwd=here,
+    call(['cargo'] + cargo_here.from_debian() + ['build', '--release'], cwd=here,
          env=dict(os.environ, CARGO_TARGET_DIR='target'))
     return os.path.join(here, 'target', 'release', 'driver')
 

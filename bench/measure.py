@@ -9,21 +9,13 @@ import tempfile
 import time
 
 ROOT = os.path.dirname(os.path.dirname(os.path.abspath(__file__)))
-
-
-class Failure(Exception):
-    """Something that is needed is missing, or didn't work."""
+sys.path.append(os.path.join(ROOT, 'gate'))
+from crates import proved_program  # noqa: E402, F401
+from runner import Failure, call  # noqa: E402
 
 
 def say(message):
     print('%s %s' % (time.strftime('%H:%M:%S'), message), file=sys.stderr, flush=True)
-
-
-def call(command, what, **more):
-    done = subprocess.run(command, stdout=subprocess.PIPE, stderr=subprocess.STDOUT, text=True, **more)
-    if done.returncode != 0:
-        raise Failure('%s failed:\n%s' % (what, done.stdout[-2000:]))
-    return done.stdout
 
 
 def absent(commands=(), files=()):
@@ -33,18 +25,10 @@ def absent(commands=(), files=()):
     return 'there is no ' + ', no '.join(wanting) if wanting else ''
 
 
-def build_proved():
-    """Proves and builds atlas_bench, by a run over no lines."""
-    say('proving and building atlas_bench')
-    crate = os.path.join(ROOT, 'crates', 'atlas_bench')
-    call(['rt', 'run'], 'rt run in ' + crate, cwd=crate, stdin=subprocess.DEVNULL)
-    return os.path.join(crate, 'out', 'atlas_bench')
-
-
 def build_library(prefix):
     """Proves and builds the library, and installs it in a folder."""
     say('proving and building the library')
-    call([os.path.join(ROOT, 'bindings', 'build'), prefix], 'bindings/build')
+    call([os.path.join(ROOT, 'bindings', 'build'), prefix], timeout=None)
 
 
 # What bindings/build needs.

@@ -4,7 +4,7 @@ import shutil
 import sys
 
 from beside import print_table
-from measure import ROOT, Failure, say
+from measure import ROOT, say
 
 sys.path.append(os.path.join(ROOT, 'rust'))
 import cargo_here  # noqa: E402
@@ -19,10 +19,7 @@ def missing():
 def build():
     """Builds the erased atlas_bench by cargo, in release, as the workspace of rust/ says."""
     say('building the plain atlas_bench')
-    try:
-        return cargo_here.program('atlas_bench')
-    except cargo_here.Failure as failure:
-        raise Failure(str(failure))
+    return cargo_here.program('atlas_bench')
 
 
 def report(names, workloads, long, proved, crate):

@@ -71,7 +71,7 @@ def build(core, crate, has_steps):
     target = 'steps' if has_steps else 'plain'
     path = cargo_here.cargo()
     say('building bench/cliffs over %s%s' % (core, ', with steps' if has_steps else ''))
-    call([path] + (cargo_here.from_debian() or ['--offline']) + ['build', '--release', '-j2'], 'cargo build of bench/cliffs', cwd=here,
+    call([path] + (cargo_here.from_debian() or ['--offline']) + ['build', '--release', '-j2'], cwd=here,
          env=dict(cargo_here.environment(path), CARGO_TARGET_DIR=target, RUSTFLAGS=' '.join(flags)))
     return os.path.join(here, target, 'release', 'cliffs')
 

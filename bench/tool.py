@@ -7,7 +7,7 @@ import sys
 import tempfile
 import time
 
-from measure import ROOT, Failure, absent, call
+from measure import ROOT, Failure, absent, call, proved_program
 
 LINES = 1000000
 ROUNDS = 5
@@ -20,27 +20,18 @@ def look_for(oracle, allocator):
         raise Failure(lacking)
 
 
-def build_tool():
-    """Proves and builds atlas_tool, by a run over its stored lines."""
-    crate = os.path.join(ROOT, 'crates', 'atlas_tool')
-    with open(os.path.join(crate, 'stdin')) as lines:
-        call(['rt', 'run'], 'rt run in ' + crate, cwd=crate, stdin=lines)
-    return os.path.join(crate, 'out', 'atlas_tool')
-
-
 def build_lines(oracle, allocator, folder):
     """Builds bench/lines.rs over a copy of the crate's allocator.rs, patched so that its answers are this repository's."""
     here = os.path.join(folder, 'lines')
     os.mkdir(here)
     shutil.copy(os.path.join(ROOT, 'bench', 'lines.rs'), here)
     copy = os.path.join(here, 'allocator.rs')
-    call([sys.executable, os.path.join(oracle, 'patch.py'), allocator, copy, 'stale', 'ties'], 'patch.py')
+    call([sys.executable, os.path.join(oracle, 'patch.py'), allocator, copy, 'stale', 'ties'])
     rustc = ['rustc', '--edition', '2021', '-O', '-A', 'warnings']
     euclid = os.path.join(here, 'libeuclid.rlib')
-    call(rustc + ['--crate-type', 'rlib', '--crate-name', 'euclid', '-o', euclid, os.path.join(oracle, 'euclid_shim.rs')],
-         'rustc of euclid_shim.rs')
+    call(rustc + ['--crate-type', 'rlib', '--crate-name', 'euclid', '-o', euclid, os.path.join(oracle, 'euclid_shim.rs')])
     program = os.path.join(here, 'program')
-    call(rustc + ['--extern', 'euclid=' + euclid, '-o', program, os.path.join(here, 'lines.rs')], 'rustc of lines.rs')
+    call(rustc + ['--extern', 'euclid=' + euclid, '-o', program, os.path.join(here, 'lines.rs')])
     return program
 
 
@@ -74,7 +65,7 @@ def same(one, other):
 
 def report(oracle, allocator):
     """Runs both over a glyph session in turn, and prints times and calls."""
-    ours = build_tool()
+    ours = proved_program('atlas_tool')
     with tempfile.TemporaryDirectory() as folder:
         theirs = build_lines(oracle, allocator, folder)
         source, mine, other = (os.path.join(folder, name) for name in ('session', 'ours', 'theirs'))

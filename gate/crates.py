@@ -5,6 +5,7 @@ import os
 import pathlib
 import re
 import subprocess
+import sys
 
 import kept
 
@@ -82,6 +83,20 @@ def read_crates():
         head, colon, deps = line.partition("#")[0].partition(":")
         if colon:
             Crate(head.split()[0], (head, deps))
+
+
+def proved_program(name):
+    """A program, proved and built: the one that stands here, or that `./check` kept on this machine, or that `rt run` makes."""
+    if not Crate.all:
+        read_crates()
+    crate = Crate.all[name]
+    if not crate.program() and kept.has(kept.name_of_program(crate, kit())):
+        kept.take(kept.name_of_program(crate, kit()), crate.folder / "out" / name)
+    if not crate.program():
+        print(f"proving and building {name}", file=sys.stderr, flush=True)
+        with open(crate.folder / "stdin") as lines:
+            subprocess.run(["rt", "run"], cwd=crate.folder, stdin=lines, stdout=subprocess.DEVNULL, check=True)
+    return crate.program()
 
 
 def build_below(crates):

@@ -14,6 +14,8 @@ ROWS = (
     (b'sheet squares 1 20 dense\na 4 2\nb 10 6\nc 4 2\nd 6 4\n',
      b'sheet 10 10\na 6 6 4 2\nb 0 0 10 6\nc 6 8 4 2\nd 0 6 6 4\nfull 1000\n'),
     (b'sheet one 5 3 dense\na 3 3\nb 3 2\n', b'no sheet that is allowed takes all sprites'),
+    (b'sheet one 16 16\na 1 1\n', b'sheet 16 16\na 0 0 1 1\nfull 3\n'),
+    (b'a 1\n', b'line 1: not a sprite, which is NAME WIDTH HEIGHT'),
     (b'a 1 1\nb 0 1\n', b'line 2: a side is below 1'),
     (b'sheet json\na 1 1\nb 1 0\n', b'line 3: a side is below 1'),
     (b'sheet padding 1\na 2147483647 1\n', b'line 2: the sprite is too large'),
@@ -76,7 +78,8 @@ def rows(program):
     for lines, wanted in ROWS:
         status, output, said = told(program, lines)
         if wanted.endswith(b'\n'):
-            is_good = status == (4 if b' none\n' in wanted or b'"left"' in wanted else 0) and output == wanted
+            is_left = b' none\n' in wanted or b'"left"' in wanted
+            is_good = (status, output) == (4 if is_left else 0, wanted) and (is_left or said == b'')
         else:
             is_good = status == (2 if wanted.startswith(b'line ') else 3) and output == b'' and said == wanted + b'\n'
         if not is_good:
@@ -107,36 +110,4 @@ def effort_and_seed(program):
     return True
 
 
-def whole_sheet(program):
-    """All sprites have places: status 0."""
-    return packs(program, b'sheet one 16 16\na 1 1\n', 0, b'sheet 16 16\na 0 0 1 1\nfull 3\n', b'')
-
-
-def sprite_left_out(program):
-    """With `fill` a sprite has no place: status 4, and it is named."""
-    lines = b'sheet one 4 4 fill\na 4 4\nb 4 4\n'
-    return packs(program, lines, 4, b'sheet 4 4\na 0 0 4 4\nb none\nfull 1000\n', b'no place: b\n')
-
-
-def bad_line(program):
-    """A line is bad: status 2."""
-    return packs(program, b'a 1\n', 2, b'', b'line 1: not a sprite, which is NAME WIDTH HEIGHT\n')
-
-
-def too_small_a_sheet(program):
-    """No sheet takes all sprites: status 3."""
-    return packs(program, b'sheet one 1 1\na 2 2\n', 3, b'', b'no sheet that is allowed takes all sprites\n')
-
-
-def too_few_sheets(program):
-    """More sheets are needed than `pages` allows: status 3."""
-    lines = b'sheet one 4 4 pages 1\na 4 4\nb 4 4\n'
-    return packs(program, lines, 3, b'', b'more sheets are needed than pages allows\n')
-
-
-def packs(program, lines, status, output, errors):
-    """Whether atlas_pack answers these lines so."""
-    return told(program, lines) == (status, output, errors)
-
-
-CASES = (rows, left_out, progress, effort_and_seed, whole_sheet, sprite_left_out, bad_line, too_small_a_sheet, too_few_sheets)
+CASES = (rows, left_out, progress, effort_and_seed)

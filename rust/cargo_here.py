@@ -4,21 +4,21 @@ import os
 import re
 import shutil
 import subprocess
+import sys
 import tempfile
 
 import stand_in
 
 HERE = os.path.dirname(os.path.abspath(__file__))
+sys.path.append(os.path.join(os.path.dirname(HERE), 'gate'))
+from runner import Failure  # noqa: E402
+
 # Debian's folder; CRATES in the environment is another one.
 REGISTRY = stand_in.REGISTRY
 # Debian's packages of the crates that rust/guillotiere needs, and of those that these need.
 PACKAGES = ['librust-%s-dev' % name for name in ('autocfg', 'euclid', 'libm', 'num-traits', 'proc-macro2', 'quote', 'serde', 'serde-derive',
                                              'syn', 'unicode-ident')]
 UNPACKED = os.path.join(HERE, 'target', 'debian')
-
-
-class Failure(Exception):
-    """What is told in one line."""
 
 
 def cargos():

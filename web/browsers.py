@@ -5,18 +5,18 @@ import http.server
 import os
 import shutil
 import subprocess
+import sys
 import tempfile
 import threading
+
+sys.path.append(os.path.join(os.path.dirname(os.path.dirname(os.path.abspath(__file__))), 'gate'))
+from runner import Failure  # noqa: E402
 
 KINDS = {'.js': 'text/javascript', '.html': 'text/html; charset=utf-8', '.wasm': 'application/wasm', '.css': 'text/css'}
 CHROMIUM = ['--headless=new', '--no-sandbox', '--disable-gpu', '--disable-dev-shm-usage', '--no-first-run', '--disable-extensions',
             '--disable-background-networking', '--disable-component-update']
 PREFERENCES = ['datareporting.policy.dataSubmissionEnabled', 'browser.shell.checkDefaultBrowser', 'app.normandy.enabled',
                'toolkit.telemetry.enabled', 'browser.aboutwelcome.enabled']
-
-
-class Failure(Exception):
-    """What a test found."""
 
 
 def browsers():

@@ -209,7 +209,7 @@ export function memory(): Memory;
 /** The greatest limit on the slots of an atlas, and that of an atlas without a limit of its own: 16777216. */
 export const MOST_SLOTS: 16777216;
 
-/** An atlas hands out boxes and takes them back: what is free joins at once. */
+/** An atlas hands out boxes and takes them back: what is free joins at once. It takes 22.9 kB of memory from the start, empty or not. */
 export class Atlas {
   /**
    * @param slotLimit how many slots may be used at once, from 1 to {@link MOST_SLOTS}. Each live and each free box takes one,
@@ -276,7 +276,7 @@ export class Atlas {
   [Symbol.dispose](): void;
 }
 
-/** A simple atlas hands out boxes and takes none back. */
+/** A simple atlas hands out boxes and takes none back. It takes as much memory as an atlas. */
 export class SimpleAtlas {
   /** Throws `BAD_CALL`, `MEMORY`. */
   constructor(width: number, height: number, options?: AtlasOptions);
@@ -369,7 +369,11 @@ export type CacheChange =
   /** The last page, which had nothing on it, is gone: drop its texture. */
   | { kind: 'pageRemoved'; page: number };
 
-/** How often `get` found its key and how often it didn't, and how many keys were evicted. */
+/**
+ * How often `get`, `touch` or `getInto` found a key, or `insert` or `insertAll` one that was held (`hits`); how often the first three didn't
+ * (`misses`); and how many keys were evicted. Where what `get` doesn't find is inserted, the hit rate is `hits / (hits + misses)`; where
+ * there are insertions alone, no miss is counted, and it is `hits` by calls.
+ */
 export interface Statistics {
   hits: number;
   misses: number;
@@ -394,7 +398,7 @@ export class TextureCache {
   /** The place of a key; null where it isn't held. This doesn't count as a use, a hit or a miss. */
   peek(key: Key): Place | null;
   /**
-   * A place for a key, which is used in this frame. A key that is held keeps its place. For a new key a page may grow, one may be
+   * A place for a key, which is used in this frame. A key that is held keeps its place, and counts as a hit. For a new key a page may grow, one may be
    * added, and keys that this frame didn't use may be evicted; what was done is handed over by `changes`: follow it after each
    * insertion, before the place or its number is noted, even if the call throws. Null where this frame uses all that the pages
    * have room for: draw what is batched, call `beginFrame`, and insert again.

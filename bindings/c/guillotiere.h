@@ -127,7 +127,7 @@ enum {
  * was compiled: what a function takes or what its answers mean, a field of a struct, or a number. What is only added leaves it. So a
  * program runs with every library whose guillotiere_interface() is the GUILLOTIERE_INTERFACE that it was compiled with and whose
  * guillotiere_version() is at least its GUILLOTIERE_VERSION. The name of the shared library has this number. */
-#define GUILLOTIERE_INTERFACE 1
+#define GUILLOTIERE_INTERFACE 2
 
 /* The greatest limit on the slots of an atlas, and that of an atlas without a limit of its own. */
 #define GUILLOTIERE_MOST_SLOTS 16777216
@@ -225,9 +225,11 @@ typedef struct guillotiere_sheet_options {
     int32_t height;
     int32_t least;
     int32_t greatest;
-    uint32_t padding; /* pixels between two sprites, and between a sprite and the border: at most 65535 */
+    /* The least number of pixels between two sprites, and between a sprite and the border: at most 65535. */
+    uint32_t padding;
     /* Each place, with the padding at its left and above, begins on multiples of these two sides, which are at least 1,
-     * and takes multiples of them, also at the right and lower border. */
+     * and takes multiples of them, also at the right and lower border. The padding at its right and below comes after that:
+     * with 4 by 4 and a padding of 1 a sprite of 1 by 1 needs a sheet of 5 by 5. */
     int32_t alignment_width;
     int32_t alignment_height;
     uint32_t turn; /* 0 for no turning; otherwise a sprite may lie turned by 90 degrees */
@@ -289,8 +291,9 @@ typedef struct guillotiere_cache_change {
     guillotiere_place to;
 } guillotiere_cache_change;
 
-/* How often guillotiere_cache_get found its key and how often it didn't, and how many keys an insertion, a trim or a
- * repacking evicted. A count that reaches 18446744073709551615 stays there. */
+/* How often guillotiere_cache_get found its key or guillotiere_cache_insert answered HELD (`hits`), how often
+ * guillotiere_cache_get didn't find its key (`misses`), and how many keys an insertion, a trim or a repacking evicted. A
+ * count that reaches 18446744073709551615 stays there. */
 typedef struct guillotiere_counts {
     uint64_t hits;
     uint64_t misses;
@@ -317,7 +320,7 @@ uint32_t guillotiere_interface(void);
 /* --- An atlas: its life -------------------------------------------------------------------------------------------- */
 
 /* Makes an atlas with the default options, where the handle holds nothing.
- * DONE; BAD_CALL if a side isn't above 0; MEMORY; OCCUPIED if the handle holds an atlas already. */
+ * DONE; BAD_CALL if a side isn't above 0; MEMORY; OCCUPIED, before all others, if the handle holds an atlas already. */
 GUILLOTIERE_CHECKED
 uint32_t guillotiere_atlas_new(int32_t width, int32_t height, guillotiere_atlas *atlas);
 
@@ -429,7 +432,7 @@ uint32_t guillotiere_atlas_deallocate_all(guillotiere_atlas *atlas, const uint32
 /* --- A simple allocator ---------------------------------------------------------------------------------------------- */
 
 /* Makes a simple allocator with the default options, where the handle holds nothing.
- * DONE; BAD_CALL if a side isn't above 0; MEMORY; OCCUPIED if the handle holds one already. */
+ * DONE; BAD_CALL if a side isn't above 0; MEMORY; OCCUPIED, before all others, if the handle holds one already. */
 GUILLOTIERE_CHECKED
 uint32_t guillotiere_simple_new(int32_t width, int32_t height, guillotiere_simple *simple);
 
@@ -483,8 +486,8 @@ bool guillotiere_simple_is_empty(const guillotiere_simple *simple);
 
 /* Makes a cache that holds nothing and has no page yet, where the handle holds nothing. Keys are any numbers of 64 bits;
  * they are hashed with a fixed seed.
- * DONE; OCCUPIED if the handle holds a cache already; the first of EMPTY_PAGE, LARGEST_PAGE, NO_PAGES,
- * BAD_PADDING, BAD_ATLAS and NOTHING_FITS that is wrong with the options; MEMORY. */
+ * DONE; OCCUPIED, before all others, if the handle holds a cache already; the first of EMPTY_PAGE, LARGEST_PAGE,
+ * NO_PAGES, BAD_PADDING, BAD_ATLAS and NOTHING_FITS that is wrong with the options; MEMORY. */
 GUILLOTIERE_CHECKED
 uint32_t guillotiere_cache_new(const guillotiere_cache_options *options, guillotiere_cache *cache);
 
@@ -502,20 +505,22 @@ uint32_t guillotiere_cache_get(guillotiere_cache *cache, uint64_t key, guillotie
 uint32_t guillotiere_cache_peek(const guillotiere_cache *cache, uint64_t key, guillotiere_place *place);
 
 /* A place for a key, which is used in this frame. A key that is held keeps its place, and is the most recently used; that
- * doesn't count as a hit. A new key goes onto the first page with room for its size with the padding. If none has room, a
- * page grows: its smaller side (the width if they are equal) doubles, but no further than the largest page. If none can
- * grow, one is added; and if no more are allowed, the least recently used key that lies on a page and that this frame didn't
- * use is evicted; and so on. What was done is handed over by guillotiere_cache_next_change, also after FRAME_FULL and
- * after an error: take all of it after each insertion, before the place or its number is noted. A key that was evicted and
- * came back is reported as evicted all the same.
+ * counts as a hit. A new key, which counts as no miss, goes onto the first page with room for its size with the padding.
+ * If none has room, a page grows: its smaller side (the width if they are equal) doubles, but no further than the largest
+ * page. If none can grow, one is added; and if no more are allowed, the least recently used key that lies on a page and
+ * that this frame didn't use is evicted; and so on. What was done is handed over by guillotiere_cache_next_change, also
+ * after FRAME_FULL and after an error: take all of it after each insertion, before the place or its number is noted. A
+ * key that was evicted and came back is reported as evicted all the same.
  * DONE: the key is new, and its place was written: its pixels are to be written to the texture. HELD: it was held, and
  * its place, where its pixels are, was written. FRAME_FULL: all pages allowed exist, at their largest, this frame uses all
  * keys on them and no page has room: draw what is batched, call guillotiere_cache_begin_frame and insert again; while a
  * frame has used nothing this is never the answer. NEVER_FITS if the size, with the padding on all sides and rounded up to
  * the alignment, exceeds the largest page, OTHER_SIZE if the key is held with another size, even if this one is empty or
- * would never fit: then nothing changed. NUMBERS if 4294967295 keys are still held; SLOTS if those of a page don't
- * suffice: then no key is evicted for the new one, in no later frame either, and keys have to be removed or trimmed;
- * MEMORY; EMPTY. A key with an empty size (a side below 1) takes no room, and is never evicted to make room for another.
+ * would never fit: then nothing changed. NUMBERS if 4294967295 keys are still held; SLOTS if the page that has room, or
+ * that would grow, can't use the slots that this takes, of 16777216; MEMORY if memory is refused. Either ends the call: another
+ * page that has room isn't tried, and no more keys are evicted for the new one. After SLOTS that is so in each later frame
+ * too, until keys of that page were removed or trimmed. EMPTY.
+ * A key with an empty size (a side below 1) takes no room, and is never evicted to make room for another.
  * Both rectangles of its place are 0, and so is its page, but it is on no page: nothing is to be written or drawn, no
  * repacking reports it, and no page stays for it. */
 GUILLOTIERE_CHECKED
@@ -583,8 +588,8 @@ uint32_t guillotiere_cache_reserve_changes(guillotiere_cache *cache, size_t addi
 uint32_t guillotiere_cache_len(const guillotiere_cache *cache, size_t *len);
 
 /* How many numbers keys have had since the cache was made or cleared: the number of each place is below this. The numbers of
- * keys that are gone are reused before new ones are given out, so there are never more than there ever were keys at once,
- * and what a caller keeps of each key fits an array. DONE; EMPTY. */
+ * keys that are gone are given out again before new ones, that of the key that went last first (which no contract promises), so
+ * there are never more than there ever were keys at once, and what a caller keeps of each key fits an array. DONE; EMPTY. */
 uint32_t guillotiere_cache_numbers(const guillotiere_cache *cache, uint32_t *numbers);
 
 /* How many pages there are. DONE; EMPTY. */
@@ -599,8 +604,9 @@ uint32_t guillotiere_cache_page_size(const guillotiere_cache *cache, uint32_t pa
 uint32_t guillotiere_cache_areas(const guillotiere_cache *cache, uint32_t page, guillotiere_areas *areas);
 
 /* Of the area of a page that is free, what lies in free boxes which have no room for a key of this size, with its padding
- * and rounded up to the alignment; a side below 0 counts as 0. Asked with the size of a usual key it says how fragmented the
- * page is: where much is of no use, it is time to repack it. Takes memory for a list of the page's free boxes.
+ * and rounded up to the alignment. A side below 0 counts as 0, and 0 as the padding on both sides, though a key of an empty
+ * size takes no room. Asked with the size of a usual key it says how fragmented the page is: where much is of no use, it is
+ * time to repack it. Takes memory for a list of the page's free boxes.
  * DONE; NO_PAGE; MEMORY; EMPTY. */
 uint32_t guillotiere_cache_unusable_area(const guillotiere_cache *cache, uint32_t page, int32_t width, int32_t height,
                                          uint64_t *area);
@@ -608,7 +614,9 @@ uint32_t guillotiere_cache_unusable_area(const guillotiere_cache *cache, uint32_
 /* The options with which the cache was made. DONE; EMPTY. */
 uint32_t guillotiere_cache_options_of(const guillotiere_cache *cache, guillotiere_cache_options *options);
 
-/* The counts since the cache was made. DONE; EMPTY. */
+/* The counts since the cache was made. Where a frame asks by guillotiere_cache_get, and inserts what that doesn't find, the
+ * hit rate is `hits` by `hits` and `misses` together; where it only inserts, no miss is counted, and it is `hits` by calls.
+ * DONE; EMPTY. */
 uint32_t guillotiere_cache_statistics(const guillotiere_cache *cache, guillotiere_counts *counts);
 
 /* --- A sheet of sprites that are known beforehand -------------------------------------------------------------------- */
@@ -639,10 +647,11 @@ uint32_t guillotiere_pack_dense(const guillotiere_size *sprites, size_t sprites_
 /* Packs all sprites into as few sheets as are found: the greatest of those allowed gets what guillotiere_fill places
  * there, the same is done with the sprites that are left, and the last of them get as small a sheet as guillotiere_pack
  * finds. For each sheet `effort` changes of the order are tried. DONE: `places` has where each sprite lies, in the order
- * of the sprites, `count` how many sheets there are, at most as many as sprites, and `sizes` their sizes, as many as there
- * is room for; what the arrays have after that stays. No two places on one sheet overlap, and no sheet is empty. There may
- * be no sprites: then there are no sheets.
- * NO_ROOM if a sprite is too large for an empty sheet; else as guillotiere_pack. */
+ * of the sprites, `count` how many sheets there are, at most as many as sprites, and `sizes` their sizes; what the arrays
+ * have after that stays. No two places on one sheet overlap, and no sheet is empty. There may be no sprites: then there are
+ * no sheets.
+ * NO_ROOM if a sprite is too large for an empty sheet; SHORT also if there are more sheets than sizes_len; else as
+ * guillotiere_pack. */
 GUILLOTIERE_CHECKED
 uint32_t guillotiere_pack_pages(const guillotiere_size *sprites, size_t sprites_len,
                                 const guillotiere_sheet_options *options, guillotiere_on_page *places, size_t places_len,

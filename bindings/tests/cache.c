@@ -207,7 +207,7 @@ static void a_life(void) {
     told_evicted(&cache, 8, &eight);
     CHECK(guillotiere_cache_get(&cache, 8, &place) == GUILLOTIERE_NOT_HELD);
     CHECK(guillotiere_cache_statistics(&cache, &counts) == GUILLOTIERE_DONE);
-    CHECK(counts.hits == 1 && counts.misses == 1 && counts.evictions == 1);
+    CHECK(counts.hits == 2 && counts.misses == 1 && counts.evictions == 1); /* 7 by an insertion and by a get */
 
     CHECK(guillotiere_cache_remove(&cache, 9, &place) == GUILLOTIERE_DONE && same_place(&place, &nine));
     CHECK(guillotiere_cache_remove(&cache, 9, &place) == GUILLOTIERE_NOT_HELD);
@@ -265,6 +265,11 @@ static void unusable_area(void) {
     told_unusable(&cache, INT32_MAX, INT32_MIN, 128);
     told_unusable(&cache, INT32_MIN, INT32_MIN, 0);
     CHECK(guillotiere_cache_unusable_area(&cache, 1, 1, 1, &area) == GUILLOTIERE_NO_PAGE && area == 7);
+    /* Beside a key of 14 by 13 with a pixel round it 16 by 1 is free, too little for a size of 0 with a pixel round it. */
+    CHECK(guillotiere_cache_clear(&cache) == GUILLOTIERE_DONE);
+    inserted(&cache, 1, 14, 13);
+    told_unusable(&cache, 0, 0, 16);
+    told_unusable(&cache, -1, INT32_MIN, 16);
     guillotiere_cache_free(&cache);
 }
 
@@ -427,7 +432,7 @@ static void texts(void) {
 static void versions(void) {
     CHECK(guillotiere_version() == GUILLOTIERE_VERSION);
     CHECK(GUILLOTIERE_VERSION == 7000 && GUILLOTIERE_VERSION_MINOR == 7);
-    CHECK(guillotiere_interface() == GUILLOTIERE_INTERFACE && GUILLOTIERE_INTERFACE == 1);
+    CHECK(guillotiere_interface() == GUILLOTIERE_INTERFACE && GUILLOTIERE_INTERFACE == 2);
 }
 
 /* The default options: a page of 512, which grows to 2048, and a border of 1. */

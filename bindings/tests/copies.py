@@ -1,14 +1,14 @@
 """Copies of a handle, which are a fault of the caller's: that what can notice it does."""
 import os
-import subprocess
 
-from suite import SANITIZED, WARNINGS, Failure, call
+from runner import Failure, call, outcome
+from suite import SANITIZED, WARNINGS
 
 OWNERS = {'atlas': 'atlas::make({8, 8})', 'simple_atlas': 'simple_atlas::make({8, 8})', 'cache': 'cache::make()'}
 
 
 def ended(command):
-    done = subprocess.run(command, stdout=subprocess.PIPE, stderr=subprocess.STDOUT, text=True)
+    done = outcome(command)
     return done.returncode, done.stdout
 
 

@@ -4,13 +4,13 @@ import importlib.util
 import os
 import re
 import shutil
-import subprocess
 import sys
 import tempfile
 
 import cargo_here
 import package
-from suite import BINDINGS, ROOT, Failure, call
+from runner import Failure, call
+from suite import BINDINGS, ROOT
 
 
 def script(folder, name, text):

@@ -14,9 +14,10 @@ void __wrap_free(void *block);
 static long left = -1; /* how many requests are granted before one is refused; below 0: all */
 static long blocks;    /* how many blocks are out */
 static long refusals;
+static bool is_shut; /* whether each request is refused */
 
 static bool refuses(void) {
-    if (left < 0 || left-- > 0) return false;
+    if (!is_shut && (left < 0 || left-- > 0)) return false;
     refusals++;
     return true;
 }
@@ -308,9 +309,43 @@ static void frames(void) {
     guillotiere_cache_free(&cache);
 }
 
+/* "Another page that has room isn't tried" where the first that has room is refused memory: the second page has room and memory, which a
+ * key shows that the first has no room for. */
+static void no_other_page(void) {
+    const guillotiere_cache_options options = {{128, 128}, {128, 128}, 2, 0, GUILLOTIERE_DEFAULT_OPTIONS};
+    guillotiere_cache cache = GUILLOTIERE_NONE;
+    guillotiere_cache_change change;
+    guillotiere_counts counts;
+    guillotiere_place place;
+    uint64_t key = 3;
+    CHECK(guillotiere_cache_new(&options, &cache) == GUILLOTIERE_DONE);
+    CHECK(guillotiere_cache_insert(&cache, 1, 128, 128, &place) == GUILLOTIERE_DONE && place.page == 0);
+    CHECK(guillotiere_cache_insert(&cache, 2, 128, 128, &place) == GUILLOTIERE_DONE && place.page == 1);
+    while (guillotiere_cache_next_change(&cache, &change) == GUILLOTIERE_DONE) continue;
+    CHECK(guillotiere_cache_remove(&cache, 1, NULL) == GUILLOTIERE_DONE);
+    CHECK(guillotiere_cache_reserve(&cache, 20000) == GUILLOTIERE_DONE);
+    CHECK(guillotiere_cache_reserve_changes(&cache, 20000) == GUILLOTIERE_DONE);
+    CHECK(guillotiere_cache_reserve_slots(&cache, 100) == GUILLOTIERE_DONE);
+    CHECK(guillotiere_cache_begin_frame(&cache) == GUILLOTIERE_DONE);
+    is_shut = true;
+    while (guillotiere_cache_insert(&cache, key, 1, 1, &place) == GUILLOTIERE_DONE) key++;
+    CHECK(key > 3 && key < 128 * 128);
+    CHECK(guillotiere_cache_remove(&cache, 2, NULL) == GUILLOTIERE_DONE);
+    CHECK(guillotiere_cache_insert(&cache, key, 1, 1, &place) == GUILLOTIERE_MEMORY);
+    CHECK(guillotiere_cache_insert(&cache, 1, 128, 128, &place) == GUILLOTIERE_DONE && place.page == 1);
+    CHECK(guillotiere_cache_remove(&cache, 1, NULL) == GUILLOTIERE_DONE);
+    CHECK(guillotiere_cache_insert(&cache, key, 1, 1, &place) == GUILLOTIERE_MEMORY);
+    CHECK(guillotiere_cache_next_change(&cache, &change) == GUILLOTIERE_NO_CHANGE);
+    CHECK(guillotiere_cache_statistics(&cache, &counts) == GUILLOTIERE_DONE && counts.evictions == 0);
+    is_shut = false;
+    CHECK(guillotiere_cache_insert(&cache, key, 1, 1, &place) == GUILLOTIERE_DONE && place.page == 0);
+    guillotiere_cache_free(&cache);
+}
+
 int main(void) {
     caches();
     frames();
+    no_other_page();
     reserve();
     pack(guillotiere_pack);
     pack(guillotiere_pack_dense);

@@ -212,7 +212,7 @@ static void caches() {
     CHECK(made->begin_frame() == status::done && made->insert(8, {1, 1})->at && evicted(*made) == 7);
     CHECK(made->get(8) && !made->get(7) && made->peek(8)->page == 0 && made->len() == 1);
     CHECK(made->peek(8)->number == 0 && made->numbers() == 1);
-    CHECK(made->statistics().hits == 1 && made->statistics().misses == 1 && made->statistics().evictions == 1);
+    CHECK(made->statistics().hits == 2 && made->statistics().misses == 1 && made->statistics().evictions == 1);
     CHECK(made->newest()->key == 8 && made->oldest()->at.number == 0 && !made->older(8) && made->reserve(10) == status::done);
     const cache &read = *made;
     CHECK(*read.unusable_area(0, {16, 33}) == 511 && read.unusable_area(1, {1, 1}).error() == status::no_page);

@@ -93,8 +93,24 @@ static void a_repacking_is_followed_first(void) {
     guillotiere_cache_free(&cache);
 }
 
-/* "A handle that holds something is told first", before what is wrong with the options. */
+/* "The numbers of keys that are gone are given out again before new ones, that of the key that went last first." */
+static void numbers_come_again(void) {
+    guillotiere_cache cache = cache_of((guillotiere_size){16, 4}, (guillotiere_size){16, 4});
+    for (uint32_t key = 0; key < 3; key++) CHECK(inserted(&cache, key, 4, 4).number == key);
+    CHECK(guillotiere_cache_remove(&cache, 0, NULL) == GUILLOTIERE_DONE && guillotiere_cache_remove(&cache, 1, NULL) == GUILLOTIERE_DONE);
+    CHECK(inserted(&cache, 10, 4, 4).number == 1 && inserted(&cache, 11, 4, 4).number == 0 && inserted(&cache, 12, 4, 4).number == 3);
+    guillotiere_cache_free(&cache);
+}
+
+/* "OCCUPIED, before all others": before what is wrong with sides and options. */
 static void an_occupied_handle_is_told_first(void) {
+    guillotiere_atlas atlas = GUILLOTIERE_NONE;
+    guillotiere_simple simple = GUILLOTIERE_NONE;
+    CHECK(guillotiere_atlas_new(8, 8, &atlas) == GUILLOTIERE_DONE && guillotiere_simple_new(8, 8, &simple) == GUILLOTIERE_DONE);
+    CHECK(guillotiere_atlas_new(0, 8, &atlas) == GUILLOTIERE_OCCUPIED && guillotiere_simple_new(0, 8, &simple) == GUILLOTIERE_OCCUPIED);
+    CHECK(guillotiere_atlas_with_slot_limit(8, 8, &defaults, 0, &atlas) == GUILLOTIERE_OCCUPIED);
+    guillotiere_atlas_free(&atlas);
+    guillotiere_simple_free(&simple);
     guillotiere_cache cache = cache_of((guillotiere_size){8, 8}, (guillotiere_size){8, 8});
     const guillotiere_cache_options wrong = {{0, 0}, {0, 0}, 0, -1, {0, 0, 0, 0}};
     CHECK(guillotiere_cache_new(&wrong, &cache) == GUILLOTIERE_OCCUPIED);
@@ -112,6 +128,19 @@ static void an_id_comes_again(void) {
     CHECK(guillotiere_atlas_deallocate(&atlas, first.id) == GUILLOTIERE_NOT_LIVE);
     CHECK(guillotiere_atlas_allocate(&atlas, 64, 32, &again) == GUILLOTIERE_DONE && again.id == first.id);
     guillotiere_atlas_free(&atlas);
+}
+
+/* "With 4 by 4 and a padding of 1 a sprite of 1 by 1 needs a sheet of 5 by 5": the padding at its right and below comes after the
+ * rounding. */
+static void padding_comes_after_the_alignment(void) {
+    guillotiere_sheet_options options = {GUILLOTIERE_ONE_SIZE, 4, 4, 0, 0, 1, 4, 4, 0, 0, 0};
+    const guillotiere_size sprite = {1, 1};
+    guillotiere_placed place;
+    guillotiere_size size;
+    CHECK(guillotiere_pack(&sprite, 1, &options, &place, 1, &size, NULL) == GUILLOTIERE_NO_ROOM);
+    options.width = options.height = 5;
+    CHECK(guillotiere_pack(&sprite, 1, &options, &place, 1, &size, NULL) == GUILLOTIERE_DONE);
+    CHECK(place.area.min_x == 1 && place.area.min_y == 1 && place.area.max_x == 2 && place.area.max_y == 2);
 }
 
 /* "It may find a sheet where guillotiere_pack finds none": three sprites that fill 2 by 3 but for a pixel. And a sprite that
@@ -134,8 +163,10 @@ int main(void) {
     a_page_grows_under_a_batch();
     blank_keys_are_on_no_page();
     a_repacking_is_followed_first();
+    numbers_come_again();
     an_occupied_handle_is_told_first();
     an_id_comes_again();
+    padding_comes_after_the_alignment();
     of_sheets();
     return 0;
 }

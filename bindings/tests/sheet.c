@@ -311,10 +311,11 @@ static uint32_t fill(const guillotiere_size *sprites, size_t count, const guillo
     return guillotiere_fill(sprites, count, options, into->places, room, &into->left, &into->size, &into->sprite);
 }
 
-/* Five sprites of 4 x 4, and sheets of 8 x 8 at most: four on the first, and one alone on a sheet of its own size. Sizes are
- * written as far as there is room, and counted all the same; one sheet that is filled leaves the fifth out. */
+/* Five sprites of 4 x 4, and sheets of 8 x 8 at most: four on the first, and one alone on a sheet of its own size. With room for
+ * fewer sizes than two nothing is written; one sheet that is filled leaves the fifth out. */
 static void five_sprites(void) {
     const guillotiere_size sprites[] = {{4, 4}, {4, 4}, {4, 4}, {4, 4}, {4, 4}};
+    const uint32_t groups[] = {1, 1, 1, 1, GUILLOTIERE_NO_GROUP};
     guillotiere_sheet_options options = options_of(GUILLOTIERE_SQUARES);
     options.greatest = 8;
     for (size_t sizes = 0; sizes < 4; sizes++) {
@@ -322,6 +323,12 @@ static void five_sprites(void) {
         size_t first = 0;
         memset(&into, 0x55, sizeof into);
         const written_pages before = into;
+        if (sizes < 2) {
+            CHECK(pack_pages(sprites, 5, &options, ROOM, sizes, &into) == GUILLOTIERE_SHORT);
+            CHECK(pack_groups(sprites, 5, groups, 5, &options, ROOM, sizes, &into) == GUILLOTIERE_SHORT);
+            CHECK(memcmp(&before, &into, sizeof into) == 0);
+            continue;
+        }
         CHECK(pack_pages(sprites, 5, &options, ROOM, sizes, &into) == GUILLOTIERE_DONE && into.count == 2);
         for (int i = 0; i < 5; i++) {
             CHECK(into.places[i].page < 2 && into.places[i].placed.turned == 0);
@@ -330,10 +337,8 @@ static void five_sprites(void) {
         }
         CHECK(first == 4);
         CHECK(memcmp(&before.places[5], &into.places[5], (ROOM - 5) * sizeof *into.places) == 0);
-        if (sizes > 0) CHECK(into.sizes[0].width == 8 && into.sizes[0].height == 8);
-        if (sizes > 1) CHECK(into.sizes[1].width == 4 && into.sizes[1].height == 4);
-        const size_t told = sizes < 2 ? sizes : 2;
-        CHECK(memcmp(&before.sizes[told], &into.sizes[told], (ROOM - told) * sizeof *into.sizes) == 0);
+        CHECK(into.sizes[0].width == 8 && into.sizes[0].height == 8 && into.sizes[1].width == 4 && into.sizes[1].height == 4);
+        CHECK(memcmp(&before.sizes[2], &into.sizes[2], (ROOM - 2) * sizeof *into.sizes) == 0);
     }
     written_fill into;
     size_t placed = 0;
@@ -368,11 +373,13 @@ static void sprites_in_groups(void) {
     for (size_t row = 0; row < sizeof rows / sizeof *rows; row++) {
         memset(&into, 0x55, sizeof into);
         before = into;
-        CHECK(pack_groups(sprites, 6, rows[row].groups, 6, &options, ROOM, 1, &into) == GUILLOTIERE_DONE && into.count == 2);
+        CHECK(pack_groups(sprites, 6, rows[row].groups, 6, &options, ROOM, 1, &into) == GUILLOTIERE_SHORT);
+        CHECK(memcmp(&before, &into, sizeof into) == 0);
+        CHECK(pack_groups(sprites, 6, rows[row].groups, 6, &options, ROOM, 2, &into) == GUILLOTIERE_DONE && into.count == 2);
         for (size_t i = 0; i < 6; i++) CHECK(into.places[i].page == rows[row].pages[i] && into.places[i].placed.turned == 0);
         CHECK(into.sizes[0].width == 8 && into.sizes[0].height == 8 && into.sprite == before.sprite);
         CHECK(memcmp(&before.places[6], &into.places[6], (ROOM - 6) * sizeof *into.places) == 0);
-        CHECK(memcmp(&before.sizes[1], &into.sizes[1], (ROOM - 1) * sizeof *into.sizes) == 0);
+        CHECK(memcmp(&before.sizes[2], &into.sizes[2], (ROOM - 2) * sizeof *into.sizes) == 0);
     }
 }
 

@@ -6,8 +6,9 @@ import tempfile
 
 import package
 from installing import test_installing
+from runner import Failure, call
 from suite import BINDINGS as HERE
-from suite import ROOT, Failure, Library, call
+from suite import ROOT, Library
 
 
 def use_readme(library):

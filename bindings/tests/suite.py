@@ -1,63 +1,24 @@
-"""What the tests of the library share: the suite that counts them, the library, and programs over it."""
+"""What the tests of the library share: the library, and programs over it."""
 import os
 import re
 import shutil
-import subprocess
 import sys
 
 BINDINGS = os.path.dirname(os.path.dirname(os.path.abspath(__file__)))
-sys.path.insert(0, BINDINGS)
+ROOT = os.path.dirname(BINDINGS)
+sys.path[:0] = [BINDINGS, os.path.join(ROOT, 'gate')]
 import null_pointers  # noqa: E402
 import package  # noqa: E402
+from runner import Failure, call  # noqa: E402
 
-ROOT = os.path.dirname(BINDINGS)
 CALLS = int(os.environ.get('CALLS', '1000000'))
 WARNINGS = ['-Wall', '-Wextra', '-Wpedantic', '-Wshadow', '-Werror']
 SANITIZED = ['-O1', '-g', '-fsanitize=address,undefined', '-fno-sanitize-recover=all']
 REFUSING = ['-Wl,--wrap=malloc,--wrap=realloc,--wrap=free']
+# How many slots an atlas may use, and how many in the library of check_slots.
+MOST_SLOTS, FEW_SLOTS = ('pub const MOST_SLOTS: u32 = %d;' % slots for slots in (16777216, 64))
 # What the archive of the kit takes from the C library.
 NEEDED = {'malloc', 'realloc', 'free', 'memcpy', 'memmove', 'memset'}
-
-
-class Failure(Exception):
-    """What a test found."""
-
-
-class Suite:
-    """Runs tests by name, counts them, and keeps what was skipped."""
-
-    def __init__(self):
-        self.passed = self.failed = 0
-        self.skipped = []
-
-    def run(self, name, test, *arguments):
-        try:
-            test(*arguments)
-        except Failure as failure:
-            self.failed += 1
-            print('FAILED %s\n%s' % (name, failure), flush=True)
-        else:
-            self.passed += 1
-            print('passed %s' % name, flush=True)
-
-    def has(self, commands, what):
-        """Whether these commands are there; if not, says what is skipped."""
-        missing = [command for command in commands if shutil.which(command) is None]
-        if missing:
-            self.skip(what, 'there is no ' + ', '.join(missing))
-        return not missing
-
-    def skip(self, what, reason):
-        self.skipped.append(what)
-        print('skipped %s: %s' % (what, reason), flush=True)
-
-
-def call(command, **more):
-    more.setdefault('stdout', subprocess.PIPE)
-    done = subprocess.run(command, stderr=subprocess.STDOUT, text=True, **more)
-    if done.returncode != 0:
-        raise Failure('%s ended with status %d\n%s' % (' '.join(command), done.returncode, (done.stdout or '')[-3000:]))
-    return done.stdout
 
 
 class Library:
@@ -87,7 +48,7 @@ class Library:
 
 
 def build(library):
-    call(library.installation)
+    call(library.installation, timeout=None)
 
 
 def names_in(file, *words):
@@ -132,6 +93,24 @@ def check_readers(library, compiler):
     if set(call([program, 'names']).split()) != wanted:
         raise Failure('tests/readonly.c makes other calls than those whose handles are const in guillotiere.h')
     call([program])
+
+
+def check_slots(library):
+    """A cache whose pages run out of slots, over a library of a copy of the sources in which an atlas may use 64."""
+    copy = os.path.join(library.folder, 'few slots')
+    for name in ('bindings', 'gate', 'rust'):
+        shutil.copytree(os.path.join(ROOT, name), os.path.join(copy, name), ignore=shutil.ignore_patterns('target', '__pycache__'))
+    source = os.path.join(copy, 'rust', 'core', 'src', 'atlas_model', 'allocation.rs')
+    with open(source) as file:
+        text = file.read()
+    if text.count(MOST_SLOTS) != 1:
+        raise Failure('there is no line ' + MOST_SLOTS)
+    with open(source, 'w') as file:
+        file.write(text.replace(MOST_SLOTS, FEW_SLOTS))
+    few = Library(os.path.join(copy, 'library'), True)
+    few.installation[0] = os.path.join(copy, 'rust', 'install')
+    build(few)
+    run_program(few, 'gcc', 'tests/slots.c', ['-O2'])
 
 
 def digest_of(library, compiler, before=()):

@@ -1,11 +1,11 @@
 """The library of `rust/install --lean`, and programs that link nothing else."""
 import os
 import re
-import sys
 
 import cargo_here
-from suite import (BINDINGS, CALLS, NEEDED, REFUSING, WARNINGS, Failure, Library, build, call, check_plugin, check_readers, digest_of,
-                   exports, names_in, run_nulls, run_program)
+from runner import Failure, call
+from suite import (BINDINGS, CALLS, NEEDED, REFUSING, WARNINGS, Library, build, check_plugin, check_readers, digest_of, exports, names_in,
+                   run_nulls, run_program)
 
 # What rustc has to be for a library without std: 1.68.
 LEAST_FOR_LEAN = 68

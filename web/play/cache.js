@@ -198,7 +198,8 @@ export function writeCounts() {
   if (!shown) return;
   shown.fit();
   const told = shown.counts();
-  find('counts').textContent = `${told.glyphs} glyphs on ${told.pages} pages · ${told['hit rate']} hits`;
+  const pages = told.pages === '1' ? '1 page' : `${told.pages} pages`;
+  find('counts').textContent = `${told.glyphs} glyphs on ${pages} · ${told['hit rate']} hits`;
   find('times').textContent = `a glyph ${shown.calls ? time(shown.milliseconds / shown.calls) : '-'}`;
 }
 

@@ -55,8 +55,10 @@ export class View {
     group.style.transform = `translate(${x}px, ${y}px)`;
     Object.assign(rect.style, { width: `${width}px`, height: `${height}px`, fillOpacity: pale });
     text.textContent = label;
-    const size = Math.min(height * 0.5, width / (0.66 * Math.max(1, label.length)), this.largest);
-    text.setAttribute('style', `font-size: ${size}px; transform: translate(${width / 2}px, ${height / 2}px)`);
+    const fit = (along, across) => Math.min(across * 0.5, along / (0.66 * Math.max(1, label.length)), this.largest);
+    const isUpright = label.length > 2 && height > 2 * width;
+    const [size, turn] = isUpright ? [fit(height, width), ' rotate(-90deg)'] : [fit(width, height), ''];
+    text.setAttribute('style', `font-size: ${size}px; transform: translate(${width / 2}px, ${height / 2}px)${turn}`);
     if (isNew) requestAnimationFrame(() => requestAnimationFrame(() => group.classList.remove('entering')));
   }
 
@@ -118,7 +120,7 @@ export class Steps {
     this.caption.setAttribute('aria-live', 'polite');
     Object.assign(this, { many, captions, show, pause, at: 0, timer: null });
     this.slider = slider(name, { greatest: many - 1, value: 0, told, onInput: (at) => this.go(at) });
-    this.slider.field.addEventListener('pointerdown', () => this.stop());
+    for (const kind of ['pointerdown', 'input']) this.slider.field.addEventListener(kind, () => this.stop());
     this.button = make('button', { className: 'main', textContent: 'Play' });
     this.button.addEventListener('click', () => (this.timer === null ? this.play() : this.stop()));
     this.element = make('div', {}, make('div', { className: 'controls' }, this.button, this.slider.element), this.caption);

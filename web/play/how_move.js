@@ -81,7 +81,7 @@ export function moveFigure(figure) {
     cancelAnimationFrame(running);
     running = 0;
   };
-  control.field.addEventListener('pointerdown', stop);
+  for (const kind of ['pointerdown', 'input']) control.field.addEventListener(kind, stop);
   button.addEventListener('click', () => {
     stop();
     const isBack = Number(control.field.value) === 200;
@@ -106,5 +106,5 @@ export function moveFigure(figure) {
   control.field.addEventListener('input', buttonWords);
   fill(figure, [view.svg, make('div', { className: 'controls' }, button, control.element), caption], code.element);
   show(0);
-  return { set: (part) => control.set(Math.round(200 * part)), lines, changes, before, after };
+  return { set: (part) => control.set(Math.round(200 * part)), lines, changes, before, after, code: CODE };
 }

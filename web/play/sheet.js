@@ -209,7 +209,7 @@ function example() {
     const width = 16 + (number * 37) % 64, height = 16 + (number * 53) % 72;
     const image = make('canvas', { width, height });
     const on = image.getContext('2d');
-    on.fillStyle = `hsl(${number * 47} 60% 55%)`;
+    on.fillStyle = `hsl(${number * 47} 60% 72%)`;
     on.beginPath();
     if (number % 3 === 0) on.rect(0, 0, width, height);
     else if (number % 3 === 1) on.ellipse(width / 2, height / 2, width / 2, height / 2, 0, 0, 7);
@@ -218,8 +218,7 @@ function example() {
     on.fillStyle = '#10243f';
     on.font = '12px sans-serif';
     on.textAlign = 'center';
-    on.textBaseline = 'middle';
-    on.fillText(number, width / 2, height / 2);
+    on.fillText(number, width / 2, height * (number % 3 === 2 ? 0.9 : 0.5) + (number % 3 === 2 ? -2 : 4));
     const folder = ['squares', 'rounds', 'triangles'][number % 3];
     pictures.push({ name: `${folder}/${String(number).padStart(2, '0')}.png`, image, width, height });
   }

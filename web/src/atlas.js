@@ -64,6 +64,9 @@ function atlasSlots(atlas) {
 }
 
 export class Atlas extends Owner {
+  /** How often all ids became void, after which one may come again for another box. */
+  #starts = 0;
+
   constructor(width, height, options, slotLimit = MOST_SLOTS) {
     if (width === COPY) {
       super(ATLAS, height);
@@ -95,12 +98,12 @@ export class Atlas extends Owner {
     target(box, 'box');
     const runtime = runtimeOf(this, ATLAS);
     if (!isGranted(this, runtime, w, h)) return false;
-    const id = runtime.words()[runtime.word] >>> 0;
+    const [id, starts] = [runtime.words()[runtime.word] >>> 0, this.#starts];
     try {
       reading.allocationInto(runtime.words(), runtime.word, box);
     } catch (cause) {
-      // Nobody knows the box, so it is given back, unless the atlas went out of use meanwhile.
-      if (isOf(this, ATLAS) && handle(this) !== 0) runtime.calls.atlas_deallocate(handle(this), id);
+      // Nobody knows the box, so it is given back, unless the caller's setter made an end of it.
+      if (handle(this) !== 0 && starts === this.#starts) runtime.calls.atlas_deallocate(handle(this), id);
       throw unwritable('box', cause);
     }
     return true;
@@ -156,16 +159,21 @@ export class Atlas extends Owner {
   }
 
   rearrange() {
-    return rearranged(this, (calls, ...all) => calls.atlas_rearrange(handle(this), ...all));
+    const told = rearranged(this, (calls, ...all) => calls.atlas_rearrange(handle(this), ...all));
+    this.#starts += 1;
+    return told;
   }
 
   resizeAndRearrange(width, height) {
     const [w, h] = [length(width, 'width'), length(height, 'height')];
-    return rearranged(this, (calls, ...all) => calls.atlas_resize_and_rearrange(handle(this), w, h, ...all), () => whyNoAtlas(w, h));
+    const told = rearranged(this, (calls, ...all) => calls.atlas_resize_and_rearrange(handle(this), w, h, ...all), () => whyNoAtlas(w, h));
+    this.#starts += 1;
+    return told;
   }
 
   clear() {
     require(runtimeOf(this, ATLAS).calls.atlas_clear(handle(this)));
+    this.#starts += 1;
   }
 
   reset(width, height, options) {
@@ -174,6 +182,7 @@ export class Atlas extends Owner {
     const runtime = runtimeOf(this, ATLAS);
     runtime.write(runtime.at, words);
     require(runtime.calls.atlas_reset(handle(this), w, h, runtime.at), () => whyNoAtlas(w, h, words));
+    this.#starts += 1;
   }
 
   get size() {

@@ -4,7 +4,9 @@ import { EVICTED, PAGE_ADDED, PAGE_GROWN, PAGE_REMOVED, cacheChangeAt, cacheOpti
 import { Keys } from './keys.js';
 import * as reading from './reading.js';
 import { CACHE, Owner, handle, runtimeOf } from './runtime.js';
-import { atlasOptions, count, length, numbers, options, room, shownState, size, target, unwritable, whyNoAtlas, wide } from './values.js';
+import {
+  atlasOptions, count, length, lengthOf, numbers, options, room, shownState, size, target, unwritable, whyNoAtlas, wide,
+} from './values.js';
 
 const OPTIONS = {
   page: [size],
@@ -125,8 +127,8 @@ export class TextureCache extends Owner {
 
   insertAll(keys, sizes, out) {
     const [all, sides] = [numbers(keys, 'keys'), numbers(sizes, 'sizes')];
-    const many = all.length;
-    if (sides.length < 2 * many) throw new WollemigoError('BAD_OPTION', `sizes has ${sides.length} numbers, and not ${2 * many}`);
+    const many = lengthOf(all);
+    if (lengthOf(sides) < 2 * many) throw new WollemigoError('BAD_OPTION', `sizes has ${lengthOf(sides)} numbers, and not ${2 * many}`);
     room(out, 'out', WORDS * many);
     const runtime = runtimeOf(this, CACHE);
     for (let i = 0; i < many; i++) {

@@ -40,7 +40,8 @@ export class WollemigoError extends Error {
     isOurs = (value) => typeof value === 'object' && value !== null && #own in value;
   }
 
-  constructor(code, message, more = {}) {
+  constructor(code, message, given) {
+    const more = Object(given);
     super(message, 'cause' in more ? { cause: more.cause } : undefined);
     this.code = code;
     if ('sprite' in more) this.sprite = more.sprite;

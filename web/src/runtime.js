@@ -252,13 +252,6 @@ export class Owner {
     registry.register(this, { runtime, cell, kind }, this);
   }
 
-  /** What Node and others that follow it show in a console. */
-  [Symbol.for('nodejs.util.inspect.custom')](depth, settings, inspect) {
-    const name = this.constructor?.name ?? 'Object';
-    if (typeof inspect !== 'function' || !isOwner(this) || typeof depth === 'number' && depth < 0) return `${name} {}`;
-    return `${name} ${inspect(this.toJSON(), settings)}`;
-  }
-
   dispose() {
     if (!isOwner(this)) {
       throw new WollemigoError('BAD_THIS', 'dispose was called on what has no memory of the module');
@@ -272,4 +265,19 @@ export class Owner {
 }
 if (Symbol.dispose !== undefined) {
   Object.defineProperty(Owner.prototype, Symbol.dispose, { value: Owner.prototype.dispose, writable: true, configurable: true });
+}
+
+/** What Node and others that follow it show in a console. The pages that web/play/build makes have no such one. */
+function inspected(depth, settings, inspect) {
+  let name = 'Object';
+  try {
+    name = String(this.constructor.name);
+  } catch {
+    // What has no name that can be read is an object.
+  }
+  if (typeof inspect !== 'function' || !isOwner(this) || typeof depth === 'number' && depth < 0) return `${name} {}`;
+  return `${name} ${inspect(this.toJSON(), settings)}`;
+}
+if (!import.meta.cut) {
+  Object.defineProperty(Owner.prototype, Symbol.for('nodejs.util.inspect.custom'), { value: inspected, writable: true, configurable: true });
 }

@@ -5,7 +5,8 @@ import { WollemigoError, isOurs } from './errors.js';
 function shown(value) {
   const kind = typeof value;
   if (kind === 'object' || kind === 'function') return value === null ? 'null' : `of type ${kind}`;
-  const text = kind === 'string' ? JSON.stringify(value) : String(value) + (kind === 'bigint' ? 'n' : '');
+  if (kind === 'bigint' && BigInt.asIntN(256, value) !== value) return 'a bigint of more than 256 bits';
+  const text = kind === 'string' ? JSON.stringify(value.slice(0, 40)) : String(value) + (kind === 'bigint' ? 'n' : '');
   return text.length > 40 ? text.slice(0, 37) + '...' : text;
 }
 
@@ -46,16 +47,23 @@ export function reading(name, read) {
   }
 }
 
-const kindOfArray = Object.getOwnPropertyDescriptor(Object.getPrototypeOf(Int32Array.prototype), Symbol.toStringTag).get;
+const typed = Object.getPrototypeOf(Int32Array.prototype);
+const kindOfArray = Object.getOwnPropertyDescriptor(typed, Symbol.toStringTag).get;
+const lengthOfTyped = Object.getOwnPropertyDescriptor(typed, 'length').get;
 
 /** The values of a typed array as they are, and those of another list read out, so that nothing of the caller's runs later. */
 export function numbers(given, name) {
   return kindOfArray.call(given) === undefined ? list(given, name, (value) => value) : given;
 }
 
+/** How many values such a list has. A class of the caller's may have a `length` of its own, which isn't asked. */
+export function lengthOf(given) {
+  return kindOfArray.call(given) === undefined ? given.length : lengthOfTyped.call(given);
+}
+
 /** An Int32Array that has room for so many numbers. */
 export function room(given, name, least) {
-  if (kindOfArray.call(given) !== 'Int32Array' || given.length < least) {
+  if (kindOfArray.call(given) !== 'Int32Array' || lengthOfTyped.call(given) < least) {
     throw new WollemigoError('BAD_OPTION', `${name} is no Int32Array with room for ${least} numbers`);
   }
   return given;

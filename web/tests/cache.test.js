@@ -35,7 +35,7 @@ test('pages come, grow, and keys give way', () => {
   assert.equal(cache.numbers, 4);
   assert.deepEqual([...cache.changes()], [{ kind: 'evicted', key: 'b', from: second }]);
   assert.deepEqual([cache.has('b'), cache.length, cache.pageCount, cache.pageSize(1)], [false, 4, 2, { width: 16, height: 32 }]);
-  assert.deepEqual(cache.statistics, { hits: 1, misses: 0, evictions: 1 });
+  assert.deepEqual(cache.statistics, { hits: 2, misses: 0, evictions: 1 });
   refused(() => cache.pageSize(2), 'NO_PAGE', 'pageSize');
   refused(() => cache.repack(2), 'NO_PAGE', 'repack');
   const cases = [['a', 15, 16, 'OTHER_SIZE'], ['f', 17, 16, 'NEVER_FITS'], ['f', 16, 33, 'NEVER_FITS'], ['a', 16, -1, 'OTHER_SIZE']];

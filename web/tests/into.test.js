@@ -139,3 +139,48 @@ test('what is written into', () => {
   other.getInto('a', place);
   assert.deepEqual([place.rectangle, place.inner.width, words], [{ x: 0, y: 0, width: 7, height: 8 }, 5, [1]]);
 });
+
+test('a setter that makes an end of the atlas takes no box of the caller with it', () => {
+  const acts = {
+    clear: (atlas) => atlas.clear(),
+    reset: (atlas) => atlas.reset(64, 64),
+    rearrange(atlas, id) {
+      atlas.deallocate(id);
+      atlas.rearrange();
+    },
+    resizeAndRearrange(atlas, id) {
+      atlas.deallocate(id);
+      atlas.resizeAndRearrange(64, 64);
+    },
+    deallocate: (atlas, id) => atlas.deallocate(id),
+    grow: (atlas) => atlas.grow(128, 64),
+  };
+  for (const [name, act] of Object.entries(acts)) {
+    const atlas = new Atlas(64, 64);
+    let own;
+    const box = {
+      set x(_) {
+        act(atlas, this.id);
+        own = atlas.allocate(5, 5);
+        throw new Error('of the caller');
+      },
+    };
+    refused(() => atlas.allocateInto(5, 5, box), 'BAD_OPTION', name);
+    assert.deepEqual(atlas.allocated(), [own], name);
+  }
+});
+
+test('a list of a class that has a length of its own', () => {
+  const cache = new TextureCache(options);
+  class Broken extends Int32Array { get length() { throw new Error('of the caller'); } }
+  class Long extends Int32Array { get length() { return 1e9; } }
+  for (const Words of [Broken, Long]) {
+    const out = new Words(22);
+    cache.clear();
+    assert.equal(cache.insertAll(Words.of(7, 8), Words.of(5, 6, 5, 6), out), 2);
+    assert.deepEqual([out[0], out[11], cache.peek(8).inner.height], [1, 1, 6]);
+    refused(() => cache.insertAll([1, 2, 3], [5, 6, 5, 6, 5, 6], out), 'BAD_OPTION', 'out');
+    refused(() => cache.insertAll([1, 2, 3], Words.of(5, 6), new Int32Array(33)), 'BAD_OPTION', 'sizes');
+    assert.equal(cache.length, 2);
+  }
+});

@@ -6,7 +6,7 @@ import { runInNewContext } from 'node:vm';
 import * as wollemigo from '../node.js';
 import { refused, stateOf } from './support.js';
 
-const { Atlas, MOST_SLOTS, SimpleAtlas, TextureCache, fill, load, pack, packGroups } = wollemigo;
+const { Atlas, MOST_SLOTS, SimpleAtlas, TextureCache, WollemigoError, fill, load, pack, packDense, packGroups, packPages } = wollemigo;
 await load();
 const page = { width: 64, height: 64 };
 const sprites = [{ width: 4, height: 4 }];
@@ -68,11 +68,32 @@ test('a bad call names the argument and the condition', () => {
     [() => atlas.reset(0, 5), /^width is 0, /], [() => atlas.grow(99, 50), /^width is 99, and must be at least 100, /],
     [() => atlas.grow(100, 49), /^height is 49, and must be at least 50, /], [() => atlas.resizeAndRearrange(5, 0), /^height is 0, /],
     [() => new SimpleAtlas(0, 5), /^width is 0, /], [() => simple.grow(100, 1), /^height is 1, /], [() => simple.reset(5, 0), /^height is 0, /],
-    [() => simple.reset(5, 5, flat), /^options.alignment.width is 0, /], [() => pack(sprites, { padding: 65536 }), /^options.padding must be /],
+    [() => simple.reset(5, 5, flat), /^options.alignment.width is 0, /],
+    [() => new SimpleAtlas(5, 5, flat), /^options.alignment.width is 0, /],
+    ...[pack, packDense, packPages, fill, (of, options) => packGroups(of, [0], options)]
+      .map((call) => [() => call(sprites, { padding: 65536 }), /^options.padding must be at most 65535$/]),
   ];
   for (const [call, message] of cases) assert.match(refused(call, 'BAD_CALL', String(call)).message, message);
   const error = refused(() => new TextureCache({ page, atlas: flat }), 'BAD_ATLAS', 'a cache');
   assert.match(error.message, /^options.atlas.alignment.width is 0, /);
+});
+
+test('an error with more that is none', () => {
+  for (const more of [null, undefined, 5, 'x', Symbol('x'), 5n]) {
+    const error = new WollemigoError('BAD_CALL', 'of the caller', more);
+    assert.deepEqual([error.code, error.message, 'cause' in error, 'sprite' in error], ['BAD_CALL', 'of the caller', false, false]);
+  }
+});
+
+test('a bigint of very many bits is told in few words', () => {
+  const bits = 1n << 1000000n;
+  for (const value of [bits, -bits]) {
+    for (const call of [() => new Atlas(value, 5), () => new TextureCache({ page, padding: value }), () => pack(sprites, { seed: value }),
+      () => new TextureCache({ page }).trim(value), () => new Atlas(5, 5).deallocate(value)]) {
+      assert.match(refused(call, 'BAD_NUMBER', String(call)).message, / is a bigint of more than 256 bits, and not /);
+    }
+    refused(() => new TextureCache({ page }).get(value), 'BAD_KEY', 'a key');
+  }
 });
 
 test('what becomes JSON', () => {

@@ -1,5 +1,5 @@
 -- Lemmas of an atlas as it is stored.
-pub mod CuttingFromLists
+pub mod UnsignedRectangles
 pub mod ShownLists
 pub mod FreedLists
 pub mod GrantedAtlas
@@ -11,6 +11,6 @@ pub mod RefitSizes
 pub mod RefitParts
 pub mod RefitLoops
 pub mod RearrangedAtlas
-pub mod Measuring
-pub mod Reserving
+pub mod MeasurableLists
+pub mod Reserves
 pub mod Requests

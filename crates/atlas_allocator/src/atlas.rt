@@ -1,9 +1,9 @@
 //! The atlas allocator.
 ghost use Rattle.std.specs.Prelude.{◌≡◌, ◌≤◌, ◌<◌, ◌+◌, ◌-◌, ◌*◌, ◌↔◌, [], IsTrue, IfErr, IfOk, IfSome, OnErr};
 ghost use Rattle.std.specs.Prelude.{IsOkUnless, OnOk, length, IsSome, option_map, None, Some, Ok, All, map};
-ghost use Rattle.std.specs.Prelude.{◌≢◌, Err};
+ghost use Rattle.std.specs.Prelude.{◌≢◌, ◌⊎◌, Err};
 ghost use Rattle.atlas_model.specs.Boxes.{area, Fits, IsPositive, IsWithin};
-ghost use Rattle.atlas_model.specs.Choice.{AreValid};
+ghost use Rattle.atlas_model.specs.Choice.{rounded, AreValid};
 ghost use Rattle.atlas_model.specs.Pixels.{sides_of, size_of, options_of, rectangle_of, box_of};
 ghost use Rattle.atlas_model.specs.States.{live_in, used_in, started, after_freeing, IsSound, IsLive};
 ghost use Rattle.atlas_store.specs.Visits.{AreFreeAreas, free_areas};
@@ -200,10 +200,10 @@ impl<A: Allocator + Copy> AtlasAllocator<A> {
     }
 
     /// Grants a request: a rectangle of the rounded size, at the `min` of the free rectangle that is picked. None if the
-    /// size is empty or, rounded up, fits no free rectangle. `Slots` if more slots would be used than the limit allows;
-    /// `Memory` if more would be used than at any time since the last start, and memory for them is refused. Unless something
-    /// is granted, nothing changes. Takes no turns. At most 4 more slots are used: with 4 in reserve the answer is
-    /// never `Memory`.
+    /// size is empty, if a rounded side passes 2147483647, or if the rounded size fits no free rectangle. `Slots` if more
+    /// slots would be used than the limit allows; `Memory` if more would be used than at any time since the last start, and
+    /// memory for them is refused. Unless something is granted, nothing changes. Takes no turns. At most 4 more slots are
+    /// used: with 4 in reserve the answer is never `Memory`.
     pub fn allocate(&mut self, requested_size: Size) -> Result<Option<Allocation>, AtlasError>
         ensures step { Step (state_of self.old) (Allocate (sides_of requested_size)) (allocate_reply result)
             (state_of self.new) }
@@ -219,6 +219,8 @@ impl<A: Allocator + Copy> AtlasAllocator<A> {
         ensures slots { UsesAtMost 4 self.old self.new }
         ensures memory { HasReserve 4 self.old → result ≢ Err AtlasError.Memory }
         ensures answer { IsAnswer (state_of self.old) requested_size result }
+        ensures past { (2147483647 < (rounded (state_of self.old).options (sides_of requested_size)).width)
+            ⊎ (2147483647 < (rounded (state_of self.old).options (sides_of requested_size)).height) → result ≡ Ok None }
         ensures frame { KeepsFrame (state_of self.old) (state_of self.new) }
     {
         self.request(requested_size)

@@ -1,1 +1,1 @@
-pub mod Reporting
+pub mod Reports

@@ -11,7 +11,7 @@ use Rattle.guillotiere.specs.Pages.{rectangle_on}
 use Rattle.guillotiere.specs.Refits.Refitted.{HasExactRectangle}
 use Rattle.guillotiere.specs.Stored.{AtlasValue}
 use Rattle.guillotiere.proofs.ListLemmas.CallerLemmas.{uncounted-find}
-use Rattle.guillotiere.proofs.ListLemmas.Counting.{count_by-cons}
+use Rattle.guillotiere.proofs.ListLemmas.ListCounts.{count_by-cons}
 use Rattle.atlas_cache.specs.declared.entries.Entry.{Entry}
 use Rattle.atlas_cache.specs.Caches.{entries_of, holders, AreBordered, HoldsEntries}
 use Rattle.atlas_cache.specs.Entries.{entry_at, is_blank, lying, no_page, numbers, IsNumber}

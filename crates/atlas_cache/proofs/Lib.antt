@@ -1,14 +1,14 @@
 pub mod BlankLemmas
 pub mod PassLemmas
-pub mod EntryKeeping
+pub mod KeptEntries
 pub mod EntryLemmas
 pub mod GatherLemmas
 pub mod IdOrderLemmas
-pub mod Moves
+pub mod RecencyCalls
 pub mod ReadyLemmas
 pub mod RelocateLemmas
 pub mod RepackLemmas
-pub mod RepackTelling
+pub mod ToldRepacks
 pub mod ReserveLemmas
 pub mod RingCalls
 pub mod RingLemmas

@@ -12,7 +12,7 @@ use Rattle.atlas_cache.specs.declared.entries.Entry.{Entry}
 use Rattle.atlas_cache.specs.Entries.{entry_at, is_blank, moved, numbers, touched, without_number, AreBlank, EndsBlank, IsBeforeBlanks, IsNumber}
 use Rattle.atlas_cache.specs.Orders.{newest_of, oldest_of, IsEntry, IsFreshNumber, Order}
 use Rattle.atlas_cache.specs.Tables.{numbered, AreKept}
-use Rattle.atlas_cache.proofs.EntryKeeping.{joined-is, moved-is, touched-is}
+use Rattle.atlas_cache.proofs.KeptEntries.{joined-is, moved-is, touched-is}
 use Rattle.atlas_cache.proofs.EntryLemmas.{entry_at-numbered, numbered-without, numbers-numbered, IsDistinct-from_once}
 use Rattle.atlas_cache.proofs.ListLemmas.{append-none, each-right}
 

@@ -11,8 +11,8 @@ use Rattle.atlas_cache.specs.Changes.{InsertsBlank}
 use Rattle.atlas_cache.specs.Refusals.{IsWithoutNumber}
 use Rattle.atlas_cache.specs.Reserving.{HasReserves, HaveSlots, UseAtMost}
 use Rattle.atlas_cache.specs.Rooms.{page_sizes}
-use Rattle.atlas_cache.proofs.RoomLemmas.Paging.{as_many}
-use Rattle.atlas_cache.proofs.RoomLemmas.Reserving.{none_used, slots_left}
+use Rattle.atlas_cache.proofs.RoomLemmas.KeptPages.{as_many}
+use Rattle.atlas_cache.proofs.RoomLemmas.PageReserves.{none_used, slots_left}
 
 -- What an error is that is passed on.
 pub error_is : {X : Type 0} {kind : CacheError} (error : CacheError) (result : Result X CacheError) → result ≡ Err error

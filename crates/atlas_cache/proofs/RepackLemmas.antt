@@ -16,7 +16,7 @@ use Rattle.guillotiere.specs.Pages.{rectangle_on}
 use Rattle.guillotiere.specs.Rearranging.{IsExactChange, KeepsSides}
 use Rattle.guillotiere.specs.Stored.{AtlasValue, state_of}
 use Rattle.guillotiere.proofs.ListLemmas.CallerLemmas.{count_by-map, find-counted_once, Contains-find}
-use Rattle.guillotiere.proofs.ListLemmas.Counting.{count_by-append, counted_once}
+use Rattle.guillotiere.proofs.ListLemmas.ListCounts.{count_by-append, counted_once}
 use Rattle.atlas_cache.specs.declared.entries.Entry.{Entry}
 use Rattle.atlas_cache.specs.Asking.{IsBorderedBy}
 use Rattle.atlas_cache.specs.Caches.{entries_of, holders, AreBordered, FramesFall, HoldsEntries}

@@ -1,9 +1,9 @@
 -- What the steps make of the pages of a cache.
-pub mod Copying
-pub mod Growing
-pub mod Ordering
-pub mod Paging
-pub mod Refusing
-pub mod Repacking
-pub mod Reserving
-pub mod Standing
+pub mod AreaOrder
+pub mod KeptPages
+pub mod PageGrowth
+pub mod PageReserves
+pub mod PageRoom
+pub mod RefusedSizes
+pub mod RepackedPages
+pub mod StoredPages

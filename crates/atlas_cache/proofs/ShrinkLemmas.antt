@@ -25,7 +25,7 @@ use Rattle.atlas_cache.specs.Shrinking.{all_removed, pages_in_use, DropsIdle, Dr
 use Rattle.atlas_cache.proofs.HoldingLemmas.{id_cases}
 use Rattle.atlas_cache.proofs.ListLemmas.{append-none}
 use Rattle.atlas_cache.proofs.PictureLemmas.{places_stay, same_both, same_shown}
-use Rattle.atlas_cache.proofs.RoomLemmas.Paging.{on_page}
+use Rattle.atlas_cache.proofs.RoomLemmas.KeptPages.{on_page}
 use Rattle.atlas_cache.proofs.TrimLemmas.{changed-last}
 
 -- A list and its last element.

@@ -14,7 +14,7 @@ use Rattle.atlas_cache.specs.Rooms.{page_sizes}
 use Rattle.atlas_cache.proofs.KeyLemmas.{own_without}
 use Rattle.atlas_cache.proofs.ListLemmas.{append-none, falls-last}
 use Rattle.atlas_cache.proofs.PictureLemmas.{same_both, same_shown, taken}
-use Rattle.atlas_cache.proofs.RoomLemmas.Reserving.{both_used, none_used}
+use Rattle.atlas_cache.proofs.RoomLemmas.PageReserves.{both_used, none_used}
 
 module _ {K : Type 0} where
   -- Where the last was used since, all were.

@@ -8,7 +8,7 @@ use Rattle.std.proofs.Math.Dec.{leb}
 use Rattle.guillotiere.specs.declared.Rectangle.{Rectangle}
 use Rattle.guillotiere.specs.Boxes.{area, Box, Sides}
 use Rattle.guillotiere.specs.Pixels.{box_of}
-use Rattle.guillotiere.proofs.ListLemmas.Counting.{count_by-cons}
+use Rattle.guillotiere.proofs.ListLemmas.ListCounts.{count_by-cons}
 use Rattle.guillotiere.proofs.TreeLemmas.TreeBasics.{one_if}
 use Rattle.atlas_cache.specs.Usable.{fits_box, unusable}
 

@@ -5,7 +5,7 @@ use Rattle.guillotiere.specs.declared.Size.{Size}
 use Rattle.guillotiere.specs.Boxes.{IsPositive}
 use Rattle.guillotiere.specs.Pixels.{sides_of}
 use Rattle.guillotiere.specs.Stored.{AtlasValue}
-use Rattle.guillotiere.specs.Pages.{AddsBoxOn, HasSameRectangles, LeavesNoBoxOn, NoneHasRoomBelow}
+use Rattle.guillotiere.specs.Pages.{AddsBoxOn, HasSameRectangles, KeepsPages, LeavesNoBoxOn, NoneHasRoomBelow}
 use Rattle.atlas_cache.specs.declared.changes.CacheChange.{CacheChange}
 use Rattle.atlas_cache.specs.declared.changes.CacheChange.TheVariants.{PageAdded, PageGrown, Evicted, Moved, PageRemoved}
 use Rattle.atlas_cache.specs.declared.entries.Entry.{Entry}
@@ -18,6 +18,7 @@ use Rattle.atlas_cache.specs.Asking.{CanStand}
 use Rattle.atlas_cache.specs.Caches.{CacheState, entry_for, place_for, shown, AreAllInUse, HasNoPageFor, IsFull}
 use Rattle.atlas_cache.specs.Counting.{one_more}
 use Rattle.atlas_cache.specs.Entries.{is_blank, lying}
+use Rattle.atlas_cache.specs.Placing.{GrantsOn}
 use Rattle.atlas_cache.specs.Refusals.{IsWithoutNumber}
 use Rattle.atlas_cache.specs.Reserving.{UseAtMost}
 use Rattle.atlas_cache.specs.Rooms.{page_sizes, AreAllLargest, IsAtLeast, IsFirstToGrow, IsRounded}
@@ -63,20 +64,24 @@ module _ {K : Type 0} where
     pub frame : t.frame ≡ s.frame
     pub counts : t.counts ≡ s.counts
 
-  -- The first page that isn't at its largest grows, and nothing on it moves.
+  -- The first page that isn't at its largest grows, and nothing on it moves. It takes at most 3 of its slots, and the others
+  -- stay as they are, so that what is in reserve is left.
   pub record GrowsPage (page : ℕ) (size : Size) (s t : CacheState K) : Type 0 where
     pub first : IsFirstToGrow s.options (page_sizes s.pages) page size
     pub sizes : page_sizes t.pages ≡ slice_set (page_sizes s.pages) page size
     pub same : HasSameRectangles s.pages t.pages
+    pub slots : UseAtMost 3 s.pages t.pages
+    pub others : KeepsPages s.pages t.pages page
     pub keeps : KeepsEntries s t
 
-  -- Each page is at its largest, and one is added.
+  -- Each page is at its largest, and one is added. The others stay as they are.
   pub record AddsPage (page : ℕ) (size : Size) (s t : CacheState K) : Type 0 where
     pub largest : AreAllLargest s.options (page_sizes s.pages)
     pub last : page ≡ length s.pages
     pub sized : size ≡ s.options.page
     pub sizes : page_sizes t.pages ≡ page_sizes s.pages ++ size ∷ []
     pub same : HasSameRectangles s.pages t.pages
+    pub others : KeepsPages s.pages t.pages page
     pub keeps : KeepsEntries s t
 
   -- Every page is there and at its largest, and of the entries that lie on a page the least recently used one goes, which
@@ -95,6 +100,7 @@ module _ {K : Type 0} where
     pub unused : entry.frame < s.frame
     pub leaves : LeavesNoBoxOn s.pages t.pages entry.page entry.id
     pub sizes : page_sizes t.pages ≡ page_sizes s.pages
+    pub slots : UseAtMost 0 s.pages t.pages
     pub numbers : t.numbers ≡ s.numbers
     pub reserved : t.reserved ≡ s.reserved
     pub options : t.options ≡ s.options
@@ -121,7 +127,8 @@ module _ {K : Type 0} where
   Leads asked (c ∷ cs) s t =
       (next : CacheState K) × HasNoPageFor asked s × Does c s next × Leads asked cs next t
 
-  -- A new entry of this key and size, used in this frame, is on the first page that has room for what was asked.
+  -- A new entry of this key and size, used in this frame, is on the first page that has room for what was asked, where a step of the
+  -- page's atlas places it.
   pub record GetsPlace (asked : Size) (key : K) (size : Size) (frame : ℕ) (old new : List AtlasValue)
       (entry : Entry K) : Type 0 where
     pub named : entry.key ≡ key
@@ -129,15 +136,17 @@ module _ {K : Type 0} where
     pub used : entry.frame ≡ frame
     pub large : IsAtLeast asked entry.rectangle
     pub lowest : NoneHasRoomBelow asked old entry.page
+    pub step : GrantsOn asked old new entry.page (record { id = entry.id; rectangle = entry.rectangle })
     pub adds : AddsBoxOn old new entry.page entry.id entry.rectangle
 
   -- A key is added, the most recently used from now on. Its number is one that was given out before, or, if all of those
-  -- are in use, the next one. If entries are in reserve, it is one of them.
+  -- are in use, the next one. If entries are in reserve, it is one of them. It takes at most 4 slots of its page.
   pub record Adds (asked : Size) (key : K) (size : Size) (place : Place) (s t : CacheState K) : Type 0 where
     pub entry : Entry K
     pub first : t.entries ≡ entry ∷ s.entries
     pub placed : GetsPlace asked key size s.frame s.pages t.pages entry
     pub sides : IsRounded s.options asked entry.rectangle
+    pub slots : UseAtMost 4 s.pages t.pages
     pub shows : place ≡ shown s.options.padding entry
     pub next : entry.number ≤ s.numbers
     pub dense : entry.number ≡ s.numbers → length s.entries ≡ s.numbers
@@ -227,11 +236,11 @@ module _ {K : Type 0} where
     pub positive : IsPositive (sides_of size)
     pub large : CanStand s.options size → ⊥
 
-  -- What an insert of a key does that is held: it is used, or nothing happens if it has another size.
+  -- What an insert of a key does that is held: it is used, which counts as a hit, or nothing happens if it has another size.
   pub record FindsKnown (entry : Entry K) (size : Size) (result : Result Inserted CacheError)
       (s t : CacheState K) : Type 0 where
     pub same : entry.size ≡ size → (result ≡ Ok (Held (shown s.options.padding entry))) × Uses entry s t
-        × (t.counts ≡ s.counts)
+        × (t.counts ≡ record s.counts { hits = one_more s.counts.hits })
     pub other : entry.size ≢ size → (result ≡ Err OtherSize) × (t ≡ s)
 
   -- An entry is gone, with its rectangle if it lies on a page; the others keep their order.

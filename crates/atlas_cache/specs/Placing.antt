@@ -1,17 +1,30 @@
 -- What a placing on the pages of a cache does.
-use Rattle.std.specs.Prelude.{◌≡◌, ◌≢◌, ◌<◌, ℕ, length, Option, None, Result, Ok, Err, IfErr, IfOk, IfSome, OnErr}
+use Rattle.std.specs.Prelude.{◌≡◌, ◌≢◌, ◌<◌, ℕ, List, length, slice_get, Option, None, Some, Result, Ok, Err, IfErr, IfOk, IfSome, OnErr}
 use Rattle.guillotiere.specs.declared.Allocation.{Allocation}
 use Rattle.guillotiere.specs.declared.Size.{Size}
 use Rattle.guillotiere.specs.Pages.{AddsBoxOn, NoneHasRoomBelow}
+use Rattle.guillotiere.specs.Pixels.{sides_of}
+use Rattle.guillotiere.specs.Replies.{grant_of}
+use Rattle.guillotiere.specs.Steps.{Step}
+use Rattle.guillotiere.specs.Steps.AtlasCall.{Allocate}
+use Rattle.guillotiere.specs.Steps.AtlasReply.{Allocated}
+use Rattle.guillotiere.specs.Stored.{state_of, AtlasValue}
 use Rattle.atlas_cache.specs.declared.error.CacheError.{CacheError}
 use Rattle.atlas_cache.specs.declared.error.CacheError.TheVariants.{Memory, Slots}
 use Rattle.atlas_cache.specs.Entries.{no_page}
 use Rattle.atlas_cache.specs.Reserving.{HaveSlots, IsShortOfSlots, UseAtMost}
 use Rattle.atlas_cache.specs.Rooms.{page_sizes, IsAtLeast, IsRefusal, IsRounded, RoomsState}
 
+-- The atlas of a page grants a request by a step of its own, which says where: in the free rectangle that it picks.
+abbrev pub GrantsOn : (asked : Size) → (old new : List AtlasValue) → (page : ℕ) → Allocation → Type 0
+GrantsOn asked old new page granted =
+    (s t : AtlasValue) → slice_get old page ≡ Some s → slice_get new page ≡ Some t
+    → Step (state_of s) (Allocate (sides_of asked)) (Allocated (grant_of granted)) (state_of t)
+
 -- A request is granted on this page, the first that has room for it, with the sides that were asked for, rounded up to
 -- the alignment. Every other rectangle stays.
 pub record PlacesOn (asked : Size) (old new : RoomsState) (page : ℕ) (granted : Allocation) : Type 0 where
+  pub step : GrantsOn asked old.pages new.pages page granted
   pub adds : AddsBoxOn old.pages new.pages page granted.id granted.rectangle
   pub large : IsAtLeast asked granted.rectangle
   pub sides : IsRounded old.options asked granted.rectangle

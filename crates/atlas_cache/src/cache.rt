@@ -210,8 +210,8 @@ impl<K: Copy + Eq + Hash, S: BuildHasher, A: Allocator + Copy> TextureCache<K, S
     }
 
     /// A place for a key, which is used in this frame. A key that is held keeps its place, and is the most recently
-    /// used from now on, which doesn't count as a hit; asked for with another size, be it empty or too large, it is
-    /// refused with `OtherSize`, and nothing changes. A new key goes onto the first page with room for its size, in
+    /// used from now on, which counts as a hit; asked for with another size, be it empty or too large, it is
+    /// refused with `OtherSize`, and nothing changes. A new key counts as no miss. It goes onto the first page with room for its size, in
     /// pixels, with the padding. If none has room, a page grows; if none can, one is added; and if no more are allowed,
     /// the least recently used entry that lies on a page and that this frame didn't use is evicted; and so on. `FrameFull` if
     /// then this frame uses each entry on a page and no page has room, which can't be while this frame has used nothing;
@@ -246,6 +246,8 @@ impl<K: Copy + Eq + Hash, S: BuildHasher, A: Allocator + Copy> TextureCache<K, S
             → (self.new ≡ self.old) × (changes.new.items ≡ changes.old.items) }
         ensures placed { (place : Place) → result ≡ Ok (Placed place) → place_for K.eq self.old key ≡ None }
         ensures held { (place : Place) → result ≡ Ok (Held place) → place_for K.eq self.old key ≡ Some place }
+        ensures hit { (place : Place) → result ≡ Ok (Held place)
+            → self.new.counts ≡ record self.old.counts { hits = one_more self.old.counts.hits } }
         ensures new { entry_for K.eq key self.old.entries ≡ None → CanStand self.old.options size
             → Inserts (size_of (bordered self.old.options size)) key size result changes.old.items changes.new.items
             self.old self.new }
@@ -269,6 +271,7 @@ impl<K: Copy + Eq + Hash, S: BuildHasher, A: Allocator + Copy> TextureCache<K, S
             if entry.size != size {
                 return Err(CacheError::OtherSize);
             }
+            self.counts.hits = count(self.counts.hits);
             self.entries.touch(known, self.frame);
             return Ok(Inserted::Held(place_of(entry, &self.rooms.options())));
         }
@@ -289,6 +292,7 @@ impl<K: Copy + Eq + Hash, S: BuildHasher, A: Allocator + Copy> TextureCache<K, S
         ensures none { result ≡ None → self.new ≡ self.old }
         ensures told { ShowsSame (placed K.eq key.now None (picture_of K.eq self.old)) (picture_of K.eq self.new) }
         ensures ready { (n : ℕ) → HaveSlots n self.old.pages → HaveSlots n self.new.pages }
+        ensures reserves { (n room : ℕ) → HasReserves n room self.old → HasReserves n room self.new }
         ensures full { IsFull self.old → IsFull self.new }
     {
         self.entries.prove_kept();

@@ -238,8 +238,8 @@ impl<A: Allocator + Copy> Rooms<A> {
 
     /// The first page that isn't at its largest grows: the page, and its size from now on, in pixels. Its smaller side,
     /// the width if they are equal, is doubled, but no further than the largest page's, or the other side if that one
-    /// is at its largest. None exactly if each page is at its largest. No rectangle moves. `Slots` if that page has too
-    /// few of them, `Memory` if memory is refused. Unless a page grows, nothing changes.
+    /// is at its largest. None exactly if each page is at its largest. No rectangle moves, and at most 3 more slots of the page are
+    /// used. `Slots` if that page has too few of them, `Memory` if memory is refused. Unless a page grows, nothing changes.
     pub fn grow_page(&mut self) -> Result<Option<(u32, Size)>, CacheError>
         ensures first { IfOk result (λ grown. IfSome grown (λ growth.
             IsFirstToGrow self.old.options (page_sizes self.old.pages) growth.0 growth.1)) }
@@ -251,6 +251,7 @@ impl<A: Allocator + Copy> Rooms<A> {
         ensures same { HasSameRectangles self.old.pages self.new.pages }
         ensures others { IfOk result (λ grown. IfSome grown (λ growth.
             KeepsPages self.old.pages self.new.pages growth.0)) }
+        ensures slots { UseAtMost 3 self.old.pages self.new.pages }
         ensures options { self.new.options ≡ self.old.options }
         ensures none { (result ≡ Ok None) ↔ AreAllLargest self.old.options (page_sizes self.old.pages) }
         ensures nothing { result ≡ Ok None → self.new ≡ self.old }

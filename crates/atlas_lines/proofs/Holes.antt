@@ -9,9 +9,9 @@ use Rattle.guillotiere.specs.Choice.{ComesFirst}
 use Rattle.guillotiere.specs.Pixels.{rectangle_of}
 use Rattle.guillotiere.specs.Trees.{Grant}
 use Rattle.guillotiere.specs.States.{State, live_in, free_in, IsSound}
-use Rattle.guillotiere.proofs.ListLemmas.Counting.{count_by-cons, count_by-append}
+use Rattle.guillotiere.proofs.ListLemmas.ListCounts.{count_by-cons, count_by-append}
 use Rattle.guillotiere.proofs.StepLemmas.LiveBoxes.{sound_is_tiled}
-use Rattle.guillotiere.proofs.StepLemmas.LyingApart.{covered_few}
+use Rattle.guillotiere.proofs.StepLemmas.ApartBoxes.{covered_few}
 use Rattle.guillotiere.proofs.TreeLemmas.TreeBasics.{one_if, same_box-true, same_box-itself}
 use Rattle.atlas_lines.specs.Machine.{AreInOrder, HoldsHoles}
 

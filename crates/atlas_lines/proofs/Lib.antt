@@ -6,4 +6,4 @@ pub mod Lists
 pub mod Holes
 pub use Rattle.atlas_words.proofs.Keywords
 pub use Rattle.atlas_words.proofs.Known
-pub use Rattle.atlas_words.proofs.Parting
+pub use Rattle.atlas_words.proofs.PartedWords

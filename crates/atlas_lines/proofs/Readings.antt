@@ -11,7 +11,7 @@ use Rattle.atlas_words.specs.Grammar.{SpellsNumber, SpellsNumbers, SpellsSize, S
 use Rattle.atlas_words.specs.Lines.{HasNoEnd, ended, all_ended, AreLines, last_line}
 use Rattle.atlas_words.specs.Words.{BeginsWithWord, BeginsWithNumber, SpellsInParts}
 use Rattle.atlas_words.proofs.FirstLines.{same_first, no_first}
-use Rattle.atlas_words.proofs.Parting.{one_word, number_no_space, number_begins, same_size, same_options}
+use Rattle.atlas_words.proofs.PartedWords.{one_word, number_no_space, number_begins, same_size, same_options}
 use Rattle.atlas_words.proofs.Keywords.{only_simple, only_take, only_atlas, only_alloc, only_free, only_grow, only_live, only_holes, only_size, only_empty, only_clear, only_rearrange, only_resize, only_record, only_from_atlas, only_replay, keyword_no_space, arguments_spaced, in_parts}
 use Rattle.atlas_lines.proofs.Outcomes.{parted}
 

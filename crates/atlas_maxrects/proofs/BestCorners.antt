@@ -5,7 +5,7 @@ use Rattle.atlas_maxrects.specs.declared.free.FreeBox.{FreeBox}
 use Rattle.atlas_maxrects.specs.declared.corners.Corner.{Corner}
 use Rattle.atlas_maxrects.specs.Free.{IsBestCorner, IsBetter, LiesInOne, corner_position, free_box}
 use Rattle.atlas_maxrects.specs.Placing.{LiesBefore}
-use Rattle.atlas_maxrects.proofs.Leaving.{lies_cases, lies_last, lies_left}
+use Rattle.atlas_maxrects.proofs.LeftOvers.{lies_cases, lies_last, lies_left}
 
 -- Whether these sides have room in a free box.
 abbrev pub HaveRoom : FreeBox → Sides → Type 0

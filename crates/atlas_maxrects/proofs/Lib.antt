@@ -1,3 +1,3 @@
 pub mod BestCorners
-pub mod Leaving
-pub mod Storing
+pub mod LeftOvers
+pub mod TopmostPlaces

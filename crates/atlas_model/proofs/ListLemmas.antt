@@ -1,4 +1,4 @@
 -- Lemmas of lists.
-pub mod Counting
+pub mod ListCounts
 pub mod CountSums
 pub mod CallerLemmas

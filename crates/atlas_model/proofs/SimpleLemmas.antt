@@ -1,4 +1,4 @@
 -- Lemmas of the steps of a simple allocator.
 pub mod SimpleGrants
 pub mod SimpleSteps
-pub mod SimpleRunning
+pub mod SimpleRuns

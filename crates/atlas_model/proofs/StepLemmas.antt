@@ -1,5 +1,5 @@
 -- Lemmas of steps and runs, and of what callers hold.
-pub mod RunKeeping
+pub mod RunOrder
 pub mod Alike
 pub mod WorkedRefits
 pub mod RefitOrders
@@ -7,13 +7,13 @@ pub mod Existence
 pub mod Traces
 pub mod DueAnswers
 pub mod StepEffects
-pub mod StepKeeping
-pub mod Refitting
+pub mod SoundSteps
+pub mod RefittedTrees
 pub mod Outcomes
-pub mod TurnCounting
+pub mod RunTurns
 pub mod LiveBoxes
-pub mod LyingApart
-pub mod Guarding
+pub mod ApartBoxes
+pub mod GuardedBoxes
 pub mod CallerSteps
 pub mod CallerGrants
 pub mod GivenBack

@@ -1,16 +1,16 @@
 -- Lemmas of trees of cuts.
-pub mod Renaming
+pub mod RenamedTrees
 pub mod BoxLists
 pub mod TreeBasics
 pub mod TreeIds
 pub mod TreeNormal
 pub mod TreeReleases
-pub mod TreeTiling
+pub mod TreeTiles
 pub mod TreeLive
 pub mod TreeUndone
 pub mod TreeIdle
 pub mod TreePuts
-pub mod TreePlacing
+pub mod TreePlacements
 pub mod TreeKept
 pub mod TreeGrowth
 pub mod TreeRoom

@@ -37,13 +37,13 @@ ghost use Rattle.atlas_model.specs.Callers.{LiveAreGuarded, IdleHasRoom, GrantsA
 
 /// In a well formed tree of cuts each unit square of the atlas lies in exactly one leaf's box, and no
 /// such box is empty or passes the sides of the atlas.
-#[tactic(auto, using(crate::proofs::TreeLemmas::TreeTiling::leaves_tile))]
+#[tactic(auto, using(crate::proofs::TreeLemmas::TreeTiles::leaves_tile))]
 pub fn tiling()
     ensures { LeavesTile }
 {}
 
 /// The areas of the leaves' boxes add up to the width times the height of the atlas.
-#[tactic(auto, using(crate::proofs::TreeLemmas::TreeTiling::areas_add_up))]
+#[tactic(auto, using(crate::proofs::TreeLemmas::TreeTiles::areas_add_up))]
 pub fn areas()
     ensures { AreasAddUp }
 {}
@@ -208,7 +208,7 @@ pub fn examples_of_runs()
 {}
 
 /// Each step from a sound state leads to a sound state.
-#[tactic(auto, using(crate::proofs::StepLemmas::StepKeeping::steps_keep))]
+#[tactic(auto, using(crate::proofs::StepLemmas::SoundSteps::steps_keep))]
 pub fn steps_keep()
     ensures { StepsKeep }
 {}
@@ -276,7 +276,7 @@ pub fn smaller_fits()
 {}
 
 /// Names in place of ids change nothing that a tree shows; placing, freeing and growing are the same under them.
-#[tactic(auto, using(crate::proofs::TreeLemmas::Renaming::renaming))]
+#[tactic(auto, using(crate::proofs::TreeLemmas::RenamedTrees::renaming))]
 pub fn renaming()
     ensures { RenamingChangesNothing }
 {}
@@ -322,19 +322,19 @@ pub fn live_ids_have_boxes()
 {}
 
 /// The boxes of two live ids share no unit square, and lie apart.
-#[tactic(auto, using(crate::proofs::StepLemmas::LyingApart::live_share_nothing))]
+#[tactic(auto, using(crate::proofs::StepLemmas::ApartBoxes::live_share_nothing))]
 pub fn live_boxes_lie_apart()
     ensures { LiveShareNothing }
 {}
 
 /// Each live box is nonempty and lies within the atlas.
-#[tactic(auto, using(crate::proofs::StepLemmas::LyingApart::live_lie_within))]
+#[tactic(auto, using(crate::proofs::StepLemmas::ApartBoxes::live_lie_within))]
 pub fn live_boxes_lie_within()
     ensures { LiveLieWithin }
 {}
 
 /// The live boxes are guarded: disjoint from each other and from the free boxes.
-#[tactic(auto, using(crate::proofs::StepLemmas::Guarding::live_are_guarded))]
+#[tactic(auto, using(crate::proofs::StepLemmas::GuardedBoxes::live_are_guarded))]
 pub fn live_boxes_are_guarded()
     ensures { LiveAreGuarded }
 {}
@@ -359,7 +359,7 @@ pub fn many_are_given_back()
 
 /// Along each run of a simple allocator, boxes that are held stay within it and disjoint from each other and from the
 /// free boxes, with those granted since.
-#[tactic(auto, using(crate::proofs::SimpleLemmas::SimpleRunning::simple_runs_keep_guard))]
+#[tactic(auto, using(crate::proofs::SimpleLemmas::SimpleRuns::simple_runs_keep_guard))]
 pub fn simple_runs_keep_guard()
     ensures { SimpleRunsKeepGuard }
 {}
@@ -371,7 +371,7 @@ pub fn guarded_are_disjoint()
 
 /// After a creation, a clearing and a reset of a simple allocator no box is held, and after a start from an atlas the
 /// boxes that are live there are.
-#[tactic(auto, using(crate::proofs::SimpleLemmas::SimpleRunning::simple_starts_guard))]
+#[tactic(auto, using(crate::proofs::SimpleLemmas::SimpleRuns::simple_starts_guard))]
 pub fn simple_starts_guard()
     ensures { SimpleStartsGuard }
 {}

@@ -1,2 +1,2 @@
 pub mod Inputs
-pub mod Knowing
+pub mod KnownResults

@@ -14,7 +14,7 @@ use Rattle.atlas_sheet.specs.declared.paging.OnPage.{OnPage}
 use Rattle.atlas_sheet.specs.declared.placed.Placed.{Placed}
 use Rattle.atlas_sheet.specs.declared.ways.TheConstants.{WAYS}
 use Rattle.atlas_sheet.specs.Allowances.{IsAllowed, IsGreatest}
-use Rattle.atlas_sheet.specs.Dense.{AreAllPlaced, ArePaddedApart, IsNoLargerThanWays, NoWayFinds}
+use Rattle.atlas_sheet.specs.Dense.{AreAllPlaced, ArePaddedApart, IsLeastDense, IsNoLargerThanWays, IsPackedOrDense, NoWayFinds}
 use Rattle.atlas_sheet.specs.Fillings.{IsBestFound, IsNoBetter, ways_tried}
 use Rattle.atlas_sheet.specs.Grouping.{AreGroupPages, LieTogether, members}
 use Rattle.atlas_sheet.specs.Lying.{IsShown, areas_of}
@@ -92,7 +92,8 @@ pub record IsFoundSheet (o : SheetOptions) (sizes : List Size) (sheet : Size) (p
   pub first : o.effort ≡ 0
       → InOne o sizes (λ lying. IsFirstFound WAYS o.allowed (spacing_of o) lying (sides_of sheet) order (areas_of places))
 
--- What `pack_dense` answers: an allowed sheet with a place for each sprite, in which they lie apart, no larger than what the ways find.
+-- What `pack_dense` answers: an allowed sheet with a place for each sprite, in which they lie apart, no larger than what
+-- the ways find; and which sheet it is.
 pub record IsFoundDense (o : SheetOptions) (sizes : List Size) (sheet : Size) (places : List (Option Placed)) : Type 0 where
   pub allowed : IsAllowed o.allowed (sides_of sheet)
   pub all : List Placed
@@ -100,6 +101,9 @@ pub record IsFoundDense (o : SheetOptions) (sizes : List Size) (sheet : Size) (p
   pub each : AreAllPlaced o (sides_of sheet) sizes places
   pub apart : ArePaddedApart (spacing_of o) places
   pub larger : IsNoLargerThanWays o sizes (sides_of sheet)
+  pub order : List ℕ
+  pub way : IsPackedOrDense o sizes (sides_of sheet) order all
+  pub least : IsLeastDense o sizes (sides_of sheet)
 
 -- What the library answers where all sprites are to be packed, also with no guillotine cuts or not.
 abbrev pub IsAllPacked : (dense : Bool) → SheetOptions → List Size → (sheet : Size) → List (Option Placed) → Type 0

@@ -1,3 +1,3 @@
 pub mod Occurrences
 pub mod SearchLemmas
-pub mod Cutting
+pub mod CutTiles

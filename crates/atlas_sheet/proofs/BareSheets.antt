@@ -20,7 +20,7 @@ use Rattle.atlas_sheet.specs.Lying.{areas_of}
 use Rattle.atlas_sheet.specs.Orders.{choice_options}
 use Rattle.atlas_sheet.specs.Sheets.{AreFoundBy, FindPlaces, FindsPlace, IsPackable, asked_sides, inner_sides, place_area, used_area, with_places}
 use Rattle.atlas_sheet.specs.Turnings.{has_room}
-use Rattle.atlas_sheet.proofs.Numbering.{order_all}
+use Rattle.atlas_sheet.proofs.NumberedSprites.{order_all}
 use Rattle.atlas_sheet.proofs.WholeSheets.{choice_alignment}
 
 -- Places of which none is there have no pixels.

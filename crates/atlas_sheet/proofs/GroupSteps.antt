@@ -8,7 +8,7 @@ use Rattle.guillotiere.specs.declared.Size.{Size}
 use Rattle.guillotiere.specs.Boxes.{Sides}
 use Rattle.guillotiere.specs.Pixels.{sides_of}
 use Rattle.guillotiere.proofs.TreeLemmas.TreeBasics.{one_if}
-use Rattle.guillotiere.proofs.ListLemmas.Counting.{count_by-cons}
+use Rattle.guillotiere.proofs.ListLemmas.ListCounts.{count_by-cons}
 use Rattle.atlas_sheet.specs.declared.options.SheetOptions.{SheetOptions}
 use Rattle.atlas_sheet.specs.declared.options.Spacing.{Spacing}
 use Rattle.atlas_sheet.specs.declared.paging.OnPage.{OnPage}

@@ -17,7 +17,7 @@ use Rattle.atlas_sheet.specs.Packings.{IsFirstFound, IsNoLarger, NoneIsFound}
 use Rattle.atlas_sheet.specs.Settings.{spacing_of}
 use Rattle.atlas_sheet.specs.Sheets.{used_area}
 use Rattle.atlas_sheet.specs.Turnings.{AreLaid, InEach, InOne, turnings}
-use Rattle.atlas_sheet.proofs.Arranging.{no_larger}
+use Rattle.atlas_sheet.proofs.Arrangements.{no_larger}
 use Rattle.atlas_sheet.proofs.BestWays.{still_best}
 
 -- What is known of each of three is known of the one that was taken.

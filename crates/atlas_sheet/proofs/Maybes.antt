@@ -14,3 +14,8 @@ at_none (Some x) e p = cc
 pub not_none : {T : Type 0} (o : Option T) (P : Type 0) → is_some o ≡ true → IfNone o P
 not_none None P e = cc
 not_none (Some x) P e = tt
+
+-- What follows where nothing is found.
+pub none_then : {T P Q : Type 0} (found : Option T) → IfNone found P → (P → Q) → IfNone found Q
+none_then None is follows = follows is
+none_then (Some x) is follows = tt

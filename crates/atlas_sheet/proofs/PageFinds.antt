@@ -22,10 +22,10 @@ use Rattle.atlas_sheet.specs.Settings.{CanPack, spacing_of}
 use Rattle.atlas_sheet.specs.Sheets.{IsPackable, used_area}
 use Rattle.atlas_sheet.specs.Turnings.{InEach, has_room, laid}
 use Rattle.atlas_sheet.specs.declared.turnings.Turning.TheVariants as turning
-use Rattle.atlas_sheet.proofs.Arranging.{shown_whole}
+use Rattle.atlas_sheet.proofs.Arrangements.{shown_whole}
 use Rattle.atlas_sheet.proofs.BareSheets.{none_area, room_found}
-use Rattle.atlas_sheet.proofs.Flipping.{lie_packable}
-use Rattle.atlas_sheet.proofs.Laying.{first_laid, greatest_once, laid_lies, laid_room}
+use Rattle.atlas_sheet.proofs.TurnedSprites.{lie_packable}
+use Rattle.atlas_sheet.proofs.LaidSprites.{first_laid, greatest_once, laid_lies, laid_room}
 use Rattle.atlas_sheet.proofs.PageSteps.{all_left, all_there, begun, fewer, left_first, left_long, one_page_more, put_long}
 
 -- What is known of a sheet that was found.

@@ -8,7 +8,7 @@ use Rattle.guillotiere.specs.declared.Size.{Size}
 use Rattle.guillotiere.specs.Boxes.{Box, Sides, covers}
 use Rattle.guillotiere.specs.Pixels.{box_of}
 use Rattle.guillotiere.proofs.TreeLemmas.TreeBasics.{one_if}
-use Rattle.guillotiere.proofs.ListLemmas.Counting.{count_by-cons}
+use Rattle.guillotiere.proofs.ListLemmas.ListCounts.{count_by-cons}
 use Rattle.atlas_sheet.specs.declared.options.SheetOptions.{SheetOptions}
 use Rattle.atlas_sheet.specs.declared.options.Spacing.{Spacing}
 use Rattle.atlas_sheet.specs.declared.paging.OnPage.{OnPage}
@@ -20,7 +20,7 @@ use Rattle.atlas_sheet.specs.Lying.{IsPlacedFor, areas_of}
 use Rattle.atlas_sheet.specs.Paging.{AreGreatest, ArePages, ArePagesBy, AreUsed, IsFullSheet, IsOnPage, IsPage, NoPlacesOverlap, TakesAll, boxes_on, page_sides, place_on, places_on, sprites_from}
 use Rattle.atlas_sheet.specs.Settings.{spacing_of}
 use Rattle.atlas_sheet.specs.Sheets.{covers_place, padded}
-use Rattle.atlas_sheet.proofs.Asking.{covers_inside}
+use Rattle.atlas_sheet.proofs.AskedPlace.{covers_inside}
 
 -- A pair that stands in two lists or not.
 zip_later : {X Y : Type 0} (R : X → Y → Type 0) (b : Bool) (x : X) (xs : List X) (y : Y) (ys : List Y)

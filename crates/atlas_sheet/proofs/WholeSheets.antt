@@ -15,8 +15,8 @@ use Rattle.atlas_sheet.specs.declared.ways.Choice.{Choice}
 use Rattle.atlas_sheet.specs.declared.ways.Choice.TheVariants as choice
 use Rattle.atlas_sheet.specs.Orders.{choice_options}
 use Rattle.atlas_sheet.specs.Sheets.{ArePlaces, FindPlaces, IsOnGrid, IsPackable, inner_sides, with_places}
-use Rattle.atlas_sheet.proofs.Asking.{AreOnGrid}
-use Rattle.atlas_sheet.proofs.Placing.{in_order}
+use Rattle.atlas_sheet.proofs.AskedPlace.{AreOnGrid}
+use Rattle.atlas_sheet.proofs.SheetPlaces.{in_order}
 
 inner_positive : (spacing : Spacing) (sheet : Sides) → IsPositive (inner_sides spacing sheet)
 inner_positive spacing sheet =

@@ -1,5 +1,5 @@
 -- The sheets that are allowed, and which of them are looked at before another.
-use Rattle.std.specs.Prelude.{◌≡◌, ℕ, ◌+◌, ◌-◌, ◌*◌, ◌/◌, ◌^◌, ◌<◌, ◌⊎◌, ⊤}
+use Rattle.std.specs.Prelude.{◌≡◌, ℕ, ◌+◌, ◌-◌, ◌*◌, ◌/◌, ◌^◌, ◌<◌, ◌≤◌, ◌⊎◌, ⊤}
 use Rattle.guillotiere.specs.Boxes.{Sides, Fits, IsPositive}
 use Rattle.guillotiere.specs.Pixels.{natural, sides_of}
 use Rattle.atlas_sheet.specs.declared.allowed.Allowed.{Allowed}
@@ -70,14 +70,24 @@ nth_sides by k = record { width = (least_sides by).width; height = (least_sides 
 abbrev pub power_sides : (wide high : ℕ) → Sides
 power_sides wide high = record { width = 2 ^ wide; height = 2 ^ high }
 
--- One side is half of the other sheet's, which is above 1, and the other side is the same.
+-- The longer side, of a square the width, is half of the other sheet's, which is above 1, and the other side is the same.
 abbrev pub HasHalfOf : Sides → Sides → Type 0
 HasHalfOf t s =
-    ((1 < s.width) × (t.width ≡ s.width / 2) × (t.height ≡ s.height))
-    ⊎ ((1 < s.height) × (t.width ≡ s.width) × (t.height ≡ s.height / 2))
+    ((1 < s.width) × (s.height ≤ s.width) × (t.width ≡ s.width / 2) × (t.height ≡ s.height))
+    ⊎ ((1 < s.height) × (s.width < s.height) × (t.width ≡ s.width) × (t.height ≡ s.height / 2))
 
--- What is wrong with what is allowed.
+-- The sheet that is one step smaller: a pixel lower, or with half of the longer side among powers of two.
+abbrev pub IsNextSmaller : Allowed → (sheet smaller : Sides) → Type 0
+IsNextSmaller (allowed.Powers greatest) sheet smaller = HasHalfOf smaller sheet
+IsNextSmaller _ sheet smaller = smaller.height + 1 ≡ sheet.height
+
+-- No allowed sheet is one step smaller.
+abbrev pub HasNoSmaller : Allowed → Sides → Type 0
+HasNoSmaller by sheet = (s : Sides) → IsAllowed by s → IsNextSmaller by sheet s → ⊥
+
+-- What is wrong with what is allowed: the first thing that is.
 abbrev pub IsAllowanceFault : Allowed → SheetError → Type 0
 IsAllowanceFault by error.EmptySheet = IsPositive (least_sides by) → ⊥
-IsAllowanceFault by error.EmptyRange = Fits (least_sides by) (greatest_sides by) → ⊥
+IsAllowanceFault by error.EmptyRange =
+    IsPositive (least_sides by) × (Fits (least_sides by) (greatest_sides by) → ⊥)
 IsAllowanceFault by e = ⊥

@@ -1,5 +1,5 @@
 -- Sprites that may lie turned by 90 degrees, and what a result says of them.
-use Rattle.std.specs.Prelude.{◌≡◌, ℕ, Bool, true, false, ◌⊎◌, List, map, Option, Some, None, IfSome}
+use Rattle.std.specs.Prelude.{◌≡◌, ◌≢◌, ℕ, Bool, true, false, ◌⊎◌, List, map, All, Option, Some, None, IfSome, IsSome}
 use Rattle.std.specs.List.{AllZip}
 use Rattle.guillotiere.specs.declared.Size.{Size}
 use Rattle.guillotiere.specs.declared.Rectangle.{Rectangle}
@@ -11,6 +11,7 @@ use Rattle.atlas_sheet.specs.declared.options.SheetOptions.{SheetOptions}
 use Rattle.atlas_sheet.specs.declared.options.Spacing.{Spacing}
 use Rattle.atlas_sheet.specs.declared.placed.Placed.{Placed}
 use Rattle.atlas_sheet.specs.declared.ways.Choice.{Choice}
+use Rattle.atlas_sheet.specs.Allowances.{IsAllowed}
 use Rattle.atlas_sheet.specs.Orders.{IsOrderOf, choice_options}
 use Rattle.atlas_sheet.specs.Settings.{spacing_of}
 use Rattle.atlas_sheet.specs.Sheets.{ArePlaces, FindPlaces, IsPlaceFor, inner_sides, with_places}
@@ -28,11 +29,12 @@ lie false s = s
 abbrev pub MayLie : (turn : Bool) → (sprite lying : Size) → Type 0
 MayLie turn sprite lying = (lying ≡ sprite) ⊎ ((turn ≡ true) × (lying ≡ turned_size sprite))
 
--- A place for a sprite as it lies. It is turned only where that is allowed.
+-- A place for a sprite as it lies. It is turned only where that is allowed, and only where its sides differ.
 pub record IsPlacedFor (sheet : Sides) (spacing : Spacing) (turn : Bool) (sprite : Size)
     (placed : Placed) : Type 0 where
   pub place : IsPlaceFor sheet spacing (lie placed.turned sprite) placed.area
   pub allowed : placed.turned ≡ true → turn ≡ true
+  pub needed : placed.turned ≡ true → turned_size sprite ≢ sprite
 
 -- The place alone.
 abbrev pub placed_area : Option Placed → Option Rectangle
@@ -55,6 +57,16 @@ pub record IsArrangement (sheet : Sides) (spacing : Spacing) (turn : Bool) (spri
 abbrev pub IsArranged : {A : Type 0} → SheetOptions → List Size → Arrangement A → Type 0
 IsArranged o sprites a =
     IsArrangement (sides_of a.size) (spacing_of o) o.turn sprites a.choice a.lying.items a.order.items a.places.items
+
+-- A sheet of this size is allowed, and in an arrangement on it each sprite has a place.
+pub record HoldsAll (o : SheetOptions) (sprites : List Size) (size : Size) : Type 0 where
+  pub allowed : IsAllowed o.allowed (sides_of size)
+  pub choice : Choice
+  pub lying : List Size
+  pub order : List (ℕ × Size)
+  pub places : List (Option Rectangle)
+  pub whole : All IsSome places
+  pub arranged : IsArrangement (sides_of size) (spacing_of o) o.turn sprites choice lying order places
 
 -- What a sheet shows: a place or none for each sprite as it lies. They are what the sprites find one after another in
 -- the order of these numbers, with one choice among free boxes.

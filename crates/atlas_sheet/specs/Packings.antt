@@ -105,8 +105,9 @@ AreFalling [] = Unit {0}
 AreFalling (s ∷ []) = Unit {0}
 AreFalling (s ∷ (t ∷ sizes)) = (pixels (sides_of t) < pixels (sides_of s)) × AreFalling (t ∷ sizes)
 
--- Steps that were taken one after another from a start, each at a size with fewer pixels than the one before, the last at
--- this one.
-abbrev pub IsToldLast : {F : Type 0} → (step : F → Size → F → Type 0) → (start : F) → Size → Type 0
-IsToldLast {F} step start size =
+-- Steps that were taken one after another from a start, each at a good size with fewer pixels than the one before, the last
+-- at this one.
+abbrev pub IsToldLast : {F : Type 0} → (step : F → Size → F → Type 0) → (good : Size → Type 0) → (start : F) → Size → Type 0
+IsToldLast {F} step good start size =
     (before : List Size) × (last : F) × FoldsTo step start (before ++ size ∷ []) last × AreFalling (before ++ size ∷ [])
+    × All good (before ++ size ∷ [])

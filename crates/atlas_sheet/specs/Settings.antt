@@ -24,10 +24,10 @@ pub record CanPack (o : SheetOptions) (sprites : List Size) : Type 0 where
   pub usable : IsUsable o.allowed
   pub placing : ArePackable (spacing_of o) sprites
 
--- What an error says of the options or of a sprite.
+-- What an error says of the options or of a sprite: the first thing that is wrong, in the order of these lines.
 abbrev pub IsSheetFault : SheetOptions → List Size → SheetError → Type 0
 IsSheetFault o sprites error.Memory = ⊤
 IsSheetFault o sprites error.EmptySheet = IsAllowanceFault o.allowed error.EmptySheet
 IsSheetFault o sprites error.EmptyRange = IsAllowanceFault o.allowed error.EmptyRange
-IsSheetFault o sprites error.EmptyAlignment = IsPositive (sides_of o.alignment) → ⊥
-IsSheetFault o sprites e = HasFault (spacing_of o) sprites e
+IsSheetFault o sprites error.EmptyAlignment = IsUsable o.allowed × (IsPositive (sides_of o.alignment) → ⊥)
+IsSheetFault o sprites e = IsUsable o.allowed × IsPositive (sides_of o.alignment) × HasFault (spacing_of o) sprites e

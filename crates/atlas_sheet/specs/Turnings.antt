@@ -14,7 +14,8 @@ use Rattle.atlas_sheet.specs.Lying.{turned_size}
 use Rattle.atlas_sheet.specs.Settings.{spacing_of}
 use Rattle.atlas_sheet.specs.Sheets.{asked_sides, inner_sides}
 
--- Whether a sprite that lies so has room in an empty sheet: with its padding, and rounded up to the alignment.
+-- Whether a sprite that lies so has room in an empty sheet: its sides with the padding at its left and above, rounded up to
+-- the alignment, are no longer than what is left of the sheet without the padding at its right and below.
 abbrev pub has_room : (sheet : Sides) (spacing : Spacing) → Size → Bool
 has_room sheet spacing lying =
     nat_le (up (asked_sides spacing.padding lying).width (sides_of spacing.alignment).width) (inner_sides spacing sheet).width

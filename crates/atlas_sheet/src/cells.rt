@@ -1,13 +1,17 @@
 //! Sprites placed in a grid of cells of the alignment's sides, each as high up as it can lie, and there as far left.
-ghost use Rattle.std.specs.Prelude.{◌≡◌, ◌+◌, ◌*◌, ◌<◌, ◌≤◌, false, length, pos, replicate, IfOk, IfSome, IsOkUnless, None};
+ghost use Rattle.std.specs.Prelude.{◌≡◌, ◌+◌, ◌*◌, ◌<◌, ◌≤◌, false, length, pos, replicate, All, IfNone, IfOk, IfSome};
+ghost use Rattle.std.specs.Prelude.{IsOkUnless, IsSome, None};
 ghost use Rattle.atlas_maxrects.specs.Placing.{PlacesTopmost};
 ghost use Rattle.guillotiere.specs.Boxes.{IsPositive, box_at};
 ghost use Rattle.guillotiere.specs.Pixels.{box_of, natural, sides_of};
 ghost use Rattle.guillotiere.specs.Replies.{IsExact};
 ghost use Rattle.atlas_sheet.specs.declared.error.SheetError.TheVariants.{Memory};
-ghost use Rattle.atlas_sheet.specs.Dense.{AreAllPlaced, ArePaddedApart, IsGridIn, IsSmallGrid, TakesCells};
+ghost use Rattle.atlas_sheet.specs.Dense.{AreAllPlaced, ArePaddedApart, FindAllTopmost, FindsTopmost, IsGridIn};
+ghost use Rattle.atlas_sheet.specs.Dense.{IsSmallGrid, LeavesTopmost, TakesCells, cell_sides, empty_grid, grid_of};
+ghost use Rattle.atlas_sheet.specs.Lying.{areas_of};
+ghost use Rattle.atlas_sheet.specs.Orders.{IsOrderOf};
 ghost use Rattle.atlas_sheet.specs.Settings.{spacing_of};
-ghost use Rattle.atlas_sheet.specs.Sheets.{ArePackable, IsPackable, asked_sides};
+ghost use Rattle.atlas_sheet.specs.Sheets.{ArePackable, IsPackable, asked_sides, with_places};
 
 use crate::error::SheetError;
 use crate::options::{SheetOptions, Spacing};
@@ -43,6 +47,7 @@ fn grid_in(sheet: Size, spacing: Spacing) -> Size
     requires aligned { IsPositive (sides_of spacing.alignment) }
     ensures lies { IsGridIn (sides_of result) spacing (sides_of sheet) }
     ensures small { IsSmallGrid (sides_of result) spacing }
+    ensures whole { sides_of result ≡ grid_of spacing (sides_of sheet) }
 {
     let room = inner(sheet, spacing);
     size2(
@@ -57,6 +62,7 @@ fn cells_of(asked: Size, cell: Size) -> Size
     requires cell { IsPositive (sides_of cell) }
     ensures wide { (sides_of asked).width ≤ (sides_of result).width * (sides_of cell).width }
     ensures high { (sides_of asked).height ≤ (sides_of result).height * (sides_of cell).height }
+    ensures cells { sides_of result ≡ cell_sides (sides_of cell) (sides_of asked) }
 {
     size2(
         cells_for(asked.width, cell.width),
@@ -129,14 +135,17 @@ fn place_sprite<A: Allocator + Copy>(
     requires small { IsSmallGrid packer.old.sheet spacing }
     ensures placed { IfOk result (λ found. IfSome found (λ place.
         TakesCells spacing packer.old sprite place packer.new)) }
+    ensures topmost { IfOk result (λ found. FindsTopmost spacing packer.old sprite found packer.new) }
     ensures unless { IsOkUnless result Memory }
 {
     let wanted = asked(sprite, spacing.padding);
-    let Some(cells) = take_cells(packer, cells_of(wanted, spacing.alignment))? else {
-        return Ok(None);
-    };
-    let area = box_from(cells, spacing.alignment, wanted);
-    Ok(Some(inset(area, sprite, spacing.padding)))
+    match take_cells(packer, cells_of(wanted, spacing.alignment))? {
+        None => Ok(None),
+        Some(cells) => {
+            let area = box_from(cells, spacing.alignment, wanted);
+            Ok(Some(inset(area, sprite, spacing.padding)))
+        }
+    }
 }
 
 // So many sprites without a place.
@@ -148,32 +157,35 @@ fn none_yet<A: Allocator>(alloc: A, count: usize) -> Result<Vec<Option<Placed>, 
     Ok(placed)
 }
 
-/// Sprites in a grid of cells, one after another in the order of these numbers. None as soon as one has no room.
+/// Sprites in a grid of cells, one after another in this order. None as soon as one has no room.
 pub fn topmost_places<A: Allocator + Copy>(
     alloc: A,
     sprites: &[Size],
     options: &SheetOptions,
-    order: &[usize],
+    order: &[(usize, Size)],
     sheet: Size,
 ) -> Result<Option<Vec<Option<Placed>, A>>, SheetError>
     requires positive { IsPositive (sides_of sheet) }
     requires good { ArePackable (spacing_of options.now) sprites.now }
+    requires permuted { IsOrderOf sprites.now order.now }
     ensures each { IfOk result (λ found. IfSome found (λ placed.
         AreAllPlaced options.now (sides_of sheet) sprites.now placed.items)) }
     ensures apart { IfOk result (λ found. IfSome found (λ placed.
         ArePaddedApart (spacing_of options.now) placed.items)) }
+    ensures whole { IfOk result (λ found. IfSome found (λ placed. All IsSome placed.items)) }
+    ensures found { IfOk result (λ found. IfSome found (λ placed. FindAllTopmost (spacing_of options.now)
+        (empty_grid (spacing_of options.now) (sides_of sheet)) (with_places (areas_of placed.items) order.now))) }
+    ensures left { IfOk result (λ found. IfNone found
+        (LeavesTopmost (spacing_of options.now) (sides_of sheet) order.now)) }
     ensures unless { IsOkUnless result Memory }
 {
     let spacing = options.spacing();
     let mut packer = TopmostPacker::new(alloc, grid_in(sheet, spacing))?;
     let mut placed = none_yet(alloc, sprites.len())?;
-    for number in order {
-        let number = *number;
-        if number < sprites.len() {
-            let Some(area) = place_sprite(&mut packer, sprites[number], spacing)? else {
-                return Ok(None);
-            };
-            placed[number] = Some(upright(area));
+    for sprite in order {
+        match place_sprite(&mut packer, sprite.1, spacing)? {
+            Some(area) => placed[sprite.0] = Some(upright(area)),
+            None => return Ok(None),
         }
     }
     Ok(Some(placed))

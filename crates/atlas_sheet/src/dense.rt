@@ -5,12 +5,14 @@ ghost use Rattle.std.specs.Prelude.{IsTrue, MatchOption, Some};
 ghost use Rattle.guillotiere.specs.Boxes.{AreDisjoint, IsPositive, IsWithin, box_sides};
 ghost use Rattle.guillotiere.specs.Pixels.{box_of, natural, sides_of};
 ghost use Rattle.atlas_sheet.specs.declared.error.SheetError.TheVariants.{Memory};
-ghost use Rattle.atlas_sheet.specs.Allowances.{IsAllowed, IsGreatest, IsRow, IsUsable, pixels};
-ghost use Rattle.atlas_sheet.specs.Dense.{AreAllPlaced, ArePaddedApart, IsNoLargerThanWays, IsWholeSheet, NoWayFinds};
+ghost use Rattle.atlas_sheet.specs.Allowances.{HasNoSmaller, IsAllowed, IsGreatest, IsNextSmaller, IsRow, IsUsable, pixels};
+ghost use Rattle.atlas_sheet.specs.Dense.{AreAllPlaced, ArePaddedApart, FindAllTopmost, IsByHeight, IsLeastDense};
+ghost use Rattle.atlas_sheet.specs.Dense.{IsNoLargerThanWays, IsPackedOrDense, IsSmallerThanWays, IsWholeSheet, LeavesDense};
+ghost use Rattle.atlas_sheet.specs.Dense.{NoWayFinds, NoneIsDense, empty_grid, height_rank};
 ghost use Rattle.atlas_sheet.specs.Lying.{areas_of, placed_area};
 ghost use Rattle.atlas_sheet.specs.Orders.{IsOrder};
 ghost use Rattle.atlas_sheet.specs.Settings.{CanPack, IsSheetFault, spacing_of};
-ghost use Rattle.atlas_sheet.specs.Sheets.{ArePackable, used_area};
+ghost use Rattle.atlas_sheet.specs.Sheets.{ArePackable, used_area, with_places};
 
 use crate::allowed::Allowed;
 use crate::cells::topmost_places;
@@ -25,14 +27,24 @@ use guillotiere::{Rectangle, Size};
 use std::alloc::Allocator;
 use std::cmp::Reverse;
 
-// The numbers of the sprites: the highest come first, and of those as high the widest.
-fn by_height<A: Allocator + Copy>(alloc: A, sprites: &[Size]) -> Result<Vec<usize, A>, SheetError>
-    ensures order { IfOk result (λ order. IsOrder (length sprites.now) order.items) }
+// What a sprite counts: its height, and among those as high its width.
+fn height_rank(sprite: Size) -> u64
+    ensures { result ≡ height_rank sprite }
+{
+    sprite.height.max(0) as u64 * 4294967296 + sprite.width.max(0) as u64
+}
+
+// The sprites with their numbers: the highest come first, and of those as high the widest.
+fn by_height<A: Allocator + Copy>(
+    alloc: A,
+    sprites: &[Size],
+) -> Result<Vec<(usize, Size), A>, SheetError>
+    ensures by { IfOk result (λ order. IsByHeight sprites.now order.items) }
     ensures unless { IsOkUnless result Memory }
 {
     let mut order = numbered(alloc, sprites)?;
-    order.sort_by_key(|sprite| (Reverse(sprite.1.height), Reverse(sprite.1.width)))?;
-    numbers_of(alloc, &order)
+    order.sort_by_key(|sprite| Reverse(height_rank(sprite.1)))?;
+    Ok(order)
 }
 
 // Where a sprite lies, if it has a place.
@@ -83,7 +95,7 @@ fn sheet_of<A: Allocator + Copy>(
     alloc: A,
     sprites: &[Size],
     options: &SheetOptions,
-    order: &[usize],
+    order: &[(usize, Size)],
     size: Size,
     placed: &[Option<Placed>],
 ) -> Result<Sheet<A>, SheetError>
@@ -91,14 +103,17 @@ fn sheet_of<A: Allocator + Copy>(
     requires allowed { IsAllowed options.now.allowed (sides_of size) }
     requires each { AreAllPlaced options.now (sides_of size) sprites.now placed.now }
     requires apart { ArePaddedApart (spacing_of options.now) placed.now }
-    requires order { IsOrder (length sprites.now) order.now }
-    requires larger { IsNoLargerThanWays options.now sprites.now (sides_of size) }
+    requires by { IsByHeight sprites.now order.now }
+    requires found { FindAllTopmost (spacing_of options.now)
+        (empty_grid (spacing_of options.now) (sides_of size)) (with_places (areas_of placed.now) order.now) }
+    requires smaller { IsSmallerThanWays options.now sprites.now (sides_of size) }
     ensures whole { IfOk result (IsWholeSheet options.now sprites.now) }
+    ensures size { IfOk result (λ sheet. sheet.size ≡ size) }
     ensures unless { IsOkUnless result Memory }
 {
     let areas = areas(alloc, placed)?;
     let places = whole(alloc, placed)?;
-    let order = Vec::from_slice(alloc, order)?;
+    let order = numbers_of(alloc, order)?;
     let used_area = used_area(&areas);
     Ok(Sheet {
         size,
@@ -108,37 +123,31 @@ fn sheet_of<A: Allocator + Copy>(
     })
 }
 
-// Whether each sprite has a place.
-fn all_placed(placed: &[Option<Placed>]) -> bool
-    ensures { IsTrue result ↔ All IsSome placed.now }
-{
-    placed.iter().all(|place| place.is_some())
-}
-
 // All sprites in a grid of cells in a sheet of this size, if they find room.
 fn dense_at<A: Allocator + Copy>(
     alloc: A,
     sprites: &[Size],
     options: &SheetOptions,
-    order: &[usize],
+    order: &[(usize, Size)],
     size: Size,
 ) -> Result<Option<Sheet<A>>, SheetError>
     requires positive { IsPositive (sides_of size) }
     requires good { ArePackable (spacing_of options.now) sprites.now }
-    requires order { IsOrder (length sprites.now) order.now }
+    requires by { IsByHeight sprites.now order.now }
     requires allowed { IsAllowed options.now.allowed (sides_of size) }
-    requires larger { IsNoLargerThanWays options.now sprites.now (sides_of size) }
+    requires smaller { IsSmallerThanWays options.now sprites.now (sides_of size) }
     ensures whole { IfOk result (λ found. IfSome found (IsWholeSheet options.now sprites.now)) }
+    ensures size { IfOk result (λ found. IfSome found (λ sheet. sheet.size ≡ size)) }
+    ensures left { IfOk result (λ found. IfNone found (LeavesDense options.now sprites.now (sides_of size))) }
     ensures unless { IsOkUnless result Memory }
 {
-    let Some(placed) = topmost_places(alloc, sprites, options, order, size)? else {
-        return Ok(None);
-    };
-    if !all_placed(&placed) {
-        return Ok(None);
+    match topmost_places(alloc, sprites, options, order, size)? {
+        None => Ok(None),
+        Some(placed) => {
+            let sheet = sheet_of(alloc, sprites, options, order, size, &placed)?;
+            Ok(Some(sheet))
+        }
     }
-    let sheet = sheet_of(alloc, sprites, options, order, size, &placed)?;
-    Ok(Some(sheet))
 }
 
 // Whether a sheet has fewer pixels than the best one, if there is one.
@@ -156,17 +165,21 @@ fn denser_at<A: Allocator + Copy>(
     alloc: A,
     sprites: &[Size],
     options: &SheetOptions,
-    order: &[usize],
+    order: &[(usize, Size)],
     size: Size,
     best: &Option<Sheet<A>>,
 ) -> Result<Option<Sheet<A>>, SheetError>
     requires positive { IsPositive (sides_of size) }
     requires good { ArePackable (spacing_of options.now) sprites.now }
-    requires order { IsOrder (length sprites.now) order.now }
+    requires by { IsByHeight sprites.now order.now }
     requires allowed { IsAllowed options.now.allowed (sides_of size) }
     requires best { IfSome best.now (IsWholeSheet options.now sprites.now) }
     requires none { IfNone best.now (NoWayFinds options.now sprites.now) }
     ensures whole { IfOk result (λ found. IfSome found (IsWholeSheet options.now sprites.now)) }
+    ensures size { IfOk result (λ found. IfSome found (λ sheet. sheet.size ≡ size)) }
+    ensures left { IfOk result (λ found. IfNone found (
+        IfSome best.now (λ sheet. pixels (sides_of size) < pixels (sides_of sheet.size))
+        → LeavesDense options.now sprites.now (sides_of size))) }
     ensures unless { IsOkUnless result Memory }
 {
     if pixels_of(size) < sprite_pixels(sprites) {
@@ -194,17 +207,20 @@ fn denser_in_row<A: Allocator + Copy>(
     alloc: A,
     sprites: &[Size],
     options: &SheetOptions,
-    order: &[usize],
+    order: &[(usize, Size)],
     first: Option<Sheet<A>>,
 ) -> Result<Option<Sheet<A>>, SheetError>
     requires good { CanPack options.now sprites.now }
     requires row { IsRow options.now.allowed }
-    requires order { IsOrder (length sprites.now) order.now }
+    requires by { IsByHeight sprites.now order.now }
     requires whole { IfSome first (IsWholeSheet options.now sprites.now) }
     requires none { IfNone first (NoWayFinds options.now sprites.now) }
     ensures whole { IfOk result (λ found. IfSome found (IsWholeSheet options.now sprites.now)) }
     ensures none { IfOk result (λ found. IfNone found
         (NoWayFinds options.now sprites.now)) }
+    ensures least { IfOk result (λ found. IfSome found (λ sheet.
+        IsLeastDense options.now sprites.now (sides_of sheet.size))) }
+    ensures full { IfOk result (λ found. IfNone found (NoneIsDense options.now sprites.now)) }
     ensures unless { IsOkUnless result Memory }
 {
     let mut low = 0;
@@ -214,12 +230,11 @@ fn denser_in_row<A: Allocator + Copy>(
         let middle = low + (high - low) / 2;
         let size = options.allowed.nth(middle);
         let found = denser_at(alloc, sprites, options, order, size, &best)?;
-        let is_enough = found.is_some() || !is_smaller(size, &best);
         best = newer(found, best);
-        if is_enough {
-            high = middle;
-        } else {
+        if is_smaller(size, &best) {
             low = middle + 1;
+        } else {
+            high = middle;
         }
     }
     Ok(best)
@@ -237,6 +252,10 @@ fn next_size<A: Allocator>(
     ensures positive { IfSome result (λ size. IsPositive (sides_of size)) }
     ensures first { IfNone best.now (IfSome result (λ size. IsGreatest options.now.allowed (sides_of size))) }
     ensures some { IfNone best.now (IsSome result) }
+    ensures next { IfSome best.now (λ sheet. MatchOption result
+        (HasNoSmaller options.now.allowed (sides_of sheet.size))
+        (λ size. IsNextSmaller options.now.allowed (sides_of sheet.size) (sides_of size)
+        × (pixels (sides_of size) < pixels (sides_of sheet.size)))) }
 {
     match best {
         None => Some(greatest_sheet(options.allowed)),
@@ -249,28 +268,30 @@ fn denser_powers<A: Allocator + Copy>(
     alloc: A,
     sprites: &[Size],
     options: &SheetOptions,
-    order: &[usize],
+    order: &[(usize, Size)],
     first: Option<Sheet<A>>,
 ) -> Result<Option<Sheet<A>>, SheetError>
     requires good { CanPack options.now sprites.now }
-    requires order { IsOrder (length sprites.now) order.now }
+    requires by { IsByHeight sprites.now order.now }
     requires whole { IfSome first (IsWholeSheet options.now sprites.now) }
     requires none { IfNone first (NoWayFinds options.now sprites.now) }
     ensures whole { IfOk result (λ found. IfSome found (IsWholeSheet options.now sprites.now)) }
     ensures none { IfOk result (λ found. IfNone found
         (NoWayFinds options.now sprites.now)) }
+    ensures least { IfOk result (λ found. IfSome found (λ sheet.
+        IsLeastDense options.now sprites.now (sides_of sheet.size))) }
+    ensures full { IfOk result (λ found. IfNone found (NoneIsDense options.now sprites.now)) }
     ensures unless { IsOkUnless result Memory }
 {
     let mut best = first;
-    for _step in 0..62u32 {
-        let Some(size) = next_size(options, sprites, &best) else {
-            break;
-        };
+    let mut next = next_size(options, sprites, &best);
+    while let Some(size) = next {
         let found = denser_at(alloc, sprites, options, order, size, &best)?;
         if found.is_none() {
-            break;
+            return Ok(best);
         }
-        best = newer(found, best);
+        best = found;
+        next = next_size(options, sprites, &best);
     }
     Ok(best)
 }
@@ -288,6 +309,9 @@ fn denser<A: Allocator + Copy>(
     ensures whole { IfOk result (λ found. IfSome found (IsWholeSheet options.now sprites.now)) }
     ensures none { IfOk result (λ found. IfNone found
         (NoWayFinds options.now sprites.now)) }
+    ensures least { IfOk result (λ found. IfSome found (λ sheet.
+        IsLeastDense options.now sprites.now (sides_of sheet.size))) }
+    ensures full { IfOk result (λ found. IfNone found (NoneIsDense options.now sprites.now)) }
     ensures unless { IsOkUnless result Memory }
 {
     let order = by_height(alloc, sprites)?;
@@ -326,8 +350,13 @@ pub fn pack_dense<A: Allocator + Copy>(
     ensures order { IfOk result (λ found. IfSome found (λ sheet. IsOrder (length sprites.now) sheet.order.items)) }
     ensures larger { IfOk result (λ found. IfSome found (λ sheet.
         IsNoLargerThanWays options.now sprites.now (sides_of sheet.size))) }
+    ensures way { IfOk result (λ found. IfSome found (λ sheet. IsPackedOrDense options.now sprites.now
+        (sides_of sheet.size) sheet.order.items sheet.places.items)) }
+    ensures least { IfOk result (λ found. IfSome found (λ sheet.
+        IsLeastDense options.now sprites.now (sides_of sheet.size))) }
     ensures none { IfOk result (λ found. IfNone found
         (NoWayFinds options.now sprites.now)) }
+    ensures full { IfOk result (λ found. IfNone found (NoneIsDense options.now sprites.now)) }
     ensures fault { IfErr result (λ e. IsSheetFault options.now sprites.now e) }
 {
     check_all(sprites, options)?;

@@ -11,7 +11,8 @@ use guillotiere::{Size, size2};
 pub struct Spacing {
     /// The least number of pixels between two sprites, and between a sprite and the border.
     pub padding: u16,
-    /// Each place, with the padding at its left and above, begins on multiples of these sides.
+    /// Each place, with the padding at its left and above, begins on multiples of these sides, and with them takes
+    /// multiples of these. The padding at its right and below comes after that.
     pub alignment: Size,
 }
 
@@ -22,8 +23,9 @@ pub struct SheetOptions {
     pub allowed: Allowed,
     /// The least number of pixels between two sprites, and between a sprite and the border.
     pub padding: u16,
-    /// Each sprite's place, with the padding at its left and above, begins on multiples of these sides, in pixels. Each
-    /// side is at least 1.
+    /// Each sprite's place, with the padding at its left and above, begins on multiples of these sides, in pixels, and what
+    /// it takes with that padding is rounded up to multiples of them. The padding at its right and below comes after that:
+    /// it is the next sprite's, or the border's. Each side is at least 1.
     pub alignment: Size,
     /// Whether a sprite may lie turned by 90 degrees. The ways are then tried with each `Turning`.
     pub turn: bool,

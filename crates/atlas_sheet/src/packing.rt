@@ -5,7 +5,7 @@ ghost use Rattle.atlas_sheet.specs.declared.error.SheetError.TheVariants.{Memory
 ghost use Rattle.atlas_sheet.specs.declared.ways.TheConstants.{WAYS};
 ghost use Rattle.atlas_sheet.specs.Allowances.{IsAllowed, pixels};
 ghost use Rattle.atlas_sheet.specs.Dense.{IsNoLargerThanWays, NoWayFinds};
-ghost use Rattle.atlas_sheet.specs.Lying.{IsArranged};
+ghost use Rattle.atlas_sheet.specs.Lying.{IsArranged, HoldsAll};
 ghost use Rattle.atlas_sheet.specs.Packings.{IsFirstFound, IsLeastFound, IsToldLast, NoneIsFound};
 ghost use Rattle.atlas_sheet.specs.Settings.{CanPack, spacing_of};
 ghost use Rattle.atlas_sheet.specs.Turnings.{AreLaid, InOne};
@@ -171,7 +171,8 @@ fn descend<A: Allocator + Copy, F: FnMut(Size)>(
     ensures allowed { IfOk result (λ best. IsAllowed options.now.allowed (sides_of best.size)) }
     ensures whole { IfOk result (λ best. All IsSome best.places.items) }
     ensures smaller { IfOk result (λ best. pixels (sides_of best.size) ≤ pixels (sides_of first.size)) }
-    ensures told { IfOk result (λ best. IsToldLast (λ p size q. F.step p size tt q) told best.size) }
+    ensures told { IfOk result (λ best. IsToldLast (λ p size q. F.step p size tt q)
+        (HoldsAll options.now first.lying.items) told best.size) }
     ensures unless { IsOkUnless result Memory }
 {
     told(first.size);
@@ -271,7 +272,8 @@ pub fn packed<A: Allocator + Copy, F: FnMut(Size)>(
         (map (λ s. s.0) a.order.items) a.places.items))) }
     ensures larger { IfOk result (λ found. IfSome found (λ a. IsNoLargerThanWays options.now sprites.now (sides_of a.size))) }
     ensures none { IfOk result (λ found. IfNone found (NoWayFinds options.now sprites.now)) }
-    ensures told { IfOk result (λ found. IfSome found (λ a. IsToldLast (λ p size q. F.step p size tt q) told a.size)) }
+    ensures told { IfOk result (λ found. IfSome found (λ a. IsToldLast (λ p size q. F.step p size tt q)
+        (HoldsAll options.now sprites.now) told a.size)) }
     ensures unless { IsOkUnless result Memory }
 {
     let mut random = Random::new(options.seed);

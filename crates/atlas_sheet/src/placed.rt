@@ -1,5 +1,5 @@
 //! Where sprites lie in a sheet.
-ghost use Rattle.std.specs.Prelude.{◌≡◌, map, true, All, IfOk, IfSome, IsOkUnless, IsSome};
+ghost use Rattle.std.specs.Prelude.{◌≡◌, ◌≢◌, map, true, All, IfOk, IfSome, IsOkUnless, IsSome};
 ghost use Rattle.std.specs.List.{AllZip};
 ghost use Rattle.guillotiere.specs.Pixels.{sides_of};
 ghost use Rattle.atlas_sheet.specs.declared.error.SheetError.TheVariants.{Memory};
@@ -17,7 +17,7 @@ use std::alloc::Allocator;
 pub struct Placed {
     /// Its place, in pixels, without the padding.
     pub area: Rectangle,
-    /// Whether it is turned by 90 degrees: the place is as wide as the sprite is high.
+    /// Whether it is turned by 90 degrees: the place is as wide as the sprite is high. A square sprite never is.
     pub turned: bool,
 }
 
@@ -25,7 +25,8 @@ pub struct Placed {
 fn placed_in(turn: bool, sprite: Size, lying: Size, place: Option<Rectangle>) -> Option<Placed>
     ensures area { placed_area result ≡ place }
     ensures turned { MayLie turn sprite lying
-        → IfSome result (λ p. (lie p.turned sprite ≡ lying) × (p.turned ≡ true → turn ≡ true)) }
+        → IfSome result (λ p. (lie p.turned sprite ≡ lying) × (p.turned ≡ true → turn ≡ true)
+        × (p.turned ≡ true → lying ≢ sprite)) }
 {
     let Some(area) = place else {
         return None;

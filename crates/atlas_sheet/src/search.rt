@@ -3,8 +3,8 @@ ghost use Rattle.std.specs.Prelude.{◌≡◌, ◌+◌, ◌*◌, ◌/◌, ◌^�
 ghost use Rattle.guillotiere.specs.Boxes.{IsPositive};
 ghost use Rattle.guillotiere.specs.Pixels.{natural, sides_of};
 ghost use Rattle.atlas_sheet.specs.declared.error.SheetError.TheVariants.{Memory};
-ghost use Rattle.atlas_sheet.specs.Allowances.{HasHalfOf, IsAllowed, IsGreatest, IsRow, IsUsable, pixels, power_sides};
-ghost use Rattle.atlas_sheet.specs.Allowances.{row_length};
+ghost use Rattle.atlas_sheet.specs.Allowances.{HasHalfOf, HasNoSmaller, IsAllowed, IsGreatest, IsNextSmaller, IsRow, IsUsable};
+ghost use Rattle.atlas_sheet.specs.Allowances.{pixels, power_sides, row_length};
 ghost use Rattle.atlas_sheet.specs.Packings.{ArePacked, IsLeastFound, IsOrderBy, NoWayPacks, NoneIsFound};
 ghost use Rattle.atlas_sheet.specs.Packings.{IsPowerPacked, NoShapePacks};
 ghost use Rattle.atlas_sheet.specs.Sheets.{ArePackable};
@@ -283,8 +283,9 @@ fn half(side: i32) -> i32
 // A square that is a pixel smaller.
 fn smaller_square(size: Size, least: Size) -> Option<Size>
     requires { IsPositive (sides_of size) }
-    ensures { IfSome result (λ t. ((sides_of least).width < (sides_of size).width)
+    ensures some { IfSome result (λ t. ((sides_of least).width < (sides_of size).width)
         × ((sides_of t).width + 1 ≡ (sides_of size).width) × ((sides_of t).height + 1 ≡ (sides_of size).height)) }
+    ensures none { IfNone result ((sides_of size).width ≤ (sides_of least).width) }
 {
     if size.width <= least.width {
         return None;
@@ -295,8 +296,9 @@ fn smaller_square(size: Size, least: Size) -> Option<Size>
 // A sheet that is a pixel lower.
 fn lower(size: Size) -> Option<Size>
     requires { IsPositive (sides_of size) }
-    ensures { IfSome result (λ t. (1 < (sides_of size).height) × ((sides_of t).width ≡ (sides_of size).width)
+    ensures some { IfSome result (λ t. (1 < (sides_of size).height) × ((sides_of t).width ≡ (sides_of size).width)
         × ((sides_of t).height + 1 ≡ (sides_of size).height)) }
+    ensures none { IfNone result ((sides_of size).height ≤ 1) }
 {
     if size.height <= 1 {
         return None;
@@ -307,7 +309,8 @@ fn lower(size: Size) -> Option<Size>
 // A sheet with half of the longer side.
 fn smaller_power(size: Size) -> Option<Size>
     requires { IsPositive (sides_of size) }
-    ensures { IfSome result (λ t. HasHalfOf (sides_of t) (sides_of size)) }
+    ensures some { IfSome result (λ t. HasHalfOf (sides_of t) (sides_of size)) }
+    ensures none { IfNone result (((sides_of size).width ≤ 1) × ((sides_of size).height ≤ 1)) }
 {
     if size.width > 1 && size.width >= size.height {
         return Some(size2(half(size.width), size.height));
@@ -323,7 +326,9 @@ pub fn smaller_sheet(allowed: Allowed, size: Size) -> Option<Size>
     requires usable { IsUsable allowed }
     requires allowed { IsAllowed allowed (sides_of size) }
     requires positive { IsPositive (sides_of size) }
-    ensures { IfSome result (λ s. IsAllowed allowed (sides_of s) × (pixels (sides_of s) < pixels (sides_of size))) }
+    ensures smaller { IfSome result (λ s. IsAllowed allowed (sides_of s) × (pixels (sides_of s) < pixels (sides_of size))) }
+    ensures next { IfSome result (λ s. IsNextSmaller allowed (sides_of size) (sides_of s)) }
+    ensures none { IfNone result (HasNoSmaller allowed (sides_of size)) }
 {
     match allowed {
         Allowed::One(_) => None,

@@ -8,7 +8,7 @@ ghost use Rattle.atlas_sheet.specs.declared.error.SheetError.TheVariants.{Memory
 ghost use Rattle.atlas_sheet.specs.declared.ways.TheConstants.{WAYS};
 ghost use Rattle.atlas_sheet.specs.Allowances.{IsAllowed, IsGreatest};
 ghost use Rattle.atlas_sheet.specs.Fillings.{IsBestFound, IsNoBetter, ways_tried};
-ghost use Rattle.atlas_sheet.specs.Lying.{IsArranged, IsShown, areas_of};
+ghost use Rattle.atlas_sheet.specs.Lying.{IsArranged, IsShown, HoldsAll, areas_of};
 ghost use Rattle.atlas_sheet.specs.Packings.{IsFirstFound, IsNoLarger, IsToldLast, NoneIsFound};
 ghost use Rattle.atlas_sheet.specs.Settings.{CanPack, IsSheetFault, spacing_of};
 ghost use Rattle.atlas_sheet.specs.Sheets.{used_area};
@@ -208,9 +208,9 @@ pub fn best_filled<A: Allocator + Copy>(
 /// turned, this holds with each `Turning`. With effort the order is changed so many times, and a change stays if it
 /// leaves no more pixels of sprites without a place. A sprite that found no room has no place.
 ///
-/// `EmptySheet` if the least allowed side is below 1, `EmptyRange` if the greatest is less than the least,
-/// `EmptyAlignment` if a side of the alignment is below 1; `EmptySprite` and `GreatSprite` name a sprite that can't be
-/// placed in any sheet; `Memory` if memory is refused.
+/// `EmptySheet` if the least allowed side is below 1, else `EmptyRange` if the greatest is less than the least, else
+/// `EmptyAlignment` if a side of the alignment is below 1; else `EmptySprite` and `GreatSprite` name the first sprite that
+/// can't be placed in any sheet; `Memory` if memory is refused.
 pub fn fill<A: Allocator + Copy>(
     alloc: A,
     sprites: &[Size],
@@ -258,9 +258,9 @@ fn sheet_of<A: Allocator + Copy>(alloc: A, filled: Filled<A>) -> Result<Sheet<A>
 /// sheet is never larger than without effort. None only where no way, and no order that was tried, packs all sprites
 /// into the greatest sheet that is allowed.
 ///
-/// `EmptySheet` if the least allowed side is below 1, `EmptyRange` if the greatest is less than the least,
-/// `EmptyAlignment` if a side of the alignment is below 1; `EmptySprite` and `GreatSprite` name a sprite that can't be
-/// placed in any sheet; `Memory` if memory is refused.
+/// `EmptySheet` if the least allowed side is below 1, else `EmptyRange` if the greatest is less than the least, else
+/// `EmptyAlignment` if a side of the alignment is below 1; else `EmptySprite` and `GreatSprite` name the first sprite that
+/// can't be placed in any sheet; `Memory` if memory is refused.
 pub fn pack<A: Allocator + Copy>(
     alloc: A,
     sprites: &[Size],
@@ -319,7 +319,7 @@ pub fn pack_telling<A: Allocator + Copy, F: FnMut(Size)>(
     ensures none { IfOk result (λ found. IfNone found (InEach options.now sprites.now (λ lying.
         NoneIsFound WAYS options.now.allowed (spacing_of options.now) lying))) }
     ensures told { IfOk result (λ found. IfSome found (λ sheet. IsToldLast
-        (λ p size q. F.step p size tt q) told sheet.size)) }
+        (λ p size q. F.step p size tt q) (HoldsAll options.now sprites.now) told sheet.size)) }
     ensures fault { IfErr result (λ e. IsSheetFault options.now sprites.now e) }
 {
     check_all(sprites, options)?;

@@ -2,7 +2,7 @@
 pub mod AlongLists
 pub mod AreaSums
 pub mod FreedAtlas
-pub mod Hiding
+pub mod HiddenSlots
 pub mod NamedSlots
-pub mod Observing
+pub mod StoredAtlas
 pub mod WalkSteps

@@ -1,4 +1,5 @@
--- The two parts of stored slots. No public clause cites this module.
+-- The two parts of stored slots. No public clause cites this module, but for that of `store_of`, which `guillotiere` keeps to
+-- itself.
 pub mod Numbered
 pub mod Standing
 pub mod Entries

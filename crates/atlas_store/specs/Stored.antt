@@ -1,4 +1,5 @@
--- What an atlas stores, and that it stands for a state. Public clauses cite `AtlasValue` and `state_of` alone.
+-- What an atlas stores, and that it stands for a state. Public clauses speak of `state_of`; where one speaks of `AtlasValue`
+-- itself, docs/MODEL.md lists it.
 use Rattle.std.specs.Prelude.{ℕ, ◌≡◌, ◌+◌, ◌<◌, ◌≤◌, ◌^◌, Bool, false, List, [], length}
 use Rattle.atlas_store.specs.declared.slots.Slot.{Slot}
 use Rattle.atlas_search.specs.declared.link.Link.{Link}

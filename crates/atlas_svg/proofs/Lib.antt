@@ -1,5 +1,5 @@
 pub mod Numbers
-pub mod Saying
+pub mod SaidLines
 pub mod Texts
 pub mod Shown
 pub mod Drawn

@@ -4,7 +4,7 @@ use Rattle.std.specs.Char.{digit_value}
 use Rattle.std.specs.Str.Parse.{AllDigits}
 use Rattle.atlas_words.specs.Grammar.{SpellsUnsigned}
 use Rattle.atlas_words.specs.Words.{BeginsWithUnsigned, BeginsWithWord, HasNoSpace}
-use Rattle.atlas_words.proofs.Parting.{one_word}
+use Rattle.atlas_words.proofs.PartedWords.{one_word}
 use Rattle.atlas_svg.specs.Lines.{SpellsAll}
 
 digits_no_space : (digits : List ℕ) → AllDigits 10 digits → HasNoSpace digits

@@ -7,7 +7,7 @@ use Rattle.atlas_store.specs.Stored.{Shelf, Holding}
 use Rattle.atlas_store.specs.Store.Holdings.{shelf_of, node_in, IsDetachedLeaf, KeepsRoom}
 use Rattle.atlas_store.specs.Store.StoreCalls.{UnlistsLeaf, IsJoined}
 use Rattle.atlas_store.specs.Store.Freeing.{IsSettlingAt, IsTurned, IsTurnTo, IsApartNext, IsApart, IsFreeable}
-use Rattle.atlas_store.proofs.StoreLemmas.Turning.{IsJoinable, next-listed, previous-listed, joinable-next, joinable-previous, settling-joined, turned-same, apart-next_joined, apart-previous_joined, IsFreeing, freeing-turned, freeing-short, turned-none, turned-then, keeps-room}
+use Rattle.atlas_store.proofs.StoreLemmas.Turns.{IsJoinable, next-listed, previous-listed, joinable-next, joinable-previous, settling-joined, turned-same, apart-next_joined, apart-previous_joined, IsFreeing, freeing-turned, freeing-short, turned-none, turned-then, keeps-room}
 
 -- Of the tree of h, leaves i and j can be joined, where `at` is at work.
 pub record IsReady (v : Shelf) (i j at : ℕ) (h m : Holding) : Type 0 where

@@ -4,7 +4,7 @@ pub mod ChosenSlots
 pub mod GrownSlots
 pub mod GrownStages
 pub mod GrownTrees
-pub mod PlacingChains
+pub mod DonePlans
 pub mod PlannedSlots
 pub mod PlannedTrees
 pub mod SlotPlans

@@ -9,7 +9,7 @@ use Rattle.atlas_words.specs.declared.commands.Command.{Command}
 use Rattle.atlas_words.specs.declared.commands.Command.TheVariants.{Simple, Take, Atlas, Alloc, Live, Holes, AskSize, Free, Grow, Empty, Clear, Rearrange, Resize, FromAtlas, Record, Replay}
 use Rattle.atlas_words.specs.Grammar.{SpellsSize, SpellsAtlas, SpellsId, SpellsArguments, Spells, keyword}
 use Rattle.atlas_words.specs.Words.{HasNoSpace, IsEmptyOrSpaced, BeginsWithWord, SpellsInParts}
-use Rattle.atlas_words.proofs.Parting.{one_word, numbers_spaced}
+use Rattle.atlas_words.proofs.PartedWords.{one_word, numbers_spaced}
 
 -- Two texts that differ.
 pub differ : (a b : List ℕ) → bytes_eq a b ≡ false → a ≡ b → ⊥

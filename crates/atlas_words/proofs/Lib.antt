@@ -4,4 +4,4 @@ pub mod FirstLines
 pub mod Keywords
 pub mod Known
 pub mod Numbers
-pub mod Parting
+pub mod PartedWords

@@ -2,7 +2,7 @@
 use Rattle.std.proofs.Common.{◌≡◌, ℕ, List, ◌∷◌, ◌++◌, true, refl}
 use Rattle.atlas_words.specs.Words.{BeginsWithWord}
 use Rattle.atlas_words.proofs.Keywords.{has_no_space, no_space_by_test}
-use Rattle.atlas_words.proofs.Parting.{one_word}
+use Rattle.atlas_words.proofs.PartedWords.{one_word}
 use Rattle.bench_jobs.specs.declared.workload.Workload.{Workload}
 use Rattle.bench_jobs.specs.declared.workload.Workload.TheVariants.{Glyph, Record, Sprite, SortedSprite, Checker, Search, Growth, Rearrange, Glyph1024, Glyph4096, Glyph8192, Glyph16384, Mixed4096, Tiles, Sheet, Sheet16384, Cache}
 use Rattle.bench_jobs.specs.Workloads.{name}

@@ -6,7 +6,7 @@ use Rattle.atlas_model.specs.declared.geometry.Size.{Size}
 use Rattle.atlas_model.specs.declared.options.AllocatorOptions.{AllocatorOptions}
 use Rattle.atlas_words.specs.Grammar.{SpellsAtlas, SpellsSize, SpellsUnsigned}
 use Rattle.atlas_words.specs.Words.{BeginsWithSize, BeginsWithUnsigned, BeginsWithWord, HasNoSpace}
-use Rattle.atlas_words.proofs.Parting.{one_word}
+use Rattle.atlas_words.proofs.PartedWords.{one_word}
 use Rattle.cache_lines.specs.Lines.{SpellsStart}
 
 digits_no_space : (digits : List ℕ) → AllDigits 10 digits → HasNoSpace digits

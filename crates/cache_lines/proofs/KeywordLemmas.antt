@@ -5,7 +5,7 @@ use Rattle.atlas_model.specs.declared.geometry.Size.{Size}
 use Rattle.atlas_words.specs.Grammar.{SpellsSize}
 use Rattle.atlas_words.specs.Words.{BeginsWithUnsigned, BeginsWithWord, HasNoSpace, IsEmptyOrSpaced}
 use Rattle.atlas_words.proofs.Keywords.{has_no_space, no_space_by_test}
-use Rattle.atlas_words.proofs.Parting.{one_word}
+use Rattle.atlas_words.proofs.PartedWords.{one_word}
 use Rattle.cache_lines.specs.declared.calls.Asked.{Asked}
 use Rattle.cache_lines.specs.declared.calls.Asked.TheVariants as asked
 use Rattle.cache_lines.specs.declared.calls.Call.{Call}

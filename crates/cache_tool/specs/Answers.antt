@@ -1,22 +1,24 @@
 -- What each call answers, and what it does, by the clauses of the cache.
-use Rattle.std.specs.Prelude.{◌≡◌, ◌↔◌, ◌<◌, ℕ, Bool, true, false, IsTrue, List, [], length, nat_eq, slice_get}
+use Rattle.std.specs.Prelude.{◌≡◌, ◌≢◌, ◌↔◌, ◌<◌, ℕ, Bool, true, false, IsTrue, List, [], length, nat_eq, slice_get}
 use Rattle.std.specs.Prelude.{Option, None, Some, IfSome, IsSome, option_map}
 use Rattle.std.specs.Prelude.{Result, Ok, Err, IfErr, IfOk, IsOkUnless, OnErr, OnOk}
 use Rattle.guillotiere.specs.declared.Size.{Size}
 use Rattle.guillotiere.specs.Pixels.{size_of}
 use Rattle.atlas_cache.specs.declared.changes.CacheChange.{CacheChange}
 use Rattle.atlas_cache.specs.declared.error.CacheError.{CacheError}
-use Rattle.atlas_cache.specs.declared.error.CacheError.TheVariants.{Memory}
+use Rattle.atlas_cache.specs.declared.error.CacheError.TheVariants.{Memory, Slots}
 use Rattle.atlas_cache.specs.declared.inserted.Inserted.{Inserted}
-use Rattle.atlas_cache.specs.declared.inserted.Inserted.TheVariants.{NeverFits}
+use Rattle.atlas_cache.specs.declared.inserted.Inserted.TheVariants.{FrameFull, NeverFits}
 use Rattle.atlas_cache.specs.declared.places.Place.{Place}
 use Rattle.atlas_cache.specs.Asking.{bordered, CanStand}
-use Rattle.atlas_cache.specs.Caches.{CacheState, entry_for, place_for, with_reserve}
+use Rattle.atlas_cache.specs.Caches.{CacheState, entry_for, place_for, with_reserve, IsNoneInUse}
 use Rattle.atlas_cache.specs.Changes.{FindsKnown, Inserts, InsertsBlank, IsNewAndEmpty, IsNewAndTooLarge, Removes, Uses}
 use Rattle.atlas_cache.specs.Clearing.{Clears, Trims}
 use Rattle.atlas_cache.specs.Counting.{one_more}
+use Rattle.atlas_cache.specs.Refusals.{IsRefusedNew}
 use Rattle.atlas_cache.specs.Relocating.{Repacks}
 use Rattle.atlas_cache.specs.Repacking.{free_by_page, live_by_page}
+use Rattle.atlas_cache.specs.Reserving.{IsShortOfSlots}
 use Rattle.atlas_cache.specs.Rooms.{IsRefusal, page_sizes}
 use Rattle.atlas_cache.specs.Shrinking.{Shrinks}
 use Rattle.atlas_cache.specs.Usable.{unusable_by_page}
@@ -125,8 +127,7 @@ AnswersKeyed numbered.Older n r before after s t =
     × (entry_for nat_eq n s.entries ≡ None → found ≡ None) × ChangesNothing before after s t
 AnswersKeyed numbered.Trim n r before after s t = AnswersDone (Trims n before after s t) r before after s t
 AnswersKeyed numbered.Reserve n r before after s t =
-    (done : Result Unit CacheError) × (r ≡ done_reply done) × (after ≡ before)
-    × OnOk done (t ≡ with_reserve n s) × OnErr done (t ≡ s)
+    AnswersDone (t ≡ with_reserve n s) r before after s t × (after ≡ before)
 AnswersKeyed numbered.Repack n r before after s t = AnswersRepack n r before after s t
 AnswersKeyed numbered.Size n r before after s t =
     (r ≡ size_reply (slice_get (page_sizes s.pages) n)) × ChangesNothing before after s t
@@ -147,6 +148,9 @@ pub record AnswersInsert (n : ℕ) (size : Size) (r : Reply) (before after : Lis
   pub blank : IsNewAndEmpty nat_eq n size s → InsertsBlank n size result s t × (after ≡ before)
   pub never : (result ≡ Ok NeverFits) ↔ IsNewAndTooLarge nat_eq n size s
   pub nothing : result ≡ Ok NeverFits → (t ≡ s) × (after ≡ before)
+  pub errors : entry_for nat_eq n s.entries ≡ None → IfErr result (IsRefusedNew (length t.entries))
+  pub short : result ≡ Err Slots → IsShortOfSlots t.pages
+  pub room : IsNoneInUse s → result ≢ Ok FrameFull
 
 -- An area of a page, where memory isn't refused.
 pub record AnswersArea (areas : List ℕ) (n : ℕ) (r : Reply) : Type 0 where

@@ -89,6 +89,13 @@ module _ (pages : List AtlasValue) (page : ℕ) (d b : AtlasValue) (within : pag
   page_stays_if_refused (Ok x) same = tt
   page_stays_if_refused (Err error) same = page_stays same
 
+  pub page_reads : (P : AtlasValue → Type 0) → ((s : AtlasValue) → slice_get pages page ≡ Some s → P s) → P a
+  page_reads P each = each a has_a
+
+  pub page_goes : (R : AtlasValue → AtlasValue → Type 0) → R a b → (s t : AtlasValue) → slice_get pages page ≡ Some s
+      → slice_get now page ≡ Some t → R s t
+  page_goes R holds s t h k = subst₂ R (was s h) (is t k) holds
+
   pub page_is : (P : AtlasValue → Type 0) → P a → (s : AtlasValue) → slice_get pages page ≡ Some s → P s
   page_is P holds s has = subst P (was s has) holds
 

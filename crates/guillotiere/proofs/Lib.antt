@@ -1,5 +1,5 @@
 pub mod SimpleLemmas
-pub mod Playing
+pub mod Sessions
 pub mod Callers
 pub use Rattle.atlas_model.proofs.TreeLemmas
 pub use Rattle.atlas_model.proofs.StepLemmas

@@ -1,10 +1,10 @@
 -- Lemmas of the simple allocator.
 pub mod FreeItems
 pub mod EntryCounts
-pub mod CuttingBoxes
-pub mod BoxStoring
-pub mod Storing
-pub mod SimplePlaying
+pub mod CutBoxes
+pub mod BoxShelves
+pub mod StoredStates
+pub mod SimpleSessions
 pub mod SimpleLists
-pub mod SimpleStarting
-pub mod GrantingBoxes
+pub mod SimpleStarts
+pub mod GrantedBoxes

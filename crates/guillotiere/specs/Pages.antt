@@ -10,6 +10,7 @@ use Rattle.atlas_model.specs.Choice.{HasRoom}
 use Rattle.atlas_model.specs.Pixels.{box_of, sides_of}
 use Rattle.atlas_model.specs.States.{free_in}
 use Rattle.atlas_model.specs.Callers.{rectangle_in, AddsBox, IsAnswer, LeavesNoBox, RectanglesLieApart}
+use Rattle.atlas_store.specs.Reserves.{HasReserve, UsesAtMost}
 use Rattle.atlas_store.specs.Stored.{AtlasValue, state_of}
 
 -- The rectangle of an id that is live on a page.
@@ -49,6 +50,15 @@ pub record LeavesNoBoxOn (old new : List AtlasValue) (page id : ℕ) : Type 0 wh
 abbrev pub IsAnswerOn : List AtlasValue → (page : ℕ) → Size → Result (Option Allocation) AtlasError → Type 0
 IsAnswerOn pages page request result =
     (s : AtlasValue) → slice_get pages page ≡ Some s → IsAnswer (state_of s) request result
+
+-- A page has so many slots in reserve.
+abbrev pub HasReserveOn : ℕ → List AtlasValue → (page : ℕ) → Type 0
+HasReserveOn n pages page = (s : AtlasValue) → slice_get pages page ≡ Some s → HasReserve n s
+
+-- At most n more slots of a page are used, and there is memory for no fewer.
+abbrev pub UsesAtMostOn : ℕ → (old new : List AtlasValue) → (page : ℕ) → Type 0
+UsesAtMostOn n old new page =
+    (s t : AtlasValue) → slice_get old page ≡ Some s → slice_get new page ≡ Some t → UsesAtMost n s t
 
 -- A request has room in an atlas.
 abbrev pub HasRoomFor : Size → AtlasValue → Type 0

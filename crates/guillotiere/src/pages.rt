@@ -1,15 +1,16 @@
 //! Pages of a texture array: several atlases in a list, each with ids of its own.
 ghost use Rattle.std.specs.Prelude.{◌≡◌, ◌<◌, ◌↔◌, None, Ok, length, IfNone, IfOk, IfSome, IsOkUnless, IsSome};
-ghost use Rattle.std.specs.Prelude.{IsTrue, OnErr};
+ghost use Rattle.std.specs.Prelude.{◌≢◌, Err, IsTrue, OnErr};
 ghost use Rattle.guillotiere.specs.Pages.{rectangle_on, AddsBoxOn, AllLieApartOn, AllLieWithinOn, HasRoomFor};
-ghost use Rattle.guillotiere.specs.Pages.{HasRoomOn};
+ghost use Rattle.guillotiere.specs.Pages.{HasReserveOn, HasRoomOn, UsesAtMostOn};
 ghost use Rattle.guillotiere.specs.Pages.{IsAnswerOn, LeavesNoBoxOn, NoneHasRoomBelow, PagesAreGivenBack};
 
 use crate::AtlasAllocator;
 use atlas_model::{AllocId, Allocation, AtlasError, Size};
 use std::alloc::Allocator;
 
-/// Asks a page for a box, as `allocate` does. Requires that there is such a page. The other pages stay as they are.
+/// Asks a page for a box, as `allocate` does: with 4 slots of the page in reserve never `Memory`. Requires that there is such a page.
+/// The other pages stay as they are.
 pub fn allocate_on<A: Allocator + Copy>(
     pages: &mut [AtlasAllocator<A>],
     page: usize,
@@ -19,6 +20,8 @@ pub fn allocate_on<A: Allocator + Copy>(
     ensures adds { IfOk result (λ granted. IfSome granted (λ a.
         AddsBoxOn pages.old pages.new page a.id a.rectangle)) }
     ensures answer { IsAnswerOn pages.old page size result }
+    ensures slots { UsesAtMostOn 4 pages.old pages.new page }
+    ensures memory { HasReserveOn 4 pages.old page → result ≢ Err AtlasError.Memory }
     ensures none { result ≡ Ok None → pages.new ≡ pages.old }
     ensures refused { OnErr result (pages.new ≡ pages.old) }
     ensures length { length pages.new ≡ length pages.old }

@@ -1,8 +1,8 @@
 //! An allocator that hands out boxes and never takes one back.
-ghost use Rattle.std.specs.Prelude.{◌≡◌, ◌↔◌, Any, IsTrue, None, Ok, true, ◌+◌, ◌<◌, ◌≤◌, ◌++◌, [], ◌∷◌, List};
+ghost use Rattle.std.specs.Prelude.{◌≡◌, ◌↔◌, ◌⊎◌, Any, IsTrue, None, Ok, true, ◌+◌, ◌<◌, ◌≤◌, ◌++◌, [], ◌∷◌, List};
 ghost use Rattle.std.specs.Prelude.{OnOk, OnErr, IfOk, IfSome, IsOkUnless, length, vec_capacity};
 ghost use Rattle.atlas_model.specs.Boxes.{AreSameBoxes, Box, Fits, IsPositive, Sides, box_sides};
-ghost use Rattle.atlas_model.specs.Choice.{AreValid};
+ghost use Rattle.atlas_model.specs.Choice.{AreValid, rounded};
 ghost use Rattle.guillotiere.specs.FreeBoxes.BoxCalls.{AreFiledBoxes, HasEntriesFor, HasTakenEntries, IsFoundFor};
 ghost use Rattle.guillotiere.specs.FreeBoxes.BoxShelves.{AddsWhatIsUsed, AreKept, box_shelf, free_item_boxes};
 ghost use Rattle.guillotiere.specs.FreeBoxes.FreeLists.{kept_of, state_of_items};
@@ -124,6 +124,9 @@ impl<A: Allocator + Copy> SimpleAtlasAllocator<A> {
         ensures refused { OnErr result (self.new ≡ self.old) }
         ensures entries { UsesOldEntries self.old self.new }
         ensures memory { OnErr result (MayAskMemory self.old (Allocate (sides_of requested_size))) }
+        ensures past { (2147483647 < (rounded (simple_state_of self.old).options (sides_of requested_size)).width)
+            ⊎ (2147483647 < (rounded (simple_state_of self.old).options (sides_of requested_size)).height)
+            → result ≡ Ok None }
 
         // Boxes that are held stay apart from each other, from the granted box and from the free boxes.
         ensures guarded { (held : List Box) → IsGuarded (simple_state_of self.old) held → IfOk result

@@ -1,6 +1,6 @@
-pub mod AtlasReading
-pub mod CacheReading
+pub mod AtlasReaders
+pub mod CacheReaders
 pub mod Lent
 pub mod LiveCounts
 pub mod Packings
-pub mod SimpleReading
+pub mod SimpleReaders

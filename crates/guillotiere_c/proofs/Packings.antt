@@ -1,5 +1,5 @@
 -- What a packing answered, put together.
-use Rattle.std.proofs.Common.{◌≡◌, ◌⊎◌, ℕ, List, length, map, take, All, Option, Some, None, IfSome, subst}
+use Rattle.std.proofs.Common.{◌≡◌, ◌⊎◌, ℕ, List, length, map, take, All, Option, Some, None, IfNone, IfSome, subst}
 use Rattle.std.specs.List.{AllZip}
 use Rattle.guillotiere.specs.declared.Size.{Size}
 use Rattle.guillotiere.specs.Pixels.{sides_of}
@@ -8,7 +8,7 @@ use Rattle.atlas_sheet.specs.declared.paging.OnPage.{OnPage}
 use Rattle.atlas_sheet.specs.declared.placed.Placed.{Placed}
 use Rattle.atlas_sheet.specs.declared.ways.TheConstants.{WAYS}
 use Rattle.atlas_sheet.specs.Allowances.{IsAllowed, IsGreatest}
-use Rattle.atlas_sheet.specs.Dense.{AreAllPlaced, ArePaddedApart, IsNoLargerThanWays, NoWayFinds}
+use Rattle.atlas_sheet.specs.Dense.{AreAllPlaced, ArePaddedApart, IsLeastDense, IsNoLargerThanWays, IsPackedOrDense, NoWayFinds, NoneIsDense}
 use Rattle.atlas_sheet.specs.Fillings.{IsBestFound, IsNoBetter, ways_tried}
 use Rattle.atlas_sheet.specs.Grouping.{AreGroupPages, LieTogether, members}
 use Rattle.atlas_sheet.specs.Lying.{IsShown, areas_of}
@@ -17,7 +17,7 @@ use Rattle.atlas_sheet.specs.Paging.{AreGreatest, ArePages, AreUsed, IsOnPage, N
 use Rattle.atlas_sheet.specs.Settings.{spacing_of}
 use Rattle.atlas_sheet.specs.Sheets.{used_area}
 use Rattle.atlas_sheet.specs.Turnings.{InEach, InOne}
-use Rattle.guillotiere_c.specs.DensePacking.{IsDenseSheet}
+use Rattle.guillotiere_c.specs.DensePacking.{HasNoDenseSheet, IsDenseSheet}
 use Rattle.guillotiere_c.specs.Filling.{IsFilledSheet}
 use Rattle.guillotiere_c.specs.Packing.{IsPackedSheet}
 use Rattle.guillotiere_c.specs.SheetGroups.{AreGroupedPages}
@@ -41,17 +41,27 @@ packed o asked sprites size order placed (Some s) same allowed shown first large
 
 -- The facts of a sheet with no guillotine cuts that was found, if one was.
 pub packed_densely :
-    {S : Type 0} (o : SheetOptions) (asked sprites : List Size) (size : S → Size) (placed : S → List Placed) (found : Option S)
+    {S : Type 0} (o : SheetOptions) (asked sprites : List Size) (size : S → Size) (order : S → List ℕ) (placed : S → List Placed)
+    (found : Option S)
     → asked ≡ sprites
     → IfSome found (λ s. IsAllowed o.allowed (sides_of (size s)))
     → IfSome found (λ s. AreAllPlaced o (sides_of (size s)) asked (map Some (placed s)))
     → IfSome found (λ s. ArePaddedApart (spacing_of o) (map Some (placed s)))
     → IfSome found (λ s. IsNoLargerThanWays o asked (sides_of (size s)))
+    → IfSome found (λ s. IsPackedOrDense o asked (sides_of (size s)) (order s) (placed s))
+    → IfSome found (λ s. IsLeastDense o asked (sides_of (size s)))
     → IfSome found (λ s. IsDenseSheet o sprites (size s) (placed s))
-packed_densely o asked sprites size placed None same allowed each padded larger = allowed
-packed_densely o asked sprites size placed (Some s) same allowed each padded larger =
+packed_densely o asked sprites size order placed None same allowed each padded larger way least = allowed
+packed_densely o asked sprites size order placed (Some s) same allowed each padded larger way least =
     let P : List Size → Type 0 = λ l. IsDenseSheet o l (size s) (placed s) in
-    subst P same (record { allowed = allowed; each = each; padded = padded; larger = larger })
+    subst P same (record { allowed = allowed; each = each; padded = padded; larger = larger; order = order s; way = way; least = least })
+
+-- Where none was found, neither a way nor that finds one.
+pub densely_none :
+    {S : Type 0} (o : SheetOptions) (asked sprites : List Size) (found : Option S) → asked ≡ sprites
+    → IfNone found (NoWayFinds o asked) → IfNone found (NoneIsDense o asked) → IfNone found (HasNoDenseSheet o sprites)
+densely_none o asked sprites None same none full = subst (HasNoDenseSheet o) same (none, full)
+densely_none o asked sprites (Some s) same none full = tt
 
 -- The facts of several sheets that were found, if they were.
 pub packed_pages :

@@ -1,21 +1,23 @@
 -- What a call does with a cache that has keys of 64 bits.
-use Rattle.std.specs.Prelude.{◌≡◌, ◌≢◌, ◌↔◌, ◌<◌, ℕ, length, map, IfErr, IfSome, IsSome, Option, None, Some, Result, Ok}
-use Rattle.std.specs.Prelude.{nat_eq}
+use Rattle.std.specs.Prelude.{◌≡◌, ◌≢◌, ◌↔◌, ◌+◌, ◌<◌, ◌≤◌, ℕ, length, map, IfErr, IfSome, IsSome, Option, None, Some}
+use Rattle.std.specs.Prelude.{Result, Ok, Err, nat_eq}
 use Rattle.guillotiere.specs.declared.Size.{Size}
-use Rattle.guillotiere.specs.Pixels.{size_of}
+use Rattle.guillotiere.specs.Boxes.{IsPositive}
+use Rattle.guillotiere.specs.Pixels.{sides_of, size_of}
 use Rattle.guillotiere.specs.Stored.{state_of}
 use Rattle.atlas_cache.specs.declared.error.CacheError.{CacheError}
+use Rattle.atlas_cache.specs.declared.error.CacheError.TheVariants.{Memory, Slots}
 use Rattle.atlas_cache.specs.declared.inserted.Inserted.{Inserted}
 use Rattle.atlas_cache.specs.declared.inserted.Inserted.TheVariants.{Placed, Held, FrameFull, NeverFits}
 use Rattle.atlas_cache.specs.declared.places.Place.{Place}
 use Rattle.atlas_cache.specs.Asking.{bordered, CanStand}
-use Rattle.atlas_cache.specs.Caches.{CacheState, entry_for, place_for, IsNoneInUse}
+use Rattle.atlas_cache.specs.Caches.{CacheState, entry_for, place_for, IsFull, IsNoneInUse}
 use Rattle.atlas_cache.specs.Changes.{FindsKnown, Inserts, InsertsBlank, IsNewAndEmpty, IsNewAndTooLarge, Removes, Uses}
 use Rattle.atlas_cache.specs.Clearing.{TellsChanges, Trims}
 use Rattle.atlas_cache.specs.Counting.{one_more}
 use Rattle.atlas_cache.specs.Refusals.{IsRefusedNew}
 use Rattle.atlas_cache.specs.Relocating.{Repacks}
-use Rattle.atlas_cache.specs.Reserving.{UseAtMost}
+use Rattle.atlas_cache.specs.Reserving.{HasReserves, HaveSlots, IsShortOfSlots, KeepsPageSizes, UseAtMost}
 use Rattle.atlas_cache.specs.Shrinking.{Shrinks}
 use Rattle.atlas_cache.specs.Telling.{Tells}
 use Rattle.atlas_cache.specs.Walking.{ShowsOlder}
@@ -35,6 +37,8 @@ pub record IsRemoval (key : ℕ) (found : Option Place) (s t : CacheState ℕ) :
   pub place : found ≡ place_for nat_eq s key
   pub removes : IfSome (entry_for nat_eq key s.entries) (λ e. Removes e s t)
   pub none : found ≡ None → t ≡ s
+  pub ready : (n : ℕ) → HaveSlots n s.pages → HaveSlots n t.pages
+  pub full : IsFull s → IsFull t
 
 -- What `TextureCache::insert` does. The changes that it makes come behind those that weren't handed over.
 pub record IsInsert (key : ℕ) (size : Size) (result : Result Inserted CacheError) (f g : Followed) : Type 0 where
@@ -51,6 +55,15 @@ pub record IsInsert (key : ℕ) (size : Size) (result : Result Inserted CacheErr
   pub told : Tells nat_eq key result f.changes g.changes f.cache g.cache
   pub errors : entry_for nat_eq key f.cache.entries ≡ None → IfErr result (IsRefusedNew (length g.cache.entries))
   pub room : IsNoneInUse f.cache → result ≢ Ok FrameFull
+  pub short : result ≡ Err Slots → IsShortOfSlots g.cache.pages
+  pub memory : (IsPositive (sides_of size) → ⊥) → 0 < f.cache.reserved → result ≢ Err Memory
+  pub one : 0 < f.cache.reserved → HaveSlots 4 f.cache.pages → length f.cache.entries < f.room
+      → KeepsPageSizes size f.cache → result ≢ Err Memory
+  pub reserves : (n : ℕ) → HasReserves (n + 1) f.room f.cache → KeepsPageSizes size f.cache
+      → (result ≢ Err Memory) × HasReserves n g.room g.cache
+  pub takes : f.cache.reserved ≤ g.cache.reserved + 1
+  pub full : IsFull f.cache → IsFull g.cache
+  pub stays : (g.cache.options ≡ f.cache.options) × (g.cache.frame ≡ f.cache.frame)
 
 -- What `TextureCache::older` finds of a key: the key that was used next before it, if it is held.
 pub record IsOlder (key : ℕ) (found : Option (ℕ × Place)) (s : CacheState ℕ) : Type 0 where
@@ -73,8 +86,9 @@ pub record IsRepacking (page : ℕ) (f g : Followed) : Type 0 where
   pub repacks : Repacks page f.changes g.changes f.cache g.cache
   pub told : TellsChanges nat_eq f.changes g.changes f.cache g.cache
 
--- The pages have the states that they had, and none uses more slots; nothing else changes.
+-- The pages have the states that they had, and none uses more slots or has room for fewer; nothing else changes.
 pub record KeepsStates (f g : Followed) : Type 0 where
   pub states : map state_of g.cache.pages ≡ map state_of f.cache.pages
   pub slots : UseAtMost 0 f.cache.pages g.cache.pages
+  pub full : IsFull f.cache → IsFull g.cache
   pub rest : g ≡ record f { cache = record f.cache { pages = g.cache.pages } }

@@ -1,5 +1,5 @@
 -- What the filling of one sheet answers, and what it writes.
-use Rattle.std.specs.Prelude.{◌≡◌, ◌≤◌, ℕ, suc, List, [], ◌∷◌, length, take, All, Option, Some, None}
+use Rattle.std.specs.Prelude.{◌≡◌, ◌≤◌, ℕ, suc, min, List, [], ◌∷◌, length, take, All, Option, Some, None}
 use Rattle.guillotiere.specs.declared.Size.{Size}
 use Rattle.guillotiere.specs.Pixels.{sides_of}
 use Rattle.atlas_sheet.specs.declared.options.SheetOptions.{SheetOptions}
@@ -12,8 +12,8 @@ use Rattle.atlas_sheet.specs.Settings.{spacing_of}
 use Rattle.atlas_sheet.specs.Sheets.{used_area}
 use Rattle.atlas_sheet.specs.Turnings.{InEach, InOne}
 use Rattle.guillotiere_c.specs.declared.plain_sheet.PlainMaybePlaced.{PlainMaybePlaced}
-use Rattle.guillotiere_c.specs.SheetNumbers.{maybe_placed_in}
-use Rattle.guillotiere_c.specs.Writing.{IsWritten}
+use Rattle.guillotiere_c.specs.SheetNumbers.{maybe_placed_in, IsMaybeToldByBit}
+use Rattle.guillotiere_c.specs.Writing.{AreFirst, IsWritten}
 
 -- How many sprites have no place.
 abbrev pub unplaced : List (Option Placed) → ℕ
@@ -40,4 +40,5 @@ pub record IsFillingWritten (o : SheetOptions) (sprites : List Size) (sheet : Si
   pub room : length sprites ≤ length old
   pub filled : IsFilledSheet o sprites sheet placed
   pub written : IsWritten maybe_placed_in placed old new
+  pub bits : AreFirst IsMaybeToldByBit (min (length placed) (length old)) new
   pub count : left ≡ unplaced placed

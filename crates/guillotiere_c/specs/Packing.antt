@@ -1,5 +1,5 @@
 -- What a packing answers, and what it writes.
-use Rattle.std.specs.Prelude.{◌≡◌, ◌≤◌, ℕ, List, length, map, Some}
+use Rattle.std.specs.Prelude.{◌≡◌, ◌≤◌, ℕ, min, List, length, map, Some}
 use Rattle.guillotiere.specs.declared.Size.{Size}
 use Rattle.guillotiere.specs.Pixels.{sides_of}
 use Rattle.atlas_sheet.specs.declared.options.SheetOptions.{SheetOptions}
@@ -11,8 +11,8 @@ use Rattle.atlas_sheet.specs.Packings.{IsFirstFound, IsNoLarger, NoneIsFound}
 use Rattle.atlas_sheet.specs.Settings.{spacing_of}
 use Rattle.atlas_sheet.specs.Turnings.{InEach, InOne}
 use Rattle.guillotiere_c.specs.declared.plain_sheet.PlainPlaced.{PlainPlaced}
-use Rattle.guillotiere_c.specs.SheetNumbers.{placed_in}
-use Rattle.guillotiere_c.specs.Writing.{IsWritten}
+use Rattle.guillotiere_c.specs.SheetNumbers.{placed_in, IsToldByBit}
+use Rattle.guillotiere_c.specs.Writing.{AreFirst, IsWritten}
 
 -- A sheet that takes all sprites, as `atlas_sheet::pack` finds it, with their places in the order of the sprites.
 pub record IsPackedSheet (o : SheetOptions) (sprites : List Size) (sheet : Size) (placed : List Placed) : Type 0 where
@@ -30,6 +30,7 @@ pub record IsSheetWritten (o : SheetOptions) (sprites : List Size) (sheet : Size
   pub room : length sprites ≤ length old
   pub packed : IsPackedSheet o sprites sheet placed
   pub written : IsWritten placed_in placed old new
+  pub bits : AreFirst IsToldByBit (min (length placed) (length old)) new
 
 -- No way packs these sprites into the greatest sheet that is allowed.
 abbrev pub HasNoSheet : SheetOptions → List Size → Type 0

@@ -1,5 +1,5 @@
 -- What a packing into several sheets with groups answers, and what it writes.
-use Rattle.std.specs.Prelude.{◌≡◌, ◌≤◌, ◌⊎◌, ◌==◌, ℕ, List, length, map, All, Option, Some, None, if◌then◌else◌}
+use Rattle.std.specs.Prelude.{◌≡◌, ◌<◌, ◌≤◌, ◌⊎◌, ◌==◌, ℕ, List, length, map, All, Option, Some, None, if◌then◌else◌}
 use Rattle.std.specs.List.{AllZip}
 use Rattle.guillotiere.specs.declared.Size.{Size}
 use Rattle.guillotiere.specs.Pixels.{sides_of}
@@ -31,13 +31,20 @@ pub record AreGroupedPages (o : SheetOptions) (sprites : List Size) (groups : Li
   pub together : (group : ℕ) → LieTogether group groups placed ⊎ NoWayFinds o (members group groups sprites)
   pub pages : AreGroupPages WAYS o sprites sizes (map Some placed)
 
--- The places stand at the start of their array, which has room for them; the sizes in theirs, as far as there is room;
--- and the sheets are counted.
+-- Sheets that take all sprites together, and more of them than there is room for.
+pub record AreMoreGroups (o : SheetOptions) (sprites : List Size) (groups : List (Option ℕ)) (room : ℕ) : Type 0 where
+  pub sizes : List Size
+  pub placed : List OnPage
+  pub packed : AreGroupedPages o sprites groups sizes placed
+  pub beyond : room < length sizes
+
+-- The places and the sizes stand at the start of their arrays, which have room for them; and the sheets are counted.
 pub record AreGroupsWritten (o : SheetOptions) (sprites : List Size) (groups : List (Option ℕ)) (count : ℕ)
     (old new : PageArrays) : Type 0 where
   pub sizes : List Size
   pub placed : List OnPage
   pub room : length sprites ≤ length old.places
+  pub room_for_sizes : length sizes ≤ length old.sizes
   pub packed : AreGroupedPages o sprites groups sizes placed
   pub places_written : IsWritten on_page_in placed old.places new.places
   pub sizes_written : IsWritten size_in sizes old.sizes new.sizes

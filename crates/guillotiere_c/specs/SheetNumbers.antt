@@ -1,5 +1,5 @@
 -- What the structs of numbers of a sheet mean.
-use Rattle.std.specs.Prelude.{ℕ, Bool, true, false, ◌==◌, nat_le, if◌then◌else◌, Option, Some, None, option_map}
+use Rattle.std.specs.Prelude.{ℕ, pos, Bool, true, false, ◌≡◌, ◌≤◌, ◌==◌, nat_le, if◌then◌else◌, Option, Some, None, option_map}
 use Rattle.guillotiere_c.specs.declared.plain.TheConstants.{MEMORY, EMPTY_SHEET, EMPTY_RANGE, EMPTY_ALIGNMENT}
 use Rattle.guillotiere_c.specs.declared.plain.TheConstants.{EMPTY_SPRITE, GREAT_SPRITE, ONE_SIZE, SQUARES, POWERS}
 use Rattle.guillotiere_c.specs.declared.plain.TheConstants.{HEIGHTS}
@@ -25,6 +25,20 @@ placed_in p = record { area = corners_in p.area; turned = truth_in p.turned }
 
 abbrev pub maybe_placed_in : PlainMaybePlaced → Option Placed
 maybe_placed_in p = if truth_in p.is_placed then Some (placed_in p.placed) else None
+
+-- Whether it is turned is told by 1 or 0.
+abbrev pub IsToldByBit : PlainPlaced → Type 0
+IsToldByBit p = p.turned ≤ 1
+
+-- The numbers of no place: each is 0.
+abbrev pub nowhere : PlainPlaced
+nowhere = record { area = record { min_x = pos 0; min_y = pos 0; max_x = pos 0; max_y = pos 0 }; turned = 0 }
+
+-- Whether there is a place is told by 1 or 0, and where there is none, its numbers are 0.
+pub record IsMaybeToldByBit (p : PlainMaybePlaced) : Type 0 where
+  pub bit : p.is_placed ≤ 1
+  pub turned : IsToldByBit p.placed
+  pub none : p.is_placed ≡ 0 → p.placed ≡ nowhere
 
 abbrev pub on_page_in : PlainOnPage → OnPage
 on_page_in p = record { page = p.page; placed = placed_in p.placed }

@@ -1,5 +1,5 @@
 -- What a packing into several sheets answers, and what it writes.
-use Rattle.std.specs.Prelude.{◌≡◌, ◌≤◌, ℕ, List, length, map, Some}
+use Rattle.std.specs.Prelude.{◌≡◌, ◌<◌, ◌≤◌, ℕ, List, length, map, Some}
 use Rattle.std.specs.List.{AllZip}
 use Rattle.guillotiere.specs.declared.Size.{Size}
 use Rattle.atlas_sheet.specs.declared.options.SheetOptions.{SheetOptions}
@@ -26,12 +26,19 @@ pub record PageArrays : Type 0 where
   pub places : List PlainOnPage
   pub sizes : List PlainSize
 
--- The places stand at the start of their array, which has room for them; the sizes in theirs, as far as there is room;
--- and the sheets are counted.
+-- Sheets that take all sprites together, and more of them than there is room for.
+pub record AreMorePages (o : SheetOptions) (sprites : List Size) (room : ℕ) : Type 0 where
+  pub sizes : List Size
+  pub placed : List OnPage
+  pub packed : ArePackedPages o sprites sizes placed
+  pub beyond : room < length sizes
+
+-- The places and the sizes stand at the start of their arrays, which have room for them; and the sheets are counted.
 pub record ArePagesWritten (o : SheetOptions) (sprites : List Size) (count : ℕ) (old new : PageArrays) : Type 0 where
   pub sizes : List Size
   pub placed : List OnPage
   pub room : length sprites ≤ length old.places
+  pub room_for_sizes : length sizes ≤ length old.sizes
   pub packed : ArePackedPages o sprites sizes placed
   pub places_written : IsWritten on_page_in placed old.places new.places
   pub sizes_written : IsWritten size_in sizes old.sizes new.sizes

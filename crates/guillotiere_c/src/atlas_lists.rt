@@ -1,6 +1,7 @@
 //! The exports of an atlas that take or write lists.
-ghost use Rattle.std.specs.Prelude.{◌≡◌, ◌≢◌, ◌≤◌, ℕ, List, length, IfOk, IsSome, IsNone};
+ghost use Rattle.std.specs.Prelude.{◌≡◌, ◌≢◌, ◌⊎◌, ◌<◌, ◌≤◌, ℕ, List, length, IfOk, IsSome, IsNone};
 ghost use Rattle.guillotiere.specs.Batches.{AreLiveOnce};
+ghost use Rattle.guillotiere.specs.Boxes.{IsPositive};
 ghost use Rattle.guillotiere.specs.Laws.StepLaws.{IsRearrangingStep};
 ghost use Rattle.guillotiere.specs.Rearranging.{rearrangement_of};
 ghost use Rattle.guillotiere.specs.Refits.{Rearrangement};
@@ -128,6 +129,8 @@ pub extern "C" fn guillotiere_atlas_rearrange(
         → IsHeldStep atlas.old.kept Rearrange (plain_reply result) atlas.new.kept }
     ensures short { result ≡ SHORT → HoldsAtlas atlas.old.kept
         (λ s. (used_in s ≤ length changes.old) × (used_in s ≤ length failures.old) → ⊥) }
+    ensures room { HoldsAtlas atlas.old.kept
+        (λ s. (length changes.old < used_in s) ⊎ (length failures.old < used_in s)) → result ≡ SHORT }
     ensures sound { IsSome atlas.old.kept → HoldsAtlas atlas.new.kept IsSound }
     ensures refused { result ≢ DONE → atlas.new.kept ≡ atlas.old.kept }
     ensures unwritten { result ≢ DONE
@@ -176,6 +179,8 @@ pub extern "C" fn guillotiere_atlas_resize_and_rearrange(
         (ResizeAndRearrange (sides_in width height)) (plain_reply result) atlas.new.kept }
     ensures short { result ≡ SHORT → HoldsAtlas atlas.old.kept
         (λ s. (used_in s ≤ length changes.old) × (used_in s ≤ length failures.old) → ⊥) }
+    ensures room { IsPositive (sides_in width height) → HoldsAtlas atlas.old.kept
+        (λ s. (length changes.old < used_in s) ⊎ (length failures.old < used_in s)) → result ≡ SHORT }
     ensures sound { IsSome atlas.old.kept → HoldsAtlas atlas.new.kept IsSound }
     ensures refused { result ≢ DONE → atlas.new.kept ≡ atlas.old.kept }
     ensures unwritten { result ≢ DONE

@@ -9,7 +9,7 @@ ghost use Rattle.guillotiere_c.specs.CacheCalls.{IsGet, IsInsert, IsRemoval, IsR
 ghost use Rattle.guillotiere_c.specs.CacheCalls.{IsTrim};
 ghost use Rattle.guillotiere_c.specs.CacheNumbers.{cache_change_in, cache_options_in, found_answer, insert_answer};
 ghost use Rattle.guillotiere_c.specs.CacheNumbers.{options_fault};
-ghost use Rattle.guillotiere_c.specs.Following.{GoesOver, HoldsCache, new_cache};
+ghost use Rattle.guillotiere_c.specs.Following.{GoesOver, HoldsCache, KeepsChanges, StaysHeld, new_cache};
 
 use crate::cache_handle::{CacheHandle, CacheReader};
 use crate::followed::FollowedCache;
@@ -27,8 +27,8 @@ use std::alloc::Global;
 
 /// Makes a cache that holds nothing and has no page yet, where the handle holds nothing. Keys are any numbers of 64 bits;
 /// they are hashed with a fixed seed.
-/// `DONE`; `OCCUPIED` if the handle holds a cache already; the first of `EMPTY_PAGE`, `LARGEST_PAGE`, `NO_PAGES`,
-/// `BAD_PADDING`, `BAD_ATLAS` and `NOTHING_FITS` that is wrong with the options; `MEMORY`.
+/// `DONE`; `OCCUPIED`, before all others, if the handle holds a cache already; the first of `EMPTY_PAGE`, `LARGEST_PAGE`,
+/// `NO_PAGES`, `BAD_PADDING`, `BAD_ATLAS` and `NOTHING_FITS` that is wrong with the options; `MEMORY`.
 #[unsafe(no_mangle)]
 pub extern "C" fn guillotiere_cache_new(
     alloc: Global,
@@ -76,7 +76,7 @@ pub extern "C" fn guillotiere_cache_free(alloc: Global, cache: &mut CacheHandle)
 #[unsafe(no_mangle)]
 pub extern "C" fn guillotiere_cache_begin_frame(alloc: Global, cache: &mut CacheHandle) -> u32
     ensures frame { IsSome cache.old.kept → GoesOver cache.old.kept cache.new.kept (λ f g.
-        (g.cache ≡ record f.cache { frame = one_more f.cache.frame }) × (g.changes ≡ f.changes)) }
+        (g.cache ≡ record f.cache { frame = one_more f.cache.frame }) × KeepsChanges f g) }
     ensures done { IsSome cache.old.kept → result ≡ DONE }
     ensures empty { IsNone cache.old.kept → (result ≡ EMPTY) × (cache.new.kept ≡ None) }
 {
@@ -112,7 +112,7 @@ pub extern "C" fn guillotiere_cache_get(
     place: &mut PlainPlace,
 ) -> u32
     ensures get { IsSome cache.old.kept → IsSomeAnd (found_answer result place.new) (λ found.
-        GoesOver cache.old.kept cache.new.kept (λ f g. IsGet key found f.cache g.cache × (g.changes ≡ f.changes))) }
+        GoesOver cache.old.kept cache.new.kept (λ f g. IsGet key found f.cache g.cache × KeepsChanges f g)) }
     ensures unwritten { result ≢ DONE → place.new ≡ place.old }
     ensures empty { IsNone cache.old.kept → (result ≡ EMPTY) × (cache.new.kept ≡ None) }
 {
@@ -140,8 +140,8 @@ pub extern "C" fn guillotiere_cache_peek(
     if !cache.holds() {
         return EMPTY;
     }
-    let held = cache.lent();
-    let found = held.peek(key);
+    let held = cache.lent().cache();
+    let found = held.peek(&key);
     write_found(found, place)
 }
 
@@ -166,20 +166,22 @@ fn write_inserted(answer: Result<Inserted, CacheError>, place: &mut PlainPlace) 
 }
 
 /// A place for a key, which is used in this frame. A key that is held keeps its place, and is the most recently used; that
-/// doesn't count as a hit. A new key goes onto the first page with room for its size with the padding. If none has room, a
-/// page grows: its smaller side (the width if they are equal) doubles, but no further than the largest page. If none can
-/// grow, one is added; and if no more are allowed, the least recently used key that lies on a page and that this frame didn't
-/// use is evicted; and so on. What was done is handed over by `guillotiere_cache_next_change`, also after `FRAME_FULL` and
-/// after an error: take all of it after each insertion, before the place or its number is noted. A key that was evicted and
-/// came back is reported as evicted all the same.
+/// counts as a hit. A new key, which counts as no miss, goes onto the first page with room for its size with the padding.
+/// If none has room, a page grows: its smaller side (the width if they are equal) doubles, but no further than the largest
+/// page. If none can grow, one is added; and if no more are allowed, the least recently used key that lies on a page and
+/// that this frame didn't use is evicted; and so on. What was done is handed over by `guillotiere_cache_next_change`, also
+/// after `FRAME_FULL` and after an error: take all of it after each insertion, before the place or its number is noted. A
+/// key that was evicted and came back is reported as evicted all the same.
 /// `DONE`: the key is new, and its place was written: its pixels are to be written to the texture. `HELD`: it was held, and
 /// its place, where its pixels are, was written. `FRAME_FULL`: all pages allowed exist, at their largest, this frame uses all
 /// keys on them and no page has room: draw what is batched, call `guillotiere_cache_begin_frame` and insert again; while a
 /// frame has used nothing this is never the answer. `NEVER_FITS` if the size, with the padding on all sides and rounded up to
 /// the alignment, exceeds the largest page, `OTHER_SIZE` if the key is held with another size, even if this one is empty or
-/// would never fit: then nothing changed. `NUMBERS` if 4294967295 keys are still held; `SLOTS` if those of a page don't
-/// suffice: then no key is evicted for the new one, in no later frame either, and keys have to be removed or trimmed;
-/// `MEMORY`; `EMPTY`. A key with an empty size (a side below 1) takes no room, and is never evicted to make room for another.
+/// would never fit: then nothing changed. `NUMBERS` if 4294967295 keys are still held; `SLOTS` if the page that has room, or
+/// that would grow, can't use the slots that this takes, of 16777216; `MEMORY` if memory is refused. Either ends the call: another
+/// page that has room isn't tried, and no more keys are evicted for the new one. After `SLOTS` that is so in each later frame
+/// too, until keys of that page were removed or trimmed. `EMPTY`.
+/// A key with an empty size (a side below 1) takes no room, and is never evicted to make room for another.
 /// Both rectangles of its place are 0, and so is its page, but it is on no page: nothing is to be written or drawn, no
 /// repacking reports it, and no page stays for it.
 #[unsafe(no_mangle)]
@@ -216,7 +218,7 @@ pub extern "C" fn guillotiere_cache_remove(
 ) -> u32
     ensures removal { IsSome cache.old.kept → IsSomeAnd (found_answer result removed.new) (λ found.
         GoesOver cache.old.kept cache.new.kept
-        (λ f g. IsRemoval key found f.cache g.cache × (g.changes ≡ f.changes))) }
+        (λ f g. IsRemoval key found f.cache g.cache × KeepsChanges f g)) }
     ensures unwritten { result ≢ DONE → removed.new ≡ removed.old }
     ensures empty { IsNone cache.old.kept → (result ≡ EMPTY) × (cache.new.kept ≡ None) }
 {
@@ -238,7 +240,8 @@ pub extern "C" fn guillotiere_cache_next_change(
     change: &mut PlainCacheChange,
 ) -> u32
     ensures next { result ≡ DONE → IsSomeAnd (cache_change_in change.new) (λ c.
-        GoesOver cache.old.kept cache.new.kept (λ f g. (f.changes ≡ c ∷ g.changes) × (g.cache ≡ f.cache))) }
+        GoesOver cache.old.kept cache.new.kept (λ f g.
+        (f.changes ≡ c ∷ g.changes) × (g.cache ≡ f.cache) × (f.room ≤ g.room))) }
     ensures none { result ≡ NO_CHANGE → HoldsCache cache.old.kept (λ f. f.changes ≡ []) }
     ensures unless { IsSome cache.old.kept → result ≢ DONE → result ≡ NO_CHANGE }
     ensures refused { result ≢ DONE → (cache.new.kept ≡ cache.old.kept) × (change.new ≡ change.old) }
@@ -264,7 +267,7 @@ pub extern "C" fn guillotiere_cache_next_change(
 #[unsafe(no_mangle)]
 pub extern "C" fn guillotiere_cache_clear(alloc: Global, cache: &mut CacheHandle) -> u32
     ensures clears { IsSome cache.old.kept → GoesOver cache.old.kept cache.new.kept (λ f g.
-        Clears f.cache g.cache × (g.changes ≡ f.changes)) }
+        Clears f.cache g.cache × KeepsChanges f g) }
     ensures done { IsSome cache.old.kept → result ≡ DONE }
     ensures empty { IsNone cache.old.kept → (result ≡ EMPTY) × (cache.new.kept ≡ None) }
 {
@@ -282,7 +285,7 @@ pub extern "C" fn guillotiere_cache_clear(alloc: Global, cache: &mut CacheHandle
 #[unsafe(no_mangle)]
 pub extern "C" fn guillotiere_cache_trim(alloc: Global, cache: &mut CacheHandle, frames: u64) -> u32
     ensures trims { result ≡ DONE → GoesOver cache.old.kept cache.new.kept (IsTrim frames) }
-    ensures refused { result ≢ DONE → cache.new.kept ≡ cache.old.kept }
+    ensures refused { result ≢ DONE → StaysHeld cache.old.kept cache.new.kept }
     ensures unless { IsSome cache.old.kept → result ≢ DONE → result ≡ MEMORY }
     ensures empty { IsNone cache.old.kept → result ≡ EMPTY }
 {
@@ -304,7 +307,7 @@ pub extern "C" fn guillotiere_cache_trim(alloc: Global, cache: &mut CacheHandle,
 #[unsafe(no_mangle)]
 pub extern "C" fn guillotiere_cache_shrink(alloc: Global, cache: &mut CacheHandle) -> u32
     ensures shrinks { result ≡ DONE → GoesOver cache.old.kept cache.new.kept IsShrinking }
-    ensures refused { result ≢ DONE → cache.new.kept ≡ cache.old.kept }
+    ensures refused { result ≢ DONE → StaysHeld cache.old.kept cache.new.kept }
     ensures unless { IsSome cache.old.kept → result ≢ DONE → result ≡ MEMORY }
     ensures empty { IsNone cache.old.kept → result ≡ EMPTY }
 {
@@ -330,7 +333,7 @@ pub extern "C" fn guillotiere_cache_repack(alloc: Global, cache: &mut CacheHandl
     ensures repacks { result ≡ DONE → GoesOver cache.old.kept cache.new.kept (IsRepacking page) }
     ensures there { result ≡ NO_PAGE → HoldsCache cache.old.kept (λ f. length f.cache.pages ≤ page) }
     ensures absent { HoldsCache cache.old.kept (λ f. length f.cache.pages ≤ page) → result ≡ NO_PAGE }
-    ensures refused { result ≢ DONE → cache.new.kept ≡ cache.old.kept }
+    ensures refused { result ≢ DONE → StaysHeld cache.old.kept cache.new.kept }
     ensures unless { IsSome cache.old.kept → result ≢ DONE → result ≢ NO_PAGE → result ≢ SLOTS → result ≡ MEMORY }
     ensures empty { IsNone cache.old.kept → result ≡ EMPTY }
 {

@@ -22,14 +22,14 @@ pub extern "C" fn guillotiere_cache_len(cache: &CacheReader, len: &mut usize) ->
     if !cache.holds() {
         return EMPTY;
     }
-    let held = cache.lent();
+    let held = cache.lent().cache();
     *len = held.len();
     DONE
 }
 
 /// How many numbers keys have had since the cache was made or cleared: the number of each place is below this. The numbers of
-/// keys that are gone are reused before new ones are given out, so there are never more than there ever were keys at once,
-/// and what a caller keeps of each key fits an array. `DONE`; `EMPTY`.
+/// keys that are gone are given out again before new ones, that of the key that went last first (which no contract promises), so
+/// there are never more than there ever were keys at once, and what a caller keeps of each key fits an array. `DONE`; `EMPTY`.
 #[unsafe(no_mangle)]
 pub extern "C" fn guillotiere_cache_numbers(cache: &CacheReader, numbers: &mut u32) -> u32
     ensures numbers { IsSome cache.now.kept → HoldsCache cache.now.kept (λ f. numbers.new ≡ f.cache.numbers) }
@@ -39,7 +39,7 @@ pub extern "C" fn guillotiere_cache_numbers(cache: &CacheReader, numbers: &mut u
     if !cache.holds() {
         return EMPTY;
     }
-    let held = cache.lent();
+    let held = cache.lent().cache();
     *numbers = held.numbers();
     DONE
 }
@@ -54,7 +54,7 @@ pub extern "C" fn guillotiere_cache_page_count(cache: &CacheReader, pages: &mut 
     if !cache.holds() {
         return EMPTY;
     }
-    let held = cache.lent();
+    let held = cache.lent().cache();
     *pages = held.pages();
     DONE
 }
@@ -77,7 +77,7 @@ pub extern "C" fn guillotiere_cache_page_size(
     if !cache.holds() {
         return EMPTY;
     }
-    let held = cache.lent();
+    let held = cache.lent().cache();
     let found = held.page_size(page);
     match found {
         Some(found) => {
@@ -111,7 +111,7 @@ pub extern "C" fn guillotiere_cache_areas(
     if !cache.holds() {
         return EMPTY;
     }
-    let held = cache.lent();
+    let held = cache.lent().cache();
     let live = held.live_area(page);
     let free = held.free_area(page);
     let Some(allocated) = live else {
@@ -125,8 +125,9 @@ pub extern "C" fn guillotiere_cache_areas(
 }
 
 /// Of the area of a page that is free, what lies in free boxes which have no room for a key of this size, with its padding
-/// and rounded up to the alignment; a side below 0 counts as 0. Asked with the size of a usual key it says how fragmented the
-/// page is: where much is of no use, it is time to repack it. Takes memory for a list of the page's free boxes.
+/// and rounded up to the alignment. A side below 0 counts as 0, and 0 as the padding on both sides, though a key of an empty
+/// size takes no room. Asked with the size of a usual key it says how fragmented the page is: where much is of no use, it is
+/// time to repack it. Takes memory for a list of the page's free boxes.
 /// `DONE`; `NO_PAGE`; `MEMORY`; `EMPTY`.
 #[unsafe(no_mangle)]
 pub extern "C" fn guillotiere_cache_unusable_area(
@@ -148,7 +149,7 @@ pub extern "C" fn guillotiere_cache_unusable_area(
     if !cache.holds() {
         return EMPTY;
     }
-    let held = cache.lent();
+    let held = cache.lent().cache();
     let found = held.unusable_area(page, size2(width, height));
     match found {
         Ok(Some(found)) => {
@@ -174,12 +175,14 @@ pub extern "C" fn guillotiere_cache_options_of(
     if !cache.holds() {
         return EMPTY;
     }
-    let held = cache.lent();
+    let held = cache.lent().cache();
     *options = plain_cache_options(held.options());
     DONE
 }
 
-/// The counts since the cache was made. `DONE`; `EMPTY`.
+/// The counts since the cache was made. Where a frame asks by `guillotiere_cache_get`, and inserts what that doesn't find, the
+/// hit rate is `hits` by `hits` and `misses` together; where it only inserts, no miss is counted, and it is `hits` by calls.
+/// `DONE`; `EMPTY`.
 #[unsafe(no_mangle)]
 pub extern "C" fn guillotiere_cache_statistics(cache: &CacheReader, counts: &mut PlainCounts) -> u32
     ensures counts { IsSome cache.now.kept → HoldsCache cache.now.kept (λ f. counts_in counts.new ≡ f.cache.counts) }
@@ -189,7 +192,7 @@ pub extern "C" fn guillotiere_cache_statistics(cache: &CacheReader, counts: &mut
     if !cache.holds() {
         return EMPTY;
     }
-    let held = cache.lent();
+    let held = cache.lent().cache();
     *counts = plain_counts(held.statistics());
     DONE
 }

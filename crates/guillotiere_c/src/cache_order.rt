@@ -1,11 +1,11 @@
 //! The exports that walk along the keys of a cache in the order of their use, and those that take memory beforehand.
-ghost use Rattle.std.specs.Prelude.{◌≡◌, ◌≢◌, IsNone, IsSome, IsSomeAnd, None, Some, option_map};
+ghost use Rattle.std.specs.Prelude.{◌≡◌, ◌≢◌, ◌≤◌, IsNone, IsSome, IsSomeAnd, None, Some, option_map};
 ghost use Rattle.atlas_cache.specs.Caches.{with_reserve};
 ghost use Rattle.atlas_cache.specs.Walking.{first_entry, keyed, last_entry};
-ghost use Rattle.atlas_cache.specs.Reserving.{HaveSlots};
+ghost use Rattle.atlas_cache.specs.Reserving.{HaveSlots, IsShortFor};
 ghost use Rattle.guillotiere_c.specs.CacheCalls.{IsOlder, KeepsStates};
 ghost use Rattle.guillotiere_c.specs.CacheNumbers.{keyed_answer};
-ghost use Rattle.guillotiere_c.specs.Following.{GoesOver, HoldsCache};
+ghost use Rattle.guillotiere_c.specs.Following.{GoesOver, HoldsCache, StaysHeld};
 
 use crate::cache_handle::{CacheHandle, CacheReader};
 use crate::plain::{DONE, EMPTY, MEMORY, NOT_HELD, SLOTS};
@@ -44,7 +44,7 @@ pub extern "C" fn guillotiere_cache_newest(
     if !cache.holds() {
         return EMPTY;
     }
-    let held = cache.lent();
+    let held = cache.lent().cache();
     let found = held.newest();
     write_keyed(found, key, place)
 }
@@ -65,7 +65,7 @@ pub extern "C" fn guillotiere_cache_oldest(
     if !cache.holds() {
         return EMPTY;
     }
-    let held = cache.lent();
+    let held = cache.lent().cache();
     let found = held.oldest();
     write_keyed(found, key, place)
 }
@@ -87,8 +87,8 @@ pub extern "C" fn guillotiere_cache_older(
     if !cache.holds() {
         return EMPTY;
     }
-    let held = cache.lent();
-    let found = held.older(key);
+    let held = cache.lent().cache();
+    let found = held.older(&key);
     write_keyed(found, older, place)
 }
 
@@ -132,6 +132,8 @@ pub extern "C" fn guillotiere_cache_reserve_slots(
     ensures ready { result ≡ DONE → HoldsCache cache.new.kept (λ f. HaveSlots additional f.cache.pages) }
     ensures keeps { IsSome cache.old.kept → GoesOver cache.old.kept cache.new.kept KeepsStates }
     ensures unless { IsSome cache.old.kept → result ≢ DONE → result ≢ SLOTS → result ≡ MEMORY }
+    ensures short { result ≡ SLOTS → HoldsCache cache.old.kept (λ f. IsShortFor additional f.cache.pages) }
+    ensures had { HoldsCache cache.old.kept (λ f. HaveSlots additional f.cache.pages) → result ≢ MEMORY }
     ensures empty { IsNone cache.old.kept → (result ≡ EMPTY) × (cache.new.kept ≡ None) }
 {
     if !cache.holds() {
@@ -154,7 +156,9 @@ pub extern "C" fn guillotiere_cache_reserve_changes(
     cache: &mut CacheHandle,
     additional: usize,
 ) -> u32
-    ensures same { cache.new.kept ≡ cache.old.kept }
+    ensures same { StaysHeld cache.old.kept cache.new.kept }
+    ensures room { result ≡ DONE → HoldsCache cache.new.kept (λ f. additional ≤ f.room) }
+    ensures had { HoldsCache cache.old.kept (λ f. additional ≤ f.room) → result ≡ DONE }
     ensures unless { IsSome cache.old.kept → result ≢ DONE → result ≡ MEMORY }
     ensures empty { IsNone cache.old.kept → result ≡ EMPTY }
 {

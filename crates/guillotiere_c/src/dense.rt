@@ -1,9 +1,8 @@
 //! The export that packs sprites known beforehand into a sheet with no guillotine cuts.
 ghost use Rattle.std.specs.Prelude.{◌≡◌, ◌≢◌, ◌≤◌, length, map, IfErr, IfNone, IfOk, IfSome, IsSomeAnd, None};
 ghost use Rattle.atlas_sheet.specs.Settings.{IsSheetFault};
-ghost use Rattle.guillotiere_c.specs.DensePacking.{IsDenseSheet, IsDenseSheetWritten};
+ghost use Rattle.guillotiere_c.specs.DensePacking.{HasNoDenseSheet, IsDenseSheet, IsDenseSheetWritten};
 ghost use Rattle.guillotiere_c.specs.Numbers.{size_in};
-ghost use Rattle.guillotiere_c.specs.Packing.{HasNoSheet};
 ghost use Rattle.guillotiere_c.specs.SheetNumbers.{sheet_error, sheet_options_in};
 
 use crate::plain::{
@@ -25,7 +24,7 @@ fn found(
 ) -> Result<Option<Sheet>, SheetError>
     ensures packed { IfOk result (λ found. IfSome found (λ sheet.
         IsDenseSheet options.now (map size_in sprites.now) sheet.size sheet.places.items)) }
-    ensures none { IfOk result (λ found. IfNone found (HasNoSheet options.now (map size_in sprites.now))) }
+    ensures none { IfOk result (λ found. IfNone found (HasNoDenseSheet options.now (map size_in sprites.now))) }
     ensures fault { IfErr result (λ e. IsSheetFault options.now (map size_in sprites.now) e) }
 {
     let sizes = sizes_of(alloc, sprites)?;
@@ -49,7 +48,7 @@ pub extern "C" fn guillotiere_pack_dense(
     ensures done { result ≡ DONE → IsSomeAnd (sheet_options_in options.now)
         (λ o. IsDenseSheetWritten o (map size_in sprites.now) (size_in size.new) places.old places.new) }
     ensures none { result ≡ NO_ROOM → IsSomeAnd (sheet_options_in options.now)
-        (λ o. HasNoSheet o (map size_in sprites.now)) }
+        (λ o. HasNoDenseSheet o (map size_in sprites.now)) }
     ensures bad { result ≡ BAD_CALL → sheet_options_in options.now ≡ None }
     ensures short { result ≡ SHORT → length sprites.now ≤ length places.old → ⊥ }
     ensures fault { result ≢ DONE → result ≢ NO_ROOM → result ≢ BAD_CALL → result ≢ SHORT

@@ -1,5 +1,5 @@
 //! The export that fills one sheet with sprites known beforehand.
-ghost use Rattle.std.specs.Prelude.{◌≡◌, ◌≢◌, ◌≤◌, length, map, IfErr, IfOk, IsSomeAnd, None};
+ghost use Rattle.std.specs.Prelude.{◌≡◌, ◌≢◌, ◌<◌, ◌≤◌, length, map, IfErr, IfOk, IsSomeAnd, None};
 ghost use Rattle.atlas_sheet.specs.Settings.{IsSheetFault};
 ghost use Rattle.guillotiere_c.specs.Filling.{IsFilledSheet, IsFillingWritten, unplaced};
 ghost use Rattle.guillotiere_c.specs.Numbers.{size_in};
@@ -59,6 +59,8 @@ pub extern "C" fn guillotiere_fill(
         (map size_in sprites.now) (size_in size.new) left.new places.old places.new) }
     ensures bad { result ≡ BAD_CALL → sheet_options_in options.now ≡ None }
     ensures short { result ≡ SHORT → length sprites.now ≤ length places.old → ⊥ }
+    ensures bad_first { sheet_options_in options.now ≡ None → result ≡ BAD_CALL }
+    ensures short_next { result ≢ BAD_CALL → length places.old < length sprites.now → result ≡ SHORT }
     ensures fault { result ≢ DONE → result ≢ BAD_CALL → result ≢ SHORT
         → IsSomeAnd (sheet_options_in options.now) (λ o. IsSomeAnd (sheet_error result sprite.new)
         (λ e. IsSheetFault o (map size_in sprites.now) e)) }

@@ -4,7 +4,7 @@ ghost use Rattle.atlas_sheet.specs.declared.error.SheetError.TheVariants.{Memory
 ghost use Rattle.atlas_sheet.specs.Paging.{OneIsTooLarge};
 ghost use Rattle.atlas_sheet.specs.Settings.{IsSheetFault};
 ghost use Rattle.guillotiere_c.specs.Numbers.{size_in};
-ghost use Rattle.guillotiere_c.specs.SheetGroups.{AreGroupedPages, AreGroupsWritten, group_in};
+ghost use Rattle.guillotiere_c.specs.SheetGroups.{AreGroupedPages, AreGroupsWritten, AreMoreGroups, group_in};
 ghost use Rattle.guillotiere_c.specs.SheetNumbers.{sheet_error, sheet_options_in};
 
 use crate::plain::{
@@ -81,7 +81,9 @@ pub extern "C" fn guillotiere_pack_groups(
     ensures none { result ≡ NO_ROOM → IsSomeAnd (sheet_options_in options.now)
         (λ o. OneIsTooLarge o (map size_in sprites.now)) }
     ensures bad { result ≡ BAD_CALL → sheet_options_in options.now ≡ None }
-    ensures short { result ≡ SHORT → length sprites.now ≤ length places.old → ⊥ }
+    ensures short { result ≡ SHORT → length sprites.now ≤ length places.old
+        → IsSomeAnd (sheet_options_in options.now)
+        (λ o. AreMoreGroups o (map size_in sprites.now) (map group_in groups.now) (length sizes.old)) }
     ensures fault { result ≢ DONE → result ≢ NO_ROOM → result ≢ BAD_CALL → result ≢ SHORT
         → IsSomeAnd (sheet_options_in options.now) (λ o. IsSomeAnd (sheet_error result sprite.new)
         (λ e. IsSheetFault o (map size_in sprites.now) e)) }
@@ -97,6 +99,9 @@ pub extern "C" fn guillotiere_pack_groups(
     }
     match found(alloc, sprites, groups, &options) {
         Ok(Some(pages)) => {
+            if sizes.len() < pages.sizes.len() {
+                return SHORT;
+            }
             write_on_pages(&pages.places, places);
             write_sizes(&pages.sizes, sizes);
             *count = pages.sizes.len();

@@ -29,6 +29,8 @@ fn start(
     ensures bad { result ≡ BAD_CALL
         → IsPositive (sides_in width height) × AreValid (options_of options.now) × (1 ≤ limit) × (limit ≤ MOST_SLOTS)
         → ⊥ }
+    ensures good { result ≡ MEMORY
+        → IsPositive (sides_in width height) × AreValid (options_of options.now) × (1 ≤ limit) × (limit ≤ MOST_SLOTS) }
     ensures refused { result ≢ DONE → atlas.new.kept ≡ atlas.old.kept }
     ensures memory { result ≢ DONE → result ≢ BAD_CALL → IsNone atlas.old.kept → result ≡ MEMORY }
     ensures full { IsSome atlas.old.kept → result ≡ OCCUPIED }
@@ -54,7 +56,7 @@ fn start(
 }
 
 /// Makes an atlas with the default options, where the handle holds nothing.
-/// `DONE`; `BAD_CALL` if a side isn't above 0; `MEMORY`; `OCCUPIED` if the handle holds an atlas already.
+/// `DONE`; `BAD_CALL` if a side isn't above 0; `MEMORY`; `OCCUPIED`, before all others, if the handle holds an atlas already.
 #[unsafe(no_mangle)]
 pub extern "C" fn guillotiere_atlas_new(
     alloc: Global,
@@ -66,6 +68,7 @@ pub extern "C" fn guillotiere_atlas_new(
         (λ s. s ≡ started (sides_in width height) (options_of DEFAULT_OPTIONS) MOST_SLOTS) }
     ensures refused { result ≢ DONE → atlas.new.kept ≡ atlas.old.kept }
     ensures bad { result ≡ BAD_CALL → IsPositive (sides_in width height) → ⊥ }
+    ensures good { result ≡ MEMORY → IsPositive (sides_in width height) }
     ensures memory { result ≢ DONE → result ≢ BAD_CALL → IsNone atlas.old.kept → result ≡ MEMORY }
     ensures full { IsSome atlas.old.kept → result ≡ OCCUPIED }
 {
@@ -85,6 +88,7 @@ pub extern "C" fn guillotiere_atlas_with_options(
         (λ s. s ≡ started (sides_in width height) (options_in options.now) MOST_SLOTS) }
     ensures refused { result ≢ DONE → atlas.new.kept ≡ atlas.old.kept }
     ensures bad { result ≡ BAD_CALL → IsPositive (sides_in width height) × AreValid (options_in options.now) → ⊥ }
+    ensures good { result ≡ MEMORY → IsPositive (sides_in width height) × AreValid (options_in options.now) }
     ensures memory { result ≢ DONE → result ≢ BAD_CALL → IsNone atlas.old.kept → result ≡ MEMORY }
     ensures full { IsSome atlas.old.kept → result ≡ OCCUPIED }
 {
@@ -108,6 +112,8 @@ pub extern "C" fn guillotiere_atlas_with_slot_limit(
     ensures bad { result ≡ BAD_CALL
         → IsPositive (sides_in width height) × AreValid (options_in options.now) × (1 ≤ limit) × (limit ≤ MOST_SLOTS)
         → ⊥ }
+    ensures good { result ≡ MEMORY
+        → IsPositive (sides_in width height) × AreValid (options_in options.now) × (1 ≤ limit) × (limit ≤ MOST_SLOTS) }
     ensures memory { result ≢ DONE → result ≢ BAD_CALL → IsNone atlas.old.kept → result ≡ MEMORY }
     ensures full { IsSome atlas.old.kept → result ≡ OCCUPIED }
 {

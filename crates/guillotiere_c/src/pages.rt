@@ -4,7 +4,7 @@ ghost use Rattle.atlas_sheet.specs.Paging.{OneIsTooLarge};
 ghost use Rattle.atlas_sheet.specs.Settings.{IsSheetFault};
 ghost use Rattle.guillotiere_c.specs.Numbers.{size_in};
 ghost use Rattle.guillotiere_c.specs.SheetNumbers.{sheet_error, sheet_options_in};
-ghost use Rattle.guillotiere_c.specs.SheetPages.{ArePackedPages, ArePagesWritten};
+ghost use Rattle.guillotiere_c.specs.SheetPages.{AreMorePages, ArePackedPages, ArePagesWritten};
 
 use crate::plain::{BAD_CALL, DONE, EMPTY_SPRITE, GREAT_SPRITE, NO_ROOM, PlainSize, SHORT};
 use crate::plain_sheet::{
@@ -34,10 +34,11 @@ fn found(
 /// Packs all sprites into as few sheets as are found: the greatest of those allowed gets what `guillotiere_fill` places
 /// there, the same is done with the sprites that are left, and the last of them get as small a sheet as `guillotiere_pack`
 /// finds. For each sheet `effort` changes of the order are tried. `DONE`: `places` has where each sprite lies, in the order
-/// of the sprites, `count` how many sheets there are, at most as many as sprites, and `sizes` their sizes, as many as there
-/// is room for; what the arrays have after that stays. No two places on one sheet overlap, and no sheet is empty. There may
-/// be no sprites: then there are no sheets.
-/// `NO_ROOM` if a sprite is too large for an empty sheet; else as `guillotiere_pack`.
+/// of the sprites, `count` how many sheets there are, at most as many as sprites, and `sizes` their sizes; what the arrays
+/// have after that stays. No two places on one sheet overlap, and no sheet is empty. There may be no sprites: then there are
+/// no sheets.
+/// `NO_ROOM` if a sprite is too large for an empty sheet; `SHORT` also if there are more sheets than sizes_len; else as
+/// `guillotiere_pack`.
 #[unsafe(no_mangle)]
 pub extern "C" fn guillotiere_pack_pages(
     alloc: Global,
@@ -54,7 +55,9 @@ pub extern "C" fn guillotiere_pack_pages(
     ensures none { result ≡ NO_ROOM → IsSomeAnd (sheet_options_in options.now)
         (λ o. OneIsTooLarge o (map size_in sprites.now)) }
     ensures bad { result ≡ BAD_CALL → sheet_options_in options.now ≡ None }
-    ensures short { result ≡ SHORT → length sprites.now ≤ length places.old → ⊥ }
+    ensures short { result ≡ SHORT → length sprites.now ≤ length places.old
+        → IsSomeAnd (sheet_options_in options.now)
+        (λ o. AreMorePages o (map size_in sprites.now) (length sizes.old)) }
     ensures fault { result ≢ DONE → result ≢ NO_ROOM → result ≢ BAD_CALL → result ≢ SHORT
         → IsSomeAnd (sheet_options_in options.now) (λ o. IsSomeAnd (sheet_error result sprite.new)
         (λ e. IsSheetFault o (map size_in sprites.now) e)) }
@@ -70,6 +73,9 @@ pub extern "C" fn guillotiere_pack_pages(
     }
     match found(alloc, sprites, &options) {
         Ok(Some(pages)) => {
+            if sizes.len() < pages.sizes.len() {
+                return SHORT;
+            }
             write_on_pages(&pages.places, places);
             write_sizes(&pages.sizes, sizes);
             *count = pages.sizes.len();

@@ -1,7 +1,7 @@
 //! What crosses to C of sheets: options and places. All lengths are in pixels.
 ghost use Rattle.std.specs.Prelude.{◌≡◌, ◌≢◌, Some};
 ghost use Rattle.guillotiere_c.specs.SheetNumbers.{allowed_in, maybe_placed_in, on_page_in, options_over, placed_in};
-ghost use Rattle.guillotiere_c.specs.SheetNumbers.{sheet_error, sheet_options_in};
+ghost use Rattle.guillotiere_c.specs.SheetNumbers.{sheet_error, sheet_options_in, IsMaybeToldByBit, IsToldByBit};
 
 use crate::plain::{
     BAD_CALL, DONE, EMPTY_ALIGNMENT, EMPTY_RANGE, EMPTY_SHEET, EMPTY_SPRITE, GREAT_SPRITE, HEIGHTS,
@@ -21,10 +21,11 @@ pub struct PlainSheetOptions {
     pub height: i32,
     pub least: i32,
     pub greatest: i32,
-    /// Pixels between two sprites, and between a sprite and the border: at most 65535.
+    /// The least number of pixels between two sprites, and between a sprite and the border: at most 65535.
     pub padding: u32,
     /// Each place, with the padding at its left and above, begins on multiples of these two sides, which are at least 1,
-    /// and takes multiples of them, also at the right and lower border.
+    /// and takes multiples of them, also at the right and lower border. The padding at its right and below comes after that:
+    /// with 4 by 4 and a padding of 1 a sprite of 1 by 1 needs a sheet of 5 by 5.
     pub alignment_width: i32,
     pub alignment_height: i32,
     /// 0 for no turning; otherwise a sprite may lie turned by 90 degrees.
@@ -77,7 +78,8 @@ const NO_PLACE: PlainMaybePlaced = PlainMaybePlaced {
 
 /// The same for C.
 pub fn plain_placed(placed: Placed) -> PlainPlaced
-    ensures { placed_in result ≡ placed }
+    ensures value { placed_in result ≡ placed }
+    ensures bit { IsToldByBit result }
 {
     PlainPlaced {
         area: plain_rectangle(placed.area),
@@ -87,7 +89,8 @@ pub fn plain_placed(placed: Placed) -> PlainPlaced
 
 /// The same for C.
 pub fn plain_maybe_placed(place: Option<Placed>) -> PlainMaybePlaced
-    ensures { maybe_placed_in result ≡ place }
+    ensures value { maybe_placed_in result ≡ place }
+    ensures bits { IsMaybeToldByBit result }
 {
     match place {
         Some(placed) => PlainMaybePlaced {

@@ -1,5 +1,5 @@
 //! The export that packs sprites known beforehand into a sheet.
-ghost use Rattle.std.specs.Prelude.{◌≡◌, ◌≢◌, ◌≤◌, length, map, IfErr, IfNone, IfOk, IfSome, IsOkUnless, IsSomeAnd};
+ghost use Rattle.std.specs.Prelude.{◌≡◌, ◌≢◌, ◌<◌, ◌≤◌, length, map, IfErr, IfNone, IfOk, IfSome, IsOkUnless, IsSomeAnd};
 ghost use Rattle.std.specs.Prelude.{None};
 ghost use Rattle.atlas_sheet.specs.declared.error.SheetError.TheVariants.{Memory};
 ghost use Rattle.atlas_sheet.specs.Settings.{IsSheetFault};
@@ -68,6 +68,8 @@ pub extern "C" fn guillotiere_pack(
         (λ o. HasNoSheet o (map size_in sprites.now)) }
     ensures bad { result ≡ BAD_CALL → sheet_options_in options.now ≡ None }
     ensures short { result ≡ SHORT → length sprites.now ≤ length places.old → ⊥ }
+    ensures bad_first { sheet_options_in options.now ≡ None → result ≡ BAD_CALL }
+    ensures short_next { result ≢ BAD_CALL → length places.old < length sprites.now → result ≡ SHORT }
     ensures fault { result ≢ DONE → result ≢ NO_ROOM → result ≢ BAD_CALL → result ≢ SHORT
         → IsSomeAnd (sheet_options_in options.now) (λ o. IsSomeAnd (sheet_error result sprite.new)
         (λ e. IsSheetFault o (map size_in sprites.now) e)) }

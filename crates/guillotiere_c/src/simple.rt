@@ -37,6 +37,7 @@ fn start(
     ensures state { result ≡ DONE → HoldsSimple simple.new.kept
         (λ s. s ≡ simple_start (sides_in width height) (options_of options.now)) }
     ensures bad { result ≡ BAD_CALL → IsPositive (sides_in width height) × AreValid (options_of options.now) → ⊥ }
+    ensures good { result ≡ MEMORY → IsPositive (sides_in width height) × AreValid (options_of options.now) }
     ensures refused { result ≢ DONE → simple.new.kept ≡ simple.old.kept }
     ensures memory { result ≢ DONE → result ≢ BAD_CALL → IsNone simple.old.kept → result ≡ MEMORY }
     ensures full { IsSome simple.old.kept → result ≡ OCCUPIED }
@@ -61,7 +62,7 @@ fn start(
 }
 
 /// Makes a simple allocator with the default options, where the handle holds nothing.
-/// `DONE`; `BAD_CALL` if a side isn't above 0; `MEMORY`; `OCCUPIED` if the handle holds one already.
+/// `DONE`; `BAD_CALL` if a side isn't above 0; `MEMORY`; `OCCUPIED`, before all others, if the handle holds one already.
 #[unsafe(no_mangle)]
 pub extern "C" fn guillotiere_simple_new(
     alloc: Global,
@@ -72,6 +73,7 @@ pub extern "C" fn guillotiere_simple_new(
     ensures state { result ≡ DONE → HoldsSimple simple.new.kept
         (λ s. s ≡ simple_start (sides_in width height) (options_of DEFAULT_OPTIONS)) }
     ensures bad { result ≡ BAD_CALL → IsPositive (sides_in width height) → ⊥ }
+    ensures good { result ≡ MEMORY → IsPositive (sides_in width height) }
     ensures refused { result ≢ DONE → simple.new.kept ≡ simple.old.kept }
     ensures memory { result ≢ DONE → result ≢ BAD_CALL → IsNone simple.old.kept → result ≡ MEMORY }
     ensures full { IsSome simple.old.kept → result ≡ OCCUPIED }
@@ -91,6 +93,7 @@ pub extern "C" fn guillotiere_simple_with_options(
     ensures state { result ≡ DONE → HoldsSimple simple.new.kept
         (λ s. s ≡ simple_start (sides_in width height) (options_in options.now)) }
     ensures bad { result ≡ BAD_CALL → IsPositive (sides_in width height) × AreValid (options_in options.now) → ⊥ }
+    ensures good { result ≡ MEMORY → IsPositive (sides_in width height) × AreValid (options_in options.now) }
     ensures refused { result ≢ DONE → simple.new.kept ≡ simple.old.kept }
     ensures memory { result ≢ DONE → result ≢ BAD_CALL → IsNone simple.old.kept → result ≡ MEMORY }
     ensures full { IsSome simple.old.kept → result ≡ OCCUPIED }

@@ -1,7 +1,8 @@
 //! Lists, written into arrays of the caller's: as much as there is room for.
+ghost use Rattle.std.specs.Prelude.{length, min};
 ghost use Rattle.guillotiere_c.specs.Numbers.{allocation_in, change_in, corners_in, size_in};
-ghost use Rattle.guillotiere_c.specs.SheetNumbers.{maybe_placed_in, on_page_in, placed_in};
-ghost use Rattle.guillotiere_c.specs.Writing.{IsWritten};
+ghost use Rattle.guillotiere_c.specs.SheetNumbers.{maybe_placed_in, on_page_in, placed_in, IsMaybeToldByBit, IsToldByBit};
+ghost use Rattle.guillotiere_c.specs.Writing.{AreFirst, IsWritten};
 
 use crate::plain::{
     PlainAllocation, PlainChange, PlainRectangle, PlainSize, plain_allocation, plain_change,
@@ -42,7 +43,8 @@ pub fn write_changes(list: &[Change], array: &mut [PlainChange])
 
 /// Writes the places of sprites.
 pub fn write_placed(list: &[Placed], array: &mut [PlainPlaced])
-    ensures { IsWritten placed_in list.now array.old array.new }
+    ensures written { IsWritten placed_in list.now array.old array.new }
+    ensures bits { AreFirst IsToldByBit (min (length list.now) (length array.old)) array.new }
 {
     for i in 0..list.len().min(array.len()) {
         array[i] = plain_placed(list[i]);
@@ -51,7 +53,8 @@ pub fn write_placed(list: &[Placed], array: &mut [PlainPlaced])
 
 /// Writes the places of sprites that have one.
 pub fn write_maybe_placed(list: &[Option<Placed>], array: &mut [PlainMaybePlaced])
-    ensures { IsWritten maybe_placed_in list.now array.old array.new }
+    ensures written { IsWritten maybe_placed_in list.now array.old array.new }
+    ensures bits { AreFirst IsMaybeToldByBit (min (length list.now) (length array.old)) array.new }
 {
     for i in 0..list.len().min(array.len()) {
         array[i] = plain_maybe_placed(list[i]);

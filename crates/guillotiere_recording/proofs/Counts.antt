@@ -2,7 +2,7 @@
 use Rattle.std.proofs.Common.{◌≡◌, ◌+◌, Bool, true, false, cond, ◌&&◌, List, [], ◌∷◌, map, filter, zero-add, refl, ap, ap₂, sym, ◌∙◌, Contains, IsPermutation}
 use Rattle.std.specs.List.{count_by}
 use Rattle.std.proofs.lemmas.List.Sorted.{sum_by-IsPermutation}
-use Rattle.guillotiere.proofs.ListLemmas.Counting.{count_by-cons}
+use Rattle.guillotiere.proofs.ListLemmas.ListCounts.{count_by-cons}
 use Rattle.guillotiere.proofs.TreeLemmas.TreeBasics.{one_if}
 use Rattle.guillotiere.proofs.TreeLemmas.TreeIds.{Contains-first, Contains-later}
 

@@ -9,7 +9,7 @@ use Rattle.guillotiere.specs.Trees.{ids}
 use Rattle.guillotiere.specs.States.{State, IsLive}
 use Rattle.guillotiere.specs.Laws.StepLaws.{live_count}
 use Rattle.guillotiere.proofs.TreeLemmas.BoxLists.{count_live}
-use Rattle.guillotiere.proofs.ListLemmas.Counting.{count_by-cons, count_by-append, count_some, counted_once, split_at}
+use Rattle.guillotiere.proofs.ListLemmas.ListCounts.{count_by-cons, count_by-append, count_some, counted_once, split_at}
 use Rattle.guillotiere.proofs.TreeLemmas.TreeBasics.{one_if}
 use Rattle.guillotiere.proofs.TreeLemmas.TreeIds.{Contains-first, Contains-later}
 use Rattle.guillotiere_recording.specs.declared.names.LiveName.{LiveName as Entry}

@@ -19,8 +19,8 @@ use Rattle.guillotiere.specs.Renaming.{renamed_grant}
 use Rattle.guillotiere.specs.Replies.{grant_of, IsExact}
 use Rattle.guillotiere.specs.Rearranging.{transfer_of, rearrangement_of, IsExactChange, AreExactChanges}
 use Rattle.guillotiere.specs.Stored.{AtlasValue, state_of}
-use Rattle.guillotiere.proofs.ListLemmas.Counting.{count_by-cons, count_by-append, count_some, split_at}
-use Rattle.guillotiere.proofs.StepLemmas.StepKeeping.{steps_keep}
+use Rattle.guillotiere.proofs.ListLemmas.ListCounts.{count_by-cons, count_by-append, count_some, split_at}
+use Rattle.guillotiere.proofs.StepLemmas.SoundSteps.{steps_keep}
 use Rattle.guillotiere.proofs.StepLemmas.StepEffects.{rearrangings_lose_nothing}
 use Rattle.guillotiere.proofs.TreeLemmas.TreeBasics.{one_if}
 use Rattle.guillotiere.proofs.TreeLemmas.TreeIds.{Contains-first, Contains-later}
@@ -35,8 +35,8 @@ use Rattle.guillotiere_recording.specs.Recordings.{SessionValue, session_of, IsR
 use Rattle.guillotiere_recording.specs.Kept.{IsSessionKept}
 use Rattle.guillotiere_recording.proofs.Counts.{count_map, count_permuted}
 use Rattle.guillotiere_recording.proofs.Entries.{entry_of, name_of, counted_is_live}
-use Rattle.guillotiere_recording.proofs.Naming.{live_at_most_once, moved_from}
-use Rattle.guillotiere_recording.proofs.Keeping.{session_named, recorded_more, given_more, names_in}
+use Rattle.guillotiere_recording.proofs.NamedStates.{live_at_most_once, moved_from}
+use Rattle.guillotiere_recording.proofs.RecordedSessions.{session_named, recorded_more, given_more, names_in}
 
 -- What each session keeps.
 pub kept_of : (v : SessionValue) → IsRecordedSession v → IsSessionKept v

@@ -24,7 +24,7 @@ use Rattle.guillotiere.specs.Replies.{live_box, grant_of, IsExact}
 use Rattle.guillotiere.specs.Laws.StepLaws.{live_count}
 use Rattle.guillotiere.specs.Stored.{AtlasValue, state_of}
 use Rattle.guillotiere.proofs.ListLemmas.CallerLemmas.{find-counted}
-use Rattle.guillotiere.proofs.ListLemmas.Counting.{count_by-cons}
+use Rattle.guillotiere.proofs.ListLemmas.ListCounts.{count_by-cons}
 use Rattle.guillotiere.proofs.TreeLemmas.TreeBasics.{one_if}
 use Rattle.guillotiere.proofs.TreeLemmas.TreeIds.{Contains-none}
 use Rattle.guillotiere_recording.specs.declared.steps.EventFault.{EventFault}
@@ -38,13 +38,13 @@ use Rattle.guillotiere_recording.specs.Books.{AreSameGrants, book}
 use Rattle.guillotiere_recording.specs.Recordings.{LeadsTo, AreBooked}
 use Rattle.guillotiere_recording.specs.Replays.{first_events, IsFaultOf, IsRecorded}
 use Rattle.guillotiere_recording.specs.Standing.{Names, ShowsNamed, CarriesOut, IsStopped, fault_of, shown_entry}
-use Rattle.guillotiere_recording.proofs.Booking.{sessions_are_named, books_are_true, listed_is_live}
+use Rattle.guillotiere_recording.proofs.Books.{sessions_are_named, books_are_true, listed_is_live}
 use Rattle.guillotiere_recording.proofs.Counts.{count_map, count_alike}
 use Rattle.guillotiere_recording.proofs.Entries.{live_is_counted}
-use Rattle.guillotiere_recording.proofs.Naming.{live_at_most_once}
-use Rattle.guillotiere_recording.proofs.Replaying.{at_same, at_other}
-use Rattle.guillotiere_recording.proofs.Showing.{each_counts, box_of_live}
-use Rattle.guillotiere_recording.proofs.Keeping.{recorded_more}
+use Rattle.guillotiere_recording.proofs.NamedStates.{live_at_most_once}
+use Rattle.guillotiere_recording.proofs.ReplaySteps.{at_same, at_other}
+use Rattle.guillotiere_recording.proofs.ShownBooks.{each_counts, box_of_live}
+use Rattle.guillotiere_recording.proofs.RecordedSessions.{recorded_more}
 use Rattle.guillotiere_recording.proofs.NameSteps.{area_of}
 
 abbrev pub Entries : Type 0

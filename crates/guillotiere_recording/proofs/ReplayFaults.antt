@@ -13,7 +13,7 @@ use Rattle.guillotiere.specs.States.{State, live_in}
 use Rattle.guillotiere.specs.Steps.{AtlasCall, AtlasReply, Step}
 use Rattle.guillotiere.specs.Steps.AtlasReply.{Allocated, NoRoom, Done, Changed, Refused, BadCall}
 use Rattle.guillotiere.specs.Renaming.{renamed_grant, is_out_of_memory}
-use Rattle.guillotiere.proofs.ListLemmas.Counting.{count_by-weaker, split_at}
+use Rattle.guillotiere.proofs.ListLemmas.ListCounts.{count_by-weaker, split_at}
 use Rattle.guillotiere.proofs.TreeLemmas.TreeIds.{Contains-first}
 use Rattle.guillotiere_recording.specs.declared.replay.ReplayFault.{ReplayFault}
 use Rattle.guillotiere_recording.specs.declared.replay.ReplayFault.TheVariants as fault
@@ -24,7 +24,7 @@ use Rattle.guillotiere_recording.specs.Sessions.{Named, named_boxes, IsLiveName,
 use Rattle.guillotiere_recording.specs.Recordings.{LeadsTo}
 use Rattle.guillotiere_recording.specs.Replays.{IsRecorded, IsBad, IsCall, AnswersEvent, is_refused, AnswersOtherwise, LacksSlots, IsFaultOf, HasRearranging, MayFail, first_events}
 use Rattle.guillotiere_recording.specs.Twins.{is_plain_event, Asks, Says}
-use Rattle.guillotiere_recording.proofs.Booking.{sessions_are_named, books_are_true, listed_is_live}
+use Rattle.guillotiere_recording.proofs.Books.{sessions_are_named, books_are_true, listed_is_live}
 use Rattle.guillotiere_recording.proofs.Counts.{count_map}
 use Rattle.guillotiere_recording.proofs.Entries.{live_is_counted}
 use Rattle.guillotiere_recording.proofs.Twins.{twins_answer_alike, new_sessions_are_twins, events_keep_twins}
@@ -219,24 +219,36 @@ module _ (r : RecordingValue) (i : ℕ) (event : EventValue) (t : Named) (led' :
         by_kind (inl all) = absurd (has_slots (All-take (λ e. is_plain_event e ≡ true) i r.events all) (plain_here all) o)
         by_kind (inr some) = some
 
+    so_far : All (λ e. is_plain_event e ≡ true) (take (suc i) r.events)
+        → All (λ e. is_plain_event e ≡ true) (take i r.events) × (is_plain_event event ≡ true)
+    so_far all =
+        let low = slice_get_within r.events i event here in
+        let its = get_or_from_slice_get r.events i event event here in
+        let next : take (suc i) r.events ≡ take i r.events ++ event ∷ [] =
+        sym (ap (λ n. take n r.events) (add-one i)) ∙ take_more r.events i event low ∙ ap (λ e. take i r.events ++ e ∷ []) its in
+        let both = subst (λ es. All (λ e. is_plain_event e ≡ true) es) next all in
+        let first : All (λ e. is_plain_event e ≡ true) (take i r.events) = λ k d below.
+        let more : k < length (take i r.events ++ event ∷ []) = omega (arith, below, length-append (take i r.events) (event ∷ [])) in
+        subst (λ e. is_plain_event e ≡ true) (get_or_append_left (take i r.events) (event ∷ []) d k below) (both k d more) in
+        let at = Contains-push (take i r.events) event in
+        let plain : is_plain_event event ≡ true = All-contains (λ e. is_plain_event e ≡ true) (take i r.events ++ event ∷ []) event both at in
+        (first, plain)
+
     pub differs_fault : AnswersOtherwise t event → HasRearranging (take (suc i) r.events)
     differs_fault o = by_kind (plain_or_not (take (suc i) r.events))
       where
         by_kind : All (λ e. is_plain_event e ≡ true) (take (suc i) r.events) ⊎ HasRearranging (take (suc i) r.events)
             → HasRearranging (take (suc i) r.events)
         by_kind (inr some) = some
-        by_kind (inl all) =
-            let low = slice_get_within r.events i event here in
-            let its = get_or_from_slice_get r.events i event event here in
-            let next : take (suc i) r.events ≡ take i r.events ++ event ∷ [] =
-            sym (ap (λ n. take n r.events) (add-one i)) ∙ take_more r.events i event low ∙ ap (λ e. take i r.events ++ e ∷ []) its in
-            let both = subst (λ es. All (λ e. is_plain_event e ≡ true) es) next all in
-            let first : All (λ e. is_plain_event e ≡ true) (take i r.events) = λ k d below.
-            let more : k < length (take i r.events ++ event ∷ []) = omega (arith, below, length-append (take i r.events) (event ∷ [])) in
-            subst (λ e. is_plain_event e ≡ true) (get_or_append_left (take i r.events) (event ∷ []) d k below) (both k d more) in
-            let at = Contains-push (take i r.events) event in
-            let plain : is_plain_event event ≡ true = All-contains (λ e. is_plain_event e ≡ true) (take i r.events ++ event ∷ []) event both at in
-            absurd (answers_so first plain o)
+        by_kind (inl all) = let both = so_far all in absurd (answers_so both.0 both.1 o)
+
+    pub rearranging_here : is_plain_event event ≡ false → HasRearranging (take (suc i) r.events)
+    rearranging_here is = by_kind (plain_or_not (take (suc i) r.events))
+      where
+        by_kind : All (λ e. is_plain_event e ≡ true) (take (suc i) r.events) ⊎ HasRearranging (take (suc i) r.events)
+            → HasRearranging (take (suc i) r.events)
+        by_kind (inr some) = some
+        by_kind (inl all) = let both = so_far all in absurd (false≢true (sym is ∙ both.1))
 
 pub recorded_faults : (r : RecordingValue) (f : ReplayFault) → IsRecorded r → IsFaultOf r f → MayFail r f
 recorded_faults r fault.Memory recorded is = tt

@@ -20,7 +20,7 @@ use Rattle.guillotiere_recording.specs.Logs.{RecordingValue, with_event}
 use Rattle.guillotiere_recording.specs.Sessions.{Named, Leads}
 use Rattle.guillotiere_recording.specs.Recordings.{SessionValue, session_of, IsFaithful}
 use Rattle.guillotiere_recording.specs.Replays.{first_events}
-use Rattle.guillotiere_recording.specs.Resuming.{IsResumeFault, AnswersElse}
+use Rattle.guillotiere_recording.specs.Resuming.{IsResumeFault, IsSameName, AnswersElse}
 use Rattle.guillotiere_recording.specs.Halting.{IsHalted, stop_of}
 use Rattle.guillotiere_recording.specs.Standing.{fault_of}
 
@@ -63,14 +63,20 @@ abbrev answer_of : EventValue → Option Allocation
 answer_of (Allocate size answer) = answer
 answer_of _ = None
 
+-- A grant of the next name has the name of the recorded one.
+pub next_name : (answer : Option Allocation) (recorded : Allocation) (given : ℕ) → IfSome answer (λ a. a.id ≡ given)
+    → recorded.id ≡ given → IsSameName (Some recorded) answer
+next_name None recorded given named asked = tt
+next_name (Some a) recorded given named asked = named ∙ sym asked
+
 -- A request is answered otherwise than the event says.
 pub answered_else : (v : SessionValue) (size : Size) (answer recorded : Option Allocation) (next : Named)
-    → Leads (session_of v) (Allocate size answer) next → (answer ≡ recorded → ⊥)
+    → Leads (session_of v) (Allocate size answer) next → IsSameName recorded answer → (answer ≡ recorded → ⊥)
     → AnswersElse v (Allocate size recorded)
-answered_else v size answer recorded next leads other =
+answered_else v size answer recorded next leads named other =
     record {
       other = Allocate size answer;
-      same = refl;
+      same = (refl, named);
       next = next;
       leads = leads;
       differs = λ is. other (ap answer_of is);

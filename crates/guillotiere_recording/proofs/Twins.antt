@@ -14,14 +14,14 @@ use Rattle.guillotiere.specs.Steps.{AtlasReply, Step}
 use Rattle.guillotiere.specs.Steps.AtlasReply.{Allocated, NoRoom, Done, Changed, Refused, BadCall}
 use Rattle.guillotiere.specs.Renaming.{renamed_tree, with_name, IsNewName, AreNamedAlike, AreAlike, AnswerAlike, is_out_of_memory}
 use Rattle.guillotiere.proofs.StepLemmas.Alike.{named_at, ids_placed, ids_released, answers_without_ids, live_names_count}
-use Rattle.guillotiere.proofs.TreeLemmas.Renaming.{ids-renamed, with_name-itself, with_name-other}
+use Rattle.guillotiere.proofs.TreeLemmas.RenamedTrees.{ids-renamed, with_name-itself, with_name-other}
 use Rattle.guillotiere.proofs.TreeLemmas.TreeIds.{Contains-first, Contains-later, Contains-none, Contains-cons_cases}
 use Rattle.guillotiere.proofs.TreeLemmas.TreeKept.{ids-grown}
 use Rattle.guillotiere_recording.specs.Events.{EventValue}
 use Rattle.guillotiere_recording.specs.Events.EventValue.{Allocate, Deallocate, Grow, Rearrange, ResizeAndRearrange}
 use Rattle.guillotiere_recording.specs.Sessions.{Named, IsLiveName, IsNamed, KeepsNames, GrantsUnder, FreesUnder, Leads}
 use Rattle.guillotiere_recording.specs.Twins.{AreTwins, is_plain_event, Says, NamesGrant, TwinsAnswerAlike, TwinsShareNames, NewSessionsAreTwins, EventsKeepTwins}
-use Rattle.guillotiere_recording.proofs.Naming.{events_keep_names}
+use Rattle.guillotiere_recording.proofs.NamedStates.{events_keep_names}
 
 -- Names
 

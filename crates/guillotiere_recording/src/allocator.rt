@@ -68,6 +68,7 @@ impl<A: Allocator + Copy> RecordingAllocator<A> {
     ghost use Rattle.guillotiere.specs.Stored.{state_of};
     ghost use Rattle.guillotiere_recording.specs.Recordings.{IsFaithful, IsNew, AreBooked, session_of};
     ghost use Rattle.guillotiere_recording.specs.Replays.{IsRecorded};
+    ghost use Rattle.guillotiere_recording.specs.Resuming.{IsOwnRecording};
 
     /// A recording atlas of this size, in pixels, with the default options: one free rectangle. Requires a size that isn't
     /// empty. `Memory` is the only error.
@@ -290,6 +291,7 @@ impl<A: Allocator + Copy> RecordingAllocator<A> {
     pub fn finish(self) -> Recording<A>
         ensures taken { result ≡ self.recording }
         ensures recorded { IsRecorded result }
+        ensures own { self.given < 2 ^ 32 → IsOwnRecording result }
     {
         Recording::from_log(self.log)
     }

@@ -33,7 +33,7 @@ impl<A: Allocator + Copy> Model for Recording<A> {
 impl<A: Allocator + Copy> Recording<A> {
     ghost use Rattle.guillotiere_recording.specs.Recordings.{IsFaithful};
     ghost use Rattle.guillotiere_recording.specs.Replays.{IsRecorded, IsReplayed, IsFaultOf, MayFail};
-    ghost use Rattle.guillotiere_recording.specs.Resuming.{IsResumeFault};
+    ghost use Rattle.guillotiere_recording.specs.Resuming.{IsOwnRecording, IsResumeFault};
 
     // The recording of a log.
     pub(crate) fn from_log(log: Log<A>) -> Recording<A>
@@ -84,11 +84,12 @@ impl<A: Allocator + Copy> Recording<A> {
     /// where an event can't be carried out, because its new name isn't the next one (0, 1, 2, .. in the order of the
     /// grants), the name that it frees isn't live, a side shrinks or a size is empty; `Differs` where the answer isn't
     /// the one that the event has; `Slots` as the atlas's; `Memory` if a request for memory is refused. Events are
-    /// counted from 0.
+    /// counted from 0. What a recording allocator recorded fails by `Memory` alone, unless it rearranged.
     pub fn resume(&self) -> Result<RecordingAllocator<A>, ReplayFault>
         ensures resumed { IfOk result (λ session. session.recording ≡ self.now) }
         ensures faithful { IfOk result IsFaithful }
         ensures fault { IfErr result (IsResumeFault self.now) }
+        ensures own { IsOwnRecording self.now → IfErr result (MayFail self.now) }
     {
         self.log.resume()
     }

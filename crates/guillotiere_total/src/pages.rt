@@ -1,8 +1,9 @@
 //! Calls of one of several pages.
-ghost use Rattle.std.specs.Prelude.{◌≡◌, ◌<◌, ◌↔◌, None, Ok, length, IfErr, IfOk, IfSome, IsSome, OnErr, OnOk};
-ghost use Rattle.guillotiere.specs.declared.AtlasError.TheVariants.{NotLive};
+ghost use Rattle.std.specs.Prelude.{◌≡◌, ◌≢◌, ◌<◌, ◌↔◌, Err, None, Ok, length, IfErr, IfOk, IfSome, IsSome, OnErr, OnOk};
+ghost use Rattle.guillotiere.specs.declared.AtlasError.TheVariants.{Memory, NotLive};
 ghost use Rattle.guillotiere.specs.Callers.{IsShortage};
-ghost use Rattle.guillotiere.specs.Pages.{rectangle_on, AddsBoxOn, IsAnswerOn, LeavesNoBoxOn};
+ghost use Rattle.guillotiere.specs.Pages.{rectangle_on, AddsBoxOn, HasReserveOn, IsAnswerOn, LeavesNoBoxOn, UsesAtMostOn};
+ghost use Rattle.guillotiere_total.specs.declared.error.CallError.TheVariants.{Refused};
 ghost use Rattle.guillotiere_total.specs.Answers.{IfMade};
 ghost use Rattle.guillotiere_total.specs.Faults.{IsPageFault};
 
@@ -21,6 +22,8 @@ pub fn allocate_on<A: Allocator + Copy>(
     ensures adds { IfOk result (λ granted. IfSome granted (λ a.
         AddsBoxOn pages.old pages.new page a.id a.rectangle)) }
     ensures answer { IfMade result (IsAnswerOn pages.old page size) }
+    ensures slots { UsesAtMostOn 4 pages.old pages.new page }
+    ensures memory { HasReserveOn 4 pages.old page → result ≢ Err (Refused Memory) }
     ensures none { result ≡ Ok None → pages.new ≡ pages.old }
     ensures refused { OnErr result (pages.new ≡ pages.old) }
     ensures length { length pages.new ≡ length pages.old }

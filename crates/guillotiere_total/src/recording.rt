@@ -1,9 +1,11 @@
 //! Calls of a recording allocator and of a recorder.
-ghost use Rattle.std.specs.Prelude.{◌≡◌, [], IfErr, IfOk, OnErr, OnOk};
+ghost use Rattle.std.specs.Prelude.{◌≡◌, [], Err, IfErr, IfOk, OnErr, OnOk};
 ghost use Rattle.guillotiere.specs.Boxes.{IsPositive};
 ghost use Rattle.guillotiere.specs.Callers.{IsShortage};
 ghost use Rattle.guillotiere.specs.Choice.{AreValid};
 ghost use Rattle.guillotiere.specs.Pixels.{options_of, sides_of};
+ghost use Rattle.guillotiere.specs.Steps as atlas;
+ghost use Rattle.guillotiere.specs.Steps.{Step};
 ghost use Rattle.guillotiere.specs.Stored.{state_of};
 ghost use Rattle.guillotiere_recording.specs.Events.{list_value_of};
 ghost use Rattle.guillotiere_recording.specs.Events.EventValue.{Grow, ResizeAndRearrange};
@@ -57,6 +59,9 @@ pub fn grow<A: Allocator + Copy>(
     ensures led { OnOk result (Leads (session_of session.old) (Grow new_size) (session_of session.new)) }
     ensures fault { IfErr result
         (IsGrowthFault IsShortage (state_of session.old.atlas).size (sides_of new_size)) }
+    ensures slots { result ≡ Err (CallError.Refused AtlasError.Slots)
+        → Step (state_of session.old.atlas) (atlas.Grow (sides_of new_size))
+        (atlas.Refused AtlasError.Slots) (state_of session.old.atlas) }
     ensures given { session.new.given ≡ session.old.given }
     ensures refused { OnErr result (session.new ≡ session.old) }
 {
@@ -80,6 +85,9 @@ pub fn resize_and_rearrange<A: Allocator + Copy>(
     ensures led { IfOk result (λ list. Leads (session_of session.old)
         (ResizeAndRearrange new_size (list_value_of list)) (session_of session.new)) }
     ensures fault { IfErr result (IsSizeFault IsShortage (sides_of new_size)) }
+    ensures slots { result ≡ Err (CallError.Refused AtlasError.Slots)
+        → Step (state_of session.old.atlas) (atlas.ResizeAndRearrange (sides_of new_size))
+        (atlas.Refused AtlasError.Slots) (state_of session.old.atlas) }
     ensures given { session.new.given ≡ session.old.given }
     ensures refused { OnErr result (session.new ≡ session.old) }
 {

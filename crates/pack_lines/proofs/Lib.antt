@@ -1,9 +1,9 @@
-pub mod Choosing
+pub mod ChosenSettings
 pub mod Faults
-pub mod Foldering
-pub mod Joining
+pub mod FlatMaps
+pub mod FolderNames
 pub mod NameSets
-pub mod Quoting
+pub mod QuotedTexts
 pub mod SettingLines
 pub mod Spelled
 pub mod SpriteLines

@@ -181,20 +181,22 @@ impl<K: Copy + Eq + Hash, S: BuildHasher> TextureCache<K, S> {
     /// assert_eq!(glyphs.get('g'), inserted.place());
     /// # Ok::<(), guillotiere::cache::CacheError>(())
     /// ```
+    #[inline]
     pub fn get(&mut self, key: K) -> Option<Place> {
         self.cache.get(&key).map(place_of)
     }
 
     /// The place of a key; None if it isn't held. It doesn't count as a use.
+    #[inline]
     #[must_use]
     pub fn peek(&self, key: K) -> Option<Place> {
         self.cache.peek(&key).map(place_of)
     }
 
     /// A place for a key, which is used in this frame. A key that is held keeps its place, and is the most recently
-    /// used from now on, which doesn't count as a hit; asked for with another size, even one that is empty or too
-    /// large, it is refused with `OtherSize`, and nothing changes. A new key goes onto the first page with room for its
-    /// size, in pixels, with the padding. If none has room, a page grows: its smaller side (the width if they are equal)
+    /// used from now on, which counts as a hit; asked for with another size, even one that is empty or too
+    /// large, it is refused with `OtherSize`, and nothing changes. A new key, which counts as no miss, goes onto the first
+    /// page with room for its size, in pixels, with the padding. If none has room, a page grows: its smaller side (the width if they are equal)
     /// doubles, but no further than the largest page. If none can grow, one is added; and if no more are allowed, the
     /// least recently used entry that lies on a page and that this frame didn't use is evicted; and so on.
     ///
@@ -219,6 +221,7 @@ impl<K: Copy + Eq + Hash, S: BuildHasher> TextureCache<K, S> {
     /// assert!(!glyph.inner.is_empty() && space.inner.is_empty());
     /// # Ok::<(), guillotiere::cache::CacheError>(())
     /// ```
+    #[inline]
     pub fn insert(&mut self, key: K, size: Size) -> Result<Inserted, CacheError> {
         let size = convert::library_size(size);
         self.reporting(|cache, changes| cache.insert(key, size, changes))
@@ -260,6 +263,7 @@ impl<K: Copy + Eq + Hash, S: BuildHasher> TextureCache<K, S> {
     /// assert_eq!(glyphs.drain_changes().len(), 0);
     /// # Ok::<(), guillotiere::cache::CacheError>(())
     /// ```
+    #[inline]
     pub fn drain_changes(&mut self) -> Changes<'_, K> {
         Changes::of_the_first_call(&mut self.waiting)
     }
@@ -463,6 +467,9 @@ impl<K: Copy + Eq + Hash, S: BuildHasher> TextureCache<K, S> {
     }
 
     /// The counts since the cache was made.
+    ///
+    /// In a loop that calls `insert` where `get` finds nothing, the hit rate is hits by hits and misses together. In one that calls
+    /// `insert` alone there are no misses, since `insert` counts none: the hit rate is hits by calls.
     #[must_use]
     pub fn statistics(&self) -> Counts {
         let counts = self.cache.statistics();

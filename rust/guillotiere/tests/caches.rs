@@ -80,6 +80,25 @@ fn the_least_recently_used_key_gives_way() {
     );
 }
 
+// Of 3 frames with 2 keys each, the first finds none held: a miss of each, where they are asked for first, and 4 hits.
+#[test]
+fn two_loops_have_one_hit_rate() {
+    let frames = |is_asked_first: bool| {
+        let mut cache = TextureCache::new(&one_page()).unwrap();
+        for _ in 0..3 {
+            cache.begin_frame();
+            for key in [7, 8] {
+                if !is_asked_first || cache.get(key).is_none() {
+                    assert!(cache.insert(key, size2(3, 4)).unwrap().place().is_some());
+                }
+            }
+        }
+        cache.statistics()
+    };
+    let counts = |hits, misses| Counts { hits, misses, evictions: 0 };
+    assert_eq!([frames(true), frames(false)], [counts(4, 2), counts(4, 0)]);
+}
+
 #[test]
 fn keys_go() {
     let mut cache = TextureCache::new(&one_page()).unwrap();

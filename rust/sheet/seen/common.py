@@ -1,52 +1,42 @@
-"""What the tests over sheets have in common."""
+"""What the tests over sheets have in common; none of it needs Pillow."""
 import json
 import os
 import subprocess
 import sys
-import traceback
+import tempfile
 
-from PIL import Image, ImageChops
+sys.dont_write_bytecode = True
+ROOT = os.path.dirname(os.path.dirname(os.path.dirname(os.path.dirname(os.path.abspath(__file__)))))
+sys.path.append(os.path.join(ROOT, 'gate'))
+from pngs import chunk, png  # noqa: E402, F401
+from runner import Suite, outcome  # noqa: E402
 
 PROGRAM = os.path.abspath(sys.argv[1]) if len(sys.argv) == 2 else sys.exit(sys.modules['__main__'].__doc__)
+SUITE = Suite()
+test = SUITE.run
 
 
-class Count:
-    """Of the tests."""
-    passed = failed = 0
-
-
-def test(what, check, *words):
-    try:
-        check(*words)
-        Count.passed += 1
-    except Exception:  # noqa: BLE001
-        Count.failed += 1
-        print('%s: failed\n%s' % (what, traceback.format_exc()))
+def ended(words, **more):
+    """A run that has ended, with what it says on both outputs."""
+    return outcome([PROGRAM, *words], stderr=subprocess.PIPE, **more)
 
 
 def run(*words, status=0, **more):
-    done = subprocess.run([PROGRAM] + list(words), stdout=subprocess.PIPE, stderr=subprocess.PIPE, text=True, **more)
+    done = ended(words, **more)
     assert done.returncode == status, (words, done.returncode, done.stdout, done.stderr)
     return done
 
 
-def clean(picture):
-    """With no colour where nothing is seen."""
-    mask = picture.getchannel('A').point(lambda alpha: 255 if alpha else 0)
-    return Image.composite(picture, Image.new('RGBA', picture.size), mask)
-
-
-def difference(one, other):
-    """The greatest of two pictures of the same size."""
-    return max(most for _, most in ImageChops.difference(one, other).getextrema())
-
-
-def compare(found, originals, is_trimmed, most=0):
-    assert found.keys() == originals.keys(), sorted(found.keys() ^ originals.keys())[:5]
-    for name, original in originals.items():
-        assert found[name].size == original.size, (name, found[name].size, original.size)
-        pair = (clean(found[name]), clean(original)) if is_trimmed else (found[name], original)
-        assert difference(*pair) <= most, name
+def put(folder, files):
+    """Writes files by their names; a text is where a link leads to."""
+    for name, data in files.items():
+        path = os.path.join(os.fsencode(folder), os.fsencode(name))
+        os.makedirs(os.path.dirname(path), exist_ok=True)
+        if isinstance(data, str):
+            os.symlink(data, path)
+            continue
+        with open(path, 'wb') as file:
+            file.write(data)
 
 
 def frames(out):
@@ -54,6 +44,8 @@ def frames(out):
         return json.load(file)['frames']
 
 
-def end():
-    print('%d passed, %d failed' % (Count.passed, Count.failed))
-    sys.exit(1 if Count.failed else 0)
+def main(all_tests):
+    """Runs the tests of a script, in a folder for their files."""
+    with tempfile.TemporaryDirectory() as room:
+        all_tests(room)
+    sys.exit(SUITE.end())

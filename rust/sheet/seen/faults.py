@@ -10,44 +10,20 @@ import re
 import resource
 import shutil
 import signal
-import struct
 import subprocess
 import sys
 import tempfile
 import time
-import zlib
 
-PROGRAM = os.path.abspath(sys.argv[1]) if len(sys.argv) == 2 else sys.exit(__doc__)
-ROOT = os.path.dirname(os.path.dirname(os.path.dirname(os.path.dirname(os.path.abspath(__file__)))))
+sys.dont_write_bytecode = True
+import common  # noqa: E402
+from common import PROGRAM, ROOT, SUITE, chunk, ended, outcome, put  # noqa: E402
 
-
-class Count:
-    """Of the tests."""
-    passed = failed = 0
-
-
-def chunk(name, data):
-    return struct.pack('>I', len(data)) + name + data + struct.pack('>I', zlib.crc32(name + data))
+check = SUITE.judge
 
 
 def png(wide, high, value=7):
-    head = chunk(b'IHDR', struct.pack('>IIBBBBB', wide, high, 8, 0, 0, 0, 0))
-    return (b'\x89PNG\r\n\x1a\n' + head + chunk(b'IDAT', zlib.compress((b'\0' + bytes([value]) * wide) * high)) + chunk(b'IEND', b''))
-
-
-class Link(bytes):
-    """A link to this path."""
-
-
-def put(folder, files):
-    for name, data in files.items():
-        path = os.path.join(os.fsencode(folder), name if isinstance(name, bytes) else name.encode())
-        os.makedirs(os.path.dirname(path), exist_ok=True)
-        if isinstance(data, Link):
-            os.symlink(data, path)
-            continue
-        with open(path, 'wb') as file:
-            file.write(data)
+    return common.png(wide, high, 8, 0, [bytes([value]) * wide] * high)
 
 
 GOOD = {'a.png': png(8, 8), 'b.png': png(9, 4)}
@@ -89,6 +65,9 @@ CASES = [
     ('a folder for anchors', {**GOOD, 'anchors.txt/x': b''}, ['F', 'O'], 1, [r".*anchors\.txt: it isn't a file"]),
     ('bad template', {**GOOD, 'x.json.tera': b'{{ pages'}, ['F', 'O', '--template', 'F/x.json.tera'], 1,
      [r'x\.json\.tera: Failed to parse .*']),
+    *(('ending ' + name, {**GOOD, name: b'x'}, ['F', 'O', '--template', 'F/' + name], 2,
+       [re.escape(name).replace('\\\n', r'\\n') + ": its files can't have this ending"])
+      for name in ('x.PNG.tera', 'x.each.png.tera', 'x...tera', 'x.a .tera', 'x.a\nb.tera')),
     ('nothing of this name', {**GOOD, 'x.json.tera': b'{{ pager }}'}, ['F', 'O', '--template', 'F/x.json.tera'], 1,
      [r'x\.json\.tera: Failed to render .*: Variable `pager` not found .*']),
     *(('name ' + out, GOOD, ['F', out], 2, [r'OUT is the name of the sheet, without its ending'])
@@ -112,8 +91,8 @@ CASES = [
      [r'.*a\.png: it is too large']),
     ('great JPEG', {**GOOD, 'c.jpg': GREAT_JPEG}, ['F', 'O'], 1, [r'.*c\.jpg: it is too large']),
     ('great WebP', {**GOOD, 'c.webp': GREAT_WEBP}, ['F', 'O'], 1, [r'.*c\.webp: it is too large']),
-    ('link to nowhere', {**GOOD, 'c.png': Link(b'none.png')}, ['F', 'O'], 1, [r'.*/c\.png: ' + NOT_THERE]),
-    ('links in a loop', {**GOOD, 'c.png': Link(b'd.png'), 'd.png': Link(b'c.png')}, ['F', 'O'], 1,
+    ('link to nowhere', {**GOOD, 'c.png': 'none.png'}, ['F', 'O'], 1, [r'.*/c\.png: ' + NOT_THERE]),
+    ('links in a loop', {**GOOD, 'c.png': 'd.png', 'd.png': 'c.png'}, ['F', 'O'], 1,
      [r'.*/%s\.png: Too many levels of symbolic links .*' % name for name in 'cd']),
     ('not UTF-8', {**GOOD, b'\xff.png': WHOLE}, ['F', 'O'], 1, [r".*its name isn't UTF-8"]),
     ('control', {**GOOD, 'x\ny.png': WHOLE}, ['F', 'O'], 1, [r'.*x\\ny\.png.*its name has a control character']),
@@ -158,18 +137,6 @@ def written(folder):
     return sorted(name for _, folders, names in os.walk(folder) for name in folders + names)
 
 
-def run(words, **more):
-    return subprocess.run([PROGRAM] + words, stdout=subprocess.PIPE, stderr=subprocess.PIPE, text=True, **more)
-
-
-def check(what, good, told=''):
-    if good:
-        Count.passed += 1
-    else:
-        Count.failed += 1
-        print('%s: failed: %s' % (what, told))
-
-
 def case(what, files, words, status, lines):
     with tempfile.TemporaryDirectory() as room:
         folder, out = os.path.join(room, 'in'), os.path.join(room, 'out')
@@ -180,7 +147,7 @@ def case(what, files, words, status, lines):
             os.mkdir(os.path.join(out, name))
         given = written(folder)
         places = {'F': folder, 'O': os.path.join(out, 'sheet'), 'O/': out + '/'}
-        done = run([places.get(word) or re.sub(r'^([FO])/', lambda m: {'F': folder, 'O': out}[m.group(1)] + '/', word) for word in words])
+        done = ended([places.get(word) or re.sub(r'^([FO])/', lambda m: {'F': folder, 'O': out}[m.group(1)] + '/', word) for word in words])
         told = done.stderr.splitlines()
         good = (done.returncode == status and len(told) == len(lines) and done.stdout == ''
                 and all(re.fullmatch('guillotiere-sheet: ' + line, each) for line, each in zip(lines, told))
@@ -191,7 +158,7 @@ def case(what, files, words, status, lines):
 def left_out():
     with tempfile.TemporaryDirectory() as room:
         put(room + '/in', {'%d.png' % n: png(30, 30, n) for n in range(5)})
-        done = run([room + '/in', room + '/sheet', '--size', '64', '64', '--leave-out'])
+        done = ended([room + '/in', room + '/sheet', '--size', '64', '64', '--leave-out'])
         is_named = re.fullmatch(r'guillotiere-sheet: left out of sheet: \d\.png\n', done.stderr)
         check('left out', done.returncode == 4 and is_named and written(room + '/in') == ['%d.png' % n for n in range(5)]
               and os.path.exists(room + '/sheet.json'), (done.returncode, done.stderr))
@@ -203,7 +170,7 @@ def told():
         put(room + '/in', {'a.png': WHOLE})
         for words, name, line in (([], 'one', 'one.png: 10x10, 1 sprite\n'), (['--pages', '1'], 'two', 'two-0.png: 10x10, 1 sprite\n'),
                                   (['--pages', '9', '--scale', '0.5'], 'three', 'three-0@0.5x.png: 6x6, 1 sprite\n')):
-            done = run([room + '/in', room + '/' + name] + words)
+            done = ended([room + '/in', room + '/' + name] + words)
             stem = line.split('.png:')[0]
             is_there = [each for each in written(room) if each.startswith(name)] == [stem + '.json', stem + '.png']
             check('told: ' + name, (done.returncode, done.stdout, done.stderr) == (0, line, '') and is_there, (done.stdout, written(room)))
@@ -214,14 +181,14 @@ def no_space():
     with tempfile.TemporaryDirectory() as room:
         put(room + '/in', GOOD)
         os.mkdir(room + '/out')
-        run([room + '/in', room + '/out/sheet'])
+        ended([room + '/in', room + '/out/sheet'])
         before = {name: open(room + '/out/' + name, 'rb').read() for name in os.listdir(room + '/out')}
         put(room + '/in', {'c%d.png' % n: png(5, 5, n) for n in range(60)})
 
         def limit():
             signal.signal(signal.SIGXFSZ, signal.SIG_IGN)
             resource.setrlimit(resource.RLIMIT_FSIZE, (1200, 1200))
-        done = run([room + '/in', room + '/out/sheet'], preexec_fn=limit)
+        done = ended([room + '/in', room + '/out/sheet'], preexec_fn=limit)
         after = {name: open(room + '/out/' + name, 'rb').read() for name in os.listdir(room + '/out')}
         is_told = re.fullmatch(r"guillotiere-sheet: .*/sheet\.(png|json): it can't be written there: .*\n", done.stderr)
         check('no space', done.returncode == 1 and is_told and before == after and len(before) == 2,
@@ -233,7 +200,7 @@ def no_permission():
     user = {'user': 65534, 'group': 65534, 'extra_groups': []} if os.geteuid() == 0 else {}
     denied = r'Permission denied \(os error 13\)'
     for closed, mode, line in (('in/c.png', 0, r'.*/in/c\.png: ' + denied), ('in/new', 0, r'.*/in/new: ' + denied),
-                               ('out', 0o555, r".*/out/sheet\.png: it can't be written there: " + denied)):
+                               *(('out', mode, r".*/out/sheet\.png: it can't be written there: " + denied) for mode in (0o555, 0o333))):
         with tempfile.TemporaryDirectory() as room:
             put(room + '/in', {**GOOD, 'c.png': WHOLE, 'new/d.png': WHOLE})
             os.mkdir(room + '/out')
@@ -242,11 +209,58 @@ def no_permission():
             for path in ('', '/in', '/in/new', '/out', '/program'):
                 os.chmod(room + path, 0o777)
             os.chmod(room + '/' + closed, mode)
-            done = run([room + '/in', room + '/out/sheet'], executable=program, **user)
+            done = ended([room + '/in', room + '/out/sheet'], executable=program, **user)
             os.chmod(room + '/' + closed, 0o777)
             is_told = re.fullmatch('guillotiere-sheet: ' + line + '\n', done.stderr)
-            check('no permission: ' + closed, done.returncode == 1 and done.stdout == '' and is_told and written(room + '/out') == [],
+            check('no permission: %s, %o' % (closed, mode),
+                  done.returncode == 1 and done.stdout == '' and is_told and written(room + '/out') == [],
                   (done.returncode, done.stderr, written(room + '/out')))
+
+
+def strangers():
+    """What has one of the hidden names and isn't the program's stays as it is, and so does what a link leads to."""
+    made = {'a pipe': os.mkfifo, 'a folder': os.mkdir, 'a file': lambda path: put('/', {path: b'x'}),
+            'a link': lambda path: os.symlink('../mine', path), 'a file of others': lambda path: put(path, {'keep.txt': b'x'}),
+            'another sheet': lambda path: put(path, {'00000000-other.json': b'x'})}
+    for name, kinds in (('lock', ['a pipe', 'a folder', 'a link']), ('part', ['a pipe', 'a file', 'a link']),
+                        ('ready', ['a pipe', 'a file', 'a link', 'a file of others', 'another sheet'])):
+        for kind in kinds:
+            with tempfile.TemporaryDirectory() as room:
+                put(room, {**{'in/' + each: data for each, data in GOOD.items()}, 'mine/keep.txt': b'x', 'out/x.txt': b''})
+                made[kind](room + '/out/.sheet.' + name)
+                before = written(room)
+                done = ended([room + '/in', room + '/out/sheet'], timeout=30)
+                line = "guillotiere-sheet: %s/out/.sheet.%s: it isn't of this program's making; remove it\n"
+                is_told = done.stderr == line % (room, name)
+                check('strangers: %s, %s' % (name, kind), done.returncode == 1 and is_told
+                      and set(written(room)) - {'.sheet.lock'} == set(before) - {'.sheet.lock'}, (done.stderr, written(room)))
+
+
+def another_form():
+    """A record of another form is named as soon as its picture is another one, and never before."""
+    with tempfile.TemporaryDirectory() as room:
+        put(room + '/in', GOOD)
+        put(room + '/out', {'my sheet.json.meta': b'my sheet.png', 'my sheet-x.json': b'my sheet.png', 'other.json': b'my sheet.png'})
+
+        def told(what, names, *words):
+            done = ended([room + '/in', room + '/out/my sheet', *words])
+            lines = [re.fullmatch('guillotiere-sheet: .*/out/(.*): it tells where sprites lay in an earlier (.*): '
+                                  'run again with its --form, or remove it', line) for line in done.stderr.splitlines()]
+            check('another form: ' + what, done.returncode == 0 and all(lines) and [line.groups() for line in lines] == names, done.stderr)
+        told('first', [])
+        told('the same picture', [], '--form', 'css')
+        put(room + '/in', {'c.png': png(40, 40)})
+        told('another picture', [('my sheet.json', 'my sheet.png')], '--form', 'css')
+        told('both', [])
+        told('as before', [], '--form', 'css')
+        put(room + '/in', {'d.png': png(60, 60)})
+        told('its name in a URL', [('my sheet.css', 'my sheet.png')])
+        put(room + '/in', {'d.png': png(60, 60, 9)})
+        told('other pixels', [])
+        told('others', [], '--pages', '2', '--form', 'libgdx', '--scale', '1,0.5')
+        put(room + '/in', {'e.png': png(80, 80)})
+        told('numbers', [('my sheet.atlas', 'my sheet-0.png'), ('my sheet@0.5x.atlas', 'my sheet-0@0.5x.png')],
+             '--pages', '2', '--scale', '1,0.5')
 
 
 def devices():
@@ -258,20 +272,20 @@ def devices():
         with tempfile.TemporaryDirectory() as room:
             put(room + '/in', GOOD)
             os.mkdir(room + '/out')
-            done = run(['-c', '"$0" "$@" ' + to, PROGRAM, room + '/in', room + '/out/sheet'] + more, executable='/bin/sh')
+            done = ended(['-c', '"$0" "$@" ' + to, PROGRAM, room + '/in', room + '/out/sheet'] + more, executable='/bin/sh')
             check('device: ' + what, done.returncode == status and re.fullmatch(line, done.stderr)
                   and written(room + '/out') == ['sheet.json', 'sheet.png'], (done.returncode, done.stderr, written(room + '/out')))
     with open('/dev/full', 'w') as device:
         for what, words, status, line in (('help', ['--help'], 1, full), ('version', ['--version'], 1, full)):
-            done = subprocess.run([PROGRAM] + words, stdout=device, stderr=subprocess.PIPE, text=True)
+            done = ended(words, stdout=device)
             check('device: ' + what, done.returncode == status and re.fullmatch(line, done.stderr), (done.returncode, done.stderr))
-        done = subprocess.run([PROGRAM], stdout=subprocess.PIPE, stderr=device)
-        check('device: a fault', done.returncode == 2 and done.stdout == b'', done.returncode)
+        done = outcome([PROGRAM], stderr=device)
+        check('device: a fault', done.returncode == 2 and done.stdout == '', done.returncode)
     with tempfile.TemporaryDirectory() as room:
         put(room + '/in', GOOD)
         reader, writer = os.pipe()
         os.close(reader)
-        done = subprocess.run([PROGRAM, room + '/in', room + '/sheet'], stdout=writer, stderr=subprocess.PIPE, text=True)
+        done = ended([room + '/in', room + '/sheet'], stdout=writer)
         os.close(writer)
         check('device: no reader', done.returncode == 1 and os.path.exists(room + '/sheet.json')
               and re.fullmatch(r'guillotiere-sheet: standard output: Broken pipe .*\n', done.stderr), (done.returncode, done.stderr))
@@ -352,6 +366,32 @@ def replaced():
             check('replaced: another', wait_for(lambda: '"other.png"' in watch.text()), watch.lines())
 
 
+def linked():
+    """What links lead to is followed too, also by links that come later, and a file that is as long and as old as the one before it."""
+    def has_side(text):
+        return re.search(r'"file\.png":\s*{\s*"frame":\s*{[^}]*"w":\s*30\b', text)
+
+    with tempfile.TemporaryDirectory() as room:
+        put(room + '/in', GOOD)
+        put(room + '/else', {'c.png': png(3, 3)})
+        put(room, {'d.png': png(3, 5)})
+        with Watch(room) as watch:
+            check('linked: first', wait_for(lambda: '"b.png"' in watch.text()))
+            os.symlink('../else', room + '/in/folder')
+            os.symlink('../d.png', room + '/in/file.png')
+            check('linked: links', wait_for(lambda: '"folder/c.png"' in watch.text() and '"file.png"' in watch.text()))
+            put(room + '/else', {'e.png': png(4, 3)})
+            check('linked: in the folder', wait_for(lambda: '"folder/e.png"' in watch.text()), watch.lines())
+            put(room, {'d.png': png(30, 50)})
+            check('linked: the file', wait_for(lambda: has_side(watch.text())), watch.lines())
+            picture, old = open(room + '/sheet.png', 'rb').read(), os.stat(room + '/in/a.png')
+            put(room, {'a.png': png(8, 8, 8)})
+            os.utime(room + '/a.png', ns=(old.st_atime_ns, old.st_mtime_ns))
+            is_alike = os.stat(room + '/a.png').st_size == old.st_size
+            os.rename(room + '/a.png', room + '/in/a.png')
+            check('linked: as long and as old', is_alike and wait_for(lambda: open(room + '/sheet.png', 'rb').read() != picture))
+
+
 def templated():
     """The template is followed, wherever it lies, also where another file gets its name; while it is bad the last record stays."""
     with tempfile.TemporaryDirectory() as room:
@@ -375,7 +415,7 @@ def never_ending():
         with tempfile.TemporaryDirectory() as room:
             put(room + '/in', GOOD)
             os.mkfifo(room + '/in/' + name)
-            done = run([room + '/in', room + '/sheet'] + words, cwd=room, timeout=30)
+            done = ended([room + '/in', room + '/sheet'] + words, cwd=room, timeout=30)
             check('never ending: ' + name, done.returncode == 1 and done.stderr.endswith(name + ": it isn't a file\n")
                   and written(room) == sorted(['in', *GOOD, name]), (done.returncode, done.stderr, written(room)))
 
@@ -405,19 +445,19 @@ def checked():
 
         def told(status, *names):
             before = written(room + '/out')
-            done = run([room + '/in', room + '/out/sheet', '--check'])
+            done = ended([room + '/in', room + '/out/sheet', '--check'])
             lines = [line.split('/out/')[1] for line in done.stderr.splitlines()]
             check('checked: %d' % status, (done.returncode, lines, done.stdout, before)
                   == (status, ["%s: it isn't up to date" % name for name in names], '', written(room + '/out')), (done.returncode, lines))
         told(5, 'sheet.png', 'sheet.json')
-        run([room + '/in', room + '/out/sheet'])
+        ended([room + '/in', room + '/out/sheet'])
         told(0)
         put(room + '/in', {'x.txt': b''})
         os.utime(room + '/in/a.png')
         told(0)
         put(room + '/in', {'a.png': png(8, 8, 9)})
         told(5, 'sheet.png')
-        run([room + '/in', room + '/out/sheet'])
+        ended([room + '/in', room + '/out/sheet'])
         told(0)
         os.remove(room + '/out/sheet.json')
         told(5, 'sheet.json')
@@ -425,28 +465,27 @@ def checked():
 
 def printed():
     """The manual page has each word and no fault of troff's; shells take what completes the words."""
-    told = run(['--help']).stdout
+    told = ended(['--help']).stdout
     switches = set(re.findall(r'^ +(?:-\w, )?(--[a-z-]+)', told, re.M)) - {'--help', '--version'}
-    page = run(['--man']).stdout
+    page = ended(['--man']).stdout
     check('printed: all words', len(switches) > 40 and not {each for each in switches if each.replace('-', r'\-') not in page}, switches)
-    check('printed: alone', run(['--man', 'F', 'O']).returncode == 2)
+    check('printed: alone', ended(['--man', 'F', 'O']).returncode == 2)
     engines = ['PixiJS', 'Phaser', 'libGDX', 'Godot 4', 'Godot 3', 'Starling', 'Web pages', 'Unity', 'cocos2d']
     check('printed: engines', all(engine in told for engine in engines), engines)
     with tempfile.TemporaryDirectory() as room:
-        put(room, {'page.1': page.encode(), 'words': run(['--completions', 'bash']).stdout.encode()})
+        put(room, {'page.1': page.encode(), 'words': ended(['--completions', 'bash']).stdout.encode()})
         if shutil.which('man') and shutil.which('groff'):
-            done = subprocess.run(['man', '--warnings', '-l', room + '/page.1'], stdout=subprocess.PIPE, stderr=subprocess.PIPE, text=True,
-                                  env=dict(os.environ, MANPAGER='cat'))
+            done = outcome(['man', '--warnings', '-l', room + '/page.1'], stderr=subprocess.PIPE, env=dict(os.environ, MANPAGER='cat'))
             check('printed: troff', done.returncode == 0 and done.stderr == '' and 'EXIT STATUS' in done.stdout, done.stderr)
-        done = subprocess.run(['bash', '-n', room + '/words'], stderr=subprocess.PIPE, text=True)
-        check('printed: bash', done.returncode == 0 and '--power-of-two' in open(room + '/words').read(), done.stderr)
+        done = outcome(['bash', '-n', room + '/words'])
+        check('printed: bash', done.returncode == 0 and '--power-of-two' in open(room + '/words').read(), done.stdout)
 
 
 def on_the_page():
     """docs/PACK.md has each switch in its table, and begins with lines that do what they say."""
     with open(os.path.join(ROOT, 'docs', 'PACK.md'), encoding='utf-8') as file:
         page = file.read()
-    switches = set(re.findall(r'^ +(?:-\w, )?(--[a-z-]+)', run(['--help']).stdout, re.M))
+    switches = set(re.findall(r'^ +(?:-\w, )?(--[a-z-]+)', ended(['--help']).stdout, re.M))
     rows = ' '.join(line.split(' | ')[0] for line in page.splitlines() if line.startswith('| `--'))
     # Of these two the first is the default, and stands in the row of the other.
     lacking = {each for each in switches if each + '`' not in rows and each + ' ' not in rows} - {'--keep-numbers'}
@@ -461,25 +500,14 @@ def on_the_page():
             os.mkdir(room + '/game')
             os.symlink(os.path.join(ROOT, 'rust'), room + '/rust')
             words = line.split()
-            done = run([word for word in words if word != '--watch'], cwd=room)
+            done = ended([word for word in words if word != '--watch'], cwd=room)
             check('on the page: ' + line, done.returncode == (5 if '--check' in words else 0)
                   and ('--check' in words) == (written(room + '/game') == []), (done.returncode, done.stderr))
 
 
 for each in CASES:
     case(*each)
-left_out()
-told()
-no_space()
-no_permission()
-devices()
-printed()
-on_the_page()
-watched()
-replaced()
-templated()
-never_ending()
-unmoved()
-checked()
-print('%d passed, %d failed' % (Count.passed, Count.failed))
-sys.exit(1 if Count.failed else 0)
+for each in (left_out, told, no_space, no_permission, strangers, another_form, devices, printed, on_the_page, watched, replaced, linked,
+             templated, never_ending, unmoved, checked):
+    each()
+sys.exit(SUITE.end())

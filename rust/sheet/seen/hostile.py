@@ -11,54 +11,33 @@ import random
 import re
 import resource
 import struct
-import subprocess
 import sys
 import tempfile
 import time
-import traceback
 import zlib
 
 sys.dont_write_bytecode = True
-HERE = os.path.dirname(os.path.abspath(__file__))
-sys.path[:0] = [HERE]
 import icons  # noqa: E402
 import readers  # noqa: E402
+from common import SUITE, chunk, ended, png, put  # noqa: E402
 from PIL import Image, ImageChops, ImageStat, features  # noqa: E402
 
-PROGRAM = os.path.abspath(sys.argv[1]) if len(sys.argv) == 2 else sys.exit(__doc__)
 GIGA = 1 << 30
 
 
-class Count:
-    """Of the tests."""
-    passed = failed = 0
-
-
 def test(what, check, *words):
-    try:
-        with tempfile.TemporaryDirectory() as room:
-            check(room, *words)
-        Count.passed += 1
-    except Exception:  # noqa: BLE001
-        Count.failed += 1
-        print('%s: failed\n%s' % (what, traceback.format_exc()))
+    with tempfile.TemporaryDirectory() as room:
+        SUITE.run(what, check, room, *words)
 
 
 def run(*words, most=4 * GIGA, seconds=60):
     """Runs it in so much address space; a signal, as that of a lack of memory, is no answer."""
     begun = time.time()
-    done = subprocess.run([PROGRAM] + list(words), stdout=subprocess.PIPE, stderr=subprocess.PIPE, text=True, timeout=seconds,
-                          preexec_fn=lambda: resource.setrlimit(resource.RLIMIT_AS, (most, most)))
+    done = ended(words, timeout=seconds, preexec_fn=lambda: resource.setrlimit(resource.RLIMIT_AS, (most, most)))
     assert done.returncode >= 0, (words, done.returncode, done.stderr)
     done.lines = [line.split('guillotiere-sheet: ', 1)[1] for line in done.stderr.splitlines()]
     done.seconds = time.time() - begun
     return done
-
-
-def put(folder, name, data):
-    os.makedirs(folder, exist_ok=True)
-    with open(os.path.join(folder, name), 'wb') as file:
-        file.write(data)
 
 
 def colours(number, side=8):
@@ -67,13 +46,13 @@ def colours(number, side=8):
 
 # An 8x8 picture in grey, of 8 bits, by hand.
 ROWS = [bytes(range(8 * y, 8 * y + 8)) for y in range(8)]
-WHOLE = icons.png(8, 8, 8, 0, ROWS)
+WHOLE = png(8, 8, 8, 0, ROWS)
 
 
 def with_lines(lines, more=(), sides=(8, 8), depth=8, kind=0):
-    data = icons.png(*sides, depth, kind, [], more)
+    data = png(*sides, depth, kind, [], more)
     head, tail = data[:data.index(b'IDAT') - 4], data[-12:]
-    return head + icons.chunk(b'IDAT', lines) + tail
+    return head + chunk(b'IDAT', lines) + tail
 
 
 def bomb(name, before):
@@ -94,8 +73,8 @@ BROKEN = [
     ('0 high', with_lines(b'', sides=(8, 0)), '.'), ('2^31 wide', with_lines(b'', sides=(2 ** 31, 8)), '.'),
     ('2^32 - 1 wide', with_lines(b'', sides=(2 ** 32 - 1, 8)), '.'),
     ('both sides 2^31 - 1', with_lines(b'', sides=(2 ** 31 - 1,) * 2), 'it is too large'),
-    ('no palette', icons.png(8, 1, 8, 3, [bytes(8)]), '.'), ('a kind of no picture', icons.png(8, 1, 8, 5, [bytes(8)]), '.'),
-    ('a depth of no kind', icons.png(8, 1, 7, 0, [bytes(8)]), '.'),
+    ('no palette', png(8, 1, 8, 3, [bytes(8)]), '.'), ('a kind of no picture', png(8, 1, 8, 5, [bytes(8)]), '.'),
+    ('a depth of no kind', png(8, 1, 7, 0, [bytes(8)]), '.'),
     ('30000x30000, RGBA', with_lines(zlib.compress(b''), sides=(30000, 30000), kind=6), 'it is too large'),
     ('30000x30000, a bit', with_lines(zlib.compress(bytes(3751) * 30000), sides=(30000, 30000), depth=1), 'it is too large'),
     ('GIF without pictures', b'GIF89a\1\0\1\0\0\0\0;', '.'), ('BMP of nothing', b'BM' + bytes(60), '.'),
@@ -105,7 +84,7 @@ BROKEN = [
 
 
 def broken(room, data, pattern):
-    put(room + '/in', 'a.png', data)
+    put(room + '/in', {'a.png': data})
     icons.save(room + '/in', 'b.png', colours(1))
     done = run(room + '/in', room + '/sheet', most=GIGA)
     assert done.returncode in (1, 3) and len(done.lines) == 1, (done.returncode, done.lines)
@@ -117,7 +96,7 @@ def huge(room, sides, count, status, more):
     """Nothing is read of what no sheet takes, or all sheets don't."""
     data = with_lines(zlib.compress(bytes((sides[0] + 7) // 8 + 1) * sides[1]), sides=sides, depth=1)
     for number in range(count):
-        put(room + '/in', '%d.png' % number, data)
+        put(room + '/in', {'%d.png' % number: data})
     icons.save(room + '/in', 'small.png', colours(1))
     done = run(room + '/in', room + '/sheet', *more, most=GIGA)
     assert done.returncode == status and done.seconds < 5, (done.returncode, done.lines, done.seconds)
@@ -127,7 +106,7 @@ def huge(room, sides, count, status, more):
 def left_out(room):
     """A picture that fits no sheet is left out where that is asked for, though it is never read, and at a scale where it fits it isn't."""
     for more in ([], ['--trim']):
-        put(room + '/in', '3.png', with_lines(zlib.compress(bytes(3751) * 30000), sides=(30000, 30000), depth=1))
+        put(room + '/in', {'3.png': with_lines(zlib.compress(bytes(3751) * 30000), sides=(30000, 30000), depth=1)})
         done = huge(room, (20000, 20000) if not more else (3, 3), 3, 4, ['--leave-out', *more])
         assert done.lines == ['left out of sheet: %d.png' % number for number in range(3 if more else 0, 4)]
     done = huge(room, (20000, 20000), 3, 4, ['--leave-out'])
@@ -144,17 +123,77 @@ def left_out(room):
     assert done.returncode == 0 and sorted(readers.read('json-hash', room + '/sheet')) == ['0.png', 'small.png']
 
 
+def short_of_memory(room):
+    """With any little memory that the system gives it is written or told, and nothing is left."""
+    for number in range(8):
+        icons.save(room + '/in', '%d.png' % number, Image.new('L', (1500, 1500), number))
+    statuses = set()
+    for most in (40, 60, 80, 100, 120, 150, 200, 300, 400):
+        done = run(room + '/in', room + '/sheet', '--greatest', '16384', most=most << 20, seconds=300)
+        is_told = done.lines and all('there is no memory for' in line for line in done.lines)
+        assert done.returncode == 0 or done.returncode in (1, 3) and is_told, (most, done.returncode, done.lines)
+        assert os.listdir(room) == ['in'] or done.returncode == 0, os.listdir(room)
+        statuses.add(done.returncode)
+    assert statuses - {0}, statuses
+    # A great picture in a small file: one that no picture may be as great as, and one that could be read where there is memory.
+    for side, line in ((30000, 'it is too large'), (15000, 'there is no memory for it')):
+        put(room + '/in', {'0.png': with_lines(zlib.compress(bytes((side + 7) // 8 + 1) * side), sides=(side, side), depth=1)})
+        done = run(room + '/in', room + '/sheet', '--greatest', '65536', '--memory', '16G', most=200 << 20)
+        assert done.returncode == 1 and any('0.png: ' + line in told for told in done.lines), (side, done.returncode, done.lines)
+
+
+SIDE = 15000
+TWO = struct.pack('<HH', SIDE, SIDE)
+# The ending, how Pillow saves it, what stands before its two sides, and sides of 15000.
+HEADS = [('jpg', {}, b'\xff\xc0\0\x11\x08', struct.pack('>HH', SIDE, SIDE)),
+         ('jpg', {'progressive': True}, b'\xff\xc2\0\x11\x08', struct.pack('>HH', SIDE, SIDE)), ('webp', {}, b'\x9d\x01\x2a', TWO),
+         ('webp', {'lossless': True}, b'\x2f', struct.pack('<I', (SIDE - 1) | (SIDE - 1) << 14)), ('gif', {}, b'GIF87a', TWO),
+         ('bmp', {}, b'\x28\0\0\0', struct.pack('<ii', SIDE, SIDE)), ('tga', {}, None, TWO), ('tga', {'rle': True}, None, TWO)]
+
+
+def great_heads(room):
+    """Heads that tell of many pixels, for which decoders take memory before they look at the rest."""
+    picture = Image.effect_mandelbrot((32, 32), (-2, -1, 1, 1), 50).convert('RGB')
+    for number, (ending, more, mark, sides) in enumerate(HEADS):
+        folder, name = '%s/%d' % (room, number), 'a.' + ending
+        icons.save(folder, name, picture, **more)
+        with open(folder + '/' + name, 'rb') as file:
+            data = bytearray(file.read())
+        place = data.index(mark) + len(mark) if mark else 12
+        data[place:place + len(sides)] = sides
+        put(folder, {name: bytes(data)})
+        done = run(folder, room + '/sheet', '--greatest', '65536', '--memory', '16G', most=200 << 20)
+        assert done.returncode in (1, 3) and 'memory' in done.lines[0], (ending, more, done.returncode, done.lines)
+        done = run(folder, room + '/sheet', '--trim', '--memory', '100M')
+        assert done.returncode == 3 and 'the pictures take 858.3M' in done.lines[0], (ending, more, done.returncode, done.lines)
+        assert not [name for name in os.listdir(room) if 'sheet' in name]
+
+
+def larger_within(room):
+    """A WebP whose head tells of 32x32 pixels, and its picture of more."""
+    picture = Image.effect_mandelbrot((32, 32), (-2, -1, 1, 1), 50).convert('RGBA')
+    picture.putalpha(77)
+    icons.save(room + '/in', 'a.webp', picture)
+    with open(room + '/in/a.webp', 'rb') as file:
+        data = bytearray(file.read())
+    place = data.index(b'\x9d\x01\x2a') + 3
+    data[place:place + 4] = TWO
+    put(room + '/in', {'a.webp': bytes(data)})
+    done = run(room + '/in', room + '/sheet', most=200 << 20)
+    assert done.returncode == 1 and 'larger than it says' in done.lines[0] and done.seconds < 5, (done.returncode, done.lines)
+
+
 def ignored(room):
     """Chunks that would unpack to much more aren't unpacked for the pixels."""
     for number, (name, before) in enumerate(((b'zTXt', b'Comment\0\0'), (b'iCCP', b'name\0\0'))):
-        put(room + '/in', '%d.png' % number, icons.png(8, 8, 8, 0, ROWS, [bomb(name, before)]))
+        put(room + '/in', {'%d.png' % number: png(8, 8, 8, 0, ROWS, [bomb(name, before)])})
     done = run(room + '/in', room + '/sheet', most=GIGA)
     assert done.returncode in (0, 1) and len(done.lines) <= 1, done.lines
 
 
 def beyond(room):
     """A pixel whose colour the palette doesn't have is opaque and black, as elsewhere; the others are as they are."""
-    put(room + '/in', 'a.png', icons.png(4, 1, 8, 3, [bytes([0, 1, 2, 255])], [(b'PLTE', bytes([1, 2, 3, 4, 5, 6]))]))
+    put(room + '/in', {'a.png': png(4, 1, 8, 3, [bytes([0, 1, 2, 255])], [(b'PLTE', bytes([1, 2, 3, 4, 5, 6]))])})
     assert run(room + '/in', room + '/sheet').returncode == 0
     found = readers.read('json-hash', room + '/sheet')['a.png']
     assert list(found.getdata()) == [(1, 2, 3, 255), (4, 5, 6, 255), (0, 0, 0, 255), (0, 0, 0, 255)], list(found.getdata())
@@ -173,7 +212,7 @@ def kinds(room):
     icons.save(folder, 'see-through.png', picture.convert('P', palette=Image.ADAPTIVE), transparency=3)
     icons.save(folder, 'interlaced.gif', picture.convert('P', palette=Image.ADAPTIVE), interlace=1)
     icons.save(folder, 'moving.png', alpha, save_all=True, append_images=[alpha.rotate(90)])
-    put(folder, 'interlaced.png', interlaced(picture))
+    put(folder, {'interlaced.png': interlaced(picture)})
     icons.save(folder, 'a GIF.png', picture.convert('P', palette=Image.ADAPTIVE), format='gif')
     for ending, more in (('gif', {}), ('bmp', {}), ('tga', {}), ('tif', {}), ('tiff', {'compression': 'tiff_lzw'}), ('TGA', {'rle': True})):
         icons.save(folder, 'as.' + ending, picture if ending != 'gif' else picture.convert('P', palette=Image.ADAPTIVE), **more)
@@ -181,7 +220,7 @@ def kinds(room):
     icons.save(folder, 'alpha.tif', alpha)
     frames = [each.convert('RGB').convert('P', palette=Image.ADAPTIVE) for each in (alpha, alpha.rotate(180))]
     icons.save(folder, 'moving.gif', frames[0], save_all=True, append_images=frames[1:])
-    put(folder, 'top first.bmp', top_first(picture))
+    put(folder, {'top first.bmp': top_first(picture)})
     done = run(folder, room + '/sheet')
     assert done.returncode == 0 and done.lines == [], done.lines
     found, wanted = readers.read('json-hash', room + '/sheet'), icons.originals(folder)
@@ -197,8 +236,8 @@ def interlaced(picture):
         for y in range(top, picture.height, down):
             row = [picture.getpixel((x, y)) for x in range(left, picture.width, right)]
             lines += b'\0' + b''.join(map(bytes, row)) if row else b''
-    head = icons.chunk(b'IHDR', struct.pack('>IIBBBBB', *picture.size, 8, 2, 0, 0, 1))
-    return b'\x89PNG\r\n\x1a\n' + head + icons.chunk(b'IDAT', zlib.compress(lines)) + icons.chunk(b'IEND', b'')
+    head = chunk(b'IHDR', struct.pack('>IIBBBBB', *picture.size, 8, 2, 0, 0, 1))
+    return b'\x89PNG\r\n\x1a\n' + head + chunk(b'IDAT', zlib.compress(lines)) + chunk(b'IEND', b'')
 
 
 def top_first(picture):
@@ -259,9 +298,9 @@ def links(room):
     os.symlink('deep/b.png', folder + '/c.png')
     os.symlink('nowhere', folder + '/notes.txt')
     os.mkfifo(folder + '/f.png')
-    put(folder, 'x.svg', b'<svg/>')
-    put(folder, 'x.psd', b'8BPS')
-    put(folder, 'x.txt', b'')
+    put(folder, {'x.svg': b'<svg/>'})
+    put(folder, {'x.psd': b'8BPS'})
+    put(folder, {'x.txt': b''})
     for _ in range(2):
         done = run(folder, room + '/out/sheet')
         told = [(os.path.relpath(line.split(': ')[0], folder), line.split(': ')[1]) for line in done.lines]
@@ -278,7 +317,7 @@ def excluded(room):
     names = ['a.png', 'a_old.png', 'raw/a.png', 'raw/deep/b.png', 'deep/raw/c.png', 'deep/d_old.png', 'deep/e.png']
     for number, name in enumerate(names):
         icons.save(folder, name, colours(number))
-    put(folder, 'bad_old.png', b'bad')
+    put(folder, {'bad_old.png': b'bad'})
     for patterns, kept in ((['*_old.png'], 'a raw/a raw/deep/b deep/raw/c deep/e'), (['*_old.png', 'raw'], 'a deep/e'),
                            (['*_old.png', 'raw/**'], 'a deep/raw/c deep/e'), (['*_old.png', 'deep/*.png'], 'a raw/a raw/deep/b deep/raw/c'),
                            (['*_old.png', '*/raw/*'], 'a raw/a raw/deep/b deep/e'), (['*_old.png', '[ac].png'], 'raw/deep/b deep/e')):
@@ -352,7 +391,7 @@ def mutated(room):
                 for _ in range(random_.choice([1, 1, 2, 5, 20])):
                     changed[int(len(changed) * random_.random() ** 2)] = random_.choice([0, 1, 127, 128, 255, random_.randrange(256)])
                 length = random_.choice([len(changed)] * 5 + [random_.randrange(len(changed))])
-                put(inside, '%d%s' % (number, name), bytes(changed[:length]))
+                put(inside, {'%d%s' % (number, name): bytes(changed[:length])})
         done = run(inside, room + '/sheet', '--memory', '500M', '--leave-out', seconds=60)
         assert done.returncode in (0, 1, 3, 4), (turn, done.returncode, done.lines)
 
@@ -363,6 +402,9 @@ def all_tests():
     test('huge', huge, (20000, 20000), 1, 3, [])
     test('four huge ones', huge, (20000, 20000), 4, 3, ['--trim', '--memory', '4G'])
     test('left out', left_out)
+    test('short of memory', short_of_memory)
+    test('great heads', great_heads)
+    test('larger within', larger_within)
     test('ignored', ignored)
     test('beyond', beyond)
     test('kinds', kinds)
@@ -378,5 +420,4 @@ def all_tests():
 
 
 all_tests()
-print('%d passed, %d failed' % (Count.passed, Count.failed))
-sys.exit(1 if Count.failed else 0)
+sys.exit(SUITE.end())

@@ -1,10 +1,9 @@
-"""Folders of pictures for the tests."""
+"""Folders of pictures for the tests, and pictures compared."""
 import os
 import random
 import struct
-import zlib
 
-from PIL import Image, ImageDraw
+from PIL import Image, ImageChops, ImageDraw
 
 NAMES = ['a b.png', 'ärger/größe.png', 'quo"te.png', 'back\\slash.png', "it's/100%.png", '#1 & <2>.png', '日本/矢.png', '-dash.png']
 
@@ -52,18 +51,6 @@ def originals(folder, ending=''):
     return found
 
 
-def chunk(name, data):
-    return struct.pack('>I', len(data)) + name + data + struct.pack('>I', zlib.crc32(name + data))
-
-
-def png(wide, high, depth, kind, rows, more=()):
-    """A PNG made by hand: `rows` are the bytes of its lines; `more` are chunks before the pixels."""
-    head = chunk(b'IHDR', struct.pack('>IIBBBBB', wide, high, depth, kind, 0, 0, 0))
-    lines = b''.join(b'\0' + row for row in rows)
-    return (b'\x89PNG\r\n\x1a\n' + head + b''.join(chunk(*each) for each in more)
-            + chunk(b'IDAT', zlib.compress(lines)) + chunk(b'IEND', b''))
-
-
 def chunks(path):
     """The chunks of a PNG by name."""
     with open(path, 'rb') as file:
@@ -74,3 +61,22 @@ def chunks(path):
         found[data[4:8]] = data[8:8 + length]
         data = data[12 + length:]
     return found
+
+
+def clean(picture):
+    """With no colour where nothing is seen."""
+    mask = picture.getchannel('A').point(lambda alpha: 255 if alpha else 0)
+    return Image.composite(picture, Image.new('RGBA', picture.size), mask)
+
+
+def difference(one, other):
+    """The greatest of two pictures of the same size."""
+    return max(most for _, most in ImageChops.difference(one, other).getextrema())
+
+
+def compare(found, originals, is_trimmed, most=0):
+    assert found.keys() == originals.keys(), sorted(found.keys() ^ originals.keys())[:5]
+    for name, original in originals.items():
+        assert found[name].size == original.size, (name, found[name].size, original.size)
+        pair = (clean(found[name]), clean(original)) if is_trimmed else (found[name], original)
+        assert difference(*pair) <= most, name

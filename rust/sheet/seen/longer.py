@@ -10,15 +10,12 @@ import pty
 import signal
 import subprocess
 import sys
-import tempfile
 import time
 
 sys.dont_write_bytecode = True
-HERE = os.path.dirname(os.path.abspath(__file__))
-sys.path[:0] = [HERE]
 import icons  # noqa: E402
 import readers  # noqa: E402
-from common import PROGRAM, compare, end, run, test  # noqa: E402
+from common import PROGRAM, main, run, test  # noqa: E402
 from PIL import Image  # noqa: E402
 
 
@@ -39,7 +36,7 @@ def in_time(folder, room):
         assert least <= time.time() - begun < most, (more, time.time() - begun)
         if '--pages' not in more:
             assert side(out) <= side(plain), more
-            compare(readers.read('json-hash', out), icons.originals(folder), False)
+            icons.compare(readers.read('json-hash', out), icons.originals(folder), False)
     assert run(folder, out, '--time', '-1', status=2).stdout == ''
     run(folder, out, '--keep-best', status=2)
 
@@ -58,7 +55,7 @@ def kept(folder, room):
         assert running.wait(timeout=120) == status, running.returncode
         assert os.path.exists(out + '.json') == (status == 0)
         if status == 0:
-            compare(readers.read('json-hash', out), icons.originals(folder), False)
+            icons.compare(readers.read('json-hash', out), icons.originals(folder), False)
 
 
 def shown(folder, room):
@@ -97,7 +94,7 @@ def small(room):
         out, plain = os.path.join(room, 'small sheet'), os.path.join(room, 'large sheet')
         run(inside, out, '--compress', *more)
         run(inside, plain, *more)
-        compare(readers.read('json-hash', out), icons.originals(inside), '--trim' in more)
+        icons.compare(readers.read('json-hash', out), icons.originals(inside), '--trim' in more)
         with Image.open(out + '.png') as ours, Image.open(plain + '.png') as theirs:
             assert ours.mode == mode, (ours.mode, more)
             assert ours.convert('RGBA').tobytes() == theirs.tobytes()
@@ -116,6 +113,4 @@ def all_tests(room):
     test('small', small, room)
 
 
-with tempfile.TemporaryDirectory() as temporary:
-    all_tests(temporary)
-end()
+main(all_tests)

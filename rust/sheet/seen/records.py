@@ -11,15 +11,13 @@ import re
 import shutil
 import subprocess
 import sys
-import tempfile
 import xml.etree.ElementTree
 
 sys.dont_write_bytecode = True
 HERE = os.path.dirname(os.path.abspath(__file__))
-sys.path[:0] = [HERE]
 import icons  # noqa: E402
 import readers  # noqa: E402
-from common import compare, end, frames, run, test  # noqa: E402
+from common import frames, main, run, test  # noqa: E402
 from PIL import Image  # noqa: E402
 
 ANCHORED = ['json-hash', 'json-array', 'phaser', 'starling']
@@ -46,11 +44,11 @@ def walking(room):
     out = os.path.join(room, 'split')
     told = run(folder, out, '--size', '64', '40', '--pages', '99').stderr
     assert told == 'guillotiere-sheet: animation hero/walk lies on several sheets, so no file has it; --group may help\n', told
-    compare(readers.read('json-hash', out), originals, False)
+    icons.compare(readers.read('json-hash', out), originals, False)
     for name in ('json-hash', 'libgdx', 'libgdx-new', 'godot', 'godot3'):
         out = os.path.join(room, 'single ' + name)
         run(folder, out, '--form', name, '--no-animations')
-        compare(readers.read(name, out), originals, False)
+        icons.compare(readers.read(name, out), originals, False)
     run(folder, out, '--anchor', '0.5,0.5')
     anchors = {name: told['anchor'] for name, told in frames(out).items()}
     assert anchors['icon16.png'] == {'x': 0.5, 'y': 0.5} and anchors[names[0]] == {'x': 0.5, 'y': 1}
@@ -68,16 +66,16 @@ def played(form, out, originals, names):
     if form in ('libgdx', 'libgdx-new'):
         found = readers.read(form, out)
         indexed = {names[number - 1]: found.pop(('hero/walk.png', number)) for number in range(1, len(names) + 1)}
-        compare({**found, **indexed}, originals, False)
+        icons.compare({**found, **indexed}, originals, False)
         with open(out + '.atlas') as file:
             assert [int(index) for index in re.findall(r'index: (\d+)', file.read())] == list(range(1, len(names) + 1))
         return
     if form in ('godot', 'godot3'):
         found = readers.godot_animations(out + '.tres')
         assert sorted(found) == sorted(['hero/walk', *singles]) and {speed for speed, _ in found.values()} == {12.5}
-        compare({**dict(zip(names, found['hero/walk'][1])), **{name: found[name][1][0] for name in singles}}, originals, False)
+        icons.compare({**dict(zip(names, found['hero/walk'][1])), **{name: found[name][1][0] for name in singles}}, originals, False)
         return
-    compare(readers.read(form, out), originals, False)
+    icons.compare(readers.read(form, out), originals, False)
     if form == 'cocos':
         return
     if form == 'starling':
@@ -171,7 +169,7 @@ def by_godot(folder, room):
         assert speed == 7.5
         with Image.open(os.path.join(project, 'shown', '%d.png' % place)) as picture:
             found['hero/walk_%d.png' % (number + 1) if name == 'hero/walk' else name] = picture.convert('RGBA')
-    compare(found, originals, True)
+    icons.compare(found, originals, True)
 
 
 def templates(folder, room):
@@ -190,7 +188,7 @@ def templates(folder, room):
                 x, y, wide, high = (told['rect'][key] for key in ('x', 'y', 'width', 'height'))
                 assert (told['pivot'], told['border']) == ({'x': 0.5, 'y': 0.5}, dict.fromkeys('xyzw', 0))
                 found[told['name']] = sheet.crop((x, sheet.height - y - high, x + wide, sheet.height - y))
-        compare(found, originals, False)
+        icons.compare(found, originals, False)
     by_hand = os.path.join(HERE, '..', 'templates')
     assert sorted(os.listdir(by_hand)) == ['cocos.each.plist.tera', 'love.lua.tera', 'unity.json.tera']
     out = os.path.join(room, 'own')
@@ -211,7 +209,7 @@ def templates(folder, room):
         x, y, wide, high, left, top = map(int, box)
         assert (left, top) == (0, 0)
         found[json.loads(name)] = sheet.crop((x, y, x + wide, y + high))
-    compare(found, originals, False)
+    icons.compare(found, originals, False)
 
 
 def pivots(room):
@@ -247,7 +245,7 @@ def nine_patches(room):
         told = run(folder, out, '--form', name, '--trim', '--scale', '1,0.5').stderr
         is_lost = name in ('godot', 'godot3', 'starling', 'cocos')
         assert told == ('guillotiere-sheet: button.png: this form has no place for what a nine-patch tells\n' if is_lost else ''), told
-        compare(readers.read(name, out), wanted, True)
+        icons.compare(readers.read(name, out), wanted, True)
     assert readers.gdx_nines(os.path.join(room, 'nine libgdx-new.atlas')) == {'button.png': {'split': split, 'pad': pad}}
     out = os.path.join(room, 'nine libgdx')
     assert readers.gdx_nines(out + '.atlas') == {'button.png': {'split': split, 'pad': pad}}
@@ -276,6 +274,4 @@ def all_tests(room):
     test('pivots', pivots, room)
 
 
-with tempfile.TemporaryDirectory() as temporary:
-    all_tests(temporary)
-end()
+main(all_tests)

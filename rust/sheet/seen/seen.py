@@ -16,14 +16,13 @@ import urllib.parse
 import zlib
 
 sys.dont_write_bytecode = True
-HERE = os.path.dirname(os.path.abspath(__file__))
-ROOT = os.path.dirname(os.path.dirname(os.path.dirname(HERE)))
-sys.path[:0] = [HERE, os.path.join(ROOT, 'web')]
+from common import ROOT, frames, main, png, put, run, test  # noqa: E402
+from PIL import Image  # noqa: E402
+
+sys.path.append(os.path.join(ROOT, 'web'))
 import browsers  # noqa: E402
 import icons  # noqa: E402
 import readers  # noqa: E402
-from common import compare, difference, end, frames, run, test  # noqa: E402
-from PIL import Image  # noqa: E402
 
 THEMES = ['/usr/share/icons/Tango', '/usr/share/icons/Adwaita/24x24', '/usr/share/icons/Adwaita/48x48']
 GAMMA = (b'gAMA', (45455).to_bytes(4, 'big'))
@@ -42,7 +41,7 @@ def form(name, way, folder, originals, room):
     lines = done.stderr.splitlines()
     assert bool(lines) == ('--effort' in words)
     assert all(re.fullmatch(r'guillotiere-sheet: \S+ full: so far a sheet of \d+x\d+ takes all pictures', line) for line in lines), lines
-    compare(readers.read(name, out), originals, '--trim' in words)
+    icons.compare(readers.read(name, out), originals, '--trim' in words)
     if way == 'pages':
         assert len(done.stdout.splitlines()) > 1
     if way == 'full' and name == 'json-hash':
@@ -90,7 +89,7 @@ def dense(folder, originals, room):
     for more in ([], ['--effort', '50'], ['--greatest', '200', '--pages', '99'], ['--greatest', '160', '--pages', '99', '--turn']):
         out = os.path.join(room, ' '.join(['dense', *more]))
         (*_, plain), (*full, last) = both = [sizes_told(run(folder, out, '--trim', *more, *words)) for words in ([], ['--dense'])]
-        compare(readers.read('json-hash', out), originals, True)
+        icons.compare(readers.read('json-hash', out), originals, True)
         greatest = int(more[1]) if '--greatest' in more else 4096
         assert full == [(greatest, greatest)] * len(full), full
         assert len(both[1]) < len(both[0]) or len(both[1]) == len(both[0]) and last[0] <= plain[0], both
@@ -113,7 +112,7 @@ def grouped(folder, room):
             done = run(to, out, '--size', '210', '210', '--pages', '20', '--no-animations', *more, *words)
             assert len(done.stdout.splitlines()) > 2, done.stdout
             form = 'phaser' if more[:1] == ['--form'] else 'json-hash'
-            compare(readers.read(form, out), originals, '--trim' in more)
+            icons.compare(readers.read(form, out), originals, '--trim' in more)
             if form == 'json-hash':
                 sheets = sheets_of_folders(out)
                 assert all(len(each) == 1 for inside, each in sheets.items() if inside) == is_group, sheets
@@ -154,7 +153,7 @@ def bled(room):
     for more, far, padding in ((['--trim'], 1, 2), (['--trim', '--bleed', '3'], 3, 6), (['--bleed', '2'], 2, 1),
                                (['--trim', '--bleed', '0'], 0, 2), ([], 0, 1), (['--trim', '--turn', '--extrude', '1'], 1, 3)):
         run(folder, out, '--padding', str(padding), *more)
-        compare(readers.read('json-hash', out), originals, far > 0 or '--trim' in more)
+        icons.compare(readers.read('json-hash', out), originals, far > 0 or '--trim' in more)
         with Image.open(out + '.png') as sheet:
             for name, told in frames(out).items():
                 around(sheet, told['frame'], originals[name], far, '--trim' in more)
@@ -192,7 +191,7 @@ def scaled(folder, originals, room):
     """Half as large: a pixel is the mean of four, weighted by alpha; sides that are odd are rounded up."""
     out = os.path.join(room, 'scaled')
     run(folder, out, '--scale', '1,0.5', '--trim')
-    compare(readers.read('json-hash', out), originals, True)
+    icons.compare(readers.read('json-hash', out), originals, True)
     halves = readers.read('json-hash', out, '@0.5x')
     checked = 0
     for name, original in originals.items():
@@ -238,7 +237,7 @@ def theme(folder, room):
     for name in readers.READERS:
         out = os.path.join(room, 'theme ' + name)
         assert run(copy, out, '--form', name, '--trim').stderr == ''
-        compare(readers.read(name, out), originals, True)
+        icons.compare(readers.read(name, out), originals, True)
 
 
 def others(room):
@@ -250,14 +249,10 @@ def others(room):
     with_alpha.putalpha(picture.convert('L'))
     icons.save(folder, 'b.webp', with_alpha, lossless=True, exact=True)
     icons.save(folder, 'c.JPEG', picture.convert('L'), quality=95)
-    with open(os.path.join(folder, 'd.png'), 'wb') as file:
-        file.write(icons.png(2, 1, 16, 6, [bytes([1, 255, 2, 0, 3, 7, 255, 255, 9, 9, 8, 8, 7, 7, 0, 1])]))
-    with open(os.path.join(folder, 'e.png'), 'wb') as file:
-        file.write(icons.png(2, 1, 8, 2, [bytes([1, 2, 3, 4, 5, 6])], [(b'tRNS', bytes([0, 4, 0, 5, 0, 6]))]))
-    with open(os.path.join(folder, 'f.png'), 'wb') as file:
-        file.write(icons.png(256, 256, 16, 0, [b''.join((256 * y + x).to_bytes(2, 'big') for x in range(256)) for y in range(256)]))
-    with open(os.path.join(folder, 'g.png'), 'wb') as file:
-        file.write(icons.png(2, 1, 16, 0, [bytes([255, 255, 255, 254])], [(b'tRNS', bytes([255, 255]))]))
+    put(folder, {'d.png': png(2, 1, 16, 6, [bytes([1, 255, 2, 0, 3, 7, 255, 255, 9, 9, 8, 8, 7, 7, 0, 1])])})
+    put(folder, {'e.png': png(2, 1, 8, 2, [bytes([1, 2, 3, 4, 5, 6])], [(b'tRNS', bytes([0, 4, 0, 5, 0, 6]))])})
+    put(folder, {'f.png': png(256, 256, 16, 0, [b''.join((256 * y + x).to_bytes(2, 'big') for x in range(256)) for y in range(256)])})
+    put(folder, {'g.png': png(2, 1, 16, 0, [bytes([255, 255, 255, 254])], [(b'tRNS', bytes([255, 255]))])})
     for name in ('notes.txt', '.hidden.png', '.folder/broken.png'):
         os.makedirs(os.path.dirname(os.path.join(folder, name)), exist_ok=True)
         with open(os.path.join(folder, name), 'w') as file:
@@ -268,7 +263,7 @@ def others(room):
     assert sorted(found) == ['a.jpg', 'b.webp', 'c.JPEG', 'd.png', 'e.png', 'f.png', 'g.png']
     for name, most in (('a.jpg', 3), ('b.webp', 0), ('c.JPEG', 3)):
         with Image.open(os.path.join(folder, name)) as original:
-            assert difference(found[name], original.convert('RGBA')) <= most, name
+            assert icons.difference(found[name], original.convert('RGBA')) <= most, name
     assert list(found['d.png'].getdata()) == [(2, 2, 3, 255), (9, 8, 7, 0)]
     nearest = [(2 * value * 255 + 65535) // (2 * 65535) for value in range(1 << 16)]
     assert list(found['f.png'].getchannel('G').getdata()) == nearest and found['f.png'].getextrema()[3] == (255, 255)
@@ -287,13 +282,13 @@ def colours(room):
 
     def write(name, *more):
         with open(os.path.join(folder, name), 'wb') as file:
-            file.write(icons.png(256, 1, 8, 6, [row], more))
+            file.write(png(256, 1, 8, 6, [row], more))
     out = os.path.join(room, 'colours sheet')
     profile = (b'iCCP', b'name\0\0' + zlib.compress(b'no profile'))
     for more in ([GAMMA], [GAMMA, PRIMARIES], [profile], [(b'sRGB', b'\2')]):
         write('a.png', *more)
         write('b.png', *more)
-        kept(folder, out, {'a.png': row, 'b.png': row})
+        kept(folder, os.path.join(room, 'kept sheet'), {'a.png': row, 'b.png': row})
         assert run(folder, out, '--manage-colours').stderr == ''
         sheet = icons.chunks(out + '.png')
         assert {name: sheet.get(name) for name in (b'gAMA', b'cHRM', b'iCCP', b'sRGB') if name in sheet} == dict(more)
@@ -312,7 +307,7 @@ def colours(room):
         assert found['b.png'].tobytes() == row
         for value in range(256):
             assert abs(found['a.png'].getpixel((value, 0))[0] - (as_srgb(value) if is_applied else value)) <= 0.5001
-        kept(folder, out, {'a.png': row, 'b.png': row, 'c.png': row})
+        kept(folder, os.path.join(room, 'kept sheet'), {'a.png': row, 'b.png': row, 'c.png': row})
 
 
 def kept(folder, out, rows):
@@ -349,7 +344,7 @@ def css(chromium, folder, way, room, most=0, more=()):
     size = (800, 1400)
     sheet, pictures = (screenshot(chromium, os.path.join(room, page), size, room) for page in ('css%s.html' % way, 'pictures.html'))
     assert len(set(pictures.getdata())) > 100
-    assert difference(sheet, pictures) <= most, difference(sheet, pictures)
+    assert icons.difference(sheet, pictures) <= most, icons.difference(sheet, pictures)
 
 
 def page_of_pictures(folder, text):
@@ -403,10 +398,8 @@ def mixed(folder, more, room):
             rgba = picture.convert('RGBA')
         rows = [rgba.crop((0, y, rgba.width, y + 1)).tobytes() for y in range(rgba.height)]
         with open(os.path.join(to, '%d.png' % place), 'wb') as file:
-            file.write(icons.png(rgba.width, rgba.height, 8, 6, rows, more if place % 2 else []))
+            file.write(png(rgba.width, rgba.height, 8, 6, rows, more if place % 2 else []))
     return to
 
 
-with tempfile.TemporaryDirectory() as temporary:
-    all_tests(temporary)
-end()
+main(all_tests)

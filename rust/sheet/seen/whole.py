@@ -10,40 +10,23 @@ import shutil
 import signal
 import subprocess
 import sys
-import tempfile
 import time
-import traceback
 
 sys.dont_write_bytecode = True
-HERE = os.path.dirname(os.path.abspath(__file__))
-sys.path[:0] = [HERE]
 import icons  # noqa: E402
 import readers  # noqa: E402
+from common import PROGRAM, ended, main, test  # noqa: E402
 from PIL import Image  # noqa: E402
 
-PROGRAM = os.path.abspath(sys.argv[1]) if len(sys.argv) == 2 else sys.exit(__doc__)
+HERE = os.path.dirname(os.path.abspath(__file__))
 # The forms with one record and with several, and how many sheets there are.
 WAYS = [('libgdx', []), ('json-hash', []), ('phaser', ['--pages', '9']), ('json-hash', ['--pages', '9']), ('starling', ['--pages', '9'])]
 RECORD = {'libgdx': '.atlas', 'json-hash': '.json', 'phaser': '.json', 'starling': '.xml'}
 
 
-class Count:
-    """Of the tests."""
-    passed = failed = 0
-
-
-def test(what, check, *words):
-    try:
-        check(*words)
-        Count.passed += 1
-    except Exception:  # noqa: BLE001
-        Count.failed += 1
-        print('%s: failed\n%s' % (what, traceback.format_exc()))
-
-
 def run(words, library=None, **steps):
     settings = dict(os.environ, **({'LD_PRELOAD': library} if library else {}), **{name: str(value) for name, value in steps.items()})
-    return subprocess.run([PROGRAM] + words, stdout=subprocess.PIPE, stderr=subprocess.PIPE, text=True, env=settings, timeout=120)
+    return ended(words, env=settings, timeout=120)
 
 
 def pictures(room, name, count, side):
@@ -233,7 +216,4 @@ def all_tests(room):
     test('stopped', stopped, library, room)
 
 
-with tempfile.TemporaryDirectory() as temporary:
-    all_tests(temporary)
-print('%d passed, %d failed' % (Count.passed, Count.failed))
-sys.exit(1 if Count.failed else 0)
+main(all_tests)

@@ -1,5 +1,7 @@
 //! Pictures from the bytes of their files.
 use crate::colour::Colour;
+use crate::head;
+use crate::heap;
 use crate::picture::{Picture, Pixel};
 use crate::webp;
 use image::{ImageError, ImageFormat};
@@ -48,31 +50,48 @@ fn has_profile(format: ImageFormat, bytes: &[u8]) -> bool {
     bytes.windows(mark.len()).any(|window| window == mark)
 }
 
-/// A picture and what its file says of colours, or why there is none.
-pub fn decoded(path: &Path, bytes: &[u8]) -> Result<(Picture, Colour), String> {
+/// A picture and what its file says of colours, or why there is none. What reads it may take about `most` bytes.
+pub fn decoded(path: &Path, bytes: &[u8], most: u64) -> Result<(Picture, Colour), String> {
     if bytes.starts_with(&PNG) {
-        return Ok((from_png(bytes)?, Colour::of_png(bytes)));
+        return Ok((from_png(bytes, most)?, Colour::of_png(bytes)));
+    }
+    let mut limits = image::io::Limits::default();
+    limits.max_alloc = Some(most);
+    // No larger than its first bytes say, by which it was counted.
+    if let Some((width, height)) = head::size_of(path, Cursor::new(bytes)) {
+        limits.max_image_width = u32::try_from(width).ok();
+        limits.max_image_height = u32::try_from(height).ok();
     }
     let format = format(path, bytes).ok_or("not a PNG, JPEG, WebP, GIF, BMP, TIFF or TGA")?;
     let colour = Colour::of_others(has_profile(format, bytes));
-    let first = Some(bytes)
-        .filter(|_| format == ImageFormat::WebP)
-        .and_then(webp::first);
-    let picture = match first {
-        None => by_library(format, bytes)?,
-        Some(first) => {
-            let frame = by_library(format, &first.file)?;
-            first
-                .put(&frame)
-                .ok_or("the file is damaged (its first frame lies outside)")?
-        }
+    let picture = match format {
+        ImageFormat::WebP => from_webp(bytes, limits)?,
+        _ => by_library(format, bytes, limits)?,
     };
     Ok((non_empty(picture)?, colour))
 }
 
-fn by_library(format: ImageFormat, bytes: &[u8]) -> Result<Picture, String> {
-    let mut limits = image::io::Limits::default();
-    limits.max_alloc = Some(GREATEST as u64);
+// The library decodes all before it asks for the limits.
+fn from_webp(bytes: &[u8], limits: image::io::Limits) -> Result<Picture, String> {
+    let first = webp::first(bytes);
+    let file = first.as_ref().map_or(bytes, |first| &first.file);
+    if let Some((width, height)) = webp::inner(file) {
+        if limits.check_dimensions(width, height).is_err() {
+            return Err("the file is damaged (its picture is larger than it says)".to_string());
+        }
+    }
+    let picture = by_library(ImageFormat::WebP, file, limits)?;
+    match &first {
+        Some(first) => first.put(&picture),
+        None => Ok(picture),
+    }
+}
+
+fn by_library(
+    format: ImageFormat,
+    bytes: &[u8],
+    limits: image::io::Limits,
+) -> Result<Picture, String> {
     let mut reader = image::io::Reader::with_format(Cursor::new(bytes), format);
     reader.limits(limits);
     let pixels = reader.decode().map_err(|error| match error {
@@ -84,8 +103,15 @@ fn by_library(format: ImageFormat, bytes: &[u8]) -> Result<Picture, String> {
     Ok(Picture {
         width: rgba.width(),
         height: rgba.height(),
-        pixels: rgba.pixels().map(|pixel| pixel.0).collect(),
+        pixels: listed(rgba.pixels().map(|pixel| pixel.0))?,
     })
+}
+
+// With a refusal where there is no memory for them.
+fn listed<T>(items: impl ExactSizeIterator<Item = T>) -> Result<Vec<T>, String> {
+    let mut list = heap::list(items.len()).map_err(|_| NO_MEMORY)?;
+    list.extend(items);
+    Ok(list)
 }
 
 fn one_line(text: &str) -> String {
@@ -104,8 +130,9 @@ fn non_empty(picture: Picture) -> Result<Picture, String> {
     Ok(picture)
 }
 
-fn from_png(bytes: &[u8]) -> Result<Picture, String> {
-    let limits = png::Limits { bytes: GREATEST };
+fn from_png(bytes: &[u8], most: u64) -> Result<Picture, String> {
+    let most = usize::try_from(most).unwrap_or(usize::MAX);
+    let limits = png::Limits { bytes: most };
     let mut decoder = png::Decoder::new_with_limits(bytes, limits);
     decoder.set_transformations(png::Transformations::EXPAND);
     let told = |error: png::DecodingError| match error {
@@ -114,19 +141,16 @@ fn from_png(bytes: &[u8]) -> Result<Picture, String> {
         error => one_line(&error.to_string()),
     };
     let mut reader = decoder.read_info().map_err(told)?;
-    if reader.output_buffer_size() > GREATEST {
+    let size = reader.output_buffer_size();
+    if size > most {
         return Err(TOO_LARGE.to_string());
     }
-    let mut buffer = Vec::new();
-    let no_memory = |_| NO_MEMORY.to_string();
-    buffer
-        .try_reserve_exact(reader.output_buffer_size())
-        .map_err(no_memory)?;
-    buffer.resize(reader.output_buffer_size(), 0);
+    let mut buffer = heap::list(size).map_err(|_| NO_MEMORY)?;
+    buffer.resize(size, 0);
     let info = reader.next_frame(&mut buffer).map_err(told)?;
     buffer.truncate(info.buffer_size());
     if info.bit_depth == png::BitDepth::Sixteen {
-        buffer = eight_bits(&buffer);
+        buffer = eight_bits(&buffer)?;
     }
     non_empty(Picture {
         width: info.width,
@@ -136,33 +160,19 @@ fn from_png(bytes: &[u8]) -> Result<Picture, String> {
 }
 
 // Samples of sixteen bits, rounded.
-fn eight_bits(samples: &[u8]) -> Vec<u8> {
+fn eight_bits(samples: &[u8]) -> Result<Vec<u8>, String> {
     let rounded =
         |two: &[u8]| (u32::from(u16::from_be_bytes([two[0], two[1]])) * 255 + 32767) / 65535;
-    samples
-        .chunks_exact(2)
-        .map(|two| rounded(two) as u8)
-        .collect()
+    listed(samples.chunks_exact(2).map(|two| rounded(two) as u8))
 }
 
 fn pixels(samples: &[u8], kind: png::ColorType) -> Result<Vec<Pixel>, String> {
-    Ok(match kind {
-        png::ColorType::Grayscale => samples
-            .iter()
-            .map(|grey| [*grey, *grey, *grey, 255])
-            .collect(),
-        png::ColorType::GrayscaleAlpha => samples
-            .chunks_exact(2)
-            .map(|s| [s[0], s[0], s[0], s[1]])
-            .collect(),
-        png::ColorType::Rgb => samples
-            .chunks_exact(3)
-            .map(|s| [s[0], s[1], s[2], 255])
-            .collect(),
-        png::ColorType::Rgba => samples
-            .chunks_exact(4)
-            .map(|s| [s[0], s[1], s[2], s[3]])
-            .collect(),
-        png::ColorType::Indexed => return Err("its palette can't be read".to_string()),
-    })
+    let of = |count| samples.chunks_exact(count);
+    match kind {
+        png::ColorType::Grayscale => listed(of(1).map(|s| [s[0], s[0], s[0], 255])),
+        png::ColorType::GrayscaleAlpha => listed(of(2).map(|s| [s[0], s[0], s[0], s[1]])),
+        png::ColorType::Rgb => listed(of(3).map(|s| [s[0], s[1], s[2], 255])),
+        png::ColorType::Rgba => listed(of(4).map(|s| [s[0], s[1], s[2], s[3]])),
+        png::ColorType::Indexed => Err("its palette can't be read".to_string()),
+    }
 }

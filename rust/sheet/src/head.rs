@@ -2,7 +2,7 @@
 use image::ImageFormat;
 use imagesize::ImageType;
 use std::fs::File;
-use std::io::{BufReader, Read, Seek, SeekFrom};
+use std::io::{BufRead, BufReader, Seek, SeekFrom};
 use std::path::Path;
 
 // What isn't a file may never end.
@@ -14,7 +14,7 @@ fn opened(path: &Path) -> Option<BufReader<File>> {
         .map(BufReader::new)
 }
 
-fn by_decoder(file: BufReader<File>, format: ImageFormat) -> Option<(u64, u64)> {
+fn by_decoder(file: impl BufRead + Seek, format: ImageFormat) -> Option<(u64, u64)> {
     let (width, height) = image::io::Reader::with_format(file, format)
         .into_dimensions()
         .ok()?;
@@ -23,7 +23,11 @@ fn by_decoder(file: BufReader<File>, format: ImageFormat) -> Option<(u64, u64)> 
 
 /// The width and the height; none where the first bytes don't tell them.
 pub fn size(path: &Path) -> Option<(u64, u64)> {
-    let mut file = opened(path)?;
+    size_of(path, opened(path)?)
+}
+
+/// Of a file's bytes.
+pub fn size_of(path: &Path, mut file: impl BufRead + Seek) -> Option<(u64, u64)> {
     let mut first = [0; 12];
     file.read_exact(&mut first).ok()?;
     file.seek(SeekFrom::Start(0)).ok()?;

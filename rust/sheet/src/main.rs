@@ -7,6 +7,7 @@ mod fault;
 mod folder;
 mod forms;
 mod head;
+mod heap;
 mod man;
 mod memory;
 mod nine;
@@ -21,6 +22,7 @@ mod scale;
 mod search;
 mod set;
 mod sheet;
+mod stale;
 mod stop;
 mod watch;
 mod webp;
@@ -82,7 +84,7 @@ fn lines(built: &Built) -> Vec<String> {
     built.sheet.pages.iter().map(line).collect()
 }
 
-// The bytes of all pictures, each by a thread of its own.
+// The bytes of all pictures, each by a thread of its own, where there can be one.
 fn encoded(
     built: &[Built],
     chunks: &[colour::Chunk],
@@ -96,16 +98,18 @@ fn encoded(
             .iter()
             .flat_map(|one| one.sheet.pages.iter().zip(&one.pictures))
         {
-            running.push((
-                page.image.clone(),
-                scope.spawn(move || png_file::bytes(picture, chunks, is_small)),
-            ));
+            let make = move || png_file::bytes(picture, chunks, is_small);
+            let thread = thread::Builder::new().spawn_scoped(scope, make);
+            running.push((page.image.clone(), thread.map_err(|_| make)));
         }
         let mut files = Vec::new();
-        for (name, thread) in running {
-            let bytes = thread
-                .join()
-                .unwrap_or_else(|_| Err("it can't be written as a PNG".to_string()));
+        for (name, one) in running {
+            let failed = |_| Err("it can't be written as a PNG".to_string());
+            let bytes = match one {
+                Ok(thread) => thread.join().unwrap_or_else(failed),
+                // No thread could be had for it.
+                Err(make) => make(),
+            };
             let bytes = bytes.map_err(|why| set::unmade(&name, why))?;
             shown.step();
             files.push((name, bytes));
@@ -168,7 +172,7 @@ fn sprites(
         );
         return Err(Fault::new(WORDS, line));
     }
-    let mut found = reading::pictures(files)?;
+    let mut found = reading::pictures(files, words)?;
     let settled = if words.manage_colours {
         colour::settle(&mut found)
     } else {
@@ -249,7 +253,7 @@ fn run_alone(words: &Words, target: &Target) -> Result<Done, Fault> {
         done.lines.clear();
         return Ok(done);
     }
-    target.write(&files)?;
+    done.notes.extend(target.write(&files)?);
     let folder = words.target();
     done.files = files.iter().map(|(name, _)| folder.join(name)).collect();
     Ok(done)

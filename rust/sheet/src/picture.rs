@@ -1,4 +1,5 @@
 //! Pixels, and what is done with them.
+use crate::heap;
 use crate::scale::Scale;
 use std::collections::TryReserveError;
 use std::hash::{Hash, Hasher};
@@ -48,8 +49,7 @@ impl Picture {
     /// Transparent black, if there is memory for it.
     pub fn empty(width: u32, height: u32) -> Result<Picture, TryReserveError> {
         let count = width as usize * height as usize;
-        let mut pixels = Vec::new();
-        pixels.try_reserve_exact(count)?;
+        let mut pixels = heap::list(count)?;
         pixels.resize(count, [0; 4]);
         Ok(Picture {
             width,

@@ -38,22 +38,25 @@ fn of_each<T: Send>(
         files.iter().map(one).collect::<Vec<_>>()
     };
     let results = thread::scope(|scope| {
-        let running: Vec<_> = files
-            .chunks(each)
-            .map(|files| scope.spawn(move || all(files)))
-            .collect();
-        let ended = running
-            .into_iter()
-            .map(|thread| thread.join().unwrap_or_default());
+        let start = |files| {
+            let thread = thread::Builder::new().spawn_scoped(scope, move || all(files));
+            thread.map_err(|_| files)
+        };
+        let started: Vec<_> = files.chunks(each).map(start).collect();
+        let ended = started.into_iter().map(|one| match one {
+            Ok(thread) => thread.join().unwrap_or_default(),
+            // No thread could be had for these.
+            Err(files) => all(files),
+        });
         ended.flatten().collect()
     });
     panic::set_hook(hook);
     results
 }
 
-fn read(path: &Path) -> Result<(Picture, Colour), String> {
+fn read(path: &Path, most: u64) -> Result<(Picture, Colour), String> {
     let bytes = std::fs::read(path).map_err(|error| error.to_string())?;
-    decoded(path, &bytes)
+    decoded(path, &bytes, most)
 }
 
 fn told(path: &Path, why: &str) -> String {
@@ -112,8 +115,11 @@ pub fn checked(files: Vec<Named>, words: &Words) -> Result<(Vec<Named>, Vec<Stri
 }
 
 /// All pictures. All that can't be read are named.
-pub fn pictures(files: Vec<Named>) -> Result<Vec<Found>, Fault> {
-    let results = of_each("reading", &files, read);
+pub fn pictures(files: Vec<Named>, words: &Words) -> Result<Vec<Found>, Fault> {
+    // Samples of sixteen bits take twice what is counted.
+    let most = words.memory().0.saturating_mul(2);
+    let most = most.clamp(1 << 20, GREATEST as u64);
+    let results = of_each("reading", &files, |path| read(path, most));
     let (mut found, mut lines) = (Vec::new(), Vec::new());
     for ((name, path), result) in files.into_iter().zip(results) {
         match result.unwrap_or_else(|| Err("it can't be read".to_string())) {

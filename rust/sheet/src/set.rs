@@ -6,12 +6,15 @@
 use crate::fault::{Fault, FILES, STALE};
 use crate::forms::File;
 use crate::output::note;
+use crate::stale;
 use crate::stop;
 use fd_lock::RwLock;
 use same_file::Handle;
 use std::fs;
 use std::io::{self, ErrorKind, Write};
 use std::path::{Path, PathBuf};
+
+const STRANGE: &str = "it isn't of this program's making; remove it";
 
 /// Where the files of one OUT lie.
 pub struct Target {
@@ -45,6 +48,7 @@ impl Target {
     pub fn alone<T>(&self, work: impl FnOnce() -> Result<T, Fault>) -> Result<T, Fault> {
         let path = self.hidden("lock");
         let failed = |error: io::Error| self.unwritten(&self.sheet(), error);
+        self.refuse_strangers()?;
         loop {
             let file = fs::OpenOptions::new()
                 .create(true)
@@ -70,6 +74,22 @@ impl Target {
         }
     }
 
+    // What has one of the hidden names and isn't this program's: a pipe would never be opened, and a link lead to files of others.
+    fn refuse_strangers(&self) -> Result<(), Fault> {
+        for (ending, is_folder) in [("lock", false), ("part", true), ("ready", true)] {
+            let path = self.hidden(ending);
+            let kind = fs::symlink_metadata(&path).map(|there| there.file_type());
+            let is_own = |kind: fs::FileType| match is_folder {
+                true => kind.is_dir(),
+                false => kind.is_file(),
+            };
+            if !kind.map_or(true, is_own) {
+                return Err(Fault::file(&path, STRANGE));
+            }
+        }
+        Ok(())
+    }
+
     // A set that is complete gets its places, and one that isn't is removed.
     fn clear(&self) -> Result<(), Fault> {
         let failed = |error: io::Error| self.unwritten(&self.sheet(), error);
@@ -81,6 +101,13 @@ impl Target {
             self.place()?;
         }
         Ok(())
+    }
+
+    // The name of a file in its place; none of one that isn't of this OUT.
+    fn name_in_place<'a>(&self, ready: &'a str) -> Option<&'a str> {
+        let (number, name) = ready.split_once('-')?;
+        let is_number = number.len() == 8 && number.bytes().all(|byte| byte.is_ascii_digit());
+        Some(name).filter(|name| is_number && name.starts_with(&self.stem))
     }
 
     // Whether each file is there with these bytes.
@@ -114,8 +141,8 @@ impl Target {
     }
 
     /// Writes the pictures that differ from those that are there, and all records if one file differs. `files` has the pictures first, and
-    /// the record that names others last.
-    pub fn write(&self, files: &[File]) -> Result<(), Fault> {
+    /// the record that names others last. What is told then: of each record that doesn't fit its picture any more.
+    pub fn write(&self, files: &[File]) -> Result<Vec<String>, Fault> {
         for (name, _) in files {
             let path = self.folder.join(name);
             if path.is_dir() {
@@ -123,15 +150,24 @@ impl Target {
             }
         }
         if self.has(files) {
-            return Ok(());
+            return Ok(Vec::new());
         }
+        let changed: Vec<&File> = files
+            .iter()
+            .filter(|file| !is_picture(&file.0) || !self.has_one(file))
+            .collect();
+        // Where this form's record stays as it is, sprites lie where they lay.
+        let is_moved = |file: &File| !is_picture(&file.0) && !self.has_one(file);
+        let notes = match files.iter().any(is_moved) {
+            true => stale::notes(&self.folder, &self.stem, files, &changed),
+            false => Vec::new(),
+        };
+        // Where the folder can't be opened, nothing is begun.
+        fs::read_dir(&self.folder).map_err(|error| self.unwritten(&self.sheet(), error))?;
         let part = self.hidden("part");
         let held = stop::Held::new(&part, || fs::create_dir(&part))
             .map_err(|error| self.unwritten(&self.sheet(), error))?;
-        let changed = files
-            .iter()
-            .filter(|file| !is_picture(&file.0) || !self.has_one(file));
-        for (place, (name, bytes)) in changed.enumerate() {
+        for (place, (name, bytes)) in changed.into_iter().enumerate() {
             let beside = part.join(format!("{:08}-{}", place, name));
             stop::whole(|| write_through(&beside, bytes))
                 .map_err(|error| self.unwritten(name, error))?;
@@ -143,7 +179,8 @@ impl Target {
                 .and_then(|()| sync_folder(&self.folder))
                 .map_err(failed)?;
             self.place()
-        })
+        })?;
+        Ok(notes)
     }
 
     // Renames what is ready in the order of its numbers. Without its record nobody takes a picture for one of the set.
@@ -158,9 +195,12 @@ impl Target {
             .filter_map(|entry| entry.file_name().into_string().ok())
             .collect();
         names.sort();
+        if names.iter().any(|name| self.name_in_place(name).is_none()) {
+            return Err(Fault::file(&ready, STRANGE));
+        }
         let place = |name: &str| {
             self.folder
-                .join(name.split_once('-').map_or(name, |both| both.1))
+                .join(self.name_in_place(name).unwrap_or_default())
         };
         if names.len() > 1 {
             for name in names.iter().rev().filter(|name| !is_picture(name)) {
@@ -180,7 +220,7 @@ impl Target {
     }
 }
 
-fn is_picture(name: &str) -> bool {
+pub fn is_picture(name: &str) -> bool {
     name.ends_with(".png")
 }
 

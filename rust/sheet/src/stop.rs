@@ -92,6 +92,13 @@ fn is_hangup_ignored() -> bool {
     signals.map_or(false, |signals| signals & 1 == 1)
 }
 
+/// Removes what is held, where no thread is in the middle of it.
+pub fn clear() {
+    if let Ok(held) = PATHS.try_lock() {
+        held.iter().for_each(|path| remove(path));
+    }
+}
+
 /// From now on a signal removes what is held, and ends the program.
 pub fn listen() {
     if is_hangup_ignored() {

@@ -7,6 +7,7 @@ use crate::{run, told, Done};
 use notify::event::{AccessKind, AccessMode, EventKind};
 use notify::{Event, RecommendedWatcher, RecursiveMode, Watcher};
 use same_file::Handle;
+use std::fs::Metadata;
 use std::path::{Path, PathBuf};
 use std::sync::mpsc::{channel, Receiver, RecvTimeoutError};
 use std::time::{Duration, SystemTime};
@@ -76,8 +77,8 @@ impl Watched {
     }
 }
 
-// A file, with its size and its time.
-type Stamp = (PathBuf, u64, Option<SystemTime>);
+// A file, with its size, its time, and what else tells whether it is the same.
+type Stamp = (PathBuf, u64, Option<SystemTime>, [i64; 3]);
 
 // What a run reads: files, and what is told of the folder.
 type Seen = (Vec<Stamp>, Vec<String>);
@@ -85,7 +86,20 @@ type Seen = (Vec<Stamp>, Vec<String>);
 fn stamp(path: PathBuf) -> Stamp {
     let file = path.metadata().ok();
     let time = file.as_ref().and_then(|file| file.modified().ok());
-    (path, file.map_or(0, |file| file.len()), time)
+    let more = file.as_ref().map_or([0; 3], identity);
+    (path, file.map_or(0, |file| file.len()), time, more)
+}
+
+// A file that comes to the place of another may be as long, and have the same time.
+#[cfg(unix)]
+fn identity(file: &Metadata) -> [i64; 3] {
+    use std::os::unix::fs::MetadataExt;
+    [file.ino() as i64, file.ctime(), file.ctime_nsec()]
+}
+
+#[cfg(not(unix))]
+fn identity(_: &Metadata) -> [i64; 3] {
+    [0; 3]
 }
 
 fn seen(words: &Words) -> Seen {
@@ -128,11 +142,18 @@ pub fn watch(words: &Words) -> Result<Done, Fault> {
             }
             earlier = done.files;
         }
+        // There may be links to other folders than before.
+        let next = Watched::new(&words.folder);
+        if next.folder.is_some() {
+            watched = next;
+        }
+        // The template, and what a link leads to, may lie in another folder.
+        let is_elsewhere =
+            |one: &&Stamp| Some(&one.0) == words.template.as_ref() || one.0.is_symlink();
+        let elsewhere: Vec<&Stamp> = before.0.iter().filter(is_elsewhere).collect();
+        let is_new = || elsewhere.iter().any(|one| stamp(one.0.clone()) != **one);
         // What changed while it ran was told, and what doesn't count changes nothing.
         while seen(words) == before {
-            // The template may lie in another folder; where there is one, it was looked at last.
-            let template = words.template.as_ref().and(before.0.last());
-            let is_new = || template.map_or(false, |one| stamp(one.0.clone()) != *one);
             if !watched.wait(&words.folder, is_new) {
                 watched = Watched::new(&words.folder);
             }

@@ -1,4 +1,5 @@
 //! The first frame of an animated WebP, as a file of its own.
+use crate::decode::NO_MEMORY;
 use crate::picture::Picture;
 
 /// A frame: the size of the whole picture, where the frame lies in it, and the frame's own file.
@@ -47,6 +48,18 @@ fn put(file: &mut Vec<u8>, name: &[u8], data: &[u8]) {
     file.extend(&[0][..data.len() % 2]);
 }
 
+/// The size of the picture in a file, whatever the head says of the whole; none where there is none.
+pub fn inner(bytes: &[u8]) -> Option<(u32, u32)> {
+    let rest = bytes.get(12..)?;
+    if let Some(data) = find(rest, b"VP8L") {
+        let bits = number(data.get(1..5)?);
+        return Some(((bits & 0x3fff) + 1, (bits >> 14 & 0x3fff) + 1));
+    }
+    let data = find(rest, b"VP8 ")?;
+    let side = |from: usize| Some(number(data.get(from..from + 2)?) & 0x3fff);
+    Some((side(6)?, side(8)?))
+}
+
 /// The first frame; none where the file has no animation.
 pub fn first(bytes: &[u8]) -> Option<First> {
     let (name, head, rest) = chunk(bytes.get(12..)?)?;
@@ -80,15 +93,15 @@ pub fn first(bytes: &[u8]) -> Option<First> {
 
 impl First {
     /// The frame, in a picture that is transparent around it.
-    pub fn put(&self, frame: &Picture) -> Option<Picture> {
+    pub fn put(&self, frame: &Picture) -> Result<Picture, String> {
         let fits = |from: u32, side: u32, whole: u32| {
             u64::from(from) + u64::from(side) <= u64::from(whole)
         };
         if !fits(self.left, frame.width, self.width) || !fits(self.top, frame.height, self.height) {
-            return None;
+            return Err("the file is damaged (its first frame lies outside)".to_string());
         }
-        let mut whole = Picture::empty(self.width, self.height).ok()?;
+        let mut whole = Picture::empty(self.width, self.height).map_err(|_| NO_MEMORY)?;
         whole.draw(frame, self.left, self.top, crate::picture::Lie::Upright, 0);
-        Some(whole)
+        Ok(whole)
     }
 }

@@ -94,6 +94,15 @@ class Browser:
     def size(self, width, height):
         self.send('setWindowRect', {'x': 0, 'y': 0, 'width': width, 'height': height})
 
+    def fit(self, width, height):
+        """Gives the page, without what the browser shows around it, this size."""
+        self.size(width, height)
+        self.wait('innerWidth > 0')
+        time.sleep(0.5)
+        more = self.run('return [outerWidth - innerWidth, outerHeight - innerHeight]')
+        self.size(width + more[0], height + more[1])
+        self.wait('innerWidth === %d && innerHeight === %d' % (width, height), 20)
+
     def shot(self, path):
         with open(path, 'wb') as file:
             file.write(base64.b64decode(self.send('screenshot', {'full': False})))
@@ -170,6 +179,10 @@ SETTINGS = {
     'app.update.disabledForTesting': True, 'toolkit.telemetry.reportingpolicy.firstRun': False,
     'browser.startup.homepage_override.mstone': 'ignore', 'browser.startup.page': 0, 'ui.systemUsesDarkTheme': 0,
 }
+# As on a phone: a finger that hovers over nothing. A window is as narrow as its style sheet lets it be.
+FINGER = {'ui.primaryPointerCapabilities': 1, 'ui.allPointerCapabilities': 1, 'ui.useOverlayScrollbars': 1,
+          'widget.gtk.overlay-scrollbars.enabled': True, 'toolkit.legacyUserProfileCustomizations.stylesheets': True}
+NARROW = ':root { min-width: 0 !important; min-height: 0 !important; }\n'
 
 
 class Firefox(Browser):
@@ -179,13 +192,18 @@ class Firefox(Browser):
     def missing():
         return [] if shutil.which('firefox-esr') or shutil.which('firefox') else ['firefox-esr']
 
-    def __init__(self, width=1280, height=900):
+    def __init__(self, width=1280, height=900, phone=None):
         super().__init__()
         self.profile = tempfile.mkdtemp()
         with socket.socket() as free:
             free.bind(('127.0.0.1', 0))
             port = free.getsockname()[1]
         settings = dict(SETTINGS, **{'marionette.port': port, 'browser.download.dir': self.downloads})
+        if phone:
+            settings.update(FINGER, **{'layout.css.devPixelsPerPx': str(phone['pixelRatio'])})
+            os.mkdir(os.path.join(self.profile, 'chrome'))
+            with open(os.path.join(self.profile, 'chrome', 'userChrome.css'), 'w') as file:
+                file.write(NARROW)
         with open(os.path.join(self.profile, 'user.js'), 'w') as file:
             file.writelines('user_pref(%s, %s);\n' % (json.dumps(key), json.dumps(value)) for key, value in settings.items())
         program = shutil.which('firefox-esr') or shutil.which('firefox')
@@ -195,7 +213,10 @@ class Firefox(Browser):
         self.number = 0
         self.connect(port)
         self.ask('WebDriver:NewSession', {'capabilities': {'alwaysMatch': {'timeouts': {'script': 300000}}}})
-        self.size(width, height)
+        if phone:
+            self.fit(phone['width'], phone['height'])
+        else:
+            self.size(width, height)
 
     def connect(self, port):
         end = time.time() + 90

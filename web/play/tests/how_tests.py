@@ -132,6 +132,37 @@ def test_lines_do_it(page):
         return [JSON.stringify([a, b, c]) === JSON.stringify(live), written.join('') === frames.flatMap(({ fresh }) => fresh).join('')]''') == [True, True]
 
 
+def test_lines_of_the_other_figures_do_it(page):
+    """As above, on an atlas as the figure has it before; what else the lines name is given to them."""
+    open_page(page)
+    for width, height, is_granted in [(20, 20, True), (25, 20, True), (110, 110, False)]:
+        page.run('how.pick.set(arguments[0], arguments[1])', width, height)
+        logged, picked = page.run('''const { pick } = how, logged = [], atlas = pick.atlas.clone();
+            new Function('atlas', 'console', pick.code.text)(atlas, { log: (...words) => logged.push(words) });
+            return [logged, pick.shown.picked && [pick.shown.picked.x, pick.shown.picked.y]]''')
+        assert logged == ([picked] if is_granted else [['no room']]), (width, height, logged)
+    page.run('how.grow.set(200, 130)')
+    assert page.run('''const { grow } = how, atlas = grow.atlas.clone();
+        const [before, after] = new Function('atlas', `${grow.code.text}\\nreturn [before, after]`)(atlas);
+        const { width, height } = atlas.size, same = (one, other) => JSON.stringify(one) === JSON.stringify(other);
+        return [width, height, before.length, same(before, after), same(after, grow.shown.live), same(atlas.free(), grow.shown.free)]
+        ''') == [200, 130, 6, True, True, True]
+    assert page.run('''const { move, api } = how, atlas = new api.Atlas(160, 160);
+        const [texture, old, copied, named] = ['now', 'before', [], []];
+        for (const line of move.lines.slice(1)) {
+          const [word, ...numbers] = line.split(' ');
+          if (word === 'alloc') atlas.allocate(...numbers.map(Number));
+          else atlas.deallocate(Number(numbers[0]));
+        }
+        new Function('atlas', 'texture', 'copyOf', 'copy', 'moved', move.code)(atlas, texture, (it) => (it === texture ? old : null),
+          (from, before, to, after) => copied.push(from === old && to === texture ? { before, after } : null),
+          (before, after) => named.push([before, after]));
+        const sorted = (changes) => JSON.stringify(changes.map((each) => JSON.stringify(each)).sort());
+        const ids = move.changes.map(({ before, after }) => [before.id, after.id]);
+        return [sorted(copied) === sorted(move.changes), sorted(named) === sorted(ids)]
+        ''') == [True, True]
+
+
 def test_lines_are_copied(page):
     """Each figure has a button that copies its lines, as they are seen beside it."""
     open_page(page)
@@ -156,6 +187,35 @@ def test_keys_and_buttons(page):
     page.click('#move button.main')
     page.wait('document.querySelector("#move button.main").textContent === "Back"', 60)
     page.click('#move button.main')
+    assert page.run('return document.querySelector("#move input").value') == '0'
+
+
+def test_keys_move_each_slider(page):
+    """By arrows, Home and End; and a figure that plays by itself stops."""
+    open_page(page)
+    seen = 'return document.querySelector("#%s .view").innerHTML'
+    for name, sliders in {'cut': 1, 'pick': 2, 'grow': 2, 'cache': 1, 'move': 1}.items():
+        assert page.run('return document.querySelectorAll("#%s input[type=range]").length' % name) == sliders
+        for at in range(sliders):
+            field = 'document.querySelectorAll("#%s input[type=range]")[%d]' % (name, at)
+            page.run(field + '.focus()')
+            page.browser.press('Home')
+            least, first = page.run('return Number(%s.value) - Number(%s.min)' % (field, field)), page.run(seen % name)
+            page.browser.press('ArrowRight', 'ArrowRight', 'ArrowLeft')
+            step, second = page.run('return Number(%s.value) - Number(%s.min)' % (field, field)), page.run(seen % name)
+            page.browser.press('End')
+            most, last = page.run('return Number(%s.max) - Number(%s.value)' % (field, field)), page.run(seen % name)
+            assert (least, step, most) == (0, 1, 0) and len({first, second, last}) == 3, (name, at, least, step, most)
+    page.run('how.cut.steps.pause = 60000; how.cut.steps.slider.set(0)')
+    page.click('#cut button.main')
+    page.run('document.querySelector("#cut input").focus()')
+    page.browser.press('ArrowRight')
+    assert page.run('return [how.cut.steps.at, document.querySelector("#cut button.main").textContent]') == [1, 'Play']
+    page.run('how.move.set(0.1)')
+    page.click('#move button.main')
+    page.run('document.querySelector("#move input").focus()')
+    page.browser.press('Home')
+    time.sleep(0.5)
     assert page.run('return document.querySelector("#move input").value') == '0'
 
 

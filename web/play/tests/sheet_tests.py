@@ -4,19 +4,16 @@ import os
 import struct
 import subprocess
 import time
-import zlib
+
+from pngs import png
 
 
-def png(path, width, height, colour):
+def write(path, width, height, colour):
     """A picture of one colour, with another one in its upper left pixel."""
-    rows = [b'\0' + bytes(colour) * width for _ in range(height)]
-    rows[0] = b'\0' + bytes((255, 255, 255)) + bytes(colour) * (width - 1)
-
-    def chunk(name, data):
-        return struct.pack('>I', len(data)) + name + data + struct.pack('>I', zlib.crc32(name + data))
+    rows = [bytes(colour) * width] * height
+    rows[0] = bytes((255, 255, 255)) + bytes(colour) * (width - 1)
     with open(path, 'wb') as file:
-        file.write(b'\x89PNG\r\n\x1a\n' + chunk(b'IHDR', struct.pack('>IIBBBBB', width, height, 8, 2, 0, 0, 0))
-                   + chunk(b'IDAT', zlib.compress(b''.join(rows))) + chunk(b'IEND', b''))
+        file.write(png(width, height, 8, 2, rows))
 
 
 def pictures(folder, count=14):
@@ -26,7 +23,7 @@ def pictures(folder, count=14):
         name = 'one-%02d.png' % number
         sides, colour = (20 + number * 17 % 50, 10 + number * 29 % 70), (40 + number * 13 % 200, number * 31 % 256, 90)
         made[name] = (os.path.join(folder, name),) + sides + (colour,)
-        png(made[name][0], *sides, colour)
+        write(made[name][0], *sides, colour)
     return made
 
 
@@ -171,7 +168,7 @@ def test_downloads_one_of_several(page):
 
 def test_picture_that_is_too_large_for_each_sheet(page):
     path = os.path.join(page.folder, 'large.png')
-    png(path, 200, 9, (1, 2, 3))
+    write(path, 200, 9, (1, 2, 3))
     choose(page, {'large.png': (path, 200, 9, (1, 2, 3))})
     page.browser.choose('#sheet-greatest', '128')
     page.browser.choose('#sheet-pages', 'several')

@@ -16,9 +16,9 @@ use Rattle.atlas_model.proofs.TreeLemmas.TreeIds.{Contains-first, Contains-later
 use Rattle.atlas_model.proofs.TreeLemmas.TreeKept.{ids-nf}
 use Rattle.atlas_model.proofs.TreeLemmas.TreeCounts.{release_nodes}
 use Rattle.atlas_model.proofs.TreeLemmas.TreeNormal.{release-none, release-release}
-use Rattle.atlas_model.proofs.StepLemmas.StepKeeping.{freeing_sound}
+use Rattle.atlas_model.proofs.StepLemmas.SoundSteps.{freeing_sound}
 use Rattle.atlas_store.proofs.WalkLemmas.FreedAtlas.{state-freed, live-named, named-live}
-use Rattle.atlas_store.proofs.WalkLemmas.Hiding.{or-parts}
+use Rattle.atlas_store.proofs.WalkLemmas.HiddenSlots.{or-parts}
 
 -- The state once the ids of a list are freed, one after another.
 abbrev pub after_each : State → List ℕ → State

@@ -37,22 +37,22 @@ use Rattle.atlas_store.specs.declared.store.Store.{Store}
 use Rattle.atlas_search.specs.declared.best.Found.{Found}
 use Rattle.std.specs.Prelude.{Option, Result}
 use Rattle.atlas_model.specs.Trees as tree
-use Rattle.atlas_search.proofs.SearchLemmas.Picking.{no_room_unrounded}
-use Rattle.atlas_model.proofs.ChoiceLemmas.Rounding.{rounded_positive}
+use Rattle.atlas_search.proofs.SearchLemmas.Picks.{no_room_unrounded}
+use Rattle.atlas_model.proofs.ChoiceLemmas.RoundedSides.{rounded_positive}
 use Rattle.atlas_model.proofs.TreeLemmas.BoxLists.{free_in_place}
-use Rattle.atlas_store.proofs.SlotLemmas.JoiningWrites.{used-inside}
+use Rattle.atlas_store.proofs.SlotLemmas.JoinWrites.{used-inside}
 use Rattle.atlas_store.proofs.SlotLemmas.SlotIds.{slot_count-none, id_of-slot}
 use Rattle.atlas_model.proofs.TreeLemmas.TreeCounts.{place_nodes}
-use Rattle.atlas_model.proofs.StepLemmas.StepKeeping.{placing_sound}
-use Rattle.atlas_store.proofs.StoreLemmas.Choosing.{rest-free}
+use Rattle.atlas_model.proofs.StepLemmas.SoundSteps.{placing_sound}
+use Rattle.atlas_store.proofs.StoreLemmas.PickedSlots.{rest-free}
 use Rattle.atlas_store.proofs.StoreLemmas.UnusedCounts.{unused_list-count}
 use Rattle.atlas_tree.proofs.PlanLemmas.PlannedTrees.{IsPlacing, planned-tree, planned-used, need-read}
 use Rattle.atlas_tree.proofs.PlanLemmas.PlannedSlots.{planned-first, planned-unused}
-use Rattle.atlas_allocator.proofs.AtlasLemmas.CuttingFromLists.{sides_of-size, unsigned_of}
+use Rattle.atlas_allocator.proofs.AtlasLemmas.UnsignedRectangles.{sides_of-size, unsigned_of}
 use Rattle.atlas_tree.proofs.PlanLemmas.ChosenSlots.{chosen-inside, chosen-exact, chosen-fits}
 use Rattle.atlas_model.proofs.StepLemmas.CallerSteps.{grant_adds}
 use Rattle.atlas_store.proofs.WalkLemmas.NamedSlots.{named-true, named-IsAtlas}
-use Rattle.atlas_store.proofs.WalkLemmas.Observing.{nodes-short, members-IsAtlas, tree_of-IsAtlas, used-IsAtlas}
+use Rattle.atlas_store.proofs.WalkLemmas.StoredAtlas.{nodes-short, members-IsAtlas, tree_of-IsAtlas, used-IsAtlas}
 
 -- The state after a placing, of its parts.
 state-placed : (new old : State) (f : Box) (r : Sides) (id : ℕ) → new.tree ≡ place old.size f r id old.tree

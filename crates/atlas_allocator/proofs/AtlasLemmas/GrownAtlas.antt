@@ -29,16 +29,16 @@ use Rattle.atlas_tree.specs.declared.growth.Growth.{Growth}
 use Rattle.std.specs.Prelude.{Result}
 use Rattle.atlas_model.specs.Trees as tree
 use Rattle.atlas_store.specs.Slots.Numbered as numbered
-use Rattle.atlas_store.proofs.SlotLemmas.Reading.{tree_of-Stands}
+use Rattle.atlas_store.proofs.SlotLemmas.ReadTrees.{tree_of-Stands}
 use Rattle.atlas_store.proofs.SlotLemmas.Normal.{numbers-erase}
 use Rattle.atlas_store.proofs.StoreLemmas.UnusedCounts.{unused_list-count}
 use Rattle.atlas_store.proofs.StoreLemmas.Sizes.{size_is}
 use Rattle.atlas_model.proofs.TreeLemmas.TreeBasics.{side_positive}
 use Rattle.atlas_model.proofs.TreeLemmas.TreeIdle.{nothing_live}
 use Rattle.atlas_model.proofs.TreeLemmas.TreeCounts.{grow_nodes}
-use Rattle.atlas_model.proofs.StepLemmas.StepKeeping.{growth_sound, limit_positive}
-use Rattle.atlas_allocator.proofs.AtlasLemmas.CuttingFromLists.{sides_of-size}
-use Rattle.atlas_store.proofs.WalkLemmas.Observing.{nodes-below, nonempty-total, one_leaf, tree_of-IsAtlas}
+use Rattle.atlas_model.proofs.StepLemmas.SoundSteps.{growth_sound, limit_positive}
+use Rattle.atlas_allocator.proofs.AtlasLemmas.UnsignedRectangles.{sides_of-size}
+use Rattle.atlas_store.proofs.WalkLemmas.StoredAtlas.{nodes-below, nonempty-total, one_leaf, tree_of-IsAtlas}
 
 -- A tree of one free leaf has nothing live.
 one_free-idle : (size : Sides) (t : Tree) → is_one_free t.members ≡ true → live size t ≡ []

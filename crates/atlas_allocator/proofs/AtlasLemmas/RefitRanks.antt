@@ -19,7 +19,7 @@ use Rattle.atlas_model.specs.States.{State, live_in}
 use Rattle.atlas_model.specs.Trees.{Grant}
 use Rattle.atlas_model.specs.declared.allocation.Allocation.{Allocation}
 use Rattle.atlas_model.proofs.TreeLemmas.BoxLists.{same_grant, same_grant-itself, same_grant-true}
-use Rattle.atlas_model.proofs.ListLemmas.Counting.{count_by-cons, permuted_from_counts}
+use Rattle.atlas_model.proofs.ListLemmas.ListCounts.{count_by-cons, permuted_from_counts}
 use Rattle.atlas_model.proofs.TreeLemmas.TreeBasics.{one_if}
 
 abbrev slot_of : Grant → ℕ

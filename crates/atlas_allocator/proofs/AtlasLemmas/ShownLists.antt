@@ -15,7 +15,7 @@ use Rattle.atlas_store.specs.declared.slots.Slot.{Slot}
 use Rattle.std.proofs.Common.{Err}
 use Rattle.atlas_store.specs.declared.slots.NodeKind.TheVariants as kind
 use Rattle.atlas_store.proofs.SlotLemmas.SlotAreas.{Stands-exact}
-use Rattle.atlas_store.proofs.WalkLemmas.Observing.{live-IsAtlas, free-IsAtlas, nodes-short}
+use Rattle.atlas_store.proofs.WalkLemmas.StoredAtlas.{live-IsAtlas, free-IsAtlas, nodes-short}
 
 -- What is equal to what a list shows shows it too.
 pub listed : {X E L : Type 0} (items : X → L) (P : L → Type 0) (l : L) (r : Result X E) → IfOk r (λ x. items x ≡ l)

@@ -1,6 +1,7 @@
 //! A request, as `allocate` and a rearrangement make it.
-ghost use Rattle.std.specs.Prelude.{◌≡◌, ◌≢◌, Err, IfOk, IfSome, None, Ok, OnErr};
+ghost use Rattle.std.specs.Prelude.{◌≡◌, ◌≢◌, ◌<◌, ◌⊎◌, Err, IfOk, IfSome, None, Ok, OnErr};
 ghost use Rattle.atlas_model.specs.Callers.{IsAnswer};
+ghost use Rattle.atlas_model.specs.Choice.{rounded};
 ghost use Rattle.atlas_model.specs.Pixels.{sides_of};
 ghost use Rattle.atlas_model.specs.Replies.{allocate_reply, IsExact};
 ghost use Rattle.atlas_model.specs.States.{IsSound};
@@ -27,6 +28,8 @@ impl<A: Allocator + Copy> AtlasAllocator<A> {
         ensures slots { UsesAtMost 4 self.old self.new }
         ensures memory { HasReserve 4 self.old → result ≢ Err AtlasError.Memory }
         ensures answer { IsAnswer (state_of self.old) requested_size result }
+        ensures past { (2147483647 < (rounded (state_of self.old).options (sides_of requested_size)).width)
+            ⊎ (2147483647 < (rounded (state_of self.old).options (sides_of requested_size)).height) → result ≡ Ok None }
         ensures sound { IsSound (state_of self.old) }
         ensures first { AreFirstGenerations self.old → AreFirstGenerations self.new }
     {

@@ -1,5 +1,5 @@
 //! What a cache reports about itself: how it was made, how it was used, and the areas of its pages.
-ghost use Rattle.std.specs.Prelude.{◌≡◌, slice_get, IfOk, IsOkUnless};
+ghost use Rattle.std.specs.Prelude.{◌≡◌, ◌≤◌, length, slice_get, IfOk, IsOkUnless, None, Ok};
 ghost use Rattle.atlas_cache.specs.Asking.{AreUsable};
 ghost use Rattle.atlas_cache.specs.Repacking.{free_by_page, live_by_page};
 ghost use Rattle.atlas_cache.specs.Usable.{unusable_by_page};
@@ -21,8 +21,9 @@ impl<K: Copy + Eq + Hash, S: BuildHasher, A: Allocator + Copy> TextureCache<K, S
         self.rooms.options()
     }
 
-    /// How often `get` found its key and how often it didn't, and how many entries were evicted, since the cache was
-    /// made.
+    /// How often `get` or `insert` found a key held, how often `get` didn't, and how many entries were evicted, since the
+    /// cache was made. So hits by hits and misses together is the hit rate of a loop that calls `insert` where `get` finds
+    /// nothing. In one that calls `insert` alone there are no misses: the hit rate is hits by calls.
     pub fn statistics(&self) -> Counts
         ensures { result ≡ self.now.counts }
     {
@@ -68,6 +69,7 @@ impl<K: Copy + Eq + Hash, S: BuildHasher, A: Allocator + Copy> TextureCache<K, S
     pub fn unusable_area(&self, page: u32, size: Size) -> Result<Option<u64>, CacheError>
         ensures area { IfOk result (λ lost. lost
             ≡ slice_get (unusable_by_page self.now.options size self.now.pages) page) }
+        ensures absent { length self.now.pages ≤ page → result ≡ Ok None }
         ensures unless { IsOkUnless result CacheError.Memory }
     {
         if page < self.rooms.len() {

@@ -4,12 +4,12 @@ ghost use Rattle.guillotiere.specs.Boxes.{Fits, IsPositive};
 ghost use Rattle.guillotiere.specs.Callers.{AddsBox, IsAnswer, KeepsFrame};
 ghost use Rattle.guillotiere.specs.Pages.{HasRoomFor};
 ghost use Rattle.guillotiere.specs.Pixels.{box_of, sides_of};
-ghost use Rattle.guillotiere.specs.Replies.{IsExact};
+ghost use Rattle.guillotiere.specs.Replies.{grant_of, IsExact};
 ghost use Rattle.guillotiere.specs.Reserves.{HasReserve, UsesAtMost};
 ghost use Rattle.guillotiere.specs.States.{IsSound};
 ghost use Rattle.guillotiere.specs.Steps.{Step};
 ghost use Rattle.guillotiere.specs.Steps.AtlasCall.{Allocate};
-ghost use Rattle.guillotiere.specs.Steps.AtlasReply.{Refused};
+ghost use Rattle.guillotiere.specs.Steps.AtlasReply.{Allocated, Refused};
 ghost use Rattle.guillotiere.specs.Stored.{state_of};
 
 use guillotiere::{Allocation, AtlasAllocator, AtlasError, Size};
@@ -49,6 +49,8 @@ pub fn ask<A: Allocator + Copy>(
     ensures refused { OnErr result (page.new ≡ page.old) }
     ensures step { IfErr result (λ error. Step (state_of page.old) (Allocate (sides_of asked)) (Refused error)
         (state_of page.new)) }
+    ensures grants { IfOk result (λ granted. IfSome granted (λ a.
+        Step (state_of page.old) (Allocate (sides_of asked)) (Allocated (grant_of a)) (state_of page.new))) }
     ensures sound { IsSound (state_of page.new) }
     ensures frame { KeepsFrame (state_of page.old) (state_of page.new) }
     ensures slots { UsesAtMost 4 page.old page.new }

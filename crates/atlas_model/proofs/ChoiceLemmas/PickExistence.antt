@@ -7,7 +7,7 @@ use Rattle.atlas_model.specs.Boxes.{Sides, Box, box_sides, Fits, IsPositive}
 use Rattle.atlas_model.specs.Choice.{Options, rounded, class_of, least_margin, HasEqualSide, IsFitting, IsCandidate, HasBetterMargin, IsBest, ComesFirst, IsPick, HasRoom, HasNoRoom}
 use Rattle.atlas_model.specs.Laws.StepLaws.{PicksExist, SmallerFits}
 use Rattle.atlas_model.proofs.TreeLemmas.TreeIds.{Contains-first, Contains-later, Contains-none, Contains-cons_cases}
-use Rattle.atlas_model.proofs.ChoiceLemmas.Rounding.{rounded_monotone}
+use Rattle.atlas_model.proofs.ChoiceLemmas.RoundedSides.{rounded_monotone}
 
 -- The first key that differs is smaller.
 abbrev KeysAtMost : {X : Type 0} → List (X → ℕ) → X → X → Type 0

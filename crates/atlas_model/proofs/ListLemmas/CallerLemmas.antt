@@ -5,7 +5,7 @@ use Rattle.std.proofs.lemmas.List.Sorted.{sum_by-IsPermutation, Contains-permuta
 use Rattle.std.specs.List.{count_by, filter, find}
 use Rattle.atlas_model.proofs.TreeLemmas.TreeBasics.{one_if}
 use Rattle.atlas_model.proofs.TreeLemmas.TreeIds.{Contains-first, Contains-later, Contains-none, Contains-cons_cases}
-use Rattle.atlas_model.proofs.ListLemmas.Counting.{count_by-cons, count_some, counted_once}
+use Rattle.atlas_model.proofs.ListLemmas.ListCounts.{count_by-cons, count_some, counted_once}
 
 module _ {X : Type 0} where
   -- What a list has once one of its members was set.

@@ -4,7 +4,7 @@ use Rattle.std.proofs.lemmas.List.Sums.{sum_by-cons}
 use Rattle.std.specs.List.{count_by, sum_by}
 use Rattle.std.specs.Prelude.{nat_lt}
 use Rattle.atlas_model.proofs.TreeLemmas.TreeBasics.{one_if}
-use Rattle.atlas_model.proofs.ListLemmas.Counting.{count_by-cons}
+use Rattle.atlas_model.proofs.ListLemmas.ListCounts.{count_by-cons}
 
 module _ {X : Type 0} (f : X → ℕ) where
   abbrev above : ℕ → X → Bool

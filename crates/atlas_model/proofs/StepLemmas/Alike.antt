@@ -23,7 +23,7 @@ use Rattle.atlas_model.proofs.StepLemmas.StepEffects.{picks_are_one}
 use Rattle.atlas_model.proofs.TreeLemmas.TreeIds.{Contains-first, Contains-later, Contains-none, Contains-cons_cases, unused-absent}
 use Rattle.atlas_model.proofs.TreeLemmas.TreeKept.{ids-nf, ids-grown}
 use Rattle.atlas_model.proofs.TreeLemmas.TreePuts.{ids-put}
-use Rattle.atlas_model.proofs.TreeLemmas.Renaming.{agreeing_renamed, ids-renamed, nodes-renamed, free_renamed, need_renamed, grown_renamed, place_renamed, release_renamed, with_name-itself, with_name-other}
+use Rattle.atlas_model.proofs.TreeLemmas.RenamedTrees.{agreeing_renamed, ids-renamed, nodes-renamed, free_renamed, need_renamed, grown_renamed, place_renamed, release_renamed, with_name-itself, with_name-other}
 
 -- The ids after a change.
 

@@ -19,10 +19,10 @@ use Rattle.atlas_model.specs.declared.error.AtlasError.{AtlasError}
 use Rattle.atlas_model.specs.declared.error.AtlasError.TheVariants.{Memory, Slots, NotLive}
 use Rattle.atlas_model.proofs.StepLemmas.CallerSteps.{grant_adds}
 use Rattle.atlas_model.proofs.StepLemmas.LiveBoxes.{sound_is_tiled}
-use Rattle.atlas_model.proofs.StepLemmas.LyingApart.{live_lie_within}
-use Rattle.atlas_model.proofs.StepLemmas.Refitting.{sides_at}
+use Rattle.atlas_model.proofs.StepLemmas.ApartBoxes.{live_lie_within}
+use Rattle.atlas_model.proofs.StepLemmas.RefittedTrees.{sides_at}
 use Rattle.atlas_model.proofs.StepLemmas.StepEffects.{grants_lie_inside}
-use Rattle.atlas_model.proofs.StepLemmas.StepKeeping.{steps_keep}
+use Rattle.atlas_model.proofs.StepLemmas.SoundSteps.{steps_keep}
 use Rattle.atlas_model.proofs.TreeLemmas.TreeCounts.{release_nodes}
 use Rattle.atlas_model.proofs.TreeLemmas.TreeIds.{Contains-first}
 

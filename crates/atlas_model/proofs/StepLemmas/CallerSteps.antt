@@ -13,11 +13,11 @@ use Rattle.atlas_model.specs.Steps.AtlasCall.{Allocate, Deallocate, Grow}
 use Rattle.atlas_model.specs.Steps.AtlasReply.{Allocated, NoRoom, Done, Refused, BadCall}
 use Rattle.atlas_model.specs.Trees.{Grant}
 use Rattle.atlas_model.proofs.StepLemmas.StepEffects.{grants_lie_inside, freeings_remove_one, growths_keep_boxes, refusals_change_nothing}
-use Rattle.atlas_model.proofs.StepLemmas.StepKeeping.{steps_keep, freeing_sound}
+use Rattle.atlas_model.proofs.StepLemmas.SoundSteps.{steps_keep, freeing_sound}
 use Rattle.atlas_model.proofs.TreeLemmas.TreeLive.{live_release}
 use Rattle.atlas_model.proofs.ListLemmas.CallerLemmas.{find-filter_gone, find-filter_kept}
 use Rattle.atlas_model.proofs.StepLemmas.LiveBoxes.{is_for, live_have_boxes, unlive_box, granted_unused, granted_live, granted_here, granted_others, granted_boxes, granted_count, freed_box, freed_others, freed_count}
-use Rattle.atlas_model.proofs.StepLemmas.Guarding.{guarded_grant, guarded_freeing, guarded_growth}
+use Rattle.atlas_model.proofs.StepLemmas.GuardedBoxes.{guarded_grant, guarded_freeing, guarded_growth}
 
 -- An unchanged state keeps what is live.
 same_keeps : (old new : State) → IsSound old → new ≡ old → KeepsLive old new

@@ -19,10 +19,10 @@ use Rattle.atlas_model.specs.Trees.Members.{End, Free, Alloc, Seq}
 use Rattle.atlas_model.specs.declared.error.AtlasError.TheVariants.{Slots, NotLive}
 use Rattle.std.specs.List.{Contains}
 use Rattle.std.proofs.lemmas.List.{length-append}
-use Rattle.atlas_model.proofs.ListLemmas.Counting.{count_by-cons}
+use Rattle.atlas_model.proofs.ListLemmas.ListCounts.{count_by-cons}
 use Rattle.atlas_model.proofs.ChoiceLemmas.PickExistence.{picks_exist, room_or_none}
 use Rattle.atlas_model.proofs.StepLemmas.RefitOrders.{refit_order}
-use Rattle.atlas_model.proofs.ChoiceLemmas.Rounding.{up_least, up_multiple}
+use Rattle.atlas_model.proofs.ChoiceLemmas.RoundedSides.{up_least, up_multiple}
 use Rattle.atlas_model.proofs.TreeLemmas.TreeBasics.{one_if, free_among, free_among-seq}
 use Rattle.atlas_model.proofs.TreeLemmas.TreeIds.{Contains-first, Contains-later, Contains-none, Contains-cons_cases}
 

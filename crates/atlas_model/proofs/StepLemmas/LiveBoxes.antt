@@ -15,9 +15,9 @@ use Rattle.atlas_model.specs.Replies.{live_box}
 use Rattle.atlas_model.specs.States.{State, live_in, IsLive, IsSound}
 use Rattle.atlas_model.specs.Trees.{Grant, ids}
 use Rattle.atlas_model.proofs.TreeLemmas.TreeIds.{Contains-first}
-use Rattle.atlas_model.proofs.ListLemmas.Counting.{count_some, split_at, IsSplitAt}
+use Rattle.atlas_model.proofs.ListLemmas.ListCounts.{count_some, split_at, IsSplitAt}
 use Rattle.atlas_model.proofs.TreeLemmas.BoxLists.{count_live}
-use Rattle.atlas_model.proofs.StepLemmas.RunKeeping.{runs_keep_order}
+use Rattle.atlas_model.proofs.StepLemmas.RunOrder.{runs_keep_order}
 use Rattle.atlas_model.proofs.ListLemmas.CallerLemmas.{length-permutation, find-counted, find-counted_once, find-uncounted, find-permutation, find-filter_kept, find-filter_gone, count_by-permutation}
 
 pub sound_is_tiled : SoundIsTiled

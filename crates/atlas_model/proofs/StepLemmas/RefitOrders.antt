@@ -10,7 +10,7 @@ use Rattle.atlas_model.specs.Boxes.{Sides}
 use Rattle.atlas_model.specs.Refits.{Precedes, IsRanked, IsRefitOrder}
 use Rattle.atlas_model.specs.Trees.{Tree, Grant, live, IsWellFormed}
 use Rattle.atlas_model.proofs.TreeLemmas.BoxLists.{count_live}
-use Rattle.atlas_model.proofs.ListLemmas.Counting.{count_by-cons, count_some}
+use Rattle.atlas_model.proofs.ListLemmas.ListCounts.{count_by-cons, count_some}
 use Rattle.atlas_model.proofs.TreeLemmas.TreeBasics.{one_if}
 
 -- The two grants have other slot numbers.

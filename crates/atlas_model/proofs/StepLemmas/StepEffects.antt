@@ -20,13 +20,13 @@ use Rattle.atlas_model.specs.Steps.{AtlasCall, AtlasReply, Step, Grants, Rearran
 use Rattle.atlas_model.specs.Steps.AtlasCall.{Allocate, Deallocate, Grow}
 use Rattle.atlas_model.specs.Steps.AtlasReply.{Allocated, Done, Changed}
 use Rattle.atlas_model.specs.Trees.{Grant, grant, live, ids, slot_count}
-use Rattle.atlas_model.proofs.ListLemmas.Counting.{count_some, counted_once}
+use Rattle.atlas_model.proofs.ListLemmas.ListCounts.{count_some, counted_once}
 use Rattle.atlas_model.proofs.TreeLemmas.BoxLists.{count_live, live_few, free_in_place, free_once}
-use Rattle.atlas_model.proofs.ChoiceLemmas.Rounding.{up_least, up_below, rounded_positive, rounded_aligned, rounded_same}
-use Rattle.atlas_model.proofs.StepLemmas.Refitting.{sides_at, place_permuted, IsMovable}
+use Rattle.atlas_model.proofs.ChoiceLemmas.RoundedSides.{up_least, up_below, rounded_positive, rounded_aligned, rounded_same}
+use Rattle.atlas_model.proofs.StepLemmas.RefittedTrees.{sides_at, place_permuted, IsMovable}
 use Rattle.atlas_model.proofs.StepLemmas.Outcomes.{by_outcome}
-use Rattle.atlas_model.proofs.StepLemmas.StepKeeping.{live_movable, step_refitted}
-use Rattle.atlas_model.proofs.TreeLemmas.TreePlacing.{request_inside}
+use Rattle.atlas_model.proofs.StepLemmas.SoundSteps.{live_movable, step_refitted}
+use Rattle.atlas_model.proofs.TreeLemmas.TreePlacements.{request_inside}
 use Rattle.atlas_model.proofs.TreeLemmas.TreeRoom.{freed_has_room, grown_room}
 use Rattle.atlas_model.proofs.TreeLemmas.TreeLive.{live_release, live_grown}
 

@@ -15,7 +15,7 @@ use Rattle.atlas_model.specs.Steps.AtlasCall.{Allocate, Deallocate, Grow}
 use Rattle.atlas_model.specs.Steps.AtlasReply.{Allocated, Done}
 use Rattle.atlas_model.specs.Trees.{Tree, Grant, ids, is_one_free, IsWellFormed, IsOneFree}
 use Rattle.atlas_model.proofs.StepLemmas.Outcomes.{by_outcome}
-use Rattle.atlas_model.proofs.StepLemmas.StepKeeping.{steps_keep}
+use Rattle.atlas_model.proofs.StepLemmas.SoundSteps.{steps_keep}
 use Rattle.atlas_model.proofs.TreeLemmas.TreeIds.{unused-absent}
 use Rattle.atlas_model.proofs.TreeLemmas.TreeNormal.{release-none, release-like, release-release}
 use Rattle.atlas_model.proofs.TreeLemmas.TreeUndone.{grant_undone}

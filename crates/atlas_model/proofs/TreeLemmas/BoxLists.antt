@@ -8,8 +8,8 @@ use Rattle.std.specs.List.{count_by, sum_by}
 use Rattle.atlas_model.specs.Boxes.{Sides, Box, area, covers, same_box, IsNonempty, IsWithin}
 use Rattle.atlas_model.specs.Trees.{Tree, Leaf, Grant, tree_leaves, granted, ungranted, live, free_boxes, ids}
 use Rattle.atlas_model.specs.Trees.{slot_count, IsWellFormed}
-use Rattle.atlas_model.proofs.ListLemmas.Counting.{count_by-weaker, count_by-cons}
-use Rattle.atlas_model.proofs.TreeLemmas.TreeTiling.{areas_add_up, squares_once, boxes_within}
+use Rattle.atlas_model.proofs.ListLemmas.ListCounts.{count_by-weaker, count_by-cons}
+use Rattle.atlas_model.proofs.TreeLemmas.TreeTiles.{areas_add_up, squares_once, boxes_within}
 use Rattle.atlas_model.proofs.TreeLemmas.TreeIds.{ids-live}
 
 -- The boxes of grants, and free boxes.

@@ -8,7 +8,7 @@ use Rattle.atlas_model.specs.Cuts.Cut.{Whole}
 use Rattle.atlas_model.specs.Trees.{Members, Tree, free_boxes, node_count, IsWellFormed}
 use Rattle.atlas_model.specs.Trees.Members.{End, Free, Alloc, Seq}
 use Rattle.atlas_model.proofs.TreeLemmas.TreeBasics.{one_if, free_among}
-use Rattle.atlas_model.proofs.TreeLemmas.TreePlacing.{hits, hits-free, hits-seq, hits_once}
+use Rattle.atlas_model.proofs.TreeLemmas.TreePlacements.{hits, hits-free, hits-seq, hits_once}
 use Rattle.atlas_model.specs.Laws.TreeLaws.{MembersAreCounted}
 
 -- Placings

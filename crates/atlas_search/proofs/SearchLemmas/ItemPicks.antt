@@ -18,9 +18,9 @@ use Rattle.atlas_model.specs.Pixels.{box_of}
 use Rattle.atlas_search.specs.Ranks.{no_rank}
 use Rattle.atlas_search.specs.Searches.{Shown, shown_at, FitsOnlyFrom, AreOfClass, IsBestShown}
 use Rattle.atlas_search.proofs.SearchLemmas.BandLaws.{band_below}
-use Rattle.atlas_search.proofs.SearchLemmas.Showing.{item-read}
+use Rattle.atlas_search.proofs.SearchLemmas.ShownItems.{item-read}
 use Rattle.atlas_search.proofs.SearchLemmas.Windows.{below-class, class-below, class-from}
-use Rattle.atlas_search.proofs.SearchLemmas.Picking.{pick_of_class}
+use Rattle.atlas_search.proofs.SearchLemmas.Picks.{pick_of_class}
 
 -- A free entry is one of the list.
 pub free-inside : {E : Type 0} (item : E → Item) (xs : List E) (i : ℕ) → (item_at (map item xs) i).is_free ≡ true

@@ -9,7 +9,7 @@ use Rattle.atlas_search.specs.Numbers.{occurs, same}
 use Rattle.atlas_search.specs.Piles.{IsAbove, IsPile, Pile, members, pile_tag}
 use Rattle.atlas_search.specs.Piles.Pile.{None, Top}
 use Rattle.atlas_search.proofs.Occurrences.{same-self, same-ne}
-use Rattle.atlas_search.proofs.SearchLemmas.Piling.{HasTop, occurs-top, pile-frame}
+use Rattle.atlas_search.proofs.SearchLemmas.Piles.{HasTop, occurs-top, pile-frame}
 
 -- The top i of a pile is gone, and the top j of its right side takes its place.
 module _ (es fs gs : List Item) (depth bits i t tag : ℕ) (left right less : Pile)

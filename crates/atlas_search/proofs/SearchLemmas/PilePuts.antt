@@ -9,7 +9,7 @@ use Rattle.atlas_search.specs.Numbers.{occurs, same}
 use Rattle.atlas_search.specs.Piles.{IsAbove, IsPile, Pile, members, pile_tag}
 use Rattle.atlas_search.specs.Piles.Pile.{None, Top}
 use Rattle.atlas_search.proofs.Occurrences.{same-self, same-ne}
-use Rattle.atlas_search.proofs.SearchLemmas.Piling.{first-self, first-then, occurs-top, pile-frame}
+use Rattle.atlas_search.proofs.SearchLemmas.Piles.{first-self, first-then, occurs-top, pile-frame}
 
 -- Slot `fresh` is put into a pile, whose top was i: of the two `upper` is the top now, and `lower` was put below it to the right.
 module _ (es fs gs : List Item) (depth bits t i upper lower fresh : ℕ) (left right grown : Pile)

@@ -12,9 +12,9 @@ use Rattle.atlas_search.specs.Items.{Item, item_at, item_sides}
 use Rattle.atlas_search.specs.Lookups.{AreLeft, AreListed, AreNoneApart, FitsItemsFrom, IsItemBelow}
 use Rattle.atlas_search.specs.Masks.{has, IsMarked}
 use Rattle.atlas_search.specs.Tables.{is_used_at}
-use Rattle.atlas_search.proofs.SearchLemmas.Adding.{positive-at, used-at}
+use Rattle.atlas_search.proofs.SearchLemmas.AddedLists.{positive-at, used-at}
 use Rattle.atlas_search.proofs.SearchLemmas.BandLaws.{band_below, band_mono, class_of-most, start_mono, window_law}
-use Rattle.atlas_search.proofs.SearchLemmas.SearchingBefore.{KeepsFrom, marked-from, or_left, or_right}
+use Rattle.atlas_search.proofs.SearchLemmas.SearchesBefore.{KeepsFrom, marked-from, or_left, or_right}
 
 -- Each used list from a place on reaches this row or column.
 abbrev pub AreReaching : List ListHead → (own : Place) → (least : ℕ) → Type 0

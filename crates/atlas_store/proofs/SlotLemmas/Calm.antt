@@ -12,8 +12,8 @@ use Rattle.atlas_store.specs.Slots.Standing.{Sequence, Standing, Stands, inside}
 use Rattle.atlas_store.specs.Slots.Calm.{IsCalmAt, IsCalmBut, NoneEmpty}
 use Rattle.atlas_store.proofs.SlotLemmas.Frames.{same-self, ne-from_same}
 use Rattle.atlas_store.proofs.SlotLemmas.Suffixes.{suffix-at}
-use Rattle.atlas_store.proofs.SlotLemmas.Joining.{IsJoinOf}
-use Rattle.atlas_store.proofs.SlotLemmas.Lifting.{IsLiftOf}
+use Rattle.atlas_store.proofs.SlotLemmas.Joins.{IsJoinOf}
+use Rattle.atlas_store.proofs.SlotLemmas.Lifts.{IsLiftOf}
 
 begins-kind : (ns : List Node) (s : Sequence) (b p : ℕ) (n : Numbered) → Standing ns s b p n
     → begins_free (erase n) ≡ true → (node_at ns (first_slot n)).kind ≡ kind.Free

@@ -14,7 +14,7 @@ use Rattle.atlas_store.specs.Slots.Standing.{Sequence, Standing, Stands, inside,
 use Rattle.atlas_model.specs.Replies.{grant_of}
 use Rattle.atlas_store.specs.Visits.{is_alloc, allocated_from, free_areas}
 use Rattle.atlas_model.proofs.TreeLemmas.TreeBasics.{one_if, live_among, free_among, live_among-seq, free_among-seq}
-use Rattle.atlas_model.proofs.ListLemmas.Counting.{count_by-cons, count_by-append}
+use Rattle.atlas_model.proofs.ListLemmas.ListCounts.{count_by-cons, count_by-append}
 use Rattle.atlas_store.proofs.SlotLemmas.SlotSums.{slot_sum, weigh-Stands}
 use Rattle.atlas_store.proofs.SlotLemmas.Spots.{moved-spot, spot-other}
 

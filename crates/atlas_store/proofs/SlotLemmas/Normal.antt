@@ -9,8 +9,8 @@ use Rattle.atlas_model.specs.Changes.{nf, mark, only}
 use Rattle.atlas_store.specs.Slots.Numbered.{Numbered, tally, is_free_at, is_seq_at, marked, joined, lifted, erase, id_of, numbers, End, Free, Alloc, Seq}
 use Rattle.atlas_store.specs.Slots.Standing.{Sequence, Standing, inside}
 use Rattle.atlas_store.proofs.SlotLemmas.Frames.{same-self}
-use Rattle.atlas_store.proofs.SlotLemmas.Marking.{marked-absent}
-use Rattle.atlas_store.proofs.SlotLemmas.Editing.{IsCarried, edited-keeps, joining, lifting}
+use Rattle.atlas_store.proofs.SlotLemmas.MarkedLeaves.{marked-absent}
+use Rattle.atlas_store.proofs.SlotLemmas.Edits.{IsCarried, edited-keeps, joining, lifting}
 use Rattle.atlas_model.proofs.TreeLemmas.TreeNormal.{free_before-twice}
 
 -- A member that keeps its normal form keeps that of the whole.

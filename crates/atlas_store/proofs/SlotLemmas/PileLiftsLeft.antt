@@ -20,7 +20,7 @@ use Rattle.atlas_store.specs.Slots.{blank_ring, nodes, node_at, rings, ring_at}
 use Rattle.atlas_store.specs.Slots.Picks.{item_of, node_box}
 use Rattle.atlas_store.specs.Slots.Piles.{HasRemoved, IsEntry, IsHeap, box_under, items_of}
 use Rattle.atlas_search.proofs.Occurrences.{same-self}
-use Rattle.atlas_search.proofs.SearchLemmas.Piling.{HasTop, first-then, high-in, high-once, low-in, low-once, none-of, occurs-top, top-first, top-of, top-solid}
+use Rattle.atlas_search.proofs.SearchLemmas.Piles.{HasTop, first-then, high-in, high-once, low-in, low-once, none-of, occurs-top, top-first, top-of, top-solid}
 use Rattle.atlas_search.proofs.SearchLemmas.PileLifts.{pile-lifted_left, pile-lifted_right, has-lifted_left, has-lifted_right}
 use Rattle.atlas_store.proofs.SlotLemmas.PileLifts.{bits-left, heap-first, heap-left, heap-right, next-is, no-entry, previous-is, t}
 use Rattle.atlas_store.proofs.StoreLemmas.SlotLists.{area-is, item-is}

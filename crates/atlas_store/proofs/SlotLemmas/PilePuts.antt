@@ -20,7 +20,7 @@ use Rattle.atlas_store.specs.Slots.{blank_ring, nodes, node_at, rings, ring_at}
 use Rattle.atlas_store.specs.Slots.Picks.{item_of, node_box}
 use Rattle.atlas_store.specs.Slots.Piles.{CanInsert, HasInserted, items_of}
 use Rattle.atlas_search.proofs.Occurrences.{same-self}
-use Rattle.atlas_search.proofs.SearchLemmas.Piling.{HasTop, high-in, high-once, low-in, low-once, none-of, occurs-top, top-of, top-solid}
+use Rattle.atlas_search.proofs.SearchLemmas.Piles.{HasTop, high-in, high-once, low-in, low-once, none-of, occurs-top, top-of, top-solid}
 use Rattle.atlas_search.proofs.SearchLemmas.PilePuts.{pile-put_left, pile-put_right, has-put_left, has-put_right}
 use Rattle.atlas_store.proofs.StoreLemmas.SlotLists.{area-is, item-is}
 

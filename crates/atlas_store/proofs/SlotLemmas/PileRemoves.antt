@@ -22,7 +22,7 @@ use Rattle.atlas_store.specs.Slots.Piles.{HasRemoved, IsEntry, IsHeap, box_under
 use Rattle.std.proofs.lemmas.Bool.{cases_eq}
 use Rattle.atlas_search.proofs.Occurrences.{same-ne, same-self}
 use Rattle.atlas_search.specs.Piles.{IsAbove}
-use Rattle.atlas_search.proofs.SearchLemmas.Piling.{HasTop, first-then, high-in, high-once, low-in, low-once, none-of, occurs-top, top-first, pile-frame, top-of, top-solid}
+use Rattle.atlas_search.proofs.SearchLemmas.Piles.{HasTop, first-then, high-in, high-once, low-in, low-once, none-of, occurs-top, top-first, pile-frame, top-of, top-solid}
 use Rattle.atlas_search.proofs.SearchLemmas.PileLifts.{pile-lifted_left, pile-lifted_right, has-lifted_left, has-lifted_right}
 use Rattle.atlas_store.proofs.SlotLemmas.PileLifts.{bits-left, bits-right, heap-left, heap-right, next-is, no-entry, previous-is, t}
 use Rattle.atlas_store.proofs.StoreLemmas.SlotLists.{area-is, item-is}

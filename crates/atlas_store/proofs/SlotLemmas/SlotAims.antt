@@ -13,7 +13,7 @@ use Rattle.atlas_search.specs.Numbers.{no_slot}
 use Rattle.atlas_store.specs.Slots.Numbered.{Numbered, erase, End, Free, Alloc, Seq}
 use Rattle.atlas_store.specs.Slots.Standing.{Sequence, Standing, Stands, inside, member_box, spot}
 use Rattle.atlas_model.proofs.TreeLemmas.TreeBasics.{one_if, same_box-itself, free_among}
-use Rattle.atlas_model.proofs.TreeLemmas.TreePlacing.{hits, hits-seq, hits-free, hits_once}
+use Rattle.atlas_model.proofs.TreeLemmas.TreePlacements.{hits, hits-seq, hits-free, hits_once}
 use Rattle.atlas_store.proofs.SlotLemmas.Weights.{free_tally, free_once}
 use Rattle.atlas_store.proofs.SlotLemmas.Spots.{moved-spot, spot-other, spot-origin}
 

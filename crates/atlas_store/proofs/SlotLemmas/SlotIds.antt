@@ -13,7 +13,7 @@ use Rattle.atlas_search.specs.Numbers.{no_slot, same}
 use Rattle.atlas_store.specs.Slots.Numbered.{Numbered, tally, erase, id_of, End, Free, Alloc, Seq}
 use Rattle.atlas_store.specs.Slots.Standing.{Sequence, Standing, Stands, inside}
 use Rattle.atlas_store.proofs.SlotLemmas.Frames.{same-self, same-ne, split_pos}
-use Rattle.atlas_store.proofs.SlotLemmas.JoiningWrites.{used-inside}
+use Rattle.atlas_store.proofs.SlotLemmas.JoinWrites.{used-inside}
 use Rattle.atlas_model.proofs.TreeLemmas.TreeBasics.{one_if}
 use Rattle.atlas_model.proofs.TreeLemmas.TreeIds.{Contains-first, Contains-later, Contains-none, Contains-cons_cases}
 use Rattle.atlas_store.proofs.SlotLemmas.Weights.{alloc_tally}

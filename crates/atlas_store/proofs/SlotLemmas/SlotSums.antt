@@ -7,7 +7,7 @@ use Rattle.atlas_store.specs.Slots.Numbered.{Numbered, weigh, tally, End, Free, 
 use Rattle.atlas_search.specs.Numbers.{same}
 use Rattle.atlas_store.specs.Slots.Standing.{Sequence, Stands}
 use Rattle.atlas_store.proofs.SlotLemmas.Frames.{same-self, same-ne}
-use Rattle.atlas_store.proofs.SlotLemmas.JoiningWrites.{used-inside}
+use Rattle.atlas_store.proofs.SlotLemmas.JoinWrites.{used-inside}
 
 -- The sum of w over slots that are numbered from i on.
 abbrev pub slot_sum : (ℕ → Node → ℕ) → ℕ → List Node → ℕ

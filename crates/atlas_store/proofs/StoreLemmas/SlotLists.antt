@@ -19,7 +19,7 @@ use Rattle.atlas_search.specs.Tables.{head_of, low_of}
 use Rattle.atlas_search.specs.declared.link.Link.{Link}
 use Rattle.atlas_search.specs.Piles.{IsListed, IsPile}
 use Rattle.atlas_store.proofs.SlotLemmas.Entries.{entries-of}
-use Rattle.atlas_store.proofs.StoreLemmas.Filing.{list_for, listed-own, listed-list, listed-kind, listed-one, free_kind}
+use Rattle.atlas_store.proofs.StoreLemmas.FiledSlots.{list_for, listed-own, listed-list, listed-kind, listed-one, free_kind}
 use Rattle.atlas_search.proofs.SearchLemmas.BandLaws.{list_of-most}
 
 -- The entries of slots.

@@ -25,11 +25,11 @@ use Rattle.atlas_store.specs.Slots.Links.{with_mark, with_count, given_back, IsT
 use Rattle.atlas_search.specs.Rectangles.{IsSolid}
 use Rattle.atlas_store.specs.Stored.{Shelf, Holding, Holds, HoldsWith, IsDetachedOnly, places_of}
 use Rattle.atlas_store.specs.Store.Holdings.{node_in, IsLow, IsDetachedLeaf, after_take, after_mark, after_join, after_lift, after_place}
-use Rattle.atlas_store.proofs.StoreLemmas.Filing.{AreFiled-sharpened, with_mark-same, with_mark-other, with_count-same, with_count-other}
-use Rattle.atlas_store.proofs.StoreLemmas.Taking.{AreFiled-moved, AreFiled-nodes, StaysOrIsOut}
-use Rattle.atlas_store.proofs.SlotLemmas.NumberedCuts.{IsRecut, recut-marked, recut-joined, recut-lifted, recut-planned}
-use Rattle.atlas_store.proofs.SlotLemmas.Placing.{Stands-placed, placed-leaf, placed-others, placed-part, untaken-unmarked, used_after}
-use Rattle.atlas_store.proofs.SlotLemmas.JoiningWrites.{none-unused}
+use Rattle.atlas_store.proofs.StoreLemmas.FiledSlots.{AreFiled-sharpened, with_mark-same, with_mark-other, with_count-same, with_count-other}
+use Rattle.atlas_store.proofs.StoreLemmas.TakenSlots.{AreFiled-moved, AreFiled-nodes, StaysOrIsOut}
+use Rattle.atlas_store.proofs.SlotLemmas.Recuts.{IsRecut, recut-marked, recut-joined, recut-lifted, recut-planned}
+use Rattle.atlas_store.proofs.SlotLemmas.PlannedLeaves.{Stands-placed, placed-leaf, placed-others, placed-part, untaken-unmarked, used_after}
+use Rattle.atlas_store.proofs.SlotLemmas.JoinWrites.{none-unused}
 use Rattle.atlas_store.specs.Slots.Picks.{AreExact}
 use Rattle.atlas_store.proofs.SlotLemmas.SlotBoxes.{slot-exact}
 

@@ -15,7 +15,7 @@ use Rattle.atlas_store.specs.Stored.{Holding, Holds, HoldsWith}
 use Rattle.atlas_store.specs.Store.Holdings.{shelf_of, node_in, HasSlotsFor, KeepsRoom, with_unused_list}
 use Rattle.atlas_store.specs.Store.StoreCalls.{AreSlotsTaken, CanCarryOut, IsSlotTaken, IsUnusedSlot, TakesSlots}
 use Rattle.atlas_store.proofs.SlotLemmas.Frames.{same-self, same-ne}
-use Rattle.atlas_store.proofs.StoreLemmas.Filing.{with_count-same, with_count-other}
+use Rattle.atlas_store.proofs.StoreLemmas.FiledSlots.{with_count-same, with_count-other}
 use Rattle.atlas_store.proofs.StoreLemmas.StoreSteps.{holds-claimed, length-nodes, length-rings}
 use Rattle.atlas_store.proofs.StoreLemmas.TakenOnce.{only-takes}
 

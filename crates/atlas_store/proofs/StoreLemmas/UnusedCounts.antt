@@ -7,8 +7,8 @@ use Rattle.atlas_store.specs.Slots.Numbered.{tally, numbers}
 use Rattle.atlas_search.specs.Numbers.{same, occurs}
 use Rattle.atlas_store.specs.Slots.Lists.{Line}
 use Rattle.atlas_store.specs.Stored.{Shelf, Holding, Holds}
-use Rattle.atlas_store.proofs.SlotLemmas.JoiningWrites.{used-inside}
-use Rattle.atlas_store.proofs.SlotLemmas.Reading.{sums, sums-add, sums-none, sums-same, tallies-numbers}
+use Rattle.atlas_store.proofs.SlotLemmas.JoinWrites.{used-inside}
+use Rattle.atlas_store.proofs.SlotLemmas.ReadTrees.{sums, sums-add, sums-none, sums-same, tallies-numbers}
 
 sums-all : (f : ℕ → ℕ) (m : ℕ) → ((i : ℕ) → i < m → f i ≡ 1) → sums f m ≡ m
 sums-all f zero one = refl

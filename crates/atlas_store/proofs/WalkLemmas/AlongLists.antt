@@ -21,7 +21,7 @@ use Rattle.atlas_store.specs.declared.slots.NodeKind.{NodeKind}
 use Rattle.atlas_store.specs.declared.slots.Slot.{Slot}
 use Rattle.atlas_store.specs.declared.slots.NodeKind.TheVariants as kind
 use Rattle.atlas_store.proofs.WalkLemmas.AreaSums.{live_areas-shown}
-use Rattle.atlas_store.proofs.SlotLemmas.JoiningWrites.{used-inside}
+use Rattle.atlas_store.proofs.SlotLemmas.JoinWrites.{used-inside}
 use Rattle.atlas_store.proofs.SlotLemmas.SlotAreas.{Stands-exact}
 use Rattle.atlas_store.proofs.SlotLemmas.SlotMeasures.{Holds-span}
 use Rattle.atlas_store.proofs.WalkLemmas.NamedSlots.{named-true, named-IsAtlas, is_alloc-true}

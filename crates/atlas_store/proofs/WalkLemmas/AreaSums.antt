@@ -27,7 +27,7 @@ use denote.Enum.Bare.{sameb}
 use Rattle.atlas_store.specs.declared.slots.NodeKind.TheVariants as kind
 use Rattle.atlas_model.proofs.TreeLemmas.BoxLists.{areas_of_boxes}
 use Rattle.atlas_model.proofs.ListLemmas.CountSums.{sum_by-counts}
-use Rattle.atlas_store.proofs.WalkLemmas.Observing.{live-IsAtlas, free-IsAtlas, tree_of-IsAtlas}
+use Rattle.atlas_store.proofs.WalkLemmas.StoredAtlas.{live-IsAtlas, free-IsAtlas, tree_of-IsAtlas}
 use Rattle.atlas_store.proofs.WalkLemmas.WalkSteps.{not_alloc, free-next, free-pass}
 
 -- One slot more.

@@ -21,14 +21,14 @@ use Rattle.atlas_store.specs.declared.slots.NodeKind.TheVariants as kind
 use Rattle.atlas_model.specs.Trees as tree
 use Rattle.atlas_store.specs.Slots.Numbered.{End}
 use Rattle.atlas_store.proofs.SlotLemmas.Frames.{same-self}
-use Rattle.atlas_store.proofs.SlotLemmas.JoiningWrites.{none-unused, used-inside}
-use Rattle.atlas_store.proofs.SlotLemmas.Reading.{HasMember, tree_of-Stands}
+use Rattle.atlas_store.proofs.SlotLemmas.JoinWrites.{none-unused, used-inside}
+use Rattle.atlas_store.proofs.SlotLemmas.ReadTrees.{HasMember, tree_of-Stands}
 use Rattle.atlas_store.proofs.SlotLemmas.Normal.{numbers-erase}
 use Rattle.atlas_model.proofs.TreeLemmas.TreeCounts.{release_nodes}
-use Rattle.atlas_model.proofs.StepLemmas.StepKeeping.{freeing_sound}
+use Rattle.atlas_model.proofs.StepLemmas.SoundSteps.{freeing_sound}
 use Rattle.atlas_store.proofs.SlotLemmas.SlotIds.{id_slot, slot_id}
 use Rattle.atlas_store.proofs.WalkLemmas.NamedSlots.{id_of-parts, is_alloc-true, named-true}
-use Rattle.atlas_store.proofs.WalkLemmas.Observing.{nodes-short, nodes-below, members-IsAtlas, nonempty-IsAtlas, tree_of-IsAtlas}
+use Rattle.atlas_store.proofs.WalkLemmas.StoredAtlas.{nodes-short, nodes-below, members-IsAtlas, nonempty-IsAtlas, tree_of-IsAtlas}
 
 -- A tree with a first slot has members.
 nonempty-first : (n : Numbered) → (first_slot n ≡ no_slot → ⊥) → HasMember n

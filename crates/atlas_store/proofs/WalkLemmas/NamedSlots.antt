@@ -20,12 +20,12 @@ use Rattle.atlas_store.specs.declared.slots.Slot.{Slot}
 use Rattle.std.specs.Prelude.{find}
 use Rattle.atlas_store.specs.declared.slots.NodeKind.TheVariants as kind
 use Rattle.atlas_model.proofs.TreeLemmas.TreeBasics.{one_if, same_box-true, same_box-itself}
-use Rattle.atlas_model.proofs.ListLemmas.Counting.{count_by-cons}
-use Rattle.atlas_store.proofs.SlotLemmas.JoiningWrites.{used-inside}
+use Rattle.atlas_model.proofs.ListLemmas.ListCounts.{count_by-cons}
+use Rattle.atlas_store.proofs.SlotLemmas.JoinWrites.{used-inside}
 use Rattle.atlas_store.proofs.SlotLemmas.SlotAreas.{Stands-exact}
 use Rattle.atlas_store.proofs.SlotLemmas.SlotSums.{slot_sum}
 use Rattle.atlas_store.proofs.SlotLemmas.LeafCounts.{alloc_weight, count-allocated}
-use Rattle.atlas_store.proofs.WalkLemmas.Observing.{live-IsAtlas}
+use Rattle.atlas_store.proofs.WalkLemmas.StoredAtlas.{live-IsAtlas}
 
 module _ {X : Type 0} where
   find-none : (p : X → Bool) (xs : List X) → find p xs ≡ None → count_by p xs ≡ 0

@@ -1,4 +1,5 @@
--- How the calls on slots and lists change what they hold. No public clause cites this module.
+-- How the calls on slots and lists change what they hold. No public clause cites this module, but for that of `store_of`,
+-- which `guillotiere` keeps to itself.
 use Rattle.std.specs.Prelude.{ℕ, ◌+◌, ◌≡◌, ◌≤◌, ◌⊎◌, Bool, true, false, List, ◌∷◌, length, vec_capacity}
 use Rattle.atlas_store.specs.declared.store.Store.{Store}
 use Rattle.atlas_store.specs.declared.store.turns.Turns.{Turns}

@@ -24,11 +24,11 @@ use Rattle.atlas_tree.specs.Plans.Planning.{IsPlanReady, IsPlanDone, IsPlanned}
 use Rattle.atlas_store.specs.Store.StoreCalls.{CanCarryOut, IsSharpened, UnlistsLeaf}
 use Rattle.atlas_store.specs.Store.Choosing.{IsAtRest, IsChosen}
 use Rattle.atlas_tree.specs.Plans.Chosen.{IsGrantable, IsGrantMade}
-use Rattle.atlas_store.proofs.StoreLemmas.Filing.{with_mark-same, with_mark-other}
+use Rattle.atlas_store.proofs.StoreLemmas.FiledSlots.{with_mark-same, with_mark-other}
 use Rattle.atlas_store.proofs.SlotLemmas.Frames.{same-ne}
-use Rattle.atlas_store.proofs.SlotLemmas.JoiningWrites.{used-inside}
+use Rattle.atlas_store.proofs.SlotLemmas.JoinWrites.{used-inside}
 use Rattle.atlas_store.proofs.SlotLemmas.FreeSlots.{exact-free}
-use Rattle.atlas_store.proofs.StoreLemmas.Choosing.{rest-free}
+use Rattle.atlas_store.proofs.StoreLemmas.PickedSlots.{rest-free}
 use Rattle.atlas_store.proofs.StoreLemmas.StoreTakes.{slots-kept}
 use Rattle.atlas_store.proofs.StoreLemmas.TakenOnce.{only-takes}
 

@@ -19,12 +19,12 @@ use Rattle.atlas_store.specs.Slots.Growing.{IsEnd, IsLone, last_slot, after_stre
 use Rattle.atlas_store.specs.Store.StoreCalls.{ListsLeaf, UnlistsLeaf}
 use Rattle.atlas_store.specs.Store.TopCalls.{IsAppended, IsEnlarged, IsExtendable, IsNested, IsStretched}
 use Rattle.atlas_tree.specs.Plans.Growths.{IsTreeOf, IsGrownHolding, IsLengthenable, IsLengthened, IsWidenable, IsWidened, strip_after, strip_need}
-use Rattle.atlas_store.proofs.StoreLemmas.Filing.{with_mark-same, with_mark-other}
-use Rattle.atlas_store.proofs.SlotLemmas.Reading.{HasMember}
-use Rattle.atlas_store.proofs.WalkLemmas.Observing.{nonempty-total}
+use Rattle.atlas_store.proofs.StoreLemmas.FiledSlots.{with_mark-same, with_mark-other}
+use Rattle.atlas_store.proofs.SlotLemmas.ReadTrees.{HasMember}
+use Rattle.atlas_store.proofs.WalkLemmas.StoredAtlas.{nonempty-total}
 use Rattle.atlas_model.proofs.TreeLemmas.TreeBasics.{side_positive}
 use Rattle.atlas_store.proofs.StoreLemmas.StoreTakes.{slots-kept, fewer-slots}
-use Rattle.atlas_store.proofs.SlotLemmas.Stretching.{first-stretched}
+use Rattle.atlas_store.proofs.SlotLemmas.Extensions.{first-stretched}
 use Rattle.atlas_tree.proofs.PlanLemmas.GrownTrees.{last-inside, erase-stretched, erase-appended, first-appended}
 
 -- A leaf that was listed, and is again.

@@ -19,8 +19,8 @@ use Rattle.atlas_store.specs.Stored.{Shelf, Holding, Holds, IsDetachedOnly}
 use Rattle.atlas_store.specs.Store.Holdings.{shelf_of, node_in, HasSlotsFor}
 use Rattle.atlas_store.specs.Slots.Growing.{IsEnd, IsSpanning, IsWider, last_slot}
 use Rattle.atlas_tree.specs.Plans.Growths.{IsGrowthOf, IsGrowable, IsGrownHolding, IsLengthenable, IsLonger, IsNeedOf, IsWidenable, IsWidenedTo, middle_of, strip_need}
-use Rattle.atlas_store.proofs.SlotLemmas.Reading.{tree-by_parts}
-use Rattle.atlas_store.proofs.WalkLemmas.Observing.{nonempty-total}
+use Rattle.atlas_store.proofs.SlotLemmas.ReadTrees.{tree-by_parts}
+use Rattle.atlas_store.proofs.WalkLemmas.StoredAtlas.{nonempty-total}
 use Rattle.atlas_model.proofs.TreeLemmas.TreeBasics.{longer_side, other_twice}
 use Rattle.atlas_model.proofs.TreeLemmas.TreeGrowth.{grown-other}
 use Rattle.atlas_tree.proofs.PlanLemmas.GrownTrees.{if_longer, if_longer-more, if_longer-not, nodes-grown_by, lengthened_to-more, lengthened_to-same, total-lengthened_to, widened-more, widened-same}

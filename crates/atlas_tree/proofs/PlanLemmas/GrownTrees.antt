@@ -15,11 +15,11 @@ use Rattle.atlas_store.specs.Slots.Numbered.{Numbered, erase, first_slot, id_of,
 use Rattle.atlas_store.specs.Slots.Standing.{Sequence, Standing, Stands}
 use Rattle.atlas_store.specs.Slots.Growing.{last_after, last_slot, with_free_after, lengthened_by, stretched, appended}
 use Rattle.atlas_tree.specs.Plans.Growths.{strip_after}
-use Rattle.atlas_store.proofs.SlotLemmas.JoiningWrites.{used-inside}
-use Rattle.atlas_store.proofs.SlotLemmas.Reading.{HasMember}
+use Rattle.atlas_store.proofs.SlotLemmas.JoinWrites.{used-inside}
+use Rattle.atlas_store.proofs.SlotLemmas.ReadTrees.{HasMember}
 use Rattle.atlas_store.proofs.SlotLemmas.Normal.{numbers-erase}
 use Rattle.atlas_model.proofs.TreeLemmas.TreeKept.{total-lengthened}
-use Rattle.atlas_store.proofs.SlotLemmas.Stretching.{extended-keeps, weigh-stretched, weigh-appended}
+use Rattle.atlas_store.proofs.SlotLemmas.Extensions.{extended-keeps, weigh-stretched, weigh-appended}
 use Rattle.atlas_store.proofs.StoreLemmas.ExtendedTrees.{last-member}
 use Rattle.atlas_model.proofs.TreeLemmas.TreeGrowth.{grown-other}
 

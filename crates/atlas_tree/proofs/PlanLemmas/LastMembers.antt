@@ -12,10 +12,10 @@ use Rattle.atlas_store.specs.Stored.{Shelf, Holding}
 use Rattle.atlas_store.specs.Store.Holdings.{node_in}
 use Rattle.atlas_store.specs.Slots.Growing.{last_after, last_slot}
 use Rattle.atlas_tree.specs.Plans.Growths.{IsTreeOf}
-use Rattle.atlas_store.proofs.SlotLemmas.JoiningWrites.{none-unused}
-use Rattle.atlas_store.proofs.WalkLemmas.Observing.{nodes-below, nonempty-total}
-use Rattle.atlas_store.proofs.SlotLemmas.Following.{outermost, outermost-few, followers, followers-outermost, begins-inside}
-use Rattle.atlas_store.proofs.SlotLemmas.Closing.{begins-none}
+use Rattle.atlas_store.proofs.SlotLemmas.JoinWrites.{none-unused}
+use Rattle.atlas_store.proofs.WalkLemmas.StoredAtlas.{nodes-below, nonempty-total}
+use Rattle.atlas_store.proofs.SlotLemmas.Followers.{outermost, outermost-few, followers, followers-outermost, begins-inside}
+use Rattle.atlas_store.proofs.SlotLemmas.MemberLinks.{begins-none}
 use Rattle.atlas_store.proofs.SlotLemmas.Frames.{ne-from_count}
 
 -- The search is at a member of n, and slot `next` begins what comes after that.

@@ -12,7 +12,7 @@ use Rattle.atlas_store.specs.Stored.{Shelf, Holding, Holds}
 use Rattle.atlas_store.specs.Store.Holdings.{node_in}
 use Rattle.atlas_tree.specs.Plans.Planning.{IsPlanned}
 use Rattle.atlas_store.proofs.SlotLemmas.Frames.{same-self}
-use Rattle.atlas_store.proofs.SlotLemmas.Placing.{first-planned, tally-planned}
+use Rattle.atlas_store.proofs.SlotLemmas.PlannedLeaves.{first-planned, tally-planned}
 use Rattle.atlas_tree.proofs.PlanLemmas.SlotPlans.{once-Stands}
 
 granted-taken : (p : Plan) (t : Parts) (i : ℕ) → (granted_by p t i ≡ i) ⊎

@@ -14,7 +14,7 @@ use Rattle.atlas_store.specs.Stored.{Shelf, Holding, Holds}
 use Rattle.atlas_store.specs.Store.Holdings.{node_in}
 use Rattle.atlas_store.specs.Slots.Placing.{slots_of}
 use Rattle.atlas_tree.specs.Plans.Planning.{IsPlanFor, IsPlanned}
-use Rattle.atlas_store.proofs.SlotLemmas.Reading.{nonempty-tally, tree_of-Stands}
+use Rattle.atlas_store.proofs.SlotLemmas.ReadTrees.{nonempty-tally, tree_of-Stands}
 use Rattle.atlas_store.proofs.SlotLemmas.SlotAims.{IsChoice, tree_in}
 use Rattle.atlas_tree.proofs.PlanLemmas.SlotPlans.{planned-placed, planned-need, planned-numbers}
 

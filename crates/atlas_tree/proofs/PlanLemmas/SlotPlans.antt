@@ -34,7 +34,7 @@ use Rattle.atlas_store.specs.Slots.Standing.{Sequence, Stands}
 use Rattle.atlas_tree.specs.Plans.Planning.{IsPlanFor}
 use Rattle.atlas_store.proofs.SlotLemmas.Frames.{same-self, used-le}
 use Rattle.atlas_store.proofs.SlotLemmas.Weights.{free_tally, free_once, places-free}
-use Rattle.atlas_store.proofs.SlotLemmas.Editing.{edited-absent}
+use Rattle.atlas_store.proofs.SlotLemmas.Edits.{edited-absent}
 use Rattle.atlas_store.proofs.SlotLemmas.Normal.{numbers-erase}
 use Rattle.atlas_model.proofs.TreeLemmas.TreeCounts.{place_nodes}
 use Rattle.atlas_store.proofs.SlotLemmas.SlotAims.{IsAim, IsChoice, IsFittingSlot, aim-choice, tree_in, place_need-choice}

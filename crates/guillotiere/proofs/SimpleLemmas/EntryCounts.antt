@@ -7,7 +7,7 @@ use Rattle.atlas_search.specs.Items.{Item, item_at, item_box, IsPath}
 use Rattle.atlas_search.specs.Numbers.{no_slot, occurs, same}
 use Rattle.guillotiere.specs.FreeBoxes.BoxShelves.{BoxShelf, AddsWhatIsUsed, AreKept, AreKeptWith, free_count, free_item_boxes}
 use Rattle.atlas_search.proofs.Occurrences.{same-self, same-ne}
-use Rattle.atlas_search.proofs.SearchLemmas.Showing.{path-inside}
+use Rattle.atlas_search.proofs.SearchLemmas.ShownItems.{path-inside}
 use Rattle.guillotiere.proofs.SimpleLemmas.FreeItems.{are-free}
 
 -- ---- one entry

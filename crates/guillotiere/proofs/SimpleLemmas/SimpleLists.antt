@@ -20,10 +20,10 @@ use Rattle.atlas_store.specs.Slots.Lists.{is_free}
 use Rattle.atlas_store.specs.Visits.{free_areas}
 use Rattle.atlas_model.specs.Simple.{kept_rest}
 use Rattle.guillotiere.specs.FreeBoxes.FreeLists.{kept_of}
-use Rattle.guillotiere.proofs.SimpleLemmas.CuttingBoxes.{count-kept}
-use Rattle.atlas_allocator.proofs.AtlasLemmas.CuttingFromLists.{unsigned-fits}
+use Rattle.guillotiere.proofs.SimpleLemmas.CutBoxes.{count-kept}
+use Rattle.atlas_allocator.proofs.AtlasLemmas.UnsignedRectangles.{unsigned-fits}
 use Rattle.atlas_store.proofs.WalkLemmas.WalkSteps.{not_free}
-use Rattle.guillotiere.proofs.SimpleLemmas.Storing.{whole_rectangle, whole-box, whole-unsigned}
+use Rattle.guillotiere.proofs.SimpleLemmas.StoredStates.{whole_rectangle, whole-box, whole-unsigned}
 use Rattle.atlas_model.proofs.SimpleLemmas.SimpleSteps.{whole-fits, whole-positive}
 
 -- The free slots, one after another.

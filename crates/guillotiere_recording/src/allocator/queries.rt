@@ -1,5 +1,5 @@
 //! What a recording allocator is asked without recording it: options, room, slots, a copy of the recording; and memory in reserve.
-ghost use Rattle.std.specs.Prelude.{◌≡◌, ◌≢◌, ◌+◌, ◌<◌, ◌↔◌, IsTrue, Err, IfOk, OnErr, OnOk, IsOkUnless};
+ghost use Rattle.std.specs.Prelude.{◌≡◌, ◌≢◌, ◌+◌, ◌^◌, ◌<◌, ◌↔◌, ◌⊎◌, IsTrue, Err, IfErr, IfOk, OnErr, OnOk, IsOkUnless};
 ghost use Rattle.guillotiere.specs.Boxes.{Fits};
 ghost use Rattle.guillotiere.specs.Choice.{AreValid, HasRoom};
 ghost use Rattle.guillotiere.specs.Pixels.{allocator_options_of, options_of, sides_of};
@@ -7,6 +7,7 @@ ghost use Rattle.guillotiere.specs.Reserves.{HasReserve};
 ghost use Rattle.guillotiere.specs.States.{free_in, used_in};
 ghost use Rattle.guillotiere.specs.Stored.{state_of};
 ghost use Rattle.guillotiere_recording.specs.Replays.{IsRecorded};
+ghost use Rattle.guillotiere_recording.specs.Resuming.{IsOwnRecording};
 
 use crate::allocator::RecordingAllocator;
 use crate::error::RecordingError;
@@ -59,6 +60,7 @@ impl<A: Allocator + Copy> RecordingAllocator<A> {
         ensures slots { (result ≡ Err RecordingError.Slots)
             ↔ ((state_of self.old.atlas).limit < used_in (state_of self.old.atlas) + additional) }
         ensures had { HasReserve additional self.old.atlas → result ≢ Err RecordingError.Memory }
+        ensures only { IfErr result (λ e. (e ≡ RecordingError.Slots) ⊎ (e ≡ RecordingError.Memory)) }
         ensures refused { OnErr result (self.new ≡ self.old) }
     {
         Ok(self.atlas.reserve(additional)?)
@@ -69,6 +71,7 @@ impl<A: Allocator + Copy> RecordingAllocator<A> {
         ensures unless { IsOkUnless result RecordingError.Memory }
         ensures same { IfOk result (λ r. r ≡ self.now.recording) }
         ensures recorded { IfOk result IsRecorded }
+        ensures own { self.now.given < 2 ^ 32 → IfOk result IsOwnRecording }
     {
         Ok(Recording::from_log(self.log.clone()?))
     }

@@ -111,10 +111,10 @@ impl<A: Allocator + Copy> AtlasAllocator<A> {
     }
 
     /// Grants a request: a rectangle of the rounded size, at the `min` of the free rectangle that is picked. None if the
-    /// size is empty or, rounded up, fits no free rectangle. `Slots` if more slots would be used than the limit allows;
-    /// `Memory` if more would be used than at any time since the last start, and memory for them is refused. Unless something
-    /// is granted, nothing changes. Takes no turns. At most 4 more slots are used: with 4 in reserve the answer is
-    /// never `Memory`.
+    /// size is empty, if a rounded side passes 2147483647, or if the rounded size fits no free rectangle. `Slots` if more
+    /// slots would be used than the limit allows; `Memory` if more would be used than at any time since the last start, and
+    /// memory for them is refused. Unless something is granted, nothing changes. Takes no turns. At most 4 more slots are
+    /// used: with 4 in reserve the answer is never `Memory`.
     #[inline]
     pub fn allocate(&mut self, requested_size: Size) -> Result<Option<Allocation>, AtlasError> {
         self.request(requested_size)

@@ -130,8 +130,8 @@ impl<K: Copy + Eq + Hash, S: BuildHasher, A: Allocator + Copy> TextureCache<K, S
     }
 
     /// A place for a key, which is used in this frame. A key that is held keeps its place, and is the most recently
-    /// used from now on, which doesn't count as a hit; asked for with another size, be it empty or too large, it is
-    /// refused with `OtherSize`, and nothing changes. A new key goes onto the first page with room for its size, in
+    /// used from now on, which counts as a hit; asked for with another size, be it empty or too large, it is
+    /// refused with `OtherSize`, and nothing changes. A new key counts as no miss. It goes onto the first page with room for its size, in
     /// pixels, with the padding. If none has room, a page grows; if none can, one is added; and if no more are allowed,
     /// the least recently used entry that lies on a page and that this frame didn't use is evicted; and so on. `FrameFull` if
     /// then this frame uses each entry on a page and no page has room, which can't be while this frame has used nothing;
@@ -162,6 +162,7 @@ impl<K: Copy + Eq + Hash, S: BuildHasher, A: Allocator + Copy> TextureCache<K, S
             if entry.size != size {
                 return Err(CacheError::OtherSize);
             }
+            self.counts.hits = count(self.counts.hits);
             self.entries.touch(known, self.frame);
             return Ok(Inserted::Held(place_of(entry, &self.rooms.options())));
         }

@@ -4,9 +4,9 @@
 /// How often a cache had what it was asked for. A count that reaches 2^64 - 1 stays there.
 #[derive(Clone, Copy, Debug, PartialEq, Eq)]
 pub struct Counts {
-    /// The calls of `get` that found their key.
+    /// The calls of `get` that found their key, and those of `insert` that answered `Held`.
     pub hits: u64,
-    /// The calls of `get` that didn't.
+    /// The calls of `get` that didn't find theirs.
     pub misses: u64,
     /// The entries that were evicted: by an insertion, a trim or a repacking.
     pub evictions: u64,

@@ -164,8 +164,8 @@ impl<A: Allocator + Copy> Rooms<A> {
 
     /// The first page that isn't at its largest grows: the page, and its size from now on, in pixels. Its smaller side,
     /// the width if they are equal, is doubled, but no further than the largest page's, or the other side if that one
-    /// is at its largest. None exactly if each page is at its largest. No rectangle moves. `Slots` if that page has too
-    /// few of them, `Memory` if memory is refused. Unless a page grows, nothing changes.
+    /// is at its largest. None exactly if each page is at its largest. No rectangle moves, and at most 3 more slots of the page are
+    /// used. `Slots` if that page has too few of them, `Memory` if memory is refused. Unless a page grows, nothing changes.
     #[inline]
     pub fn grow_page(&mut self) -> Result<Option<(u32, Size)>, CacheError> {
         let (page, old) = match first_to_grow(&self.pages, self.options.largest_page) {

@@ -88,14 +88,13 @@ fn place_sprite<A: Allocator + Copy>(
     spacing: Spacing,
 ) -> Result<Option<Rectangle>, SheetError> {
     let wanted = asked(sprite, spacing.padding);
-    let cells = match take_cells(packer, cells_of(wanted, spacing.alignment))? {
-        Some(cells) => cells,
-        _ => {
-            return Ok(None);
+    match take_cells(packer, cells_of(wanted, spacing.alignment))? {
+        None => Ok(None),
+        Some(cells) => {
+            let area = box_from(cells, spacing.alignment, wanted);
+            Ok(Some(inset(area, sprite, spacing.padding)))
         }
-    };
-    let area = box_from(cells, spacing.alignment, wanted);
-    Ok(Some(inset(area, sprite, spacing.padding)))
+    }
 }
 
 // So many sprites without a place.
@@ -105,28 +104,22 @@ fn none_yet<A: Allocator>(alloc: A, count: usize) -> Result<Vec<Option<Placed>, 
     Ok(placed)
 }
 
-/// Sprites in a grid of cells, one after another in the order of these numbers. None as soon as one has no room.
+/// Sprites in a grid of cells, one after another in this order. None as soon as one has no room.
 #[inline]
 pub fn topmost_places<A: Allocator + Copy>(
     alloc: A,
     sprites: &[Size],
     options: &SheetOptions,
-    order: &[usize],
+    order: &[(usize, Size)],
     sheet: Size,
 ) -> Result<Option<Vec<Option<Placed>, A>>, SheetError> {
     let spacing = options.spacing();
     let mut packer = TopmostPacker::new(alloc, grid_in(sheet, spacing))?;
     let mut placed = none_yet(alloc, sprites.len())?;
-    for number in order {
-        let number = *number;
-        if number < sprites.len() {
-            let area = match place_sprite(&mut packer, sprites[number], spacing)? {
-                Some(area) => area,
-                _ => {
-                    return Ok(None);
-                }
-            };
-            placed[number] = Some(upright(area));
+    for sprite in order {
+        match place_sprite(&mut packer, sprite.1, spacing)? {
+            Some(area) => placed[sprite.0] = Some(upright(area)),
+            None => return Ok(None),
         }
     }
     Ok(Some(placed))

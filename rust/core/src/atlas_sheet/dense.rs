@@ -15,12 +15,21 @@ use core::cmp::Reverse;
 use wollemigo_support::alloc::Allocator;
 use wollemigo_support::prelude::Vec;
 
-// The numbers of the sprites: the highest come first, and of those as high the widest.
+// What a sprite counts: its height, and among those as high its width.
 #[inline]
-fn by_height<A: Allocator + Copy>(alloc: A, sprites: &[Size]) -> Result<Vec<usize, A>, SheetError> {
+fn height_rank(sprite: Size) -> u64 {
+    sprite.height.max(0) as u64 * 4294967296 + sprite.width.max(0) as u64
+}
+
+// The sprites with their numbers: the highest come first, and of those as high the widest.
+#[inline]
+fn by_height<A: Allocator + Copy>(
+    alloc: A,
+    sprites: &[Size],
+) -> Result<Vec<(usize, Size), A>, SheetError> {
     let mut order = numbered(alloc, sprites)?;
-    order.sort_by_key(|sprite| (Reverse(sprite.1.height), Reverse(sprite.1.width)))?;
-    numbers_of(alloc, &order)
+    order.sort_by_key(|sprite| Reverse(height_rank(sprite.1)))?;
+    Ok(order)
 }
 
 // Where a sprite lies, if it has a place.
@@ -67,13 +76,13 @@ fn sheet_of<A: Allocator + Copy>(
     alloc: A,
     sprites: &[Size],
     options: &SheetOptions,
-    order: &[usize],
+    order: &[(usize, Size)],
     size: Size,
     placed: &[Option<Placed>],
 ) -> Result<Sheet<A>, SheetError> {
     let areas = areas(alloc, placed)?;
     let places = whole(alloc, placed)?;
-    let order = Vec::from_slice(alloc, order)?;
+    let order = numbers_of(alloc, order)?;
     let used_area = used_area(&areas);
     Ok(Sheet {
         size,
@@ -83,32 +92,22 @@ fn sheet_of<A: Allocator + Copy>(
     })
 }
 
-// Whether each sprite has a place.
-#[inline]
-fn all_placed(placed: &[Option<Placed>]) -> bool {
-    placed.iter().all(|place| place.is_some())
-}
-
 // All sprites in a grid of cells in a sheet of this size, if they find room.
 #[inline]
 fn dense_at<A: Allocator + Copy>(
     alloc: A,
     sprites: &[Size],
     options: &SheetOptions,
-    order: &[usize],
+    order: &[(usize, Size)],
     size: Size,
 ) -> Result<Option<Sheet<A>>, SheetError> {
-    let placed = match topmost_places(alloc, sprites, options, order, size)? {
-        Some(placed) => placed,
-        _ => {
-            return Ok(None);
+    match topmost_places(alloc, sprites, options, order, size)? {
+        None => Ok(None),
+        Some(placed) => {
+            let sheet = sheet_of(alloc, sprites, options, order, size, &placed)?;
+            Ok(Some(sheet))
         }
-    };
-    if !all_placed(&placed) {
-        return Ok(None);
     }
-    let sheet = sheet_of(alloc, sprites, options, order, size, &placed)?;
-    Ok(Some(sheet))
 }
 
 // Whether a sheet has fewer pixels than the best one, if there is one.
@@ -126,7 +125,7 @@ fn denser_at<A: Allocator + Copy>(
     alloc: A,
     sprites: &[Size],
     options: &SheetOptions,
-    order: &[usize],
+    order: &[(usize, Size)],
     size: Size,
     best: &Option<Sheet<A>>,
 ) -> Result<Option<Sheet<A>>, SheetError> {
@@ -155,7 +154,7 @@ fn denser_in_row<A: Allocator + Copy>(
     alloc: A,
     sprites: &[Size],
     options: &SheetOptions,
-    order: &[usize],
+    order: &[(usize, Size)],
     first: Option<Sheet<A>>,
 ) -> Result<Option<Sheet<A>>, SheetError> {
     let mut low = 0;
@@ -165,12 +164,11 @@ fn denser_in_row<A: Allocator + Copy>(
         let middle = low + (high - low) / 2;
         let size = options.allowed.nth(middle);
         let found = denser_at(alloc, sprites, options, order, size, &best)?;
-        let is_enough = found.is_some() || !is_smaller(size, &best);
         best = newer(found, best);
-        if is_enough {
-            high = middle;
-        } else {
+        if is_smaller(size, &best) {
             low = middle + 1;
+        } else {
+            high = middle;
         }
     }
     Ok(best)
@@ -195,22 +193,18 @@ fn denser_powers<A: Allocator + Copy>(
     alloc: A,
     sprites: &[Size],
     options: &SheetOptions,
-    order: &[usize],
+    order: &[(usize, Size)],
     first: Option<Sheet<A>>,
 ) -> Result<Option<Sheet<A>>, SheetError> {
     let mut best = first;
-    for _step in 0..62u32 {
-        let size = match next_size(options, sprites, &best) {
-            Some(size) => size,
-            _ => {
-                break;
-            }
-        };
+    let mut next = next_size(options, sprites, &best);
+    while let Some(size) = next {
         let found = denser_at(alloc, sprites, options, order, size, &best)?;
         if found.is_none() {
-            break;
+            return Ok(best);
         }
-        best = newer(found, best);
+        best = found;
+        next = next_size(options, sprites, &best);
     }
     Ok(best)
 }

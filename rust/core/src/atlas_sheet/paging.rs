@@ -144,9 +144,9 @@ fn paged<A: Allocator + Copy>(
 /// sprites there are no sheets. `effort` changes of the order are tried for each sheet. None only where a sprite, in each
 /// of the ways that it may lie, is too large for an empty sheet; then nothing is packed.
 ///
-/// `EmptySheet` if the least allowed side is below 1, `EmptyRange` if the greatest is less than the least,
-/// `EmptyAlignment` if a side of the alignment is below 1; `EmptySprite` and `GreatSprite` name a sprite that can't be
-/// placed in any sheet; `Memory` if memory is refused.
+/// `EmptySheet` if the least allowed side is below 1, else `EmptyRange` if the greatest is less than the least, else
+/// `EmptyAlignment` if a side of the alignment is below 1; else `EmptySprite` and `GreatSprite` name the first sprite that
+/// can't be placed in any sheet; `Memory` if memory is refused.
 #[inline]
 pub fn pack_pages<A: Allocator + Copy>(
     alloc: A,

@@ -13,7 +13,7 @@ use wollemigo_support::prelude::Vec;
 pub struct Placed {
     /// Its place, in pixels, without the padding.
     pub area: Rectangle,
-    /// Whether it is turned by 90 degrees: the place is as wide as the sprite is high.
+    /// Whether it is turned by 90 degrees: the place is as wide as the sprite is high. A square sprite never is.
     pub turned: bool,
 }
 

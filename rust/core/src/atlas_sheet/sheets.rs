@@ -151,9 +151,9 @@ pub fn best_filled<A: Allocator + Copy>(
 /// turned, this holds with each `Turning`. With effort the order is changed so many times, and a change stays if it
 /// leaves no more pixels of sprites without a place. A sprite that found no room has no place.
 ///
-/// `EmptySheet` if the least allowed side is below 1, `EmptyRange` if the greatest is less than the least,
-/// `EmptyAlignment` if a side of the alignment is below 1; `EmptySprite` and `GreatSprite` name a sprite that can't be
-/// placed in any sheet; `Memory` if memory is refused.
+/// `EmptySheet` if the least allowed side is below 1, else `EmptyRange` if the greatest is less than the least, else
+/// `EmptyAlignment` if a side of the alignment is below 1; else `EmptySprite` and `GreatSprite` name the first sprite that
+/// can't be placed in any sheet; `Memory` if memory is refused.
 #[inline]
 pub fn fill<A: Allocator + Copy>(
     alloc: A,
@@ -184,9 +184,9 @@ fn sheet_of<A: Allocator + Copy>(alloc: A, filled: Filled<A>) -> Result<Sheet<A>
 /// sheet is never larger than without effort. None only where no way, and no order that was tried, packs all sprites
 /// into the greatest sheet that is allowed.
 ///
-/// `EmptySheet` if the least allowed side is below 1, `EmptyRange` if the greatest is less than the least,
-/// `EmptyAlignment` if a side of the alignment is below 1; `EmptySprite` and `GreatSprite` name a sprite that can't be
-/// placed in any sheet; `Memory` if memory is refused.
+/// `EmptySheet` if the least allowed side is below 1, else `EmptyRange` if the greatest is less than the least, else
+/// `EmptyAlignment` if a side of the alignment is below 1; else `EmptySprite` and `GreatSprite` name the first sprite that
+/// can't be placed in any sheet; `Memory` if memory is refused.
 #[inline]
 pub fn pack<A: Allocator + Copy>(
     alloc: A,

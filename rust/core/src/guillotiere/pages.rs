@@ -5,7 +5,8 @@ use crate::atlas_model::{AllocId, Allocation, AtlasError, Size};
 use crate::guillotiere::AtlasAllocator;
 use wollemigo_support::alloc::Allocator;
 
-/// Asks a page for a box, as `allocate` does. Requires that there is such a page. The other pages stay as they are.
+/// Asks a page for a box, as `allocate` does: with 4 slots of the page in reserve never `Memory`. Requires that there is such a page.
+/// The other pages stay as they are.
 #[inline]
 pub fn allocate_on<A: Allocator + Copy>(
     pages: &mut [AtlasAllocator<A>],

@@ -60,7 +60,7 @@ impl<A: Allocator + Copy> Recording<A> {
     /// where an event can't be carried out, because its new name isn't the next one (0, 1, 2, .. in the order of the
     /// grants), the name that it frees isn't live, a side shrinks or a size is empty; `Differs` where the answer isn't
     /// the one that the event has; `Slots` as the atlas's; `Memory` if a request for memory is refused. Events are
-    /// counted from 0.
+    /// counted from 0. What a recording allocator recorded fails by `Memory` alone, unless it rearranged.
     #[inline]
     pub fn resume(&self) -> Result<RecordingAllocator<A>, ReplayFault> {
         self.log.resume()

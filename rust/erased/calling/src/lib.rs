@@ -25,6 +25,7 @@ mod recording;
 mod reserved;
 mod sheet;
 mod shown;
+mod strips;
 mod textures;
 mod themes;
 mod tiled;

@@ -19,8 +19,8 @@ use wollemigo_support::raw::spare;
 
 /// Makes a cache that holds nothing and has no page yet, where the handle holds nothing. Keys are any numbers of 64 bits;
 /// they are hashed with a fixed seed.
-/// `DONE`; `OCCUPIED` if the handle holds a cache already; the first of `EMPTY_PAGE`, `LARGEST_PAGE`, `NO_PAGES`,
-/// `BAD_PADDING`, `BAD_ATLAS` and `NOTHING_FITS` that is wrong with the options; `MEMORY`.
+/// `DONE`; `OCCUPIED`, before all others, if the handle holds a cache already; the first of `EMPTY_PAGE`, `LARGEST_PAGE`,
+/// `NO_PAGES`, `BAD_PADDING`, `BAD_ATLAS` and `NOTHING_FITS` that is wrong with the options; `MEMORY`.
 #[no_mangle]
 pub extern "C" fn guillotiere_cache_new(
     options: Option<&PlainCacheOptions>,
@@ -137,8 +137,8 @@ pub extern "C" fn guillotiere_cache_peek(
     if !cache.holds() {
         return EMPTY;
     }
-    let held = cache.lent();
-    let found = held.peek(key);
+    let held = cache.lent().cache();
+    let found = held.peek(&key);
     write_found(found, place)
 }
 
@@ -160,20 +160,22 @@ fn write_inserted(answer: Result<Inserted, CacheError>, place: &mut PlainPlace) 
 }
 
 /// A place for a key, which is used in this frame. A key that is held keeps its place, and is the most recently used; that
-/// doesn't count as a hit. A new key goes onto the first page with room for its size with the padding. If none has room, a
-/// page grows: its smaller side (the width if they are equal) doubles, but no further than the largest page. If none can
-/// grow, one is added; and if no more are allowed, the least recently used key that lies on a page and that this frame didn't
-/// use is evicted; and so on. What was done is handed over by `guillotiere_cache_next_change`, also after `FRAME_FULL` and
-/// after an error: take all of it after each insertion, before the place or its number is noted. A key that was evicted and
-/// came back is reported as evicted all the same.
+/// counts as a hit. A new key, which counts as no miss, goes onto the first page with room for its size with the padding.
+/// If none has room, a page grows: its smaller side (the width if they are equal) doubles, but no further than the largest
+/// page. If none can grow, one is added; and if no more are allowed, the least recently used key that lies on a page and
+/// that this frame didn't use is evicted; and so on. What was done is handed over by `guillotiere_cache_next_change`, also
+/// after `FRAME_FULL` and after an error: take all of it after each insertion, before the place or its number is noted. A
+/// key that was evicted and came back is reported as evicted all the same.
 /// `DONE`: the key is new, and its place was written: its pixels are to be written to the texture. `HELD`: it was held, and
 /// its place, where its pixels are, was written. `FRAME_FULL`: all pages allowed exist, at their largest, this frame uses all
 /// keys on them and no page has room: draw what is batched, call `guillotiere_cache_begin_frame` and insert again; while a
 /// frame has used nothing this is never the answer. `NEVER_FITS` if the size, with the padding on all sides and rounded up to
 /// the alignment, exceeds the largest page, `OTHER_SIZE` if the key is held with another size, even if this one is empty or
-/// would never fit: then nothing changed. `NUMBERS` if 4294967295 keys are still held; `SLOTS` if those of a page don't
-/// suffice: then no key is evicted for the new one, in no later frame either, and keys have to be removed or trimmed;
-/// `MEMORY`; `EMPTY`. A key with an empty size (a side below 1) takes no room, and is never evicted to make room for another.
+/// would never fit: then nothing changed. `NUMBERS` if 4294967295 keys are still held; `SLOTS` if the page that has room, or
+/// that would grow, can't use the slots that this takes, of 16777216; `MEMORY` if memory is refused. Either ends the call: another
+/// page that has room isn't tried, and no more keys are evicted for the new one. After `SLOTS` that is so in each later frame
+/// too, until keys of that page were removed or trimmed. `EMPTY`.
+/// A key with an empty size (a side below 1) takes no room, and is never evicted to make room for another.
 /// Both rectangles of its place are 0, and so is its page, but it is on no page: nothing is to be written or drawn, no
 /// repacking reports it, and no page stays for it.
 #[no_mangle]

@@ -41,7 +41,7 @@ pub extern "C" fn guillotiere_cache_newest(
     if !cache.holds() {
         return EMPTY;
     }
-    let held = cache.lent();
+    let held = cache.lent().cache();
     let found = held.newest();
     write_keyed(found, key, place)
 }
@@ -68,7 +68,7 @@ pub extern "C" fn guillotiere_cache_oldest(
     if !cache.holds() {
         return EMPTY;
     }
-    let held = cache.lent();
+    let held = cache.lent().cache();
     let found = held.oldest();
     write_keyed(found, key, place)
 }
@@ -97,8 +97,8 @@ pub extern "C" fn guillotiere_cache_older(
     if !cache.holds() {
         return EMPTY;
     }
-    let held = cache.lent();
-    let found = held.older(key);
+    let held = cache.lent().cache();
+    let found = held.older(&key);
     write_keyed(found, older, place)
 }
 

@@ -2,8 +2,7 @@
 //! A cache with the list of its changes, from which its caller takes one after another.
 
 use wollemigo_core::atlas_cache::{
-    CacheChange, CacheError, CacheOptions, Changes, Counts, Inserted, OptionsError, Place,
-    TextureCache,
+    CacheChange, CacheError, CacheOptions, Changes, Inserted, OptionsError, Place, TextureCache,
 };
 use wollemigo_core::guillotiere::Size;
 use wollemigo_support::alloc::Global;
@@ -49,6 +48,11 @@ impl FollowedCache {
         })
     }
 
+    /// The cache, for what only reads it.
+    pub fn cache(&self) -> &TextureCache<u64> {
+        &self.cache
+    }
+
     /// The first change that wasn't handed over yet, which is handed over now; None if there is none.
     pub fn next_change(&mut self) -> Option<CacheChange<u64>> {
         take_first(&mut self.changes, &mut self.taken)
@@ -62,11 +66,6 @@ impl FollowedCache {
     /// As `TextureCache::get`.
     pub fn get(&mut self, key: u64) -> Option<Place> {
         self.cache.get(&key)
-    }
-
-    /// As `TextureCache::peek`.
-    pub fn peek(&self, key: u64) -> Option<Place> {
-        self.cache.peek(&key)
     }
 
     /// As `TextureCache::insert`. Its changes come behind those that weren't handed over.
@@ -103,61 +102,6 @@ impl FollowedCache {
         self.cache.repack(page, &mut self.changes)
     }
 
-    /// How many entries there are.
-    pub fn len(&self) -> usize {
-        self.cache.len()
-    }
-
-    /// As `TextureCache::numbers`.
-    pub fn numbers(&self) -> u32 {
-        self.cache.numbers()
-    }
-
-    /// How many pages there are.
-    pub fn pages(&self) -> u32 {
-        self.cache.pages()
-    }
-
-    /// The size of a page, in pixels; None if there is no such page.
-    pub fn page_size(&self, page: u32) -> Option<Size> {
-        self.cache.page_size(page)
-    }
-
-    /// As `TextureCache::options`.
-    pub fn options(&self) -> CacheOptions {
-        self.cache.options()
-    }
-
-    /// As `TextureCache::live_area`.
-    pub fn live_area(&self, page: u32) -> Option<u64> {
-        self.cache.live_area(page)
-    }
-
-    /// As `TextureCache::free_area`.
-    pub fn free_area(&self, page: u32) -> Option<u64> {
-        self.cache.free_area(page)
-    }
-
-    /// As `TextureCache::unusable_area`.
-    pub fn unusable_area(&self, page: u32, size: Size) -> Result<Option<u64>, CacheError> {
-        self.cache.unusable_area(page, size)
-    }
-
-    /// As `TextureCache::newest`.
-    pub fn newest(&self) -> Option<(u64, Place)> {
-        self.cache.newest()
-    }
-
-    /// As `TextureCache::oldest`.
-    pub fn oldest(&self) -> Option<(u64, Place)> {
-        self.cache.oldest()
-    }
-
-    /// As `TextureCache::older`.
-    pub fn older(&self, key: u64) -> Option<(u64, Place)> {
-        self.cache.older(&key)
-    }
-
     /// As `TextureCache::reserve`.
     pub fn reserve(&mut self, additional: usize) -> Result<(), CacheError> {
         self.cache.reserve(additional)
@@ -173,10 +117,5 @@ impl FollowedCache {
         drop_taken(&mut self.changes, &mut self.taken);
         self.changes.reserve(additional)?;
         Ok(())
-    }
-
-    /// As `TextureCache::statistics`.
-    pub fn statistics(&self) -> Counts {
-        self.cache.statistics()
     }
 }

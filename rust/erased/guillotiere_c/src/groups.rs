@@ -102,6 +102,9 @@ pub extern "C" fn guillotiere_pack_groups(
     }
     match found(alloc, sprites, groups, &options) {
         Ok(Some(pages)) => {
+            if sizes.len() < pages.sizes.len() {
+                return SHORT;
+            }
             write_on_pages(&pages.places, places);
             write_sizes(&pages.sizes, sizes);
             *count = pages.sizes.len();

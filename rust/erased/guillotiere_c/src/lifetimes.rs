@@ -42,7 +42,7 @@ fn start(
 }
 
 /// Makes an atlas with the default options, where the handle holds nothing.
-/// `DONE`; `BAD_CALL` if a side isn't above 0; `MEMORY`; `OCCUPIED` if the handle holds an atlas already.
+/// `DONE`; `BAD_CALL` if a side isn't above 0; `MEMORY`; `OCCUPIED`, before all others, if the handle holds an atlas already.
 #[no_mangle]
 pub extern "C" fn guillotiere_atlas_new(
     width: i32,

@@ -25,10 +25,11 @@ fn found(
 /// Packs all sprites into as few sheets as are found: the greatest of those allowed gets what `guillotiere_fill` places
 /// there, the same is done with the sprites that are left, and the last of them get as small a sheet as `guillotiere_pack`
 /// finds. For each sheet `effort` changes of the order are tried. `DONE`: `places` has where each sprite lies, in the order
-/// of the sprites, `count` how many sheets there are, at most as many as sprites, and `sizes` their sizes, as many as there
-/// is room for; what the arrays have after that stays. No two places on one sheet overlap, and no sheet is empty. There may
-/// be no sprites: then there are no sheets.
-/// `NO_ROOM` if a sprite is too large for an empty sheet; else as `guillotiere_pack`.
+/// of the sprites, `count` how many sheets there are, at most as many as sprites, and `sizes` their sizes; what the arrays
+/// have after that stays. No two places on one sheet overlap, and no sheet is empty. There may be no sprites: then there are
+/// no sheets.
+/// `NO_ROOM` if a sprite is too large for an empty sheet; `SHORT` also if there are more sheets than sizes_len; else as
+/// `guillotiere_pack`.
 #[no_mangle]
 pub extern "C" fn guillotiere_pack_pages(
     sprites: *const PlainSize,
@@ -75,6 +76,9 @@ pub extern "C" fn guillotiere_pack_pages(
     }
     match found(alloc, sprites, &options) {
         Ok(Some(pages)) => {
+            if sizes.len() < pages.sizes.len() {
+                return SHORT;
+            }
             write_on_pages(&pages.places, places);
             write_sizes(&pages.sizes, sizes);
             *count = pages.sizes.len();

@@ -57,8 +57,9 @@ pub struct PlainCacheChange {
     pub to: PlainPlace,
 }
 
-/// How often `guillotiere_cache_get` found its key and how often it didn't, and how many keys an insertion, a trim or a
-/// repacking evicted. A count that reaches 18446744073709551615 stays there.
+/// How often `guillotiere_cache_get` found its key or `guillotiere_cache_insert` answered `HELD` (`hits`), how often
+/// `guillotiere_cache_get` didn't find its key (`misses`), and how many keys an insertion, a trim or a repacking evicted. A
+/// count that reaches 18446744073709551615 stays there.
 #[repr(C)]
 #[derive(Clone, Copy)]
 pub struct PlainCounts {

@@ -19,10 +19,11 @@ pub struct PlainSheetOptions {
     pub height: i32,
     pub least: i32,
     pub greatest: i32,
-    /// Pixels between two sprites, and between a sprite and the border: at most 65535.
+    /// The least number of pixels between two sprites, and between a sprite and the border: at most 65535.
     pub padding: u32,
     /// Each place, with the padding at its left and above, begins on multiples of these two sides, which are at least 1,
-    /// and takes multiples of them, also at the right and lower border.
+    /// and takes multiples of them, also at the right and lower border. The padding at its right and below comes after that:
+    /// with 4 by 4 and a padding of 1 a sprite of 1 by 1 needs a sheet of 5 by 5.
     pub alignment_width: i32,
     pub alignment_height: i32,
     /// 0 for no turning; otherwise a sprite may lie turned by 90 degrees.

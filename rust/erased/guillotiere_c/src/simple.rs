@@ -45,7 +45,7 @@ fn start(
 }
 
 /// Makes a simple allocator with the default options, where the handle holds nothing.
-/// `DONE`; `BAD_CALL` if a side isn't above 0; `MEMORY`; `OCCUPIED` if the handle holds one already.
+/// `DONE`; `BAD_CALL` if a side isn't above 0; `MEMORY`; `OCCUPIED`, before all others, if the handle holds one already.
 #[no_mangle]
 pub extern "C" fn guillotiere_simple_new(
     width: i32,

@@ -57,6 +57,7 @@ impl<K: Copy> Waiting<K> {
         }
     }
 
+    #[inline]
     fn first_end(&self) -> usize {
         self.ends.front().copied().unwrap_or(self.handed)
     }
@@ -67,6 +68,7 @@ impl<K: Copy> Waiting<K> {
         Some(change_of(change))
     }
 
+    #[inline]
     fn hand_over(&mut self, up_to: usize) {
         self.handed = up_to;
         if self.first_end() == up_to {
@@ -99,6 +101,7 @@ pub struct Changes<'a, K: Copy> {
 }
 
 impl<'a, K: Copy> Changes<'a, K> {
+    #[inline]
     pub(super) fn of_the_first_call(waiting: &'a mut Waiting<K>) -> Self {
         let (next, end) = (waiting.handed, waiting.first_end());
         Changes { waiting, next, end }
@@ -108,6 +111,7 @@ impl<'a, K: Copy> Changes<'a, K> {
 impl<K: Copy> Iterator for Changes<'_, K> {
     type Item = CacheChange<K>;
 
+    #[inline]
     fn next(&mut self) -> Option<CacheChange<K>> {
         let change = *self.waiting.changes.as_slice()[self.next..self.end].first()?;
         self.next += 1;
@@ -125,6 +129,7 @@ impl<K: Copy> ExactSizeIterator for Changes<'_, K> {}
 impl<K: Copy> FusedIterator for Changes<'_, K> {}
 
 impl<K: Copy> Drop for Changes<'_, K> {
+    #[inline]
     fn drop(&mut self) {
         self.waiting.hand_over(self.end);
     }

@@ -138,17 +138,18 @@ pub enum CacheChange<K = u64> {
 /// use guillotiere::size2;
 ///
 /// let mut glyphs = TextureCache::new(&CacheOptions::new(size2(64, 64))).unwrap();
-/// let _ = glyphs.insert('g', size2(10, 20))?;
-/// assert!(glyphs.get('g').is_some() && glyphs.get('h').is_none());
+/// let _ = glyphs.insert('g', size2(10, 20))?; // it is new, and counts nothing
+/// let _ = glyphs.insert('g', size2(10, 20))?; // a hit
+/// assert!(glyphs.get('g').is_some() && glyphs.get('h').is_none()); // a hit and a miss
 /// let counts = glyphs.statistics();
-/// assert_eq!((counts.hits, counts.misses, counts.evictions), (1, 1, 0));
+/// assert_eq!((counts.hits, counts.misses, counts.evictions), (2, 1, 0));
 /// # Ok::<(), guillotiere::cache::CacheError>(())
 /// ```
 #[derive(Copy, Clone, Debug, Default, PartialEq, Eq, Hash)]
 pub struct Counts {
-    /// The calls of `get` that found their key.
+    /// The calls of `get` that found their key, and those of `insert` that answered `Held`.
     pub hits: u64,
-    /// The calls of `get` that didn't.
+    /// The calls of `get` that didn't find theirs. `insert` counts none.
     pub misses: u64,
     /// The entries that were evicted: by an insertion, a trim or a repacking.
     pub evictions: u64,
@@ -204,6 +205,7 @@ impl From<library::CacheError> for CacheError {
     }
 }
 
+#[inline]
 pub(super) fn place_of(place: library::Place) -> Place {
     Place {
         number: place.number,
@@ -213,6 +215,7 @@ pub(super) fn place_of(place: library::Place) -> Place {
     }
 }
 
+#[inline]
 pub(super) fn inserted_of(inserted: library::Inserted) -> Inserted {
     match inserted {
         library::Inserted::Placed(place) => Inserted::Placed(place_of(place)),
@@ -222,10 +225,12 @@ pub(super) fn inserted_of(inserted: library::Inserted) -> Inserted {
     }
 }
 
+#[inline]
 pub(super) fn keyed<K>(found: (K, library::Place)) -> (K, Place) {
     (found.0, place_of(found.1))
 }
 
+#[inline]
 pub(super) fn change_of<K>(change: library::CacheChange<K>) -> CacheChange<K> {
     match change {
         library::CacheChange::PageAdded { page, size } => CacheChange::PageAdded {

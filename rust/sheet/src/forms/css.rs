@@ -53,7 +53,7 @@ fn quoted(text: &str) -> String {
 }
 
 // As a path in a URL.
-fn path(name: &str) -> String {
+pub(super) fn path(name: &str) -> String {
     let mut path = String::new();
     for byte in name.bytes() {
         if byte.is_ascii_alphanumeric() || b"-._~@".contains(&byte) {

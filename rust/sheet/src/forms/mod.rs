@@ -204,6 +204,11 @@ fn beside(image: &str, ending: &str) -> String {
     format!("{}{}", image.strip_suffix(".png").unwrap_or(image), ending)
 }
 
+/// How files of these forms can spell the name of a picture.
+pub fn spellings(image: &str) -> [String; 3] {
+    [image.to_string(), escaped(image), css::path(image)]
+}
+
 // For XML and HTML.
 fn escaped(text: &str) -> String {
     let mut escaped = String::new();

@@ -34,7 +34,7 @@ fn why(error: &tera::Error) -> String {
 impl Template {
     /// By the name of its file: `NAME.ENDING.tera` makes OUT.ENDING, and `NAME.each.ENDING.tera` such a file for each sheet.
     pub fn new(name: &str, text: &str) -> Result<Template, Fault> {
-        let refused = |what: &str| Fault::new(WORDS, format!("{}: {}", name, what));
+        let refused = |what: &str| Fault::new(WORDS, format!("{}: {}", name.escape_debug(), what));
         let known = name
             .strip_suffix(TERA)
             .and_then(|name| name.split_once('.'));
@@ -46,7 +46,8 @@ impl Template {
             .strip_prefix(EACH)
             .filter(|ending| ending.starts_with('.'));
         let ending = each.unwrap_or(&endings);
-        if ending.len() < 2 || ending.ends_with(".png") {
+        let is_picture = ending.to_ascii_lowercase().ends_with(".png");
+        if ending.ends_with(['.', ' ']) || is_picture || ending.chars().any(char::is_control) {
             return Err(refused("its files can't have this ending"));
         }
         let template = Template {

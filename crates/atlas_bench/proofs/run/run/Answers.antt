@@ -1,6 +1,6 @@
 use Rattle.std.proofs.Common.{◌≡◌, [], drop, sym, ◌∙◌, rules}
 use Rattle.std.proofs.lemmas.List.{drop_all}
-use Rattle.atlas_bench.proofs.Reporting.{one_more, all_reported, read_all}
+use Rattle.atlas_bench.proofs.Reports.{one_more, all_reported, read_all}
 use Rattle.atlas_bench.proofs.run.run.Goals as goal
 
 pub loop-job-preserved : goal.loop-job-preserved

@@ -1,4 +1,4 @@
-use Rattle.atlas_bench.proofs.Reporting.{HasReported}
+use Rattle.atlas_bench.proofs.Reports.{HasReported}
 use Rattle.atlas_bench.proofs.run.run.Given as goal
 
 abbrev pub invariant-loop-job : goal.invariant-loop-job

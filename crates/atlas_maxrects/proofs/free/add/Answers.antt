@@ -1,7 +1,7 @@
 use Rattle.std.proofs.Common.{◌⊎◌, All, Contains, subst}
 use Rattle.atlas_model.specs.Boxes.{Box, IsInside}
 use Rattle.atlas_maxrects.specs.Free.{LiesInOne, free_box}
-use Rattle.atlas_maxrects.proofs.Leaving.{added_last, every_last, lies_last}
+use Rattle.atlas_maxrects.proofs.LeftOvers.{added_last, every_last, lies_last}
 use Rattle.atlas_maxrects.proofs.free.add.Goals as goal
 
 pub returns-clause-kept : goal.returns-clause-kept

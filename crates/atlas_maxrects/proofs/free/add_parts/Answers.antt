@@ -1,4 +1,4 @@
-use Rattle.atlas_maxrects.proofs.Leaving.{parts_added}
+use Rattle.atlas_maxrects.proofs.LeftOvers.{parts_added}
 use Rattle.atlas_maxrects.proofs.free.add_parts.Goals as goal
 
 pub returns-clause-parts : goal.returns-clause-parts

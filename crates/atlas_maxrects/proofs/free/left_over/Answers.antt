@@ -1,5 +1,5 @@
 use Rattle.atlas_maxrects.specs.declared.free.FreeBox.{FreeBox}
-use Rattle.atlas_maxrects.proofs.Leaving.{all_left, leaving_far, leaving_near}
+use Rattle.atlas_maxrects.proofs.LeftOvers.{all_left, leaving_far, leaving_near}
 use Rattle.atlas_maxrects.proofs.free.left_over.Goals as goal
 use Rattle.atlas_maxrects.proofs.free.left_over.Goals.{then-is_far+in_ok-push, else-is_far+in_ok-add_parts}
 

@@ -1,4 +1,4 @@
-use Rattle.atlas_maxrects.proofs.Leaving.{AreLeaving}
+use Rattle.atlas_maxrects.proofs.LeftOvers.{AreLeaving}
 use Rattle.atlas_maxrects.proofs.free.left_over.Given as goal
 
 abbrev pub invariant-loop-whole : goal.invariant-loop-whole

@@ -3,7 +3,7 @@ use Rattle.std.proofs.lemmas.List.{take_all}
 use Rattle.atlas_model.specs.Boxes.{Box, IsInside}
 use Rattle.atlas_maxrects.specs.declared.free.FreeBox.{FreeBox}
 use Rattle.atlas_maxrects.specs.Free.{LiesInOne, free_box}
-use Rattle.atlas_maxrects.proofs.Leaving.{without_dropped, without_kept}
+use Rattle.atlas_maxrects.proofs.LeftOvers.{without_dropped, without_kept}
 use Rattle.atlas_maxrects.proofs.free.without.Goals as goal
 use Rattle.atlas_maxrects.proofs.free.without.Goals.{then-not-lies_in+in_ok-push, else-not-lies_in}
 

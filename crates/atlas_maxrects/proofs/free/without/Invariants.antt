@@ -1,4 +1,4 @@
-use Rattle.atlas_maxrects.proofs.Leaving.{AreWithout}
+use Rattle.atlas_maxrects.proofs.LeftOvers.{AreWithout}
 use Rattle.atlas_maxrects.proofs.free.without.Given as goal
 
 abbrev pub invariant-loop-other : goal.invariant-loop-other

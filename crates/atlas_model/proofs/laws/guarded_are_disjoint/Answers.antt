@@ -1,4 +1,4 @@
-use Rattle.atlas_model.proofs.SimpleLemmas.SimpleRunning.{guarded_are_disjoint}
+use Rattle.atlas_model.proofs.SimpleLemmas.SimpleRuns.{guarded_are_disjoint}
 use Rattle.atlas_model.proofs.laws.guarded_are_disjoint.Goals as goal
 
 pub returns : goal.returns

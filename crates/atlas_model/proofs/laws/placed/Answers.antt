@@ -1,4 +1,4 @@
-use Rattle.atlas_model.proofs.StepLemmas.Refitting.{placings_keep_trees}
+use Rattle.atlas_model.proofs.StepLemmas.RefittedTrees.{placings_keep_trees}
 use Rattle.atlas_model.proofs.laws.placed.Goals as goal
 
 pub returns : goal.returns

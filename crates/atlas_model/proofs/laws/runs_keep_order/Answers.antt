@@ -1,4 +1,4 @@
-use Rattle.atlas_model.proofs.StepLemmas.RunKeeping.{runs_keep_order}
+use Rattle.atlas_model.proofs.StepLemmas.RunOrder.{runs_keep_order}
 use Rattle.atlas_model.proofs.laws.runs_keep_order.Goals as goal
 
 pub returns : goal.returns

@@ -3,7 +3,7 @@ use Rattle.atlas_sheet.specs.Dense.{NoWayFinds}
 use Rattle.atlas_sheet.specs.Grouping.{LieTogether, members}
 use Rattle.pack_lines.specs.Folders.{folder_groups}
 use Rattle.atlas_pack.specs.Runs.{AreSheets, groups_of}
-use Rattle.atlas_pack.proofs.Knowing.{both_known}
+use Rattle.atlas_pack.proofs.KnownResults.{both_known}
 use Rattle.atlas_pack.proofs.packing.paged.Goals as goal
 
 pub returns-then-group-clause-pages : goal.returns-then-group-clause-pages

@@ -1,6 +1,6 @@
 use Rattle.std.proofs.Common.{FitsSigned, w32, rules, arith, ◌≤ℤ◌}
 use Rattle.std.proofs.lemmas.Int.{to_z-of_z, ints}
-use Rattle.atlas_search.proofs.SearchLemmas.Choosing.{margin_fits, margin_fits_height, margin_is, margin_is_height}
+use Rattle.atlas_search.proofs.SearchLemmas.BestMargins.{margin_fits, margin_fits_height, margin_is, margin_is_height}
 use Rattle.atlas_search.proofs.choice.margin_in.Goals as goal
 
 pub returns-then-width-height : goal.returns-then-width-height

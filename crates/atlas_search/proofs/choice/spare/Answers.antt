@@ -1,6 +1,6 @@
 use Rattle.std.proofs.Common.{◌-ℤ◌, FitsSigned, w32, rules, arith}
 use Rattle.std.proofs.lemmas.Int.{to_z-of_z, ints}
-use Rattle.atlas_search.proofs.SearchLemmas.Choosing.{spare_fits, spare_value}
+use Rattle.atlas_search.proofs.SearchLemmas.BestMargins.{spare_fits, spare_value}
 use Rattle.atlas_search.proofs.choice.spare.Goals as goal
 
 pub returns : goal.returns

@@ -1,4 +1,4 @@
-use Rattle.atlas_search.proofs.Cutting.{tiling}
+use Rattle.atlas_search.proofs.CutTiles.{tiling}
 use Rattle.atlas_search.proofs.cut.guillotine.Goals as goal
 
 pub returns-clause-tiling : goal.returns-clause-tiling

@@ -1,6 +1,6 @@
 use Rattle.std.proofs.Common.{◌-ℤ◌, FitsSigned, w32, rules, arith}
 use Rattle.std.proofs.lemmas.Int.{to_z-of_z, ints}
-use Rattle.atlas_search.proofs.Cutting.{axis_horizontal, axis_vertical}
+use Rattle.atlas_search.proofs.CutTiles.{axis_horizontal, axis_vertical}
 use Rattle.atlas_search.proofs.cut.orientation_of.Goals as goal
 
 pub returns-then-below-beside : goal.returns-then-below-beside

@@ -9,9 +9,9 @@ use Rattle.atlas_search.specs.Lookups.{HasShownPile}
 use Rattle.atlas_search.specs.Numbers.{no_slot}
 use Rattle.atlas_search.specs.Piles.{IsPile, Pile, members, pile_tag}
 use Rattle.atlas_search.specs.Rectangles.{IsSolid, IsUnsigned}
-use Rattle.atlas_search.proofs.SearchLemmas.Showing.{item-read}
-use Rattle.atlas_search.proofs.SearchLemmas.Piling.{none-of, top-of, top-read, top-solid, low-in, low-once, high-in, high-once, pile-looked, pile-none, pile-passed}
-use Rattle.atlas_search.proofs.SearchLemmas.Besting.{natural-most}
+use Rattle.atlas_search.proofs.SearchLemmas.ShownItems.{item-read}
+use Rattle.atlas_search.proofs.SearchLemmas.Piles.{none-of, top-of, top-read, top-solid, low-in, low-once, high-in, high-once, pile-looked, pile-none, pile-passed}
+use Rattle.atlas_search.proofs.SearchLemmas.Bests.{natural-most}
 use Rattle.atlas_search.proofs.search.+show_pile.Goals as goal
 
 pub overflow_sub-at : goal.overflow_sub-at

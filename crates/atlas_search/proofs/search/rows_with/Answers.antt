@@ -1,5 +1,5 @@
 use Rattle.std.proofs.Common.{arith}
-use Rattle.atlas_search.proofs.SearchLemmas.SearchingBefore.{rows-next}
+use Rattle.atlas_search.proofs.SearchLemmas.SearchesBefore.{rows-next}
 use Rattle.atlas_search.proofs.search.rows_with.Goals as goal
 
 pub loop-column-init : goal.loop-column-init

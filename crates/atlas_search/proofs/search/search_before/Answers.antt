@@ -1,5 +1,5 @@
 use Rattle.std.proofs.Common.{map}
-use Rattle.atlas_search.proofs.SearchLemmas.SearchingBefore.{added-apart, added-beyond, searched}
+use Rattle.atlas_search.proofs.SearchLemmas.SearchesBefore.{added-apart, added-beyond, searched}
 use Rattle.atlas_search.proofs.search.search_before.Goals as goal
 
 pub returns-then-has_equal_side-clause-best : goal.returns-then-has_equal_side-clause-best

@@ -1,6 +1,6 @@
 use Rattle.std.proofs.Common.{map, refl}
-use Rattle.atlas_search.proofs.SearchLemmas.Adding.{added-of}
-use Rattle.atlas_search.proofs.SearchLemmas.AddingLines.{column-begins, column-goes_on, rest-marked}
+use Rattle.atlas_search.proofs.SearchLemmas.AddedLists.{added-of}
+use Rattle.atlas_search.proofs.SearchLemmas.AddedLines.{column-begins, column-goes_on, rest-marked}
 use Rattle.atlas_search.proofs.search.search_column.Goals as goal
 
 pub loop-row-init : goal.loop-row-init

@@ -3,7 +3,7 @@ use Rattle.atlas_search.specs.declared.link.Link.{Link}
 use Rattle.atlas_search.specs.Bands.{number_of}
 use Rattle.atlas_search.specs.Lookups.{HasShown}
 use Rattle.atlas_search.specs.Piles.{IsShowable}
-use Rattle.atlas_search.proofs.SearchLemmas.Adding.{added-list, added-over, showable}
+use Rattle.atlas_search.proofs.SearchLemmas.AddedLists.{added-list, added-over, showable}
 use Rattle.atlas_search.proofs.search.search_list.Goals as goal
 
 pub returns-then-not-settles : goal.returns-then-not-settles

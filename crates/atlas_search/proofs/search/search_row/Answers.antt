@@ -1,6 +1,6 @@
 use Rattle.std.proofs.Common.{map, refl}
-use Rattle.atlas_search.proofs.SearchLemmas.Adding.{added-of}
-use Rattle.atlas_search.proofs.SearchLemmas.AddingLines.{row-begins, row-goes_on, rest-marked}
+use Rattle.atlas_search.proofs.SearchLemmas.AddedLists.{added-of}
+use Rattle.atlas_search.proofs.SearchLemmas.AddedLines.{row-begins, row-goes_on, rest-marked}
 use Rattle.atlas_search.proofs.search.search_row.Goals as goal
 
 pub loop-column-init : goal.loop-column-init

@@ -1,7 +1,7 @@
 use Rattle.std.proofs.Common.{map, refl, arith}
-use Rattle.atlas_search.proofs.SearchLemmas.Adding.{added-of}
-use Rattle.atlas_search.proofs.SearchLemmas.AddingLines.{rows-begin, rows-go_on, rest-marked}
-use Rattle.atlas_search.proofs.SearchLemmas.SearchingBefore.{below-marked, marked-below, marked-from}
+use Rattle.atlas_search.proofs.SearchLemmas.AddedLists.{added-of}
+use Rattle.atlas_search.proofs.SearchLemmas.AddedLines.{rows-begin, rows-go_on, rest-marked}
+use Rattle.atlas_search.proofs.SearchLemmas.SearchesBefore.{below-marked, marked-below, marked-from}
 use Rattle.atlas_search.proofs.search.search_rows.Goals as goal
 
 pub loop-row-init : goal.loop-row-init

@@ -6,7 +6,7 @@ use Rattle.atlas_model.specs.Pixels.{box_of}
 use Rattle.atlas_search.specs.Rectangles.{IsUnsigned}
 use Rattle.atlas_search.specs.Numbers.{no_slot}
 use Rattle.atlas_search.specs.Items.{Item}
-use Rattle.atlas_search.proofs.SearchLemmas.Showing.{item-read, along-begins, chain-of, along-inside, along-exact, along-goes_on, along-ends, entries_from, fewer-left}
+use Rattle.atlas_search.proofs.SearchLemmas.ShownItems.{item-read, along-begins, chain-of, along-inside, along-exact, along-goes_on, along-ends, entries_from, fewer-left}
 use Rattle.atlas_search.proofs.search.show_chain.Goals as goal
 
 pub loop-at-init : goal.loop-at-init

@@ -1,5 +1,5 @@
 use Rattle.std.proofs.Common.{map, length}
-use Rattle.atlas_search.proofs.SearchLemmas.Showing.{IsAlong, entries_from}
+use Rattle.atlas_search.proofs.SearchLemmas.ShownItems.{IsAlong, entries_from}
 use Rattle.atlas_search.proofs.search.show_chain.Given as goal
 
 abbrev pub invariant-loop-at : goal.invariant-loop-at

@@ -3,7 +3,7 @@ use Rattle.std.proofs.lemmas.List.{length-map}
 use Rattle.atlas_search.specs.Items.{Item, item_at, item_box}
 use Rattle.atlas_search.specs.Numbers.{no_slot}
 use Rattle.atlas_search.specs.Rectangles.{IsUnsigned}
-use Rattle.atlas_search.proofs.SearchLemmas.Piling.{pile-of, top-ends, top-of, top-read, top-solid}
+use Rattle.atlas_search.proofs.SearchLemmas.Piles.{pile-of, top-ends, top-of, top-read, top-solid}
 use Rattle.atlas_search.proofs.search.show_top.Goals as goal
 
 pub offset_bounds-entries-tag : goal.offset_bounds-entries-tag

@@ -1,6 +1,6 @@
 use Rattle.std.proofs.Common.{refl}
-use Rattle.atlas_search.proofs.SearchLemmas.AddingLines.{rest-marked}
-use Rattle.atlas_search.proofs.SearchLemmas.Blanking.{rows-begin-blank, rows-go_on-blank, rows-end-blank}
+use Rattle.atlas_search.proofs.SearchLemmas.AddedLines.{rest-marked}
+use Rattle.atlas_search.proofs.SearchLemmas.BlankHeads.{rows-begin-blank, rows-go_on-blank, rows-end-blank}
 use Rattle.atlas_search.proofs.table.blank_marked.Goals as goal
 
 pub loop-row-init : goal.loop-row-init

@@ -1,6 +1,6 @@
 use Rattle.std.proofs.Common.{ℕ, ◌<◌}
 use Rattle.atlas_search.specs.Masks.{IsMarked}
-use Rattle.atlas_search.proofs.SearchLemmas.Blanking.{AreBlanked}
+use Rattle.atlas_search.proofs.SearchLemmas.BlankHeads.{AreBlanked}
 use Rattle.atlas_search.proofs.table.blank_marked.Given as goal
 
 abbrev pub invariant-loop-row : goal.invariant-loop-row

@@ -1,6 +1,6 @@
 use Rattle.std.proofs.Common.{◌<◌, ◌+◌, ◌*◌, refl, arith}
-use Rattle.atlas_search.proofs.SearchLemmas.AddingLines.{rest-marked}
-use Rattle.atlas_search.proofs.SearchLemmas.Blanking.{blanking-begins, blanking-goes_on}
+use Rattle.atlas_search.proofs.SearchLemmas.AddedLines.{rest-marked}
+use Rattle.atlas_search.proofs.SearchLemmas.BlankHeads.{blanking-begins, blanking-goes_on}
 use Rattle.atlas_search.proofs.table.blank_row.Goals as goal
 
 pub loop-column-init : goal.loop-column-init

@@ -1,6 +1,6 @@
 use Rattle.std.proofs.Common.{ℕ}
 use Rattle.atlas_search.specs.Masks.{IsMarked}
-use Rattle.atlas_search.proofs.SearchLemmas.Blanking.{IsBlanked}
+use Rattle.atlas_search.proofs.SearchLemmas.BlankHeads.{IsBlanked}
 use Rattle.atlas_search.proofs.table.blank_row.Given as goal
 
 abbrev pub invariant-loop-column : goal.invariant-loop-column

@@ -1,5 +1,5 @@
 use Rattle.std.proofs.lemmas.List.Sorted.{IsPermutation-trans}
-use Rattle.atlas_sheet.proofs.Flipping.{lie_as_given}
+use Rattle.atlas_sheet.proofs.TurnedSprites.{lie_as_given}
 use Rattle.atlas_sheet.proofs.changes.change.Goals as goal
 
 pub returns-in-0-clause-permuted : goal.returns-in-0-clause-permuted

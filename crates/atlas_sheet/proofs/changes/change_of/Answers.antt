@@ -1,6 +1,6 @@
 use Rattle.std.proofs.Common.{◌≡◌, ◌++◌, length, take, drop, ap, subst, sym, IsPermutation, arith}
 use Rattle.std.specs.List.{enumerate_from}
-use Rattle.atlas_sheet.proofs.Flipping.{written}
+use Rattle.atlas_sheet.proofs.TurnedSprites.{written}
 use Rattle.atlas_sheet.proofs.changes.change_of.Goals as goal
 
 pub returns-clause-permuted : goal.returns-clause-permuted

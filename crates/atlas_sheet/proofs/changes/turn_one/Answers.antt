@@ -1,8 +1,8 @@
 use Rattle.std.proofs.Common.{◌<◌, length, get_or, refl, arith}
 use Rattle.std.proofs.lemmas.List.Elements.{All-get_or}
-use Rattle.atlas_sheet.proofs.Finding.{no_sprite}
-use Rattle.atlas_sheet.proofs.Numbering.{order_below}
-use Rattle.atlas_sheet.proofs.Flipping.{turned_lies, turned_permuted}
+use Rattle.atlas_sheet.proofs.FoundPlaces.{no_sprite}
+use Rattle.atlas_sheet.proofs.NumberedSprites.{order_below}
+use Rattle.atlas_sheet.proofs.TurnedSprites.{turned_lies, turned_permuted}
 use Rattle.atlas_sheet.proofs.changes.turn_one.Goals as goal
 
 pub lie_so-requires : goal.lie_so-requires

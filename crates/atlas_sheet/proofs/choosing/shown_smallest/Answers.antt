@@ -2,7 +2,7 @@ use Rattle.std.proofs.Common.{subst, sym}
 use Rattle.guillotiere.specs.declared.Size.{Size}
 use Rattle.guillotiere.specs.Pixels.{sides_of}
 use Rattle.atlas_sheet.specs.Dense.{IsNoLargerThanWays}
-use Rattle.atlas_sheet.proofs.Arranging.{shown_whole}
+use Rattle.atlas_sheet.proofs.Arrangements.{shown_whole}
 use Rattle.atlas_sheet.proofs.choosing.shown_smallest.Goals as goal
 
 pub returns-clause-whole : goal.returns-clause-whole

@@ -3,7 +3,7 @@ use Rattle.std.proofs.Common.{inl}
 use Rattle.atlas_sheet.specs.declared.ways.TheConstants.{WAYS}
 use Rattle.atlas_sheet.specs.Packings.{IsNoLarger, NoneIsFound}
 use Rattle.atlas_sheet.specs.Settings.{spacing_of}
-use Rattle.atlas_sheet.proofs.Laying.{each_weaker}
+use Rattle.atlas_sheet.proofs.LaidSprites.{each_weaker}
 use Rattle.atlas_sheet.proofs.choosing.smallest.Goals as goal
 
 pub returns-in-None-clause-larger : goal.returns-in-None-clause-larger

@@ -1,7 +1,7 @@
 use Rattle.std.proofs.Common.{◌≡◌}
 use Rattle.guillotiere.specs.Pixels.{sides_of}
 use Rattle.atlas_sheet.specs.Settings.{spacing_of}
-use Rattle.atlas_sheet.proofs.Arranging.{arranged_as_given}
+use Rattle.atlas_sheet.proofs.Arrangements.{arranged_as_given}
 use Rattle.atlas_sheet.proofs.climbing.asked_in.Goals as goal
 
 pub returns-clause-arranged : goal.returns-clause-arranged

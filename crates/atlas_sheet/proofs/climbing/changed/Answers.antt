@@ -1,6 +1,6 @@
 use Rattle.atlas_sheet.specs.Settings.{spacing_of}
-use Rattle.atlas_sheet.proofs.Arranging.{rebased}
-use Rattle.atlas_sheet.proofs.Flipping.{lie_packable}
+use Rattle.atlas_sheet.proofs.Arrangements.{rebased}
+use Rattle.atlas_sheet.proofs.TurnedSprites.{lie_packable}
 use Rattle.atlas_sheet.proofs.climbing.changed.Goals as goal
 
 pub asked_in-requires-clause-good : goal.asked_in-requires-clause-good

@@ -1,6 +1,6 @@
 use Rattle.std.proofs.Common.{◌∙◌, ap, arith}
 use Rattle.atlas_sheet.specs.Sheets.{used_area}
-use Rattle.atlas_sheet.proofs.Arranging.{lying_packable, rebased}
+use Rattle.atlas_sheet.proofs.Arrangements.{lying_packable, rebased}
 use Rattle.atlas_sheet.proofs.climbing.improve.Goals as goal
 
 pub changed-requires-clause-good : goal.changed-requires-clause-good

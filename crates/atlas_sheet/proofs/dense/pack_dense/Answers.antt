@@ -1,11 +1,11 @@
 use Rattle.std.proofs.lemmas.Option.{IfSome_then}
-use Rattle.atlas_sheet.proofs.Densing.{whole_apart, whole_count, whole_inside, whole_packed, whole_upright}
+use Rattle.atlas_sheet.proofs.DenseSheets.{whole_apart, whole_count, whole_inside, whole_packed, whole_upright}
 use Rattle.atlas_sheet.proofs.dense.pack_dense.Goals as goal
 
 pub denser-requires-clause-whole : goal.denser-requires-clause-whole
 denser-requires-clause-whole g c =
     whole_packed c.args.options.now c.args.sprites.now c.in_ok-first.first
-    c.in_ok-first.ensures.allowed c.in_ok-first.ensures.shown c.in_ok-first.ensures.area c.in_ok-first.ensures.larger
+    c.in_ok-first.ensures.allowed c.in_ok-first.ensures.shown c.in_ok-first.ensures.area c.in_ok-first.ensures.larger c.in_ok-first.ensures.first
 
 pub returns-clause-allowed : goal.returns-clause-allowed
 returns-clause-allowed g c = IfSome_then c.in_ok-found.found c.in_ok-found.ensures.whole (λ sheet whole. whole.allowed)
@@ -37,3 +37,6 @@ returns-clause-order g c = IfSome_then c.in_ok-found.found c.in_ok-found.ensures
 
 pub returns-clause-larger : goal.returns-clause-larger
 returns-clause-larger g c = IfSome_then c.in_ok-found.found c.in_ok-found.ensures.whole (λ sheet whole. whole.larger)
+
+pub returns-clause-way : goal.returns-clause-way
+returns-clause-way g c = IfSome_then c.in_ok-found.found c.in_ok-found.ensures.whole (λ sheet whole. whole.way)

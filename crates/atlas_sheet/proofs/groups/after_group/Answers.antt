@@ -1,6 +1,6 @@
 use Rattle.std.proofs.Common.{◌∙◌, ◌<◌, ap, subst, sym}
 use Rattle.atlas_sheet.specs.Grouping.{to_do, without_group}
-use Rattle.atlas_sheet.proofs.GroupMore.{less_without, so_without}
+use Rattle.atlas_sheet.proofs.GroupsSoFar.{less_without, so_without}
 use Rattle.atlas_sheet.proofs.groups.after_group.Goals as goal
 
 pub begun-requires-clause-kept : goal.begun-requires-clause-kept

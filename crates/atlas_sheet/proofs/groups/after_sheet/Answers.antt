@@ -1,5 +1,5 @@
 use Rattle.std.proofs.Common.{◌∙◌, ap}
-use Rattle.atlas_sheet.proofs.GroupMore.{less_more, so_holes, so_more}
+use Rattle.atlas_sheet.proofs.GroupsSoFar.{less_more, so_holes, so_more}
 use Rattle.atlas_sheet.proofs.groups.after_sheet.Goals as goal
 
 pub with_sheet-requires-clause-count : goal.with_sheet-requires-clause-count

@@ -1,5 +1,5 @@
 use Rattle.std.proofs.Common.{◌≡◌, length, replicate, None, rules}
-use Rattle.atlas_sheet.proofs.GroupMore.{so_begun}
+use Rattle.atlas_sheet.proofs.GroupsSoFar.{so_begun}
 use Rattle.atlas_sheet.proofs.groups.begun.Goals as goal
 
 pub returns-clause-so_far : goal.returns-clause-so_far

@@ -4,7 +4,7 @@ use Rattle.guillotiere.specs.Pixels.{sides_of}
 use Rattle.atlas_sheet.specs.Dense.{NoWayFinds}
 use Rattle.atlas_sheet.specs.Grouping.{HasMember, IsGroupSheet, SaysOf, members, waiting}
 use Rattle.atlas_sheet.specs.Settings.{CanPack}
-use Rattle.atlas_sheet.proofs.GroupMore.{numbers_long, so_can_pack}
+use Rattle.atlas_sheet.proofs.GroupsSoFar.{numbers_long, so_can_pack}
 use Rattle.atlas_sheet.proofs.groups.group_step.Goals as goal
 
 pub group_sheet-requires-clause-good : goal.group_sheet-requires-clause-good

@@ -1,5 +1,5 @@
 use Rattle.std.proofs.Common.{◌∙◌, All, IsSome, subst, sym}
-use Rattle.atlas_sheet.proofs.GroupMore.{so_pages, so_sheets, so_together}
+use Rattle.atlas_sheet.proofs.GroupsSoFar.{so_pages, so_sheets, so_together}
 use Rattle.atlas_sheet.proofs.PageFinds.{empty_left, none_left, some_left}
 use Rattle.atlas_sheet.proofs.groups.grouped.Goals as goal
 

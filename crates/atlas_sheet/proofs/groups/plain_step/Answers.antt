@@ -3,7 +3,7 @@ use Rattle.std.proofs.lemmas.List.{length-map}
 use Rattle.atlas_sheet.specs.Paging.{OneIsTooLarge}
 use Rattle.atlas_sheet.specs.Settings.{CanPack}
 use Rattle.atlas_sheet.specs.Grouping.{waiting}
-use Rattle.atlas_sheet.proofs.GroupMore.{left_large, numbers_long, so_can_pack}
+use Rattle.atlas_sheet.proofs.GroupsSoFar.{left_large, numbers_long, so_can_pack}
 use Rattle.atlas_sheet.proofs.GroupSteps.{none_says}
 use Rattle.atlas_sheet.proofs.groups.plain_step.Goals as goal
 

@@ -1,5 +1,5 @@
 use Rattle.std.proofs.Common.{◌∙◌, ap, length, sym}
-use Rattle.atlas_sheet.proofs.GroupMore.{kept_long}
+use Rattle.atlas_sheet.proofs.GroupsSoFar.{kept_long}
 use Rattle.atlas_sheet.proofs.groups.step.Goals as goal
 
 pub waiting-requires : goal.waiting-requires

@@ -1,6 +1,6 @@
 use Rattle.std.proofs.Common.{rules}
 use Rattle.std.proofs.lemmas.Fn.{always_returns_same}
-use Rattle.atlas_sheet.proofs.Ordering.{greatest_first, reversed_key}
+use Rattle.atlas_sheet.proofs.GreatestFirst.{greatest_first, reversed_key}
 use Rattle.atlas_sheet.proofs.orders.greatest_first.Goals as goal
 
 pub returns-clause-greatest : goal.returns-clause-greatest

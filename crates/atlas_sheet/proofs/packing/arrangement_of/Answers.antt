@@ -1,5 +1,5 @@
 use Rattle.std.proofs.Common.{◌≡◌, ◌∙◌, map, ap, refl, subst, sym, All, IsSome, Some}
-use Rattle.atlas_sheet.proofs.Arranging.{all_some, packed_arranged}
+use Rattle.atlas_sheet.proofs.Arrangements.{all_some, packed_arranged}
 use Rattle.atlas_sheet.proofs.packing.arrangement_of.Goals as goal
 
 pub returns-clause-arranged : goal.returns-clause-arranged

@@ -3,7 +3,7 @@ use Rattle.std.specs.List.{FoldsTo}
 use Rattle.guillotiere.specs.declared.Size.{Size}
 use Rattle.guillotiere.specs.Pixels.{sides_of}
 use Rattle.atlas_sheet.specs.Allowances.{IsAllowed, pixels}
-use Rattle.atlas_sheet.specs.Lying.{IsArranged}
+use Rattle.atlas_sheet.specs.Lying.{IsArranged, HoldsAll}
 use Rattle.atlas_sheet.specs.Packings.{AreFalling}
 use Rattle.atlas_sheet.proofs.packing.descend.Given as goal
 
@@ -15,7 +15,8 @@ invariant-loop-tries g l = record {
   callable : goal.F-IsAlwaysCallable g l.told;
   told : (before : List Size)
       × FoldsTo (λ p size q. goal.F-step g p size tt q) l.fn.told (before ++ l.best.size ∷ []) l.told
-      × AreFalling (before ++ l.best.size ∷ []);
+      × AreFalling (before ++ l.best.size ∷ [])
+      × All (HoldsAll l.options l.fn.first.lying.items) (before ++ l.best.size ∷ []);
   smaller : pixels (sides_of l.best.size) ≤ pixels (sides_of l.fn.first.size);
 }
 

@@ -4,7 +4,7 @@ use Rattle.atlas_sheet.specs.declared.ways.TheConstants.{WAYS}
 use Rattle.atlas_sheet.specs.declared.ways.Way.{Way}
 use Rattle.atlas_sheet.specs.Packings.{IsLeastFound, NoneIsFound}
 use Rattle.atlas_sheet.specs.Settings.{spacing_of}
-use Rattle.atlas_sheet.proofs.Arranging.{rebased}
+use Rattle.atlas_sheet.proofs.Arrangements.{rebased}
 use Rattle.atlas_sheet.proofs.packing.first_so.Goals as goal
 
 pub returns-in-None-clause-none : goal.returns-in-None-clause-none

@@ -1,11 +1,14 @@
-use Rattle.std.proofs.Common.{[], refl, rules}
+use Rattle.std.proofs.Common.{[], ◌∷◌, ◌++◌, refl, rules}
 use Rattle.std.proofs.lemmas.Fn.{FoldsTo-push}
+use Rattle.std.proofs.lemmas.List.Elements.{All-cons, All-nil}
 use Rattle.guillotiere.specs.Pixels.{sides_of}
+use Rattle.atlas_sheet.specs.Lying.{HoldsAll}
 use Rattle.atlas_sheet.specs.Packings.{IsNoLarger}
 use Rattle.atlas_sheet.specs.Settings.{spacing_of}
 use Rattle.atlas_sheet.specs.declared.ways.TheConstants.{WAYS}
-use Rattle.atlas_sheet.proofs.Arranging.{lying_packable, no_larger, own, rebased}
-use Rattle.atlas_sheet.proofs.Laying.{each_weaker}
+use Rattle.atlas_sheet.proofs.Arrangements.{lying_packable, no_larger, own, rebased}
+use Rattle.atlas_sheet.proofs.FallingSizes.{holds_all, holds_lying}
+use Rattle.atlas_sheet.proofs.LaidSprites.{each_weaker}
 use Rattle.atlas_sheet.proofs.packing.packed.Goals as goal
 
 pub descend-requires-clause-good : goal.descend-requires-clause-good
@@ -38,4 +41,19 @@ returns-then-options-eq0-clause-told g c = (
   FoldsTo-push (λ p size q. goal.F-step g p size tt q) c.args.told [] c.args.told c.in-Some.first.size c.told.new.self refl
       (search (rules, c.told.ensures)),
   tt,
+  All-cons (HoldsAll c.args.options.now c.args.sprites.now) c.in-Some.first.size []
+      (holds_all c.args.options.now c.args.sprites.now c.in-Some.first (rw c.in-Some.is at c.in_ok-found.ensures.arranged)
+      (rw c.in-Some.is at c.in_ok-found.ensures.allowed) (rw c.in-Some.is at c.in_ok-found.ensures.whole))
+      (All-nil (HoldsAll c.args.options.now c.args.sprites.now)),
 )
+
+pub returns-clause-told : goal.returns-clause-told
+returns-clause-told g c =
+    let told = c.in_ok-best.ensures.told in
+    let arranged = rw c.in-Some.is at c.in_ok-found.ensures.arranged in (
+      told.0,
+      told.1,
+      told.2,
+      told.3,
+      holds_lying c.args.options.now c.args.sprites.now c.in-Some.first.lying.items arranged.lies (told.0 ++ c.in_ok-best.best.size ∷ []) told.4,
+    )

@@ -3,8 +3,8 @@ use Rattle.guillotiere.specs.Pixels.{sides_of}
 use Rattle.atlas_sheet.specs.declared.ways.TheConstants.{WAYS}
 use Rattle.atlas_sheet.specs.Packings.{IsNoLarger, NoneIsFound}
 use Rattle.atlas_sheet.specs.Settings.{spacing_of}
-use Rattle.atlas_sheet.proofs.Arranging.{lying_packable, own, rebased}
-use Rattle.atlas_sheet.proofs.Laying.{each_weaker}
+use Rattle.atlas_sheet.proofs.Arrangements.{lying_packable, own, rebased}
+use Rattle.atlas_sheet.proofs.LaidSprites.{each_weaker}
 use Rattle.atlas_sheet.proofs.packing.squeeze.Goals as goal
 
 pub improve-requires-clause-good : goal.improve-requires-clause-good

@@ -3,7 +3,7 @@ use Rattle.guillotiere.specs.Pixels.{sides_of}
 use Rattle.atlas_sheet.specs.declared.ways.TheConstants.{WAYS}
 use Rattle.atlas_sheet.specs.Packings.{IsNoLarger, NoneIsFound}
 use Rattle.atlas_sheet.specs.Settings.{spacing_of}
-use Rattle.atlas_sheet.proofs.Laying.{each_weaker}
+use Rattle.atlas_sheet.proofs.LaidSprites.{each_weaker}
 use Rattle.atlas_sheet.proofs.paging.next_page.Goals as goal
 
 pub returns-then-not-is_whole-clause-kind : goal.returns-then-not-is_whole-clause-kind

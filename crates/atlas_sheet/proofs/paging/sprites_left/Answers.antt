@@ -1,6 +1,6 @@
 use Rattle.std.proofs.Common.{◌≡◌, ◌<◌, length, get_or, is_none, true, false, None, arith, rules}
 use Rattle.std.proofs.lemmas.List.{get_or_default}
-use Rattle.atlas_sheet.proofs.Finding.{no_sprite}
+use Rattle.atlas_sheet.proofs.FoundPlaces.{no_sprite}
 use Rattle.atlas_sheet.proofs.PageSteps.{left_less, left_more}
 use Rattle.atlas_sheet.proofs.paging.sprites_left.Goals as goal
 use Rattle.atlas_sheet.proofs.paging.sprites_left.Goals.{then-is_none+in_ok-push, else-is_none}

@@ -1,6 +1,6 @@
 use Rattle.std.proofs.Common.{◌≡◌, ◌<◌, length, get_or, true, false, arith, rules}
 use Rattle.std.proofs.lemmas.List.{get_or_default}
-use Rattle.atlas_sheet.proofs.Finding.{no_sprite}
+use Rattle.atlas_sheet.proofs.FoundPlaces.{no_sprite}
 use Rattle.atlas_sheet.proofs.GroupRows.{picked_less, picked_more}
 use Rattle.atlas_sheet.proofs.picking.picked.Goals as goal
 use Rattle.atlas_sheet.proofs.picking.picked.Goals.{then-chosen+in_ok-push, else-chosen}

@@ -1,8 +1,8 @@
 use Rattle.std.proofs.Common.{◌≡◌, ◌<◌, ◌∙◌, length, get_or, ap, refl, arith}
 use Rattle.std.proofs.lemmas.List.{get_or_default}
 use Rattle.atlas_sheet.specs.Lying.{placed_area}
-use Rattle.atlas_sheet.proofs.Arranging.{as_long, shown_all, shown_more}
-use Rattle.atlas_sheet.proofs.Finding.{no_sprite}
+use Rattle.atlas_sheet.proofs.Arrangements.{as_long, shown_all, shown_more}
+use Rattle.atlas_sheet.proofs.FoundPlaces.{no_sprite}
 use Rattle.atlas_sheet.proofs.placed.placed_all.Goals as goal
 
 pub bounds-sprites-number : goal.bounds-sprites-number

@@ -1,6 +1,6 @@
 use Rattle.guillotiere.specs.Pixels.{sides_of}
 use Rattle.atlas_sheet.specs.Settings.{spacing_of}
-use Rattle.atlas_sheet.proofs.Arranging.{IsShownTo}
+use Rattle.atlas_sheet.proofs.Arrangements.{IsShownTo}
 use Rattle.atlas_sheet.proofs.placed.placed_all.Given as goal
 
 abbrev pub invariant-loop-number : goal.invariant-loop-number

@@ -3,10 +3,10 @@ use Rattle.std.proofs.lemmas.List.{length-set}
 use Rattle.std.proofs.lemmas.List.Elements.{All-get_or}
 use Rattle.guillotiere.specs.SimpleStored.{simple_state_of}
 use Rattle.atlas_sheet.specs.Sheets.{FindPlaces, IsPackable, with_places}
-use Rattle.atlas_sheet.proofs.Asking.{keeps_positive}
-use Rattle.atlas_sheet.proofs.Finding.{no_sprite, all_found}
-use Rattle.atlas_sheet.proofs.Numbering.{order_all, order_below, order_once}
-use Rattle.atlas_sheet.proofs.Taking.{one_left, one_more}
+use Rattle.atlas_sheet.proofs.AskedPlace.{keeps_positive}
+use Rattle.atlas_sheet.proofs.FoundPlaces.{no_sprite, all_found}
+use Rattle.atlas_sheet.proofs.NumberedSprites.{order_all, order_below, order_once}
+use Rattle.atlas_sheet.proofs.Packings.{one_left, one_more}
 use Rattle.atlas_sheet.proofs.places.find_all.Goals as goal
 
 pub place-requires-clause-packable : goal.place-requires-clause-packable

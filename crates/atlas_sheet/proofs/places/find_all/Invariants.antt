@@ -2,7 +2,7 @@ use Rattle.std.proofs.Common.{◌≡◌, length, take, map, Some}
 use Rattle.guillotiere.specs.Boxes.{IsPositive}
 use Rattle.guillotiere.specs.SimpleStored.{simple_state_of}
 use Rattle.atlas_sheet.specs.Sheets.{with_places}
-use Rattle.atlas_sheet.proofs.Finding.{HaveFound}
+use Rattle.atlas_sheet.proofs.FoundPlaces.{HaveFound}
 use Rattle.atlas_sheet.proofs.places.find_all.Given as goal
 
 abbrev pub invariant-loop-sprite : goal.invariant-loop-sprite

@@ -2,8 +2,8 @@ use Rattle.std.proofs.Common.{◌<◌, length, get_or, refl, add-one, arith}
 use Rattle.std.proofs.lemmas.List.Elements.{All-get_or}
 use Rattle.guillotiere.specs.SimpleStored.{simple_state_of}
 use Rattle.atlas_sheet.specs.Sheets.{IsPackable}
-use Rattle.atlas_sheet.proofs.Asking.{keeps_positive, refused_now}
-use Rattle.atlas_sheet.proofs.Finding.{no_sprite, more, all_found}
+use Rattle.atlas_sheet.proofs.AskedPlace.{keeps_positive, refused_now}
+use Rattle.atlas_sheet.proofs.FoundPlaces.{no_sprite, more, all_found}
 use Rattle.atlas_sheet.proofs.places.find_in.Goals as goal
 
 pub place_unless-requires-clause-packable : goal.place_unless-requires-clause-packable

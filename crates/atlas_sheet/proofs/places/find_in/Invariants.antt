@@ -3,7 +3,7 @@ use Rattle.guillotiere.specs.Boxes.{IsPositive}
 use Rattle.guillotiere.specs.Choice.{HasNoRoom}
 use Rattle.guillotiere.specs.SimpleStored.{simple_state_of}
 use Rattle.atlas_sheet.specs.Sheets.{asked_sides, with_places}
-use Rattle.atlas_sheet.proofs.Finding.{HaveFound}
+use Rattle.atlas_sheet.proofs.FoundPlaces.{HaveFound}
 use Rattle.atlas_sheet.proofs.places.find_in.Given as goal
 
 abbrev pub invariant-loop-sprite : goal.invariant-loop-sprite

@@ -1,6 +1,6 @@
 use Rattle.std.proofs.Common.{◌≡◌, length, ap, arith, rules}
 use Rattle.atlas_sheet.specs.Sheets.{IsPackable}
-use Rattle.atlas_sheet.proofs.Numbering.{order_all, order_below, order_once}
+use Rattle.atlas_sheet.proofs.NumberedSprites.{order_all, order_below, order_once}
 use Rattle.atlas_sheet.proofs.places.find_places.Goals as goal
 
 pub find_in-requires-clause-packable : goal.find_in-requires-clause-packable

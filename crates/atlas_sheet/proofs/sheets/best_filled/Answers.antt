@@ -6,9 +6,9 @@ use Rattle.atlas_sheet.specs.Fillings.{IsNoBetter, ways_tried}
 use Rattle.atlas_sheet.specs.Settings.{spacing_of}
 use Rattle.atlas_sheet.specs.Sheets.{used_area}
 use Rattle.atlas_sheet.specs.Turnings.{InEach}
-use Rattle.atlas_sheet.proofs.Arranging.{lying_packable, own, rebased}
+use Rattle.atlas_sheet.proofs.Arrangements.{lying_packable, own, rebased}
 use Rattle.atlas_sheet.proofs.BestWays.{still_best}
-use Rattle.atlas_sheet.proofs.Laying.{each_weaker}
+use Rattle.atlas_sheet.proofs.LaidSprites.{each_weaker}
 use Rattle.atlas_sheet.proofs.sheets.best_filled.Goals as goal
 
 pub returns-clause-best : goal.returns-clause-best

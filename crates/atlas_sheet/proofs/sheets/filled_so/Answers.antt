@@ -1,6 +1,6 @@
 use Rattle.guillotiere.specs.Pixels.{sides_of}
 use Rattle.atlas_sheet.specs.Settings.{spacing_of}
-use Rattle.atlas_sheet.proofs.Arranging.{arranged_as_given, rebased}
+use Rattle.atlas_sheet.proofs.Arrangements.{arranged_as_given, rebased}
 use Rattle.atlas_sheet.proofs.Rows.{allowed_positive}
 use Rattle.atlas_sheet.proofs.sheets.filled_so.Goals as goal
 

@@ -1,14 +1,14 @@
-use Rattle.std.proofs.Common.{◌≡◌, ◌∙◌, [], ◌∷◌, ◌++◌, ap, map, subst, sym, Some, rules}
+use Rattle.std.proofs.Common.{◌≡◌, ◌∙◌, [], ◌∷◌, ◌++◌, All, ap, map, subst, sym, Some, rules}
 use Rattle.std.specs.List.{FoldsTo}
 use Rattle.guillotiere.specs.declared.Size.{Size}
 use Rattle.guillotiere.specs.Pixels.{sides_of}
 use Rattle.atlas_sheet.specs.declared.ways.TheConstants.{WAYS}
-use Rattle.atlas_sheet.specs.Lying.{IsShown, areas_of}
+use Rattle.atlas_sheet.specs.Lying.{IsShown, HoldsAll, areas_of}
 use Rattle.atlas_sheet.specs.Settings.{spacing_of}
 use Rattle.atlas_sheet.specs.Packings.{AreFalling, IsNoLarger}
 use Rattle.atlas_sheet.specs.Turnings.{InEach}
-use Rattle.atlas_sheet.proofs.Arranging.{shown_whole}
-use Rattle.atlas_sheet.proofs.Showing.{shows_apart, shows_inside, shows_upright}
+use Rattle.atlas_sheet.proofs.Arrangements.{shown_whole}
+use Rattle.atlas_sheet.proofs.ShownPlaces.{shows_apart, shows_inside, shows_upright}
 use Rattle.atlas_sheet.proofs.sheets.pack_telling.Goals as goal
 
 pub sheet_of-requires : goal.sheet_of-requires
@@ -64,4 +64,5 @@ returns-clause-told g c =
       told.1,
       subst (λ (s : Size). FoldsTo (λ p size q. goal.F-step g p size tt q) c.args.told (told.0 ++ s ∷ []) told.1) (sym size) told.2,
       subst (λ (s : Size). AreFalling (told.0 ++ s ∷ [])) (sym size) told.3,
+      subst (λ (s : Size). All (HoldsAll c.args.options.now c.args.sprites.now) (told.0 ++ s ∷ [])) (sym size) told.4,
     )

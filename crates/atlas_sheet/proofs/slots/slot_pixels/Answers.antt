@@ -1,5 +1,5 @@
 use Rattle.atlas_sheet.proofs.GroupTakes.{slot_more, written}
-use Rattle.atlas_sheet.proofs.Finding.{no_sprite}
+use Rattle.atlas_sheet.proofs.FoundPlaces.{no_sprite}
 use Rattle.std.proofs.Common.{◌≡◌, ◌+◌, ◌≤◌, ap, arith, drop, get_or, length, subst, sym}
 use Rattle.atlas_sheet.specs.Grouping.{members, pixels_together}
 use Rattle.atlas_sheet.proofs.slots.slot_pixels.Goals as goal

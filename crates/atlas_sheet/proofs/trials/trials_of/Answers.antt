@@ -1,6 +1,6 @@
 use Rattle.std.proofs.Common.{refl}
 use Rattle.atlas_sheet.specs.Packings.{IsOrderBy}
-use Rattle.atlas_sheet.proofs.Taking.{all_added, ways_added}
+use Rattle.atlas_sheet.proofs.Packings.{all_added, ways_added}
 use Rattle.atlas_sheet.proofs.trials.trials_of.Goals as goal
 
 pub loop-way-preserved : goal.loop-way-preserved

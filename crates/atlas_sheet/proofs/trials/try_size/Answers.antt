@@ -4,7 +4,7 @@ use Rattle.std.proofs.lemmas.Option.{IfSome_then}
 use Rattle.guillotiere.specs.Pixels.{sides_of}
 use Rattle.atlas_sheet.specs.Packings.{IsOrderBy, LeavesSprite, NoWayPacks}
 use Rattle.atlas_sheet.proofs.Maybes.{at_none}
-use Rattle.atlas_sheet.proofs.Taking.{tried_at, way_more}
+use Rattle.atlas_sheet.proofs.Packings.{tried_at, way_more}
 use Rattle.atlas_sheet.proofs.trials.try_size.Goals as goal
 
 pub try_trial-requires-clause-order : goal.try_trial-requires-clause-order

@@ -1,6 +1,6 @@
 use Rattle.std.proofs.Common.{◌≡◌}
 use Rattle.guillotiere.specs.Pixels.{sides_of}
-use Rattle.atlas_sheet.proofs.Taking.{a_way_packs}
+use Rattle.atlas_sheet.proofs.Packings.{a_way_packs}
 use Rattle.atlas_sheet.proofs.trials.try_trial.Goals as goal
 
 pub returns-clause-packed : goal.returns-clause-packed

@@ -3,8 +3,8 @@ use Rattle.guillotiere.specs.declared.Size.{Size}
 use Rattle.guillotiere.specs.Pixels.{sides_of}
 use Rattle.atlas_sheet.specs.Settings.{spacing_of}
 use Rattle.atlas_sheet.specs.Turnings.{fitted, turned_to}
-use Rattle.atlas_sheet.proofs.Flipping.{lie_as_given, lie_packable}
-use Rattle.atlas_sheet.proofs.Laying.{laid_so}
+use Rattle.atlas_sheet.proofs.TurnedSprites.{lie_as_given, lie_packable}
+use Rattle.atlas_sheet.proofs.LaidSprites.{laid_so}
 use Rattle.atlas_sheet.proofs.turnings.laid.Goals as goal
 
 pub returns-then-not-options-clause-lies : goal.returns-then-not-options-clause-lies

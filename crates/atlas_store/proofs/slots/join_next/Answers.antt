@@ -4,8 +4,8 @@ use Rattle.atlas_store.specs.declared.slots.Node.{Node}
 use Rattle.atlas_store.specs.Slots.{nodes, node_at}
 use Rattle.atlas_search.specs.Numbers.{no_slot}
 use Rattle.atlas_store.specs.Slots.SlotCalls.{IsNextJoined}
-use Rattle.atlas_store.proofs.SlotLemmas.Joining.{Stands-joined, joined-use}
-use Rattle.atlas_store.proofs.SlotLemmas.JoiningWrites.{join_next_is, IsSlot-after}
+use Rattle.atlas_store.proofs.SlotLemmas.Joins.{Stands-joined, joined-use}
+use Rattle.atlas_store.proofs.SlotLemmas.JoinWrites.{join_next_is, IsSlot-after}
 use Rattle.atlas_store.proofs.SlotLemmas.Calm.{calm-joined}
 use Rattle.atlas_store.proofs.slots.join_next.Goals as goal
 

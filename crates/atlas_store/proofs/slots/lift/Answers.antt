@@ -1,7 +1,7 @@
 use Rattle.std.proofs.Common.{◌∙◌, arith}
 use Rattle.std.proofs.lemmas.List.{length-map}
 use Rattle.atlas_store.specs.Slots.{nodes}
-use Rattle.atlas_store.proofs.SlotLemmas.LiftingWrites.{child-lifted, container-inside}
+use Rattle.atlas_store.proofs.SlotLemmas.LiftWrites.{child-lifted, container-inside}
 use Rattle.atlas_store.proofs.slots.lift.Goals as goal
 
 pub set_kind-requires : goal.set_kind-requires

@@ -1,8 +1,8 @@
 use Rattle.std.proofs.Common.{◌<◌, length, refl}
 use Rattle.std.proofs.lemmas.List.{length-map}
 use Rattle.atlas_store.specs.Slots.{nodes}
-use Rattle.atlas_store.proofs.SlotLemmas.Releasing.{calm-marked}
-use Rattle.atlas_store.proofs.SlotLemmas.Marking.{Stands-marked}
+use Rattle.atlas_store.proofs.SlotLemmas.CalmTrees.{calm-marked}
+use Rattle.atlas_store.proofs.SlotLemmas.MarkedLeaves.{Stands-marked}
 use Rattle.atlas_store.proofs.SlotLemmas.Frames.{IsWritten-by, keeps-same}
 use Rattle.atlas_store.proofs.slots.mark_free.Goals as goal
 

@@ -1,5 +1,5 @@
 use Rattle.std.proofs.Common.{◌≡◌, codes, sym, refl, rules, arith}
-use Rattle.atlas_svg.proofs.Saying.{none_of_five}
+use Rattle.atlas_svg.proofs.SaidLines.{none_of_five}
 use Rattle.atlas_svg.proofs.lines.is_call_word.Goals as goal
 
 pub returns-then-eq-3 : goal.returns-then-eq-3

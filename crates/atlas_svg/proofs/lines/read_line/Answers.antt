@@ -1,5 +1,5 @@
 use Rattle.std.proofs.Common.{inr, rules}
-use Rattle.atlas_svg.proofs.Saying.{by_size, by_box, by_hole, by_none}
+use Rattle.atlas_svg.proofs.SaidLines.{by_size, by_box, by_hole, by_none}
 use Rattle.atlas_svg.proofs.lines.read_line.Goals as goal
 
 pub returns-in_err-two_numbers-clause-all : goal.returns-in_err-two_numbers-clause-all

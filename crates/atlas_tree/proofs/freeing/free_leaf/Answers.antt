@@ -1,6 +1,6 @@
 use Rattle.std.proofs.Common.{arith, ◌<◌, length}
 use Rattle.atlas_store.specs.Store.Holdings.{shelf_of, node_in}
-use Rattle.atlas_store.proofs.StoreLemmas.Turning.{freeing-marked, freed-listed, detached-same, keeps-room}
+use Rattle.atlas_store.proofs.StoreLemmas.Turns.{freeing-marked, freed-listed, detached-same, keeps-room}
 use Rattle.atlas_tree.proofs.FreeingLemmas.{underway-then, underway-counted, underway-at, underway-few, underway-fewer}
 use Rattle.atlas_tree.proofs.freeing.free_leaf.Goals as goal
 

@@ -2,7 +2,7 @@ use Rattle.std.proofs.Common.{◌+◌, ap, ◌∙◌, refl}
 use Rattle.atlas_store.specs.declared.slots.Node.{Node}
 use Rattle.atlas_store.specs.declared.store.turns.Turns.{Turns}
 use Rattle.atlas_store.specs.Store.Holdings.{shelf_of}
-use Rattle.atlas_store.proofs.StoreLemmas.Turning.{next-inside, next-listed}
+use Rattle.atlas_store.proofs.StoreLemmas.Turns.{next-inside, next-listed}
 use Rattle.atlas_tree.proofs.FreeingLemmas.{ready-next, askable, join-turned, join-apart_next}
 use Rattle.atlas_tree.proofs.freeing.join_next.Goals as goal
 

@@ -3,7 +3,7 @@ use Rattle.std.proofs.lemmas.Bool.{true≢false}
 use Rattle.atlas_store.specs.declared.slots.Node.{Node}
 use Rattle.atlas_store.specs.declared.store.turns.Turns.{Turns}
 use Rattle.atlas_store.specs.Store.Holdings.{shelf_of}
-use Rattle.atlas_store.proofs.StoreLemmas.Turning.{previous-inside, previous-listed}
+use Rattle.atlas_store.proofs.StoreLemmas.Turns.{previous-inside, previous-listed}
 use Rattle.atlas_tree.proofs.FreeingLemmas.{ready-previous, askable, next-free, join-turned, join-apart}
 use Rattle.atlas_tree.proofs.freeing.join_previous.Goals as goal
 

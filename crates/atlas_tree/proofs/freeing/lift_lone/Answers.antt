@@ -1,7 +1,7 @@
 use Rattle.std.proofs.Common.{◌≡◌, refl, arith}
 use Rattle.atlas_search.specs.Numbers.{no_slot}
 use Rattle.atlas_store.specs.Store.Holdings.{shelf_of}
-use Rattle.atlas_store.proofs.StoreLemmas.Turning.{settling-lifted, settled-at}
+use Rattle.atlas_store.proofs.StoreLemmas.Turns.{settling-lifted, settled-at}
 use Rattle.atlas_tree.proofs.freeing.lift_lone.Goals as goal
 use Rattle.atlas_tree.proofs.freeing.lift_lone.Goals.{else-node-via-then-node+then-node-2+else-node-3, else-node-via-then-node+else-node-2, else-node-via-else-node}
 

@@ -4,7 +4,7 @@ use Rattle.atlas_store.specs.Slots.{nodes}
 use Rattle.atlas_store.specs.Stored.{Holding}
 use Rattle.atlas_store.specs.Store.Holdings.{shelf_of}
 use Rattle.atlas_tree.specs.Plans.Growths.{IsTreeOf}
-use Rattle.atlas_store.proofs.SlotLemmas.Following.{followers}
+use Rattle.atlas_store.proofs.SlotLemmas.Followers.{followers}
 use Rattle.atlas_tree.proofs.PlanLemmas.LastMembers.{IsAtMember}
 use Rattle.atlas_tree.proofs.growth.last_member.Given as goal
 

@@ -1,5 +1,5 @@
 use Rattle.std.proofs.Common.{◌∙◌, refl}
-use Rattle.atlas_tree.proofs.PlanLemmas.PlacingChains.{unlisted-parts, unlisted-leaf, listed-next, planned-end, placed_holding}
+use Rattle.atlas_tree.proofs.PlanLemmas.DonePlans.{unlisted-parts, unlisted-leaf, listed-next, planned-end, placed_holding}
 use Rattle.atlas_store.proofs.StoreLemmas.TakenOnce.{only-takes}
 use Rattle.atlas_tree.proofs.requests.corner_across.Goals as goal
 

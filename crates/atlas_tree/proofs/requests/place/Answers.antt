@@ -1,4 +1,4 @@
-use Rattle.atlas_tree.proofs.PlanLemmas.PlacingChains.{whole-done}
+use Rattle.atlas_tree.proofs.PlanLemmas.DonePlans.{whole-done}
 use Rattle.atlas_tree.proofs.requests.place.Goals as goal
 
 pub returns-in-Whole : goal.returns-in-Whole

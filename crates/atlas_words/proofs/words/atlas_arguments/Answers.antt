@@ -1,5 +1,5 @@
 use Rattle.std.proofs.Common.{rules}
-use Rattle.atlas_words.proofs.Parting.{atlas_begins, two_end, six_end}
+use Rattle.atlas_words.proofs.PartedWords.{atlas_begins, two_end, six_end}
 use Rattle.atlas_words.proofs.words.atlas_arguments.Goals as goal
 
 pub returns-in_err-size-clause-only : goal.returns-in_err-size-clause-only

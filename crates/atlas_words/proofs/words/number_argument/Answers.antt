@@ -1,6 +1,6 @@
 use Rattle.std.proofs.Common.{rules, arith}
 use Rattle.std.proofs.lemmas.Int.{to_z-of_z}
-use Rattle.atlas_words.proofs.Parting.{spelled_word}
+use Rattle.atlas_words.proofs.PartedWords.{spelled_word}
 use Rattle.atlas_words.proofs.words.number_argument.Goals as goal
 
 pub returns-in_err-number-clause-only : goal.returns-in_err-number-clause-only

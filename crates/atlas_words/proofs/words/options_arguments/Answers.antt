@@ -2,7 +2,7 @@ use Rattle.std.proofs.Common.{◌≡◌, arith}
 use mir.Val.{to_z, of_z}
 use Rattle.std.specs.Int.{w32}
 use Rattle.std.proofs.lemmas.Int.{to_z-of_z}
-use Rattle.atlas_words.proofs.Parting.{options_begin, options_rest, options_found, same_options_read}
+use Rattle.atlas_words.proofs.PartedWords.{options_begin, options_rest, options_found, same_options_read}
 use Rattle.atlas_words.proofs.words.options_arguments.Goals as goal
 
 pub returns-in_err-alignment-clause-only : goal.returns-in_err-alignment-clause-only

@@ -1,6 +1,6 @@
 use Rattle.std.proofs.Common.{◌≡◌, arith}
 use Rattle.std.proofs.lemmas.Int.{to_z-of_z}
-use Rattle.atlas_words.proofs.Parting.{next_begins, same_size}
+use Rattle.atlas_words.proofs.PartedWords.{next_begins, same_size}
 use Rattle.atlas_words.proofs.words.size_argument.Goals as goal
 
 pub returns-in_err-width-clause-only : goal.returns-in_err-width-clause-only

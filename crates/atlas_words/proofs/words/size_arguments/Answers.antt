@@ -1,5 +1,5 @@
 use Rattle.std.proofs.Common.{◌≡◌, [], length, Some, rules, ap}
-use Rattle.atlas_words.proofs.Parting.{size_begins, same_end}
+use Rattle.atlas_words.proofs.PartedWords.{size_begins, same_end}
 use Rattle.atlas_words.proofs.words.size_arguments.Goals as goal
 
 pub returns-in_err-size-clause-only : goal.returns-in_err-size-clause-only

@@ -1,4 +1,4 @@
-use Rattle.cache_tool.proofs.TellingLemmas.{one_line_more}
+use Rattle.cache_tool.proofs.ToldLines.{one_line_more}
 use Rattle.cache_tool.proofs.run.play.Goals as goal
 
 pub loop-rest-preserved : goal.loop-rest-preserved

@@ -3,8 +3,8 @@ use Rattle.std.proofs.Common.{arith, All}
 use Rattle.std.proofs.lemmas.List.{take_all, map-append}
 use Rattle.std.proofs.lemmas.List.Elements.{All-append, All-cons, All-nil}
 use Rattle.guillotiere.specs.Sessions.{call_of, reply_of, calls_of, replies_of, AreAnswered, IsExactReply}
-use Rattle.guillotiere.proofs.Playing.{IsPlayed, played_more, session_played, map_take-more, drop-more, take-longer}
-use Rattle.guillotiere.proofs.Playing.{answered-more, taken-more}
+use Rattle.guillotiere.proofs.Sessions.{IsPlayed, played_more, session_played, map_take-more, drop-more, take-longer}
+use Rattle.guillotiere.proofs.Sessions.{answered-more, taken-more}
 use Rattle.guillotiere.proofs.session.run.Goals as goal
 
 pub loop-call-preserved : goal.loop-call-preserved

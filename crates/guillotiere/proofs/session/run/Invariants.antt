@@ -2,7 +2,7 @@ use Rattle.std.proofs.Common.{◌≡◌, ◌+◌, ◌≤◌, length, take, drop,
 use Rattle.guillotiere.specs.Sessions.{calls_of, replies_of, AreAnswered, IsExactReply}
 use Rattle.atlas_model.specs.States.{IsSound}
 use Rattle.atlas_store.specs.Stored.{state_of}
-use Rattle.guillotiere.proofs.Playing.{IsPlayed}
+use Rattle.guillotiere.proofs.Sessions.{IsPlayed}
 use Rattle.guillotiere.proofs.session.run.Given as goal
 
 abbrev pub invariant-loop-call : goal.invariant-loop-call

@@ -7,8 +7,8 @@ use Rattle.atlas_model.specs.Choice.{Options}
 use Rattle.atlas_model.specs.Simple.{is_kept}
 use Rattle.guillotiere.specs.FreeBoxes.FreeLists.{kept_of}
 use Rattle.atlas_model.specs.Pixels.{box_of, options_of, sides_of}
-use Rattle.atlas_allocator.proofs.AtlasLemmas.CuttingFromLists.{unsigned-fits, unsigned-measurable}
-use Rattle.guillotiere.proofs.SimpleLemmas.CuttingBoxes.{at_error, picked-exact, cut-same, length-kept}
+use Rattle.atlas_allocator.proofs.AtlasLemmas.UnsignedRectangles.{unsigned-fits, unsigned-measurable}
+use Rattle.guillotiere.proofs.SimpleLemmas.CutBoxes.{at_error, picked-exact, cut-same, length-kept}
 use Rattle.guillotiere.proofs.SimpleLemmas.EntryCounts.{used-few}
 use Rattle.guillotiere.proofs.simple.cut_picked.Goals as goal
 

@@ -6,11 +6,11 @@ use Rattle.guillotiere.specs.FreeBoxes.FreeLists.{state_of_items}
 use Rattle.atlas_search.specs.Lookups.{AreFreeItems, IsStanding}
 use Rattle.atlas_model.specs.Pixels.{box_of, options_of, sides_of}
 use Rattle.atlas_model.specs.Simple.{kept_rest}
-use Rattle.guillotiere.proofs.SimpleLemmas.CuttingBoxes.{at_error, picked-exact}
-use Rattle.atlas_allocator.proofs.AtlasLemmas.CuttingFromLists.{sides_of-size, unsigned-measurable, unsigned-fits, unsigned_of, size-positive}
+use Rattle.guillotiere.proofs.SimpleLemmas.CutBoxes.{at_error, picked-exact}
+use Rattle.atlas_allocator.proofs.AtlasLemmas.UnsignedRectangles.{sides_of-size, unsigned-measurable, unsigned-fits, unsigned_of, size-positive}
 use Rattle.guillotiere.proofs.SimpleLemmas.EntryCounts.{used-free}
 use Rattle.guillotiere.proofs.SimpleLemmas.FreeItems.{are-free}
-use Rattle.guillotiere.proofs.SimpleLemmas.GrantingBoxes.{simply_grants}
+use Rattle.guillotiere.proofs.SimpleLemmas.GrantedBoxes.{simply_grants}
 use Rattle.guillotiere.proofs.simple.grant.Goals as goal
 
 pub granted-rectangle-requires-clause-measurable : goal.granted-rectangle-requires-clause-measurable

@@ -1,7 +1,7 @@
 use Rattle.std.proofs.Common.{subst, arith}
 use Rattle.std.proofs.lemmas.List.{take_all}
 use Rattle.guillotiere_recording.specs.Kept.{HasEntries}
-use Rattle.guillotiere_recording.proofs.Following.{has_more}
+use Rattle.guillotiere_recording.proofs.KeptNames.{has_more}
 use Rattle.guillotiere_recording.proofs.follow.map_names.Goals as goal
 
 pub loop-entry-preserved : goal.loop-entry-preserved

@@ -1,4 +1,4 @@
-use Rattle.guillotiere_recording.proofs.Booking.{books_are_true}
+use Rattle.guillotiere_recording.proofs.Books.{books_are_true}
 use Rattle.guillotiere_recording.proofs.laws.books_are_true.Goals as goal
 
 pub returns : goal.returns

@@ -1,4 +1,4 @@
-use Rattle.guillotiere_recording.proofs.Naming.{events_keep_names}
+use Rattle.guillotiere_recording.proofs.NamedStates.{events_keep_names}
 use Rattle.guillotiere_recording.proofs.laws.events_keep_names.Goals as goal
 
 pub returns : goal.returns

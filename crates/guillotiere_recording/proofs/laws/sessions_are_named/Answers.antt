@@ -1,4 +1,4 @@
-use Rattle.guillotiere_recording.proofs.Booking.{sessions_are_named}
+use Rattle.guillotiere_recording.proofs.Books.{sessions_are_named}
 use Rattle.guillotiere_recording.proofs.laws.sessions_are_named.Goals as goal
 
 pub returns : goal.returns

@@ -1,7 +1,7 @@
 use Rattle.std.proofs.Common.{◌≡◌, ◌<◌, length, get_or, rules, ltb}
 use Rattle.std.proofs.lemmas.List.Sorted.{IsPartitionPoint-from_clause, IsPartitionedBy-ltb}
 use Rattle.guillotiere_recording.specs.declared.names.LiveName.{LiveName as Entry}
-use Rattle.guillotiere_recording.proofs.Placing.{placed_id, contains_there}
+use Rattle.guillotiere_recording.proofs.FoundEntries.{placed_id, contains_there}
 use Rattle.guillotiere_recording.proofs.moves.name_at.Goals as goal
 
 -- Where the id stands.

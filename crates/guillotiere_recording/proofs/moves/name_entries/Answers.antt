@@ -3,7 +3,7 @@ use Rattle.std.proofs.lemmas.List.{map_more}
 use Rattle.guillotiere.specs.declared.Change.{Change}
 use Rattle.guillotiere_recording.specs.Names.{entries_of, name_among}
 use Rattle.guillotiere_recording.specs.Moves.{entry_under}
-use Rattle.guillotiere_recording.proofs.Placing.{named_so}
+use Rattle.guillotiere_recording.proofs.FoundEntries.{named_so}
 use Rattle.guillotiere_recording.proofs.MoveSteps.{entry_named}
 use Rattle.guillotiere_recording.proofs.moves.name_entries.Goals as goal
 

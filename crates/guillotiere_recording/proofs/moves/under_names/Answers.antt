@@ -2,7 +2,7 @@ use Rattle.std.proofs.Common.{ℕ, IsPermutation, ◌∙◌, ap, subst}
 use Rattle.guillotiere.specs.declared.Change.{Change}
 use Rattle.guillotiere_recording.specs.declared.names.LiveName.{LiveName as Entry}
 use Rattle.guillotiere_recording.specs.Moves.{change_under, entry_under}
-use Rattle.guillotiere_recording.proofs.Moving.{read_back, once_permuted, changes_entered, failures_entered, changes_alike, failures_alike}
+use Rattle.guillotiere_recording.proofs.PermutedEntries.{read_back, once_permuted, changes_entered, failures_entered, changes_alike, failures_alike}
 use Rattle.guillotiere_recording.proofs.moves.under_names.Goals as goal
 
 abbrev changed : ℕ → Change → Change

@@ -2,7 +2,7 @@ use Rattle.std.proofs.Common.{◌≡◌, ltb, get_or, arith, rules, ap, subst, �
 use Rattle.std.proofs.lemmas.List.{get_or_default}
 use Rattle.std.proofs.lemmas.List.Sorted.{IsPartitionPoint-from_clause, IsPartitionedBy-ltb}
 use Rattle.guillotiere_recording.specs.declared.names.LiveName.{LiveName as Entry}
-use Rattle.guillotiere_recording.proofs.Rising.{rising_order, found_at}
+use Rattle.guillotiere_recording.proofs.RisingNames.{rising_order, found_at}
 use Rattle.guillotiere_recording.proofs.names.place_of.Goals as goal
 use Rattle.guillotiere_recording.proofs.names.place_of.Goals.{else-at-names-via-then-at-names+else-names-at, else-at-names-via-else-at-names}
 

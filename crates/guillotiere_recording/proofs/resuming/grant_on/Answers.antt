@@ -1,6 +1,6 @@
 use Rattle.std.proofs.Common.{Some, Err, ap, rules}
 use Rattle.guillotiere_recording.specs.Recordings.{session_of}
-use Rattle.guillotiere_recording.proofs.Resumed.{same_grant, answered_else, other_box, no_grant, refused_grant}
+use Rattle.guillotiere_recording.proofs.Resumed.{same_grant, answered_else, next_name, other_box, no_grant, refused_grant}
 use Rattle.guillotiere_recording.proofs.resuming.grant_on.Goals as goal
 
 pub returns-in_err-granted-clause-fault : goal.returns-in_err-granted-clause-fault
@@ -12,12 +12,16 @@ returns-in_err-granted-clause-fault g c =
 pub returns-then-not-are_same-clause-fault : goal.returns-then-not-are_same-clause-fault
 returns-then-not-are_same-clause-fault g c =
     answered_else c.args.session.now c.args.size c.in_ok-granted.field-0 (Some c.args.recorded.now) (session_of c.allocate.new.self)
-    c.in_ok-granted.ensures.led (other_box c.in_ok-granted.field-0 c.in-Some.granted c.args.recorded.now c.in-Some.is (search rules))
+    c.in_ok-granted.ensures.led
+    (next_name c.in_ok-granted.field-0 c.args.recorded.now c.args.session.now.given c.in_ok-granted.ensures.given (search rules))
+    (other_box c.in_ok-granted.field-0 c.in-Some.granted c.args.recorded.now c.in-Some.is (search rules))
 
 pub returns-in-None-clause-fault : goal.returns-in-None-clause-fault
 returns-in-None-clause-fault g c =
     answered_else c.args.session.now c.args.size c.in_ok-granted.field-0 (Some c.args.recorded.now) (session_of c.allocate.new.self)
-    c.in_ok-granted.ensures.led (no_grant c.in_ok-granted.field-0 c.args.recorded.now c.in-None.is)
+    c.in_ok-granted.ensures.led
+    (next_name c.in_ok-granted.field-0 c.args.recorded.now c.args.session.now.given c.in_ok-granted.ensures.given (search rules))
+    (no_grant c.in_ok-granted.field-0 c.args.recorded.now c.in-None.is)
 
 pub returns-else-not-are_same-clause-ok : goal.returns-else-not-are_same-clause-ok
 returns-else-not-are_same-clause-ok g c =

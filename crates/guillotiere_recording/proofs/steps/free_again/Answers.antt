@@ -1,6 +1,6 @@
 use Rattle.std.proofs.Common.{◌≡◌, Some, None, nat_cmp, ap, sym, subst, ◌∙◌}
 use Rattle.std.specs.BTreeMap.{get, Updates}
-use Rattle.guillotiere_recording.proofs.Replaying.{freed_on}
+use Rattle.guillotiere_recording.proofs.ReplaySteps.{freed_on}
 use Rattle.guillotiere_recording.proofs.steps.free_again.Goals as goal
 
 pub returns-clause-ok : goal.returns-clause-ok

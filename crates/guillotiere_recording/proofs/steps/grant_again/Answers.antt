@@ -7,7 +7,7 @@ use Rattle.guillotiere.specs.Replies.{allocate_reply, IsExact}
 use Rattle.guillotiere.specs.Steps as atlas
 use Rattle.guillotiere.specs.Steps.{Step}
 use Rattle.guillotiere.specs.Stored.{state_of}
-use Rattle.guillotiere_recording.proofs.Replaying.{live_where_found, granted_on}
+use Rattle.guillotiere_recording.proofs.ReplaySteps.{live_where_found, granted_on}
 use Rattle.guillotiere_recording.proofs.steps.grant_again.Goals as goal
 
 -- src/steps.rt:83:9

@@ -1,4 +1,4 @@
-use Rattle.guillotiere_recording.proofs.Replaying.{grown_on}
+use Rattle.guillotiere_recording.proofs.ReplaySteps.{grown_on}
 use Rattle.guillotiere_recording.proofs.steps.grow_again.Goals as goal
 
 pub returns-clause-ok : goal.returns-clause-ok

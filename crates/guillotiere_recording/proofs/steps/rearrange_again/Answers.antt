@@ -5,9 +5,9 @@ use Rattle.guillotiere_recording.specs.Events.{list_value_of}
 use Rattle.guillotiere_recording.specs.Events.EventValue.{Rearrange}
 use Rattle.guillotiere_recording.specs.Kept.{IsFollowed, IsUnlike}
 use Rattle.guillotiere_recording.specs.Standing.{IsStopped}
-use Rattle.guillotiere_recording.proofs.Following.{value_of, names_kept}
-use Rattle.guillotiere_recording.proofs.Refollowed.{rearranged_on, other_rearranging, unlike_stops}
-use Rattle.guillotiere_recording.proofs.Replaying.{stopped_as}
+use Rattle.guillotiere_recording.proofs.KeptNames.{value_of, names_kept}
+use Rattle.guillotiere_recording.proofs.RearrangedReplays.{rearranged_on, other_rearranging, unlike_stops}
+use Rattle.guillotiere_recording.proofs.ReplaySteps.{stopped_as}
 use Rattle.guillotiere_recording.proofs.steps.rearrange_again.Goals as goal
 
 pub follow-requires : goal.follow-requires

@@ -1,7 +1,7 @@
 use Rattle.std.proofs.Common.{◌≡◌, ◌∙◌, ◌<◌, ◌≤◌, ◌++◌, ◌∷◌, [], ap, length, map, rules, arith}
 use Rattle.std.proofs.lemmas.List.{take_all}
 use Rattle.pack_lines.specs.Folders.{folder_number, folder_of}
-use Rattle.pack_lines.proofs.Foldering.{are_by_folder, groups_more}
+use Rattle.pack_lines.proofs.FolderNames.{are_by_folder, groups_more}
 use Rattle.pack_lines.proofs.folders.folder_groups.Goals as goal
 
 pub loop-number-preserved : goal.loop-number-preserved

@@ -1,5 +1,5 @@
 use Rattle.std.proofs.Common.{sym}
-use Rattle.pack_lines.proofs.Foldering.{known_kept, known_new, number_known, number_new}
+use Rattle.pack_lines.proofs.FolderNames.{known_kept, known_new, number_known, number_new}
 use Rattle.pack_lines.proofs.folders.number_of.Goals as goal
 
 pub returns-in-Some-get-clause-group : goal.returns-in-Some-get-clause-group

@@ -1,6 +1,6 @@
 use Rattle.std.proofs.Common.{◌<◌, ◌++◌, ◌∙◌, List, ℕ, ap, length, sym, arith}
 use Rattle.pack_lines.specs.Json.{next_member_text}
-use Rattle.pack_lines.proofs.Joining.{flat_more}
+use Rattle.pack_lines.proofs.FlatMaps.{flat_more}
 use Rattle.pack_lines.proofs.json.others_json.Goals as goal
 
 pub loop-next-preserved : goal.loop-next-preserved

@@ -1,6 +1,6 @@
 use Rattle.std.proofs.Common.{◌≡◌, ◌∷◌, ◌∙◌, ap, sym, rules}
 use Rattle.pack_lines.specs.declared.quoted.Piece.TheVariants.{Scalar}
-use Rattle.pack_lines.proofs.Quoting.{scalar_of}
+use Rattle.pack_lines.proofs.QuotedTexts.{scalar_of}
 use Rattle.pack_lines.proofs.quoted.escaped.Goals as goal
 
 pub returns-in_err-code-clause-only : goal.returns-in_err-code-clause-only

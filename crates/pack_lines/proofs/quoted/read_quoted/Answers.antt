@@ -2,7 +2,7 @@ use Rattle.std.proofs.Common.{◌≡◌, ◌++◌, ℕ, List, [], ◌∷◌, fla
 use Rattle.std.proofs.lemmas.List.{append-nil}
 use Rattle.pack_lines.specs.declared.quoted.Piece.{Piece}
 use Rattle.pack_lines.specs.Quoted.{SpellsPieces, piece_bytes}
-use Rattle.pack_lines.proofs.Quoting.{end_of, joined, next_piece_of, parted, piece_shorter}
+use Rattle.pack_lines.proofs.QuotedTexts.{end_of, joined, next_piece_of, parted, piece_shorter}
 use Rattle.pack_lines.proofs.quoted.read_quoted.Goals as goal
 
 pub loop-piece-preserved : goal.loop-piece-preserved

@@ -2,7 +2,7 @@ use Rattle.std.proofs.Common.{◌≡◌, ◌≢◌, [], ◌∷◌, ◌++◌, len
 use Rattle.std.proofs.lemmas.List.{nil_from_length}
 use Rattle.pack_lines.specs.Sprites.{BeginsWithSprites}
 use Rattle.atlas_words.proofs.FirstLines.{rest_shorter}
-use Rattle.pack_lines.proofs.Quoting.{if_some_of, not_none}
+use Rattle.pack_lines.proofs.QuotedTexts.{if_some_of, not_none}
 use Rattle.pack_lines.proofs.SpriteLines.{one_more_of}
 use Rattle.pack_lines.proofs.reading.read_sprites.Goals as goal
 

@@ -3,7 +3,7 @@ use mir.Val.{to_z, of_z}
 use Rattle.std.specs.Int.{w32}
 use Rattle.std.proofs.lemmas.Int.{to_z-of_z}
 use Rattle.pack_lines.specs.Settings.{setting_with_number, setting_with_numbers}
-use Rattle.pack_lines.proofs.Choosing.{by_number, chosen, first_follows, second_follows}
+use Rattle.pack_lines.proofs.ChosenSettings.{by_number, chosen, first_follows, second_follows}
 use Rattle.pack_lines.proofs.settings.next_setting.Goals as goal
 
 pub returns-in_err-first-clause-only : goal.returns-in_err-first-clause-only

@@ -1,5 +1,5 @@
 use Rattle.std.proofs.Common.{◌∙◌, inl, inr}
-use Rattle.atlas_words.proofs.Parting.{one_word}
+use Rattle.atlas_words.proofs.PartedWords.{one_word}
 use Rattle.pack_lines.proofs.sprites.read_spelled.Goals as goal
 
 pub returns-clause-only : goal.returns-clause-only

@@ -1,7 +1,7 @@
 use Rattle.std.proofs.Common.{◌≡◌, ◌∙◌, rules, sym, subst, Some, None}
 use Rattle.atlas_words.specs.Grammar.{SpellsSize}
 use Rattle.pack_lines.specs.Sprites.{IsName}
-use Rattle.pack_lines.proofs.Quoting.{not_none, some_of}
+use Rattle.pack_lines.proofs.QuotedTexts.{not_none, some_of}
 use Rattle.pack_lines.proofs.sprites.read_sprite.Goals as goal
 
 pub returns-in_default-clause-all : goal.returns-in_default-clause-all

@@ -17,8 +17,9 @@ impl<K: Copy + Eq + Hash, S: BuildHasher, A: Allocator + Copy> TextureCache<K, S
         self.rooms.options()
     }
 
-    /// How often `get` found its key and how often it didn't, and how many entries were evicted, since the cache was
-    /// made.
+    /// How often `get` or `insert` found a key held, how often `get` didn't, and how many entries were evicted, since the
+    /// cache was made. So hits by hits and misses together is the hit rate of a loop that calls `insert` where `get` finds
+    /// nothing. In one that calls `insert` alone there are no misses: the hit rate is hits by calls.
     #[inline]
     #[must_use]
     pub fn statistics(&self) -> Counts {

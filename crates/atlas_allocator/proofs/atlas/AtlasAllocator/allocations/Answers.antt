@@ -3,7 +3,7 @@ use Rattle.atlas_model.specs.States.{IsSound}
 use Rattle.atlas_store.specs.Stored.{state_of}
 use Rattle.atlas_store.specs.Visits.{AreGrants}
 use Rattle.atlas_allocator.proofs.AtlasLemmas.ShownLists.{grants-IsAtlas, listed}
-use Rattle.atlas_allocator.proofs.AtlasLemmas.Measuring.{sides_fit, measurable_grants}
+use Rattle.atlas_allocator.proofs.AtlasLemmas.MeasurableLists.{sides_fit, measurable_grants}
 use Rattle.atlas_allocator.proofs.atlas.AtlasAllocator.allocations.Goals as goal
 
 pub returns-clause-list : goal.returns-clause-list

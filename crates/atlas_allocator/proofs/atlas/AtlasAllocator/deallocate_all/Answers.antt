@@ -2,7 +2,7 @@ use Rattle.std.proofs.Common.{◌+◌, ap, sym, ◌∙◌, arith, drop}
 use Rattle.atlas_store.specs.Stored.{state_of}
 use Rattle.atlas_allocator.proofs.AtlasLemmas.FreedLists.{after_each, each-all, once-after, head-live, each-next, each-none}
 use Rattle.atlas_model.proofs.StepLemmas.CallerSteps.{batch_leaves}
-use Rattle.atlas_allocator.proofs.AtlasLemmas.Reserving.{freeing-few}
+use Rattle.atlas_allocator.proofs.AtlasLemmas.Reserves.{freeing-few}
 use Rattle.atlas_model.proofs.StepLemmas.CallerGrants.{freeing_frame, freeing_kept}
 use Rattle.atlas_allocator.proofs.atlas.AtlasAllocator.deallocate_all.Goals as goal
 

@@ -4,7 +4,7 @@ use Rattle.atlas_model.specs.States.{IsLive, after_freeing}
 use Rattle.atlas_store.specs.Store.Holdings.{shelf_of}
 use Rattle.atlas_store.specs.Stored.{state_of}
 use Rattle.atlas_store.proofs.WalkLemmas.FreedAtlas.{freeable, frees-box, turns-sum}
-use Rattle.atlas_allocator.proofs.AtlasLemmas.Reserving.{freeing-few}
+use Rattle.atlas_allocator.proofs.AtlasLemmas.Reserves.{freeing-few}
 use Rattle.atlas_allocator.proofs.atlas.AtlasAllocator.free.Goals as goal
 
 pub free_leaf-given-requires : goal.free_leaf-given-requires

@@ -3,7 +3,7 @@ use Rattle.atlas_model.specs.States.{IsSound}
 use Rattle.atlas_store.specs.Stored.{state_of}
 use Rattle.atlas_store.specs.Visits.{AreFreeAreas}
 use Rattle.atlas_allocator.proofs.AtlasLemmas.ShownLists.{free_areas-IsAtlas, listed}
-use Rattle.atlas_allocator.proofs.AtlasLemmas.Measuring.{sides_fit, measurable_areas}
+use Rattle.atlas_allocator.proofs.AtlasLemmas.MeasurableLists.{sides_fit, measurable_areas}
 use Rattle.atlas_allocator.proofs.atlas.AtlasAllocator.free_rectangles.Goals as goal
 
 pub returns-clause-list : goal.returns-clause-list

@@ -2,7 +2,7 @@ use Rattle.std.proofs.Common.{rules, subst}
 use Rattle.atlas_model.specs.States.{IsSound}
 use Rattle.atlas_store.specs.Stored.{state_of}
 use Rattle.atlas_store.proofs.WalkLemmas.NamedSlots.{named-found, named-missed}
-use Rattle.atlas_model.proofs.StepLemmas.LyingApart.{shown_live, shown_within}
+use Rattle.atlas_model.proofs.StepLemmas.ApartBoxes.{shown_live, shown_within}
 use Rattle.atlas_model.proofs.StepLemmas.CallerGrants.{shown_lies}
 use Rattle.atlas_allocator.proofs.atlas.AtlasAllocator.get.Goals as goal
 

@@ -6,10 +6,10 @@ use Rattle.atlas_model.specs.Pixels.{sides_of}
 use Rattle.atlas_model.specs.States.{live_in, IsSound}
 use Rattle.atlas_model.specs.Steps.AtlasReply.{Done}
 use Rattle.atlas_store.specs.Stored.{state_of}
-use Rattle.atlas_store.proofs.WalkLemmas.Observing.{used-IsAtlas}
+use Rattle.atlas_store.proofs.WalkLemmas.StoredAtlas.{used-IsAtlas}
 use Rattle.atlas_allocator.proofs.AtlasLemmas.GrownAtlas.{tree-here, some-plan, fits-from, refused-step, some-growable, grow-done}
 use Rattle.atlas_model.proofs.StepLemmas.CallerSteps.{growth_keeps}
-use Rattle.atlas_allocator.proofs.AtlasLemmas.Reserving.{growth-few}
+use Rattle.atlas_allocator.proofs.AtlasLemmas.Reserves.{growth-few}
 use Rattle.atlas_allocator.proofs.atlas.AtlasAllocator.grow.Goals as goal
 
 pub growth_for-growth-requires-clause-tree : goal.growth_for-growth-requires-clause-tree

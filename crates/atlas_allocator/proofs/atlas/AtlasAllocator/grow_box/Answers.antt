@@ -7,7 +7,7 @@ use Rattle.atlas_store.specs.Store.Holdings.{shelf_of}
 use Rattle.atlas_store.specs.Stored.{state_of}
 use Rattle.atlas_allocator.proofs.AtlasLemmas.GrownAtlas.{tree-here, lone-here, box-done}
 use Rattle.atlas_model.proofs.StepLemmas.CallerSteps.{growth_keeps}
-use Rattle.atlas_allocator.proofs.AtlasLemmas.Reserving.{growth-few}
+use Rattle.atlas_allocator.proofs.AtlasLemmas.Reserves.{growth-few}
 use Rattle.atlas_allocator.proofs.atlas.AtlasAllocator.grow_box.Goals as goal
 
 pub grow_whole-requires-clause-tree : goal.grow_whole-requires-clause-tree

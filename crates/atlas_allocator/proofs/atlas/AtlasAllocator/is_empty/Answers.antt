@@ -3,7 +3,7 @@ use Rattle.std.proofs.lemmas.Bool.{eqb-true, eq-eqb, true≢false}
 use Rattle.atlas_store.specs.contracts.slots.NodeKind.{the_type}
 use denote.Enum.Bare.{sameb}
 use Rattle.atlas_store.specs.declared.slots.NodeKind.TheVariants as kind
-use Rattle.atlas_store.proofs.WalkLemmas.Observing.{first-IsAtlas, idle-read, none_live-read}
+use Rattle.atlas_store.proofs.WalkLemmas.StoredAtlas.{first-IsAtlas, idle-read, none_live-read}
 use Rattle.atlas_model.proofs.ListLemmas.CallerLemmas.{empty_count}
 use Rattle.atlas_allocator.proofs.atlas.AtlasAllocator.is_empty.Goals as goal
 

@@ -1,6 +1,6 @@
 use Rattle.atlas_model.proofs.StepLemmas.LiveBoxes.{sound_is_tiled}
-use Rattle.atlas_model.proofs.StepLemmas.LyingApart.{all_lie_apart, all_lie_within}
-use Rattle.atlas_model.proofs.StepLemmas.Guarding.{live_are_guarded}
+use Rattle.atlas_model.proofs.StepLemmas.ApartBoxes.{all_lie_apart, all_lie_within}
+use Rattle.atlas_model.proofs.StepLemmas.GuardedBoxes.{live_are_guarded}
 use Rattle.atlas_allocator.proofs.atlas.AtlasAllocator.prove_sound.Goals as goal
 
 pub returns-clause-tiled : goal.returns-clause-tiled

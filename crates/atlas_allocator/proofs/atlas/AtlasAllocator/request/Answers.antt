@@ -8,15 +8,15 @@ use Rattle.atlas_model.specs.States.{IsSound}
 use Rattle.atlas_model.specs.Steps.AtlasReply.{Allocated}
 use Rattle.atlas_model.specs.declared.error.AtlasError.TheVariants.{Memory}
 use Rattle.atlas_store.specs.Stored.{state_of}
-use Rattle.atlas_store.proofs.WalkLemmas.Observing.{used-IsAtlas}
+use Rattle.atlas_store.proofs.WalkLemmas.StoredAtlas.{used-IsAtlas}
 use Rattle.atlas_store.proofs.StoreLemmas.Sizes.{natural-fits}
-use Rattle.atlas_allocator.proofs.AtlasLemmas.CuttingFromLists.{sides_of-size, unsigned-measurable}
+use Rattle.atlas_allocator.proofs.AtlasLemmas.UnsignedRectangles.{sides_of-size, unsigned-measurable}
 use Rattle.atlas_allocator.proofs.AtlasLemmas.GrantedAtlas.{no_room-unrounded, no_room-none, taken-inside, taken-exact, taken-fits, refused-step}
 use Rattle.atlas_allocator.proofs.AtlasLemmas.TidiedAtlas.{held-atlas}
 use Rattle.atlas_allocator.proofs.AtlasLemmas.TidiedGrants.{tidied-done, tidied-grantable}
 use Rattle.atlas_store.specs.Store.Holdings.{IsHeld}
 use Rattle.atlas_store.proofs.StoreLemmas.TakenOnce.{first-once, once-first, once-shelf}
-use Rattle.atlas_allocator.proofs.AtlasLemmas.Reserving.{request-few, plan-few}
+use Rattle.atlas_allocator.proofs.AtlasLemmas.Reserves.{request-few, plan-few}
 use Rattle.atlas_model.proofs.StepLemmas.CallerGrants.{no_room_answer, refused_answer, request_granted}
 use Rattle.atlas_allocator.proofs.atlas.AtlasAllocator.request.Goals as goal
 

@@ -1,6 +1,6 @@
 use Rattle.std.proofs.Common.{arith}
-use Rattle.atlas_store.proofs.WalkLemmas.Observing.{used-IsAtlas}
-use Rattle.atlas_allocator.proofs.AtlasLemmas.Reserving.{slots-refused, made-ready}
+use Rattle.atlas_store.proofs.WalkLemmas.StoredAtlas.{used-IsAtlas}
+use Rattle.atlas_allocator.proofs.AtlasLemmas.Reserves.{slots-refused, made-ready}
 use Rattle.atlas_allocator.proofs.atlas.AtlasAllocator.reserve.Goals as goal
 
 pub make_room-requires-clause-used : goal.make_room-requires-clause-used

@@ -3,7 +3,7 @@ use Rattle.atlas_model.specs.Pixels.{options_of, sides_of}
 use Rattle.atlas_model.specs.Rearranging.{rearrangement_of}
 use Rattle.atlas_model.specs.States.{IsSound, started}
 use Rattle.atlas_store.specs.Stored.{state_of}
-use Rattle.atlas_model.proofs.StepLemmas.StepKeeping.{steps_keep}
+use Rattle.atlas_model.proofs.StepLemmas.SoundSteps.{steps_keep}
 use Rattle.atlas_allocator.proofs.AtlasLemmas.RearrangedAtlas.{atlas-rearranged, atlas-moved, atlas-sides}
 use Rattle.atlas_allocator.proofs.atlas.AtlasAllocator.resize_and_rearrange.Goals as goal
 

@@ -2,7 +2,7 @@ use Rattle.std.proofs.Common.{rules, ap, subst, arith}
 use Rattle.atlas_model.specs.Pixels.{options_of, sides_of}
 use Rattle.atlas_model.specs.States.{IsSound}
 use Rattle.atlas_store.specs.Stored.{state_of}
-use Rattle.atlas_allocator.proofs.AtlasLemmas.Reserving.{start-few}
+use Rattle.atlas_allocator.proofs.AtlasLemmas.Reserves.{start-few}
 use Rattle.atlas_store.proofs.StoreLemmas.TakenOnce.{once-first}
 use Rattle.atlas_allocator.proofs.atlas.AtlasAllocator.restart.Goals as goal
 

@@ -1,4 +1,4 @@
-use Rattle.atlas_store.proofs.WalkLemmas.Observing.{used-IsAtlas}
+use Rattle.atlas_store.proofs.WalkLemmas.StoredAtlas.{used-IsAtlas}
 use Rattle.atlas_allocator.proofs.atlas.AtlasAllocator.slots.Goals as goal
 
 pub returns-clause-used : goal.returns-clause-used

@@ -1,5 +1,5 @@
 use Rattle.std.proofs.Common.{rules, arith}
-use Rattle.atlas_store.proofs.StoreLemmas.Starting.{whole_atlas, whole_state}
+use Rattle.atlas_store.proofs.StoreLemmas.Starts.{whole_atlas, whole_state}
 use Rattle.atlas_store.proofs.StoreLemmas.TakenOnce.{once-first}
 use Rattle.atlas_allocator.proofs.atlas.AtlasAllocator.with_slot_limit.Goals as goal
 

@@ -3,7 +3,7 @@ use Rattle.atlas_cache.proofs.CacheLemmas.{is_bordered}
 use Rattle.atlas_cache.proofs.ListLemmas.{length-listed, not-numbered}
 use Rattle.atlas_cache.specs.Caches.{entries_of}
 use Rattle.atlas_cache.proofs.ReadyLemmas.{error_is, one_fewer, reserves_left}
-use Rattle.atlas_cache.proofs.RoomLemmas.Reserving.{none_used, slots_left}
+use Rattle.atlas_cache.proofs.RoomLemmas.PageReserves.{none_used, slots_left}
 use Rattle.atlas_cache.proofs.cache.TextureCache.add.Goals as goal
 
 pub grant-requires-clause-absent : goal.grant-requires-clause-absent
@@ -55,6 +55,7 @@ returns-clause-adds g c =
       first = first;
       placed = placed;
       sides = rw c.in-Some.is at c.in_ok-granted.ensures.sides;
+      slots = c.grant.ensures.slots;
       next = next.next;
       dense = λ same. length-listed it.entries.entries ∙ next.dense same;
       numbers = made;

@@ -1,8 +1,8 @@
 use Rattle.atlas_cache.specs.Caches.{entries_of}
 use Rattle.atlas_cache.specs.Entries.{lying}
 use Rattle.atlas_cache.proofs.HoldingLemmas.{stays}
-use Rattle.atlas_cache.proofs.RoomLemmas.Copying.{states_same}
-use Rattle.atlas_cache.proofs.RoomLemmas.Reserving.{same_rectangles, same_sizes}
+use Rattle.atlas_cache.proofs.RoomLemmas.StoredPages.{states_same}
+use Rattle.atlas_cache.proofs.RoomLemmas.PageReserves.{same_rectangles, same_sizes}
 use Rattle.atlas_cache.proofs.cache.TextureCache.clone.Goals as goal
 
 pub invariant_of-result : goal.invariant_of-result

@@ -5,7 +5,7 @@ use Rattle.atlas_cache.specs.declared.changes.CacheChange.TheVariants.{Evicted}
 use Rattle.atlas_cache.proofs.CacheLemmas.{bordered-at, rectangle-live, rest_bordered, rest_falls}
 use Rattle.atlas_cache.proofs.BlankLemmas.{all-in-use, falls-here, length-less}
 use Rattle.atlas_cache.proofs.ListLemmas.{parts}
-use Rattle.atlas_cache.proofs.RoomLemmas.Paging.{as_many, page_of}
+use Rattle.atlas_cache.proofs.RoomLemmas.KeptPages.{as_many, page_of}
 use Rattle.atlas_cache.proofs.ReadyLemmas.{full_stays, reserves_left}
 use Rattle.atlas_cache.proofs.cache.TextureCache.evict.Goals as goal
 
@@ -79,6 +79,7 @@ returns-clause-does g c = λ _.
         numbers = rw c.oldest_lying.ensures.stays at c.take_out.ensures.made;
         reserved = rw c.oldest_lying.ensures.stays at c.take_out.ensures.reserved;
         sizes = c.take_out.ensures.sizes;
+        slots = c.take_out.ensures.slots;
         options = c.take_out.ensures.options;
         frame = refl;
         counts = rw c.count-self-inside.ensures refl;

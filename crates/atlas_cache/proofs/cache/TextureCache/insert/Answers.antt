@@ -15,7 +15,7 @@ use Rattle.atlas_cache.specs.Asking.{bordered}
 use Rattle.atlas_cache.specs.Caches.{HasNoPageFor}
 use Rattle.atlas_cache.proofs.BlankLemmas.{length-less}
 use Rattle.atlas_cache.proofs.ReadyLemmas.{blank_full, blank_not_short, blank_reserves, one_fewer, one_reserved, reserves_left}
-use Rattle.atlas_cache.proofs.RoomLemmas.Reserving.{none_used}
+use Rattle.atlas_cache.proofs.RoomLemmas.PageReserves.{none_used}
 use Rattle.atlas_cache.proofs.cache.TextureCache.insert.Goals as goal
 
 pub place_of-requires : goal.place_of-requires
@@ -60,7 +60,7 @@ returns-in-Some-clause-known g c =
             options = refl;
             frame = refl;
           },
-          refl,
+          rw c.count-self-inside.ensures refl,
         );
         other = λ differ. absurd (differ sized);
       },
@@ -95,6 +95,11 @@ returns-clause-never g c =
 
 pub returns-clause-held : goal.returns-clause-held
 returns-clause-held g c = λ place is.
+    absurd (not_held c.in-Some-asked.asked c.args.key c.args.size c.insert_new.result c.args.changes.now.items
+    c.insert_new.new.changes.items c.args.self.now c.insert_new.new.self c.insert_new.ensures.inserts place is)
+
+pub returns-clause-hit : goal.returns-clause-hit
+returns-clause-hit g c = λ place is.
     absurd (not_held c.in-Some-asked.asked c.args.key c.args.size c.insert_new.result c.args.changes.now.items
     c.insert_new.new.changes.items c.args.self.now c.insert_new.new.self c.insert_new.ensures.inserts place is)
 
@@ -141,7 +146,7 @@ returns-in-Some-clause-told g c =
       frame = it.frame;
       counts = it.counts;
     } in
-    let t : CacheState g.row.K.Denot = record s { entries = entries_of c.touch.new.self.entries; numbers = c.touch.new.self.made; reserved = c.touch.new.self.reserved } in
+    let t : CacheState g.row.K.Denot = record s { entries = entries_of c.touch.new.self.entries; numbers = c.touch.new.self.made; reserved = c.touch.new.self.reserved; counts = record it.counts { hits = c.count-self-inside.result } } in
     let uses : Uses e s t = record {
       newer = p.newer;
       older = p.older;

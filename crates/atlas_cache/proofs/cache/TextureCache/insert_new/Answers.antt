@@ -2,7 +2,7 @@ use Rattle.std.proofs.Common.{ap, sym, refl, ◌∙◌, ◌≡◌, ◌+◌, Err,
 use Rattle.std.proofs.lemmas.Option.{slice_get_within}
 use Rattle.atlas_cache.proofs.ListLemmas.{append-none}
 use Rattle.atlas_cache.proofs.LoopLemmas.{inserted, nothing_yet, one_absent, one_more_change, one_options}
-use Rattle.atlas_cache.proofs.RoomLemmas.Paging.{only_changed}
+use Rattle.atlas_cache.proofs.RoomLemmas.KeptPages.{only_changed}
 use Rattle.atlas_cache.proofs.StandLemmas.{never-without}
 use Rattle.atlas_cache.specs.Caches.{entries_of}
 use Rattle.atlas_cache.specs.declared.inserted.Inserted.TheVariants.{FrameFull}

@@ -3,7 +3,7 @@ use Rattle.atlas_cache.specs.Caches.{entries_of}
 use Rattle.atlas_cache.specs.Entries.{lying}
 use Rattle.atlas_cache.proofs.HoldingLemmas.{stays}
 use Rattle.atlas_cache.proofs.ReadyLemmas.{error_is, reserves_left}
-use Rattle.atlas_cache.proofs.RoomLemmas.Reserving.{none_used}
+use Rattle.atlas_cache.proofs.RoomLemmas.PageReserves.{none_used}
 use Rattle.atlas_cache.proofs.cache.TextureCache.make_room.Goals as goal
 
 pub invariant_of-self-in-Some : goal.invariant_of-self-in-Some

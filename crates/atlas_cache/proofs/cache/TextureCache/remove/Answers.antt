@@ -1,4 +1,4 @@
-use Rattle.std.proofs.Common.{◌∙◌, arith, refl}
+use Rattle.std.proofs.Common.{◌≡◌, ◌+◌, ◌∙◌, ◌++◌, ap, arith, length, refl}
 use Rattle.atlas_cache.specs.Caches.{CacheState, entries_of}
 use Rattle.atlas_cache.specs.Changes.{Removes}
 use Rattle.atlas_cache.specs.Entries.{without_number}
@@ -6,8 +6,9 @@ use Rattle.atlas_cache.proofs.CacheLemmas.{bordered-at, rest_bordered, rest_fall
 use Rattle.atlas_cache.proofs.KeyLemmas.{found_named, own_keys}
 use Rattle.atlas_cache.proofs.ListLemmas.{parts}
 use Rattle.atlas_cache.proofs.PictureLemmas.{removes_tell}
-use Rattle.atlas_cache.proofs.ReadyLemmas.{full_stays}
-use Rattle.atlas_cache.proofs.RoomLemmas.Reserving.{slots_left}
+use Rattle.atlas_cache.proofs.BlankLemmas.{length-less}
+use Rattle.atlas_cache.proofs.ReadyLemmas.{full_stays, reserves_left}
+use Rattle.atlas_cache.proofs.RoomLemmas.PageReserves.{slots_left}
 use Rattle.atlas_cache.proofs.cache.TextureCache.remove.Goals as goal
 
 pub take_out-requires-clause-here : goal.take_out-requires-clause-here
@@ -108,3 +109,15 @@ returns-clause-ready g c =
 pub returns-clause-full : goal.returns-clause-full
 returns-clause-full g c =
     full_stays c.args.self.now _ (rw (← c.self.view_is) c.take_out.ensures.options) (rw (← c.self.view_is) c.take_out.ensures.sizes)
+
+pub returns-clause-reserves : goal.returns-clause-reserves
+returns-clause-reserves g c =
+    let found = rw c.in-Some.is at c.look_up.ensures.found in
+    let it = c.self.inside in
+    let p = parts c.in-Some.number it.entries.entries c.in-Some.gone found.at in
+    let less = length-less p.newer c.in-Some.gone p.older in
+    let now : length (entries_of c.take_out.new.entries.entries) ≡ length (p.newer ++ p.older) =
+    rw c.take_out.ensures.without (ap length p.rests) in
+    rw (← c.self.view_is) (λ n room.
+    reserves_left n n room room 0 _ _ c.take_out.ensures.slots (omega arith) (omega (arith, c.take_out.ensures.reserved))
+    (omega (arith, less, ap length p.was, now)))

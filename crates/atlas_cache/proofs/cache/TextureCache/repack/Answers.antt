@@ -9,7 +9,7 @@ use Rattle.atlas_cache.proofs.IdOrderLemmas.{become-same, in-order, told-same}
 use Rattle.atlas_cache.proofs.KeyLemmas.{own_keys}
 use Rattle.atlas_cache.proofs.ListLemmas.{length-listed}
 use Rattle.atlas_cache.proofs.RepackLemmas.{old_once, repacked_held, repacked_falls, repacked_bordered, renewed_same, shorter}
-use Rattle.atlas_cache.proofs.RepackTelling.{repacks_tell}
+use Rattle.atlas_cache.proofs.ToldRepacks.{repacks_tell}
 use Rattle.atlas_cache.proofs.TrimLemmas.{none-told}
 use Rattle.atlas_cache.proofs.cache.TextureCache.repack.Goals as goal
 

@@ -3,7 +3,7 @@ use Rattle.atlas_cache.specs.Caches.{entries_of}
 use Rattle.atlas_cache.specs.Entries.{lying}
 use Rattle.atlas_cache.proofs.HoldingLemmas.{stays}
 use Rattle.atlas_cache.proofs.ReadyLemmas.{full_stays}
-use Rattle.atlas_cache.proofs.RoomLemmas.Reserving.{same_rectangles, same_sizes}
+use Rattle.atlas_cache.proofs.RoomLemmas.PageReserves.{same_rectangles, same_sizes}
 use Rattle.atlas_cache.proofs.cache.TextureCache.reserve_slots.Goals as goal
 
 pub invariant_of-self : goal.invariant_of-self

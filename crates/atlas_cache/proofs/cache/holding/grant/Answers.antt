@@ -6,7 +6,7 @@ use Rattle.atlas_cache.specs.Entries.{is_blank, lying, no_page}
 use Rattle.atlas_cache.specs.declared.entries.Entry.{Entry}
 use Rattle.atlas_cache.proofs.HoldingLemmas.{joined, stays}
 use Rattle.atlas_cache.proofs.ReadyLemmas.{error_is}
-use Rattle.atlas_cache.proofs.RoomLemmas.Reserving.{both_used}
+use Rattle.atlas_cache.proofs.RoomLemmas.PageReserves.{both_used}
 use Rattle.atlas_cache.proofs.cache.holding.grant.Goals as goal
 
 pub returns-in-Ok-clause-held : goal.returns-in-Ok-clause-held

@@ -4,7 +4,7 @@ use Rattle.atlas_cache.specs.Caches.{entries_of}
 use Rattle.atlas_cache.specs.Entries.{is_blank, no_page, without_number}
 use Rattle.atlas_cache.proofs.CacheLemmas.{number-at, pages_stay, rectangle-live, rest_held, rest_off}
 use Rattle.atlas_cache.proofs.ListLemmas.{parts}
-use Rattle.atlas_cache.proofs.RoomLemmas.Reserving.{none_used}
+use Rattle.atlas_cache.proofs.RoomLemmas.PageReserves.{none_used}
 use Rattle.atlas_cache.proofs.cache.holding.take_out.Goals as goal
 
 pub remove-requires : goal.remove-requires

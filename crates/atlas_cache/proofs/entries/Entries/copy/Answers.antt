@@ -1,5 +1,5 @@
 use Rattle.std.proofs.Common.{◌≡◌, ◌∙◌, ap, arith, length, vec_capacity}
-use Rattle.atlas_cache.proofs.EntryKeeping.{kept-alike, kept-unreserved}
+use Rattle.atlas_cache.proofs.KeptEntries.{kept-alike, kept-unreserved}
 use Rattle.atlas_cache.proofs.ReserveLemmas.{entries-fit, memory-copied}
 use Rattle.atlas_cache.proofs.entries.Entries.copy.Goals as goal
 

@@ -3,7 +3,7 @@ use Rattle.std.proofs.lemmas.Option.{slice_get_read}
 use Rattle.atlas_cache.specs.Entries.{entry_at}
 use Rattle.atlas_cache.specs.Orders.{IsEntry}
 use Rattle.atlas_cache.proofs.EntryLemmas.{entry_at-numbered}
-use Rattle.atlas_cache.proofs.EntryKeeping.{entry-is}
+use Rattle.atlas_cache.proofs.KeptEntries.{entry-is}
 use Rattle.atlas_cache.proofs.entries.Entries.entry.Goals as goal
 
 pub index-requires : goal.index-requires

@@ -1,6 +1,6 @@
 use Rattle.std.proofs.Common.{◌∙◌, ap, IfSome, subst}
 use Rattle.atlas_cache.specs.Entries.{IsNumber, number_of}
-use Rattle.atlas_cache.proofs.EntryKeeping.{get-number_of, found-numbers}
+use Rattle.atlas_cache.proofs.KeptEntries.{get-number_of, found-numbers}
 use Rattle.atlas_cache.proofs.entries.Entries.find.Goals as goal
 
 pub returns-clause-number : goal.returns-clause-number

@@ -1,7 +1,7 @@
 use Rattle.std.proofs.Common.{◌∙◌, ap, sym}
 use Rattle.atlas_cache.specs.Entries.{numbers}
 use Rattle.atlas_cache.specs.Tables.{numbered}
-use Rattle.atlas_cache.proofs.EntryKeeping.{numbers-are}
+use Rattle.atlas_cache.proofs.KeptEntries.{numbers-are}
 use Rattle.atlas_cache.proofs.entries.Entries.is_empty.Goals as goal
 
 pub returns : goal.returns

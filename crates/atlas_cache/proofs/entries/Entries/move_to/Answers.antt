@@ -2,7 +2,7 @@ use Rattle.std.proofs.Common.{◌≡◌, ◌∙◌, Some, ap, arith, refl, slice
 use Rattle.std.proofs.lemmas.Option.{slice_get_read}
 use Rattle.atlas_cache.specs.Entries.{moved}
 use Rattle.atlas_cache.specs.Orders.{IsEntry}
-use Rattle.atlas_cache.proofs.EntryKeeping.{entry-is, kept-written, moved-is}
+use Rattle.atlas_cache.proofs.KeptEntries.{entry-is, kept-written, moved-is}
 use Rattle.atlas_cache.proofs.MarkLemmas.{mark-placed}
 use Rattle.atlas_cache.proofs.entries.Entries.move_to.Goals as goal
 

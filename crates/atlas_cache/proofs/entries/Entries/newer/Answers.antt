@@ -1,5 +1,5 @@
 use Rattle.std.proofs.Common.{ap, ◌∙◌, sym}
-use Rattle.atlas_cache.proofs.EntryKeeping.{each-number, entry-is, numbers-are}
+use Rattle.atlas_cache.proofs.KeptEntries.{each-number, entry-is, numbers-are}
 use Rattle.atlas_cache.proofs.entries.Entries.newer.Goals as goal
 
 pub newer-requires : goal.newer-requires

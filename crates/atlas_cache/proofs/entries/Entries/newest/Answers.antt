@@ -1,6 +1,6 @@
 use Rattle.std.proofs.Common.{◌∙◌, ap, sym}
 use Rattle.atlas_cache.specs.Orders.{newest_of}
-use Rattle.atlas_cache.proofs.EntryKeeping.{each-number, numbers-are}
+use Rattle.atlas_cache.proofs.KeptEntries.{each-number, numbers-are}
 use Rattle.atlas_cache.proofs.entries.Entries.newest.Goals as goal
 
 pub returns-clause-first : goal.returns-clause-first

@@ -1,6 +1,6 @@
 use Rattle.std.proofs.Common.{◌∙◌, ap, sym}
 use Rattle.atlas_cache.specs.Orders.{oldest_of}
-use Rattle.atlas_cache.proofs.EntryKeeping.{each-number, numbers-are}
+use Rattle.atlas_cache.proofs.KeptEntries.{each-number, numbers-are}
 use Rattle.atlas_cache.proofs.entries.Entries.oldest.Goals as goal
 
 pub returns-clause-last : goal.returns-clause-last

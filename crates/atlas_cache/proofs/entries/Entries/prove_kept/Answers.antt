@@ -2,7 +2,7 @@ use Rattle.std.proofs.Common.{ap, subst, sym, eqb}
 use Rattle.std.specs.List.{IsDistinct}
 use Rattle.atlas_cache.specs.Entries.{keys, AreNumbered}
 use Rattle.atlas_cache.proofs.EntryLemmas.{IsDistinct-from_once}
-use Rattle.atlas_cache.proofs.EntryKeeping.{IsDistinct-keys, labels, labels-below, numbers-are}
+use Rattle.atlas_cache.proofs.KeptEntries.{IsDistinct-keys, labels, labels-below, numbers-are}
 use Rattle.atlas_cache.proofs.entries.Entries.prove_kept.Goals as goal
 
 pub returns-clause-numbers : goal.returns-clause-numbers

@@ -4,7 +4,7 @@ use Rattle.atlas_cache.specs.declared.entries.Entry.{Entry}
 use Rattle.atlas_cache.specs.Entries.{EndsBlank, Table}
 use Rattle.atlas_cache.specs.Orders.{Order}
 use Rattle.atlas_cache.specs.Tables.{AreKept, HasMemory, numbered}
-use Rattle.atlas_cache.proofs.EntryKeeping.{absent-is, joined-is, kept-alike, kept-joined, new-none}
+use Rattle.atlas_cache.proofs.KeptEntries.{absent-is, joined-is, kept-alike, kept-joined, new-none}
 use Rattle.atlas_cache.proofs.EntryLemmas.{length-numbered}
 use Rattle.atlas_cache.proofs.MarkLemmas.{mark-new}
 use Rattle.atlas_cache.proofs.ReserveLemmas.{memory-joined, memory-kept}

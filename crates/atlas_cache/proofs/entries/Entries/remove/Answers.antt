@@ -4,7 +4,7 @@ use Rattle.atlas_cache.specs.Entries.{without_number, EndsBlank}
 use Rattle.atlas_cache.specs.Orders.{IsEntry, Order}
 use Rattle.atlas_cache.specs.Tables.{AreKept, HasMemory, numbered}
 use Rattle.atlas_cache.proofs.EntryLemmas.{numbered-without}
-use Rattle.atlas_cache.proofs.EntryKeeping.{entry-is, kept-gone}
+use Rattle.atlas_cache.proofs.KeptEntries.{entry-is, kept-gone}
 use Rattle.atlas_cache.proofs.MarkLemmas.{mark-gone}
 use Rattle.atlas_cache.proofs.ReserveLemmas.{memory-gone, one-at-most}
 use Rattle.atlas_cache.proofs.entries.Entries.remove.Goals as goal

@@ -3,7 +3,7 @@ use Rattle.atlas_cache.specs.declared.entries.Entry.{Entry}
 use Rattle.atlas_cache.specs.Entries.{EndsBlank}
 use Rattle.atlas_cache.specs.Orders.{Order}
 use Rattle.atlas_cache.specs.Tables.{AreKept, HasMemory, numbered}
-use Rattle.atlas_cache.proofs.EntryKeeping.{kept-alike, kept-reserved}
+use Rattle.atlas_cache.proofs.KeptEntries.{kept-alike, kept-reserved}
 use Rattle.atlas_cache.proofs.ReserveLemmas.{entries-fit, memory-kept, memory-reserved}
 use Rattle.atlas_cache.proofs.entries.Entries.reserve.Goals as goal
 

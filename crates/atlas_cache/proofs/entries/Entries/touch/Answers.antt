@@ -3,7 +3,7 @@ use Rattle.std.proofs.lemmas.Option.{slice_get_read}
 use Rattle.atlas_cache.specs.Entries.{touched, EndsBlank}
 use Rattle.atlas_cache.specs.Orders.{IsEntry, Order}
 use Rattle.atlas_cache.specs.Tables.{AreKept, HasMemory, numbered}
-use Rattle.atlas_cache.proofs.EntryKeeping.{entry-is, kept-used, kept-written, touched-is}
+use Rattle.atlas_cache.proofs.KeptEntries.{entry-is, kept-used, kept-written, touched-is}
 use Rattle.atlas_cache.proofs.MarkLemmas.{mark-used}
 use Rattle.atlas_cache.proofs.ReserveLemmas.{memory-used}
 use Rattle.atlas_cache.proofs.entries.Entries.touch.Goals as goal

@@ -1,6 +1,6 @@
 use Rattle.std.proofs.Common.{ap, ◌∙◌, refl, sym}
 use Rattle.atlas_cache.specs.Orders.{oldest_of}
-use Rattle.atlas_cache.proofs.EntryKeeping.{each-number, entry-is, numbers-are}
+use Rattle.atlas_cache.proofs.KeptEntries.{each-number, entry-is, numbers-are}
 use Rattle.atlas_cache.proofs.MarkLemmas.{marked, marked-number, unmarked}
 use Rattle.atlas_cache.proofs.entries.Entries.unpassed.Goals as goal
 

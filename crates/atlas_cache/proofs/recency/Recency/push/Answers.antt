@@ -4,7 +4,7 @@ use Rattle.atlas_cache.specs.Orders.{IsFreshNumber, Order, with_newest}
 use Rattle.atlas_cache.specs.Rings.{HasSpare, IsRecency, IsRing, next_at, run}
 use Rattle.atlas_cache.proofs.RingLemmas.{length-line}
 use Rattle.atlas_cache.proofs.SpareLemmas.{all-used, none-spare, unused-inside, new-free}
-use Rattle.atlas_cache.proofs.Moves.{IsJoined, IsRecency-joined, joined-is, joined-new, stored, count-fits}
+use Rattle.atlas_cache.proofs.RecencyCalls.{IsJoined, IsRecency-joined, joined-is, joined-new, stored, count-fits}
 use Rattle.atlas_cache.proofs.recency.Recency.push.Goals as goal
 
 pub take_number-requires-clause-unused : goal.take_number-requires-clause-unused

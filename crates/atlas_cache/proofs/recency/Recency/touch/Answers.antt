@@ -3,7 +3,7 @@ use Rattle.std.proofs.lemmas.List.{with_items_is}
 use Rattle.atlas_cache.specs.Orders.{Order, used}
 use Rattle.atlas_search.specs.Numbers.{occurs}
 use Rattle.atlas_cache.specs.Rings.{IsRecency, run}
-use Rattle.atlas_cache.proofs.Moves.{IsTouched, IsRecency-touched, touched-is, stored}
+use Rattle.atlas_cache.proofs.RecencyCalls.{IsTouched, IsRecency-touched, touched-is, stored}
 use Rattle.atlas_cache.proofs.recency.Recency.touch.Goals as goal
 
 pub invariant_of-self : goal.invariant_of-self

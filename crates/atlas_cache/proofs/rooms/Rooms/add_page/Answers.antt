@@ -3,9 +3,9 @@ use Rattle.std.proofs.lemmas.List.{length-map}
 use Rattle.guillotiere.specs.States.{live_in}
 use Rattle.guillotiere.proofs.Callers.{page_added}
 use Rattle.atlas_cache.specs.Rooms.{page_sizes, size_of_page}
-use Rattle.atlas_cache.proofs.RoomLemmas.Growing.{joined_less, sizes_joined}
-use Rattle.atlas_cache.proofs.RoomLemmas.Paging.{new_is_page, others_stay, rooms_joined}
-use Rattle.atlas_cache.proofs.RoomLemmas.Refusing.{refused_joined}
+use Rattle.atlas_cache.proofs.RoomLemmas.PageGrowth.{joined_less, sizes_joined}
+use Rattle.atlas_cache.proofs.RoomLemmas.KeptPages.{new_is_page, others_stay, rooms_joined}
+use Rattle.atlas_cache.proofs.RoomLemmas.RefusedSizes.{refused_joined}
 use Rattle.atlas_cache.proofs.rooms.Rooms.add_page.Goals as goal
 
 pub invariant_of-self : goal.invariant_of-self

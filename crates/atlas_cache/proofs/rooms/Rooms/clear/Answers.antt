@@ -1,10 +1,10 @@
 use Rattle.std.proofs.Common.{◌<◌, ◌∙◌, length, refl, inl, inr, ap, arith, slice_set}
 use Rattle.std.proofs.lemmas.{List.{length-set}, Option.{slice_get_cases}}
 use Rattle.atlas_cache.specs.Rooms.{page_sizes, RoomsState}
-use Rattle.atlas_cache.proofs.RoomLemmas.Paging.{rooms_stay, sizes_stay}
-use Rattle.atlas_cache.proofs.RoomLemmas.Reserving.{both_used, none_used, page_uses}
-use Rattle.atlas_cache.proofs.RoomLemmas.Standing.{one_more_idle}
-use Rattle.atlas_cache.proofs.RoomLemmas.Refusing.{refused_changed}
+use Rattle.atlas_cache.proofs.RoomLemmas.KeptPages.{rooms_stay, sizes_stay}
+use Rattle.atlas_cache.proofs.RoomLemmas.PageReserves.{both_used, none_used, page_uses}
+use Rattle.atlas_cache.proofs.RoomLemmas.PageRoom.{one_more_idle}
+use Rattle.atlas_cache.proofs.RoomLemmas.RefusedSizes.{refused_changed}
 use Rattle.atlas_cache.proofs.rooms.Rooms.clear.Goals as goal
 
 pub loop-page-init : goal.loop-page-init

@@ -1,8 +1,8 @@
 use Rattle.std.proofs.Common.{◌∙◌, ap}
 use Rattle.atlas_cache.specs.Rooms.{stored_on}
-use Rattle.atlas_cache.proofs.RoomLemmas.Copying.{states_same}
-use Rattle.atlas_cache.proofs.RoomLemmas.Refusing.{refused_same}
-use Rattle.atlas_cache.proofs.RoomLemmas.Reserving.{same_rooms}
+use Rattle.atlas_cache.proofs.RoomLemmas.StoredPages.{states_same}
+use Rattle.atlas_cache.proofs.RoomLemmas.RefusedSizes.{refused_same}
+use Rattle.atlas_cache.proofs.RoomLemmas.PageReserves.{same_rooms}
 use Rattle.atlas_cache.proofs.rooms.Rooms.copy.Goals as goal
 
 pub invariant_of-result : goal.invariant_of-result

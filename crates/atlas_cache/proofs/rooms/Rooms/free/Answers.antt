@@ -1,7 +1,7 @@
 use Rattle.std.proofs.Common.{arith}
-use Rattle.atlas_cache.proofs.RoomLemmas.Paging.{gives_back, page_of, rooms_stay, sizes_stay}
-use Rattle.atlas_cache.proofs.RoomLemmas.Reserving.{page_uses}
-use Rattle.atlas_cache.proofs.RoomLemmas.Refusing.{refused_changed}
+use Rattle.atlas_cache.proofs.RoomLemmas.KeptPages.{gives_back, page_of, rooms_stay, sizes_stay}
+use Rattle.atlas_cache.proofs.RoomLemmas.PageReserves.{page_uses}
+use Rattle.atlas_cache.proofs.RoomLemmas.RefusedSizes.{refused_changed}
 use Rattle.atlas_cache.proofs.rooms.Rooms.free.Goals as goal
 
 pub index_mut-requires : goal.index_mut-requires

@@ -7,10 +7,10 @@ use Rattle.guillotiere.specs.Steps.AtlasReply.{Refused}
 use Rattle.guillotiere.specs.Stored.{state_of}
 use Rattle.atlas_cache.specs.declared.error.CacheError.TheVariants.{Slots}
 use Rattle.atlas_cache.specs.Rooms.{page_sizes, rooms_of, AreRefused, KeepsRooms}
-use Rattle.atlas_cache.proofs.RoomLemmas.Growing.{grown_less, growth_of, not_all_largest}
-use Rattle.atlas_cache.proofs.RoomLemmas.Paging.{nothing_changes, others_kept, page_grows, rectangles_stay, rooms_keep, sizes_set}
-use Rattle.atlas_cache.proofs.RoomLemmas.Reserving.{growth_short}
-use Rattle.atlas_cache.proofs.RoomLemmas.Refusing.{refused_changed}
+use Rattle.atlas_cache.proofs.RoomLemmas.PageGrowth.{grown_less, growth_of, not_all_largest}
+use Rattle.atlas_cache.proofs.RoomLemmas.KeptPages.{nothing_changes, others_kept, page_grows, rectangles_stay, rooms_keep, sizes_set}
+use Rattle.atlas_cache.proofs.RoomLemmas.PageReserves.{growth_short, none_used, page_uses}
+use Rattle.atlas_cache.proofs.RoomLemmas.RefusedSizes.{refused_changed}
 use Rattle.atlas_cache.proofs.rooms.Rooms.grow_page.Goals as goal
 
 pub grown-size-requires-clause-positive : goal.grown-size-requires-clause-positive
@@ -67,6 +67,16 @@ returns-in-Err-clause-refused g c =
     (rw c.deref.ensures.value at c.in-Some.ensures.here) c.in-Some.ensures.smaller in
     ap (rooms_of c.self.inside.options) (nothing_changes c.self.inside.pages.items c.in-Some.page c.index_mut.result.now c.grow.new.self
     c.index_mut.ensures.value growth.within c.in-Err.ensures.refused) ∙ c.self.view_is
+
+pub returns-in_default-clause-slots : goal.returns-in_default-clause-slots
+returns-in_default-clause-slots g c = rw (← c.self.view_is) (none_used 3 c.self.inside.pages.items)
+
+pub returns-in-Err-clause-slots : goal.returns-in-Err-clause-slots
+returns-in-Err-clause-slots g c =
+    let growth = growth_of (rooms_of c.self.inside.options c.self.inside.pages.items) c.self.invariant.0 c.in-Some.page c.in-Some.old
+    (rw c.deref.ensures.value at c.in-Some.ensures.here) c.in-Some.ensures.smaller in
+    rw (← c.self.view_is) (page_uses c.self.inside.pages.items c.in-Some.page c.index_mut.result.now c.grow.new.self
+    c.index_mut.ensures.value growth.within 3 c.grow.ensures.slots)
 
 pub returns-in-Err-clause-short : goal.returns-in-Err-clause-short
 returns-in-Err-clause-short g c = λ is.
@@ -139,6 +149,13 @@ returns-clause-others g c =
     (rw c.deref.ensures.value at c.in-Some.ensures.here) c.in-Some.ensures.smaller in
     rw (c.number.ensures, ← c.self.view_is) (others_kept c.self.inside.pages.items c.in-Some.page c.index_mut.result.now
     c.grow.new.self c.index_mut.ensures.value growth.within)
+
+pub returns-clause-slots : goal.returns-clause-slots
+returns-clause-slots g c =
+    let growth = growth_of (rooms_of c.self.inside.options c.self.inside.pages.items) c.self.invariant.0 c.in-Some.page c.in-Some.old
+    (rw c.deref.ensures.value at c.in-Some.ensures.here) c.in-Some.ensures.smaller in
+    rw (← c.self.view_is) (page_uses c.self.inside.pages.items c.in-Some.page c.index_mut.result.now c.grow.new.self
+    c.index_mut.ensures.value growth.within 3 c.grow.ensures.slots)
 
 pub returns-clause-none : goal.returns-clause-none
 returns-clause-none g c =

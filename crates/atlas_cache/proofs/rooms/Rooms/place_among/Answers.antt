@@ -8,10 +8,10 @@ use Rattle.guillotiere.specs.Stored.{state_of}
 use Rattle.atlas_cache.specs.declared.error.CacheError.TheVariants.{Memory, Slots}
 use Rattle.atlas_cache.specs.Placing.{PlacesFirst}
 use Rattle.atlas_cache.specs.Rooms.{rooms_of, KeepsRooms, RoomsState}
-use Rattle.atlas_cache.proofs.RoomLemmas.Paging.{none_yet, no_room, nothing_changes, rooms_stay, rounded_as, sizes_stay, takes}
-use Rattle.atlas_cache.proofs.RoomLemmas.Reserving.{none_used, page_has, page_uses, request_short}
-use Rattle.atlas_cache.proofs.RoomLemmas.Standing.{is_at_least}
-use Rattle.atlas_cache.proofs.RoomLemmas.Refusing.{refused_set}
+use Rattle.atlas_cache.proofs.RoomLemmas.KeptPages.{none_yet, no_room, nothing_changes, rooms_stay, rounded_as, sizes_stay, takes}
+use Rattle.atlas_cache.proofs.RoomLemmas.PageReserves.{none_used, page_grants, page_has, page_uses, request_short}
+use Rattle.atlas_cache.proofs.RoomLemmas.PageRoom.{is_at_least}
+use Rattle.atlas_cache.proofs.RoomLemmas.RefusedSizes.{refused_set}
 use Rattle.atlas_cache.proofs.rooms.Rooms.place_among.Goals as goal
 
 pub loop-page-init : goal.loop-page-init
@@ -88,8 +88,10 @@ returns-in-Ok-Some g c =
     let exact = rw c.in-Ok-Some.field-0-is at c.in-Ok-Some.ensures.exact in
     let adds = rw c.in-Ok-Some.field-0-is at c.in-Ok-Some.ensures.adds in
     let answer = rw c.in-Ok-Some.field-0-is at c.in-Ok-Some.ensures.answer in
+    let step = rw c.in-Ok-Some.field-0-is at c.in-Ok-Some.ensures.grants in
     rw (c.number.ensures, ← was.same) (record {
       placed = record {
+        step = page_grants pages page a b is within c.args.asked (Some granted) step;
         adds = takes pages page a b is within (Some granted) exact adds;
         large = search (rules, is_at_least, exact, answer);
         sides = rounded_as pages page a b is within options kept c.args.asked (Some granted) answer;

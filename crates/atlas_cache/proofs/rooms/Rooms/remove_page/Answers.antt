@@ -2,7 +2,7 @@ use Rattle.std.proofs.Common.{◌≡◌, ◌+◌, ◌-◌, ◌∙◌, ◌∷◌,
 use Rattle.std.proofs.lemmas.Bool.{eqb-true}
 use Rattle.atlas_cache.specs.Rooms.{rooms_of, KeepsRooms}
 use Rattle.atlas_cache.proofs.ShrinkLemmas.{drops_last, in_use, last_number, rooms_left}
-use Rattle.atlas_cache.proofs.RoomLemmas.Refusing.{refused_taken}
+use Rattle.atlas_cache.proofs.RoomLemmas.RefusedSizes.{refused_taken}
 use Rattle.atlas_cache.proofs.rooms.Rooms.remove_page.Goals as goal
 
 pub returns-then-is_empty-clause-used : goal.returns-then-is_empty-clause-used

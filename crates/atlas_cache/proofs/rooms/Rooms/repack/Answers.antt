@@ -2,9 +2,9 @@ use Rattle.std.proofs.Common.{◌<◌, arith, length}
 use Rattle.std.proofs.lemmas.List.Sorted.{All-permutation}
 use Rattle.guillotiere.specs.Refits.Refitted.{HasExactRectangle}
 use Rattle.guillotiere.specs.Stored.{state_of}
-use Rattle.atlas_cache.proofs.RoomLemmas.Paging.{rooms_stay, sizes_stay}
-use Rattle.atlas_cache.proofs.RoomLemmas.Repacking.{frame_here, named_permuted, named_there, page_placed, page_repacks, placing_tells, refits_here, starts_alike, state_here}
-use Rattle.atlas_cache.proofs.RoomLemmas.Refusing.{refused_changed}
+use Rattle.atlas_cache.proofs.RoomLemmas.KeptPages.{rooms_stay, sizes_stay}
+use Rattle.atlas_cache.proofs.RoomLemmas.RepackedPages.{frame_here, named_permuted, named_there, page_placed, page_repacks, placing_tells, refits_here, starts_alike, state_here}
+use Rattle.atlas_cache.proofs.RoomLemmas.RefusedSizes.{refused_changed}
 use Rattle.atlas_cache.proofs.rooms.Rooms.repack.Goals as goal
 
 pub place_all-requires : goal.place_all-requires

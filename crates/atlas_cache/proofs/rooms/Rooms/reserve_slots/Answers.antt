@@ -4,9 +4,9 @@ use Rattle.guillotiere.specs.States.{used_in, State}
 use Rattle.guillotiere.specs.Stored.{state_of}
 use Rattle.atlas_cache.specs.declared.error.CacheError.TheVariants.{Memory, Slots}
 use Rattle.atlas_cache.specs.Rooms.{RoomsState}
-use Rattle.atlas_cache.proofs.RoomLemmas.Paging.{others_kept}
-use Rattle.atlas_cache.proofs.RoomLemmas.Reserving.{both_used, none_used, one_more_ready, page_states, page_uses, reserve_there, same_rooms}
-use Rattle.atlas_cache.proofs.RoomLemmas.Refusing.{refused_same}
+use Rattle.atlas_cache.proofs.RoomLemmas.KeptPages.{others_kept}
+use Rattle.atlas_cache.proofs.RoomLemmas.PageReserves.{both_used, none_used, one_more_ready, page_states, page_uses, reserve_there, same_rooms}
+use Rattle.atlas_cache.proofs.RoomLemmas.RefusedSizes.{refused_same}
 use Rattle.atlas_cache.proofs.rooms.Rooms.reserve_slots.Goals as goal
 
 pub loop-page-init : goal.loop-page-init

@@ -1,5 +1,5 @@
 use Rattle.std.proofs.Common.{rules}
-use Rattle.atlas_cache.proofs.RoomLemmas.Copying.{stored_more}
+use Rattle.atlas_cache.proofs.RoomLemmas.StoredPages.{stored_more}
 use Rattle.atlas_cache.proofs.rooms.copying.copied_pages.Goals as goal
 
 pub loop-page-preserved : goal.loop-page-preserved

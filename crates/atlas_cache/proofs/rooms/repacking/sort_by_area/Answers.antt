@@ -1,6 +1,6 @@
 use Rattle.std.proofs.Common.{rules}
 use Rattle.std.proofs.lemmas.Fn.{always_returns_same}
-use Rattle.atlas_cache.proofs.RoomLemmas.Ordering.{areas_fall, reversed_area, ties_stay}
+use Rattle.atlas_cache.proofs.RoomLemmas.AreaOrder.{areas_fall, reversed_area, ties_stay}
 use Rattle.atlas_cache.proofs.rooms.repacking.sort_by_area.Goals as goal
 
 pub returns-clause-ordered : goal.returns-clause-ordered

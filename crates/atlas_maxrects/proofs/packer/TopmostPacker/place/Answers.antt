@@ -1,5 +1,5 @@
 use Rattle.std.proofs.Common.{◌∙◌, refl}
-use Rattle.atlas_maxrects.proofs.Storing.{places_none, places_some, stored_taken}
+use Rattle.atlas_maxrects.proofs.TopmostPlaces.{places_none, places_some, stored_taken}
 use Rattle.atlas_maxrects.proofs.packer.TopmostPacker.place.Goals as goal
 
 pub returns-in-None-clause-placed : goal.returns-in-None-clause-placed

@@ -1,6 +1,6 @@
 use Rattle.std.proofs.Common.{All, subst}
 use Rattle.atlas_model.specs.Boxes.{AreDisjoint, IsWithin}
-use Rattle.atlas_maxrects.proofs.Storing.{within_boxes}
+use Rattle.atlas_maxrects.proofs.TopmostPlaces.{within_boxes}
 use Rattle.atlas_maxrects.proofs.packer.TopmostPacker.placed.Goals as goal
 
 pub returns-clause-within : goal.returns-clause-within

@@ -1,7 +1,7 @@
 use Rattle.std.proofs.Common.{rules, arith}
 use Rattle.atlas_model.specs.Pixels.{box_of}
 use Rattle.atlas_search.specs.Searches.{shown_at}
-use Rattle.atlas_search.proofs.SearchLemmas.Besting.{row-is, least-ahead, least-passed}
+use Rattle.atlas_search.proofs.SearchLemmas.Bests.{row-is, least-ahead, least-passed}
 use Rattle.atlas_search.proofs.best.Best.look.Goals as goal
 
 pub returns-in_default-clause-least : goal.returns-in_default-clause-least

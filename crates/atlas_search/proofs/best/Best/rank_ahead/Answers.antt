@@ -4,7 +4,7 @@ use Rattle.std.proofs.lemmas.Bool.{true≢false}
 use Rattle.atlas_model.specs.Boxes.{Sides, Fits, box_sides}
 use Rattle.atlas_model.specs.Pixels.{box_of}
 use Rattle.atlas_search.specs.Searches.{shown_at}
-use Rattle.atlas_search.proofs.SearchLemmas.Besting.{asked, past-bar, ranked-ahead, ranked-behind, seen-unfit}
+use Rattle.atlas_search.proofs.SearchLemmas.Bests.{asked, past-bar, ranked-ahead, ranked-behind, seen-unfit}
 use Rattle.atlas_search.proofs.best.Best.rank_ahead.Goals as goal
 
 pub returns-then-corner-self-clause-passed : goal.returns-then-corner-self-clause-passed

@@ -1,6 +1,6 @@
 use Rattle.std.proofs.Common.{arith}
 use Rattle.std.proofs.lemmas.Bool.{eqb-true, eq-eqb}
-use Rattle.atlas_store.proofs.WalkLemmas.Hiding.{named-hidden, slots-same}
+use Rattle.atlas_store.proofs.WalkLemmas.HiddenSlots.{named-hidden, slots-same}
 use Rattle.atlas_store.proofs.slots.batch.are_named_once.Goals as goal
 
 pub returns-clause-named : goal.returns-clause-named

@@ -1,6 +1,6 @@
 use Rattle.std.proofs.Common.{arith}
 use Rattle.atlas_store.specs.Slots.{nodes}
-use Rattle.atlas_store.proofs.WalkLemmas.Hiding.{hidden-more, hidable-more, not-hidable}
+use Rattle.atlas_store.proofs.WalkLemmas.HiddenSlots.{hidden-more, hidable-more, not-hidable}
 use Rattle.atlas_store.proofs.slots.batch.hide.Goals as goal
 
 pub returns-in-None-clause-last : goal.returns-in-None-clause-last

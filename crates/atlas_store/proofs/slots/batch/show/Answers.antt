@@ -2,7 +2,7 @@ use Rattle.std.proofs.Common.{◌∙◌, ◌≡◌, ◌<◌, ◌-◌, ◌+◌, l
 use Rattle.std.proofs.lemmas.List.{length-map, take_all}
 use Rattle.atlas_store.specs.Slots.{nodes}
 use Rattle.atlas_store.specs.Batches.{hidden}
-use Rattle.atlas_store.proofs.WalkLemmas.Hiding.{shown-inside, shown-more}
+use Rattle.atlas_store.proofs.WalkLemmas.HiddenSlots.{shown-inside, shown-more}
 use Rattle.atlas_store.proofs.slots.batch.show.Goals as goal
 
 pub loop-left-init : goal.loop-left-init

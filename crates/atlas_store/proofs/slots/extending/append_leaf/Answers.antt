@@ -3,7 +3,7 @@ use Rattle.std.proofs.lemmas.Bool.{cases_eq}
 use Rattle.std.proofs.lemmas.List.{length-map}
 use Rattle.atlas_store.specs.Slots.{nodes}
 use Rattle.atlas_search.specs.Numbers.{no_slot}
-use Rattle.atlas_store.proofs.SlotLemmas.Stretching.{appended-by, keeps-appended, Stands-appended, last-inside}
+use Rattle.atlas_store.proofs.SlotLemmas.Extensions.{appended-by, keeps-appended, Stands-appended, last-inside}
 use Rattle.atlas_store.proofs.slots.extending.append_leaf.Goals as goal
 
 pub read_node-leaf-requires : goal.read_node-leaf-requires

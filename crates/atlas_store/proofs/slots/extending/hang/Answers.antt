@@ -2,7 +2,7 @@ use Rattle.std.proofs.Common.{◌∙◌, arith}
 use Rattle.std.proofs.lemmas.List.{length-map}
 use Rattle.atlas_store.specs.Slots.{nodes}
 use Rattle.atlas_store.proofs.SlotLemmas.Frames.{keeps-same}
-use Rattle.atlas_store.proofs.SlotLemmas.Hanging.{hanging-begins, hanging-ends, hanging-slot, hung-by, hanging-goes_on, hanging-falls, hung-uses, uses-from}
+use Rattle.atlas_store.proofs.SlotLemmas.NestedTops.{hanging-begins, hanging-ends, hanging-slot, hung-by, hanging-goes_on, hanging-falls, hung-uses, uses-from}
 use Rattle.atlas_store.proofs.slots.extending.hang.Goals as goal
 
 pub loop-at-init : goal.loop-at-init

@@ -3,8 +3,8 @@ use Rattle.atlas_store.specs.Slots.{nodes, rings, node_at, KeepsUse}
 use Rattle.atlas_store.specs.Slots.Numbered.{Numbered}
 use Rattle.atlas_store.specs.Slots.Standing.{Sequence}
 use Rattle.atlas_store.specs.Slots.SlotCalls.{BeginsAt}
-use Rattle.atlas_store.proofs.SlotLemmas.Following.{followers}
-use Rattle.atlas_store.proofs.SlotLemmas.Hanging.{IsHanging}
+use Rattle.atlas_store.proofs.SlotLemmas.Followers.{followers}
+use Rattle.atlas_store.proofs.SlotLemmas.NestedTops.{IsHanging}
 use Rattle.atlas_store.proofs.slots.extending.hang.Given as goal
 
 abbrev pub invariant-loop-at : goal.invariant-loop-at

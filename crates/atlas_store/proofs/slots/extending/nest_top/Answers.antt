@@ -2,7 +2,7 @@ use Rattle.std.proofs.Common.{◌∙◌, ap, arith, refl}
 use Rattle.std.proofs.lemmas.List.{length-map}
 use Rattle.atlas_store.specs.Slots.{nodes, node_at}
 use Rattle.atlas_store.proofs.SlotLemmas.Frames.{IsWritten-by}
-use Rattle.atlas_store.proofs.SlotLemmas.Hanging.{top_node, last_node, nested-top, nested-others, nested-generations, Stands-nested}
+use Rattle.atlas_store.proofs.SlotLemmas.NestedTops.{top_node, last_node, nested-top, nested-others, nested-generations, Stands-nested}
 use Rattle.atlas_store.proofs.slots.extending.nest_top.Goals as goal
 
 pub returns : goal.returns

@@ -4,7 +4,7 @@ use Rattle.std.proofs.lemmas.List.{length-map}
 use Rattle.atlas_store.specs.Slots.{nodes, node_at}
 use Rattle.atlas_store.specs.Slots.Growing.{stretched_area}
 use Rattle.atlas_store.proofs.SlotLemmas.Frames.{IsWritten-by}
-use Rattle.atlas_store.proofs.SlotLemmas.Stretching.{Stands-stretched}
+use Rattle.atlas_store.proofs.SlotLemmas.Extensions.{Stands-stretched}
 use Rattle.atlas_store.proofs.slots.extending.stretch_leaf.Goals as goal
 
 pub returns : goal.returns

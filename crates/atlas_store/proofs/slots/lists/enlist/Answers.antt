@@ -10,8 +10,8 @@ use Rattle.atlas_search.specs.declared.link.Link.{Link}
 use Rattle.atlas_store.specs.Slots.Links.{IsUnlisted}
 use Rattle.atlas_store.specs.Slots.Lists.{AreFiled, IsLinked, IsList, node_top, tag_of}
 use Rattle.atlas_model.specs.Pixels.{options_of}
-use Rattle.atlas_store.proofs.StoreLemmas.Filing.{IsPutIn, is-unlisted, list_for, number-is, listed-by, length-rings}
-use Rattle.atlas_store.proofs.StoreLemmas.Linking.{chain-linked, untagged-chain}
+use Rattle.atlas_store.proofs.StoreLemmas.FiledSlots.{IsPutIn, is-unlisted, list_for, number-is, listed-by, length-rings}
+use Rattle.atlas_store.proofs.StoreLemmas.LinkedLists.{chain-linked, untagged-chain}
 use Rattle.atlas_store.proofs.slots.lists.enlist.Goals as goal
 
 pub returns-then-not-push-clause-filed : goal.returns-then-not-push-clause-filed

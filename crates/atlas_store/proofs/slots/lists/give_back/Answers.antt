@@ -1,5 +1,5 @@
 use Rattle.std.proofs.Common.{refl}
-use Rattle.atlas_store.proofs.StoreLemmas.Taking.{given-by}
+use Rattle.atlas_store.proofs.StoreLemmas.TakenSlots.{given-by}
 use Rattle.atlas_store.proofs.slots.lists.give_back.Goals as goal
 
 pub returns-clause-filed : goal.returns-clause-filed

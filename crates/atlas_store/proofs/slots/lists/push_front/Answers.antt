@@ -3,7 +3,7 @@ use Rattle.std.proofs.lemmas.List.{length-map, map-set}
 use Rattle.std.proofs.Math.Seq.{map-set_same}
 use Rattle.atlas_store.specs.declared.slots.Slot.{Slot}
 use Rattle.atlas_store.specs.Slots.{rings}
-use Rattle.atlas_store.proofs.StoreLemmas.Unlinking.{IsList-pushed, others-pushed}
+use Rattle.atlas_store.proofs.StoreLemmas.Chains.{IsList-pushed, others-pushed}
 use Rattle.atlas_store.proofs.slots.lists.push_front.Goals as goal
 
 pub returns-clause-list : goal.returns-clause-list

@@ -1,6 +1,6 @@
 use Rattle.std.proofs.Common.{arith}
 use Rattle.std.proofs.lemmas.List.{with_items_is}
-use Rattle.atlas_store.proofs.StoreLemmas.Taking.{takes-fresh, takes-again}
+use Rattle.atlas_store.proofs.StoreLemmas.TakenSlots.{takes-fresh, takes-again}
 use Rattle.atlas_store.proofs.slots.lists.take_slot.Goals as goal
 
 pub returns-then-at-clause-taken : goal.returns-then-at-clause-taken

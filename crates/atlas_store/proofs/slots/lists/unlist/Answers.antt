@@ -4,7 +4,7 @@ use Rattle.atlas_store.specs.Slots.{nodes, rings, ring_at}
 use Rattle.atlas_model.specs.Pixels.{options_of}
 use Rattle.atlas_store.specs.Slots.Links.{IsFiledSlot}
 use Rattle.atlas_store.specs.Slots.Lists.{AreFiled}
-use Rattle.atlas_store.proofs.StoreLemmas.Filing.{few-rings, leaves-before, leaves-inside, leaves-next, leaves-untagged, unlisted-by}
+use Rattle.atlas_store.proofs.StoreLemmas.FiledSlots.{few-rings, leaves-before, leaves-inside, leaves-next, leaves-untagged, unlisted-by}
 use Rattle.atlas_store.proofs.slots.lists.unlist.Goals as goal
 
 pub read_ring-ring-requires : goal.read_ring-ring-requires

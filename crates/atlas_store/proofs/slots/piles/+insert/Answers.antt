@@ -3,7 +3,7 @@ use Rattle.std.proofs.lemmas.List.{length-map}
 use Rattle.std.specs.Prelude.{◌^◌}
 use Rattle.atlas_search.specs.Rectangles.{IsSolid}
 use Rattle.atlas_search.specs.Items.{item_at}
-use Rattle.atlas_search.proofs.SearchLemmas.Piling.{top-of, top-solid}
+use Rattle.atlas_search.proofs.SearchLemmas.Piles.{top-of, top-solid}
 use Rattle.atlas_model.specs.declared.geometry.Rectangle.{Rectangle}
 use Rattle.atlas_store.specs.Slots.Picks.{slot_item}
 use Rattle.atlas_store.specs.Slots.Piles.{items_of}

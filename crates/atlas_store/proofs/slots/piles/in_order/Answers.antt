@@ -2,8 +2,8 @@ use Rattle.std.proofs.Common.{rules, ◌≡◌, ◌<◌, ◌≤◌, ℕ, sym, ap
 use Rattle.atlas_model.specs.Pixels.{box_of}
 use Rattle.atlas_search.specs.Rectangles.{IsUnsigned}
 use Rattle.atlas_store.specs.declared.slots.Node.{Node}
-use Rattle.atlas_search.proofs.SearchLemmas.Besting.{natural-most}
-use Rattle.atlas_search.proofs.SearchLemmas.Piling.{corner-first}
+use Rattle.atlas_search.proofs.SearchLemmas.Bests.{natural-most}
+use Rattle.atlas_search.proofs.SearchLemmas.Piles.{corner-first}
 use Rattle.atlas_store.proofs.slots.piles.in_order.Goals as goal
 
 pub corner-requires : goal.corner-requires

@@ -5,7 +5,7 @@ use Rattle.atlas_search.specs.Bands.{number_of}
 use Rattle.atlas_search.specs.Tables.{low_of}
 use Rattle.atlas_store.specs.Slots.{node_at, nodes}
 use Rattle.atlas_store.specs.Slots.Lists.{node_top}
-use Rattle.atlas_store.proofs.StoreLemmas.PileFiling.{inserted-tag, joined-pile, joins-pile, tag-used}
+use Rattle.atlas_store.proofs.StoreLemmas.PiledLists.{inserted-tag, joined-pile, joins-pile, tag-used}
 use Rattle.atlas_store.proofs.slots.piling.join_pile.Goals as goal
 
 pub insert-tag-requires : goal.insert-tag-requires

@@ -3,8 +3,8 @@ use Rattle.atlas_search.specs.declared.link.Link.{Link}
 use Rattle.atlas_model.specs.Pixels.{options_of}
 use Rattle.atlas_search.specs.Bands.{number_of}
 use Rattle.atlas_store.specs.Slots.{node_at, nodes}
-use Rattle.atlas_store.proofs.StoreLemmas.Filing.{list_for, number-is}
-use Rattle.atlas_store.proofs.StoreLemmas.PileFiling.{leaves-pile, leaves-tag, left-pile, removed-tag, tag-used}
+use Rattle.atlas_store.proofs.StoreLemmas.FiledSlots.{list_for, number-is}
+use Rattle.atlas_store.proofs.StoreLemmas.PiledLists.{leaves-pile, leaves-tag, left-pile, removed-tag, tag-used}
 use Rattle.atlas_store.proofs.slots.piling.leave_pile.Goals as goal
 
 pub remove-rest-requires : goal.remove-rest-requires

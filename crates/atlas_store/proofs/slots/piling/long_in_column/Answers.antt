@@ -1,4 +1,4 @@
-use Rattle.atlas_search.proofs.SearchLemmas.AddingLines.{rest-marked}
+use Rattle.atlas_search.proofs.SearchLemmas.AddedLines.{rest-marked}
 use Rattle.atlas_store.proofs.slots.piling.long_in_column.Goals as goal
 
 pub loop-row-init : goal.loop-row-init

@@ -2,7 +2,7 @@ use Rattle.std.proofs.Common.{◌<◌, refl, sym, subst}
 use Rattle.atlas_search.specs.Numbers.{no_slot}
 use Rattle.atlas_search.specs.Tables.{head_of}
 use Rattle.atlas_search.specs.declared.link.Link.{Link}
-use Rattle.atlas_store.proofs.StoreLemmas.PileBuilding.{IsBuilding, building-begins, building-can, building-goes_on, building-inside, building-smaller, built-filed, built-tag}
+use Rattle.atlas_store.proofs.StoreLemmas.BuiltPiles.{IsBuilding, building-begins, building-can, building-goes_on, building-inside, building-smaller, built-filed, built-tag}
 use Rattle.atlas_store.proofs.slots.piling.pile.Goals as goal
 
 pub loop-at-init : goal.loop-at-init

@@ -1,8 +1,8 @@
 use Rattle.std.proofs.Common.{length}
 use Rattle.atlas_search.specs.Tables.{head_of}
 use Rattle.atlas_store.specs.Slots.Piles.{items_of}
-use Rattle.atlas_search.proofs.SearchLemmas.Showing.{entries_from}
-use Rattle.atlas_store.proofs.StoreLemmas.PileBuilding.{IsBuilding}
+use Rattle.atlas_search.proofs.SearchLemmas.ShownItems.{entries_from}
+use Rattle.atlas_store.proofs.StoreLemmas.BuiltPiles.{IsBuilding}
 use Rattle.atlas_store.proofs.slots.piling.pile.Given as goal
 
 abbrev pub invariant-loop-at : goal.invariant-loop-at

@@ -4,7 +4,7 @@ use Rattle.atlas_store.specs.Slots.{nodes}
 use Rattle.atlas_search.specs.Numbers.{no_slot, same}
 use Rattle.atlas_store.proofs.SlotLemmas.Frames.{same-self}
 use Rattle.atlas_store.proofs.SlotLemmas.SlotAreas.{free-exact}
-use Rattle.atlas_store.proofs.SlotLemmas.PlacingWrites.{
+use Rattle.atlas_store.proofs.SlotLemmas.PlaceWrites.{
   can-place,
   placed-as,
   placed-inside,

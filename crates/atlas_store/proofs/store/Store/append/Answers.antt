@@ -9,7 +9,7 @@ use Rattle.atlas_store.specs.Store.Holdings.{shelf_of}
 use Rattle.atlas_store.specs.Store.TopCalls.{IsExtendable}
 use Rattle.atlas_store.proofs.StoreLemmas.StoreFacts.{are-slots, across-call, slots-room}
 use Rattle.atlas_store.proofs.StoreLemmas.StoreTakes.{one-taken, takes-slots}
-use Rattle.atlas_store.proofs.StoreLemmas.ExtendingSteps.{sides-fit, can-append, appended-holds}
+use Rattle.atlas_store.proofs.StoreLemmas.ExtensionSteps.{sides-fit, can-append, appended-holds}
 use Rattle.atlas_store.proofs.StoreLemmas.TakenOnce.{once-kept, only-takes}
 use Rattle.atlas_store.proofs.store.Store.append.Goals as goal
 

@@ -5,7 +5,7 @@ use Rattle.atlas_store.specs.Slots.Picks.{AreFreeBoxes}
 use Rattle.atlas_store.specs.Slots.{nodes}
 use Rattle.atlas_store.specs.Store.Holdings.{shelf_of}
 use Rattle.atlas_store.proofs.StoreLemmas.SlotLists.{IfSome_both, free-items, listed-slots}
-use Rattle.atlas_store.proofs.StoreLemmas.Choosing.{chosen-found, rest-searchable}
+use Rattle.atlas_store.proofs.StoreLemmas.PickedSlots.{chosen-found, rest-searchable}
 use Rattle.atlas_store.proofs.store.Store.choose.Goals as goal
 
 pub pick-requires-clause-listed : goal.pick-requires-clause-listed

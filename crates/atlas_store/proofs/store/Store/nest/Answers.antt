@@ -9,7 +9,7 @@ use Rattle.atlas_store.specs.Store.Holdings.{shelf_of}
 use Rattle.atlas_store.specs.Store.TopCalls.{IsNestable}
 use Rattle.atlas_store.proofs.StoreLemmas.StoreFacts.{are-slots, across-call, slots-room}
 use Rattle.atlas_store.proofs.StoreLemmas.StoreTakes.{one-taken, two-taken, ready-taken, takes-slots}
-use Rattle.atlas_store.proofs.StoreLemmas.ExtendingSteps.{sides-fit, can-nest, nested-holds}
+use Rattle.atlas_store.proofs.StoreLemmas.ExtensionSteps.{sides-fit, can-nest, nested-holds}
 use Rattle.atlas_store.proofs.StoreLemmas.TakenOnce.{once-kept, only-takes}
 use Rattle.atlas_store.proofs.store.Store.nest.Goals as goal
 

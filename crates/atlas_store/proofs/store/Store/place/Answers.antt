@@ -5,7 +5,7 @@ use Rattle.atlas_store.specs.Slots.Placing.{granted_by, taken_by, CanPlace, IsCa
 use Rattle.std.specs.Vec.{with_items}
 use Rattle.atlas_store.specs.Stored.{Shelf, Holds}
 use Rattle.atlas_store.specs.Store.Holdings.{shelf_of, with_unused_list, after_place}
-use Rattle.atlas_store.proofs.SlotLemmas.Placing.{placed-generation, placed-granted, placed-left, left-once}
+use Rattle.atlas_store.proofs.SlotLemmas.PlannedLeaves.{placed-generation, placed-granted, placed-left, left-once}
 use Rattle.atlas_store.proofs.StoreLemmas.StoreFacts.{are-slots}
 use Rattle.atlas_store.proofs.StoreLemmas.StoreTakes.{can-taken, held-taken, taken-number}
 use Rattle.atlas_store.proofs.StoreLemmas.StoreSteps.{long-over, over-shelf, placed-holds, stands-before}

@@ -2,7 +2,7 @@ use Rattle.std.proofs.Common.{◌<◌, ◌^◌, ◌∙◌, refl, subst, sym, rul
 use Rattle.atlas_model.specs.Pixels.{natural, options_of, sides_of}
 use Rattle.atlas_model.specs.Choice.{AreValid}
 use Rattle.atlas_store.specs.Store.Starts.{detached_holding}
-use Rattle.atlas_store.proofs.StoreLemmas.Starting.{whole_leaf}
+use Rattle.atlas_store.proofs.StoreLemmas.Starts.{whole_leaf}
 use Rattle.atlas_store.proofs.StoreLemmas.TakenOnce.{once-whole}
 use Rattle.atlas_store.proofs.store.Store.start.Goals as goal
 

@@ -2,7 +2,7 @@ use Rattle.std.proofs.Common.{refl, rules, arith}
 use Rattle.atlas_store.specs.Slots.SlotCalls.{KeepGenerations}
 use Rattle.atlas_store.specs.Store.Holdings.{shelf_of}
 use Rattle.atlas_store.proofs.StoreLemmas.StoreFacts.{are-slots, across-call}
-use Rattle.atlas_store.proofs.StoreLemmas.ExtendingSteps.{sides-fit, whole-holds}
+use Rattle.atlas_store.proofs.StoreLemmas.ExtensionSteps.{sides-fit, whole-holds}
 use Rattle.atlas_store.proofs.StoreLemmas.StoreSteps.{long-over}
 use Rattle.atlas_store.proofs.StoreLemmas.TakenOnce.{once-kept}
 use Rattle.atlas_store.proofs.store.Store.stretch_whole.Goals as goal

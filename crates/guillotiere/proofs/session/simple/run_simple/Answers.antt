@@ -4,8 +4,8 @@ use Rattle.std.proofs.lemmas.List.{take_all}
 use Rattle.std.proofs.lemmas.List.Elements.{All-append, All-cons, All-nil}
 use Rattle.guillotiere.specs.SimpleSessions.{AreSimplyAnswered, GrantsExact, simple_call_of, simple_calls_of}
 use Rattle.atlas_store.specs.Stored.{state_of}
-use Rattle.guillotiere.proofs.Playing.{drop-more, take-longer}
-use Rattle.guillotiere.proofs.SimpleLemmas.SimplePlaying.{answered-taken, simple-session}
+use Rattle.guillotiere.proofs.Sessions.{drop-more, take-longer}
+use Rattle.guillotiere.proofs.SimpleLemmas.SimpleSessions.{answered-taken, simple-session}
 use Rattle.guillotiere.proofs.session.simple.run_simple.Goals as goal
 
 pub loop-call-preserved : goal.loop-call-preserved

@@ -1,4 +1,5 @@
-use Rattle.std.proofs.Common.{rules, sym, subst, arith}
+use Rattle.std.proofs.Common.{◌<◌, ◌⊎◌, rules, sym, subst, arith}
+use Rattle.atlas_model.specs.Choice.{rounded}
 use Rattle.guillotiere.specs.FreeBoxes.BoxShelves.{box_shelf}
 use Rattle.atlas_model.specs.Pixels.{options_of, sides_of}
 use Rattle.guillotiere.specs.FreeBoxes.FreeLists.{state_of_items}
@@ -7,7 +8,8 @@ use Rattle.atlas_model.specs.Simple.{IsGuarded}
 use Rattle.atlas_model.proofs.SimpleLemmas.SimpleGrants.{step-guarded}
 use Rattle.atlas_store.proofs.StoreLemmas.Sizes.{natural-fits}
 use Rattle.guillotiere.proofs.SimpleLemmas.EntryCounts.{uses-old}
-use Rattle.guillotiere.proofs.SimpleLemmas.Storing.{stored-step}
+use Rattle.guillotiere.proofs.SimpleLemmas.GrantedBoxes.{past_is_none}
+use Rattle.guillotiere.proofs.SimpleLemmas.StoredStates.{stored-step}
 use Rattle.guillotiere.proofs.simple.SimpleAtlasAllocator.allocate.Goals as goal
 
 pub invariant_of-self : goal.invariant_of-self
@@ -37,3 +39,16 @@ returns-clause-guarded g c held guarded =
     c.self.invariant.state.simple
     (c.grant.ensures.step (sides_of a.size) (natural-fits a.size.width (search rules)) (natural-fits a.size.height (search rules)) c.self.invariant.state.simple)
     (subst (λ w. IsGuarded (simple_state_of w) held) (sym c.self.view_is) guarded)
+
+pub returns-clause-past : goal.returns-clause-past
+returns-clause-past g c past =
+    let a = c.self.inside in
+    past_is_none (state_of_items (box_shelf a.boxes).entries (sides_of a.size) a.options) (state_of_items (box_shelf c.grant.new.boxes).entries (sides_of a.size) a.options)
+    (sides_of c.args.requested_size) c.self.invariant.state.simple
+    (natural-fits a.size.width (search rules)) (natural-fits a.size.height (search rules))
+    (subst
+    (λ w. (2147483647 < (rounded (simple_state_of w).options (sides_of c.args.requested_size)).width)
+    ⊎ (2147483647 < (rounded (simple_state_of w).options (sides_of c.args.requested_size)).height))
+    (sym c.self.view_is) past)
+    c.grant.result
+    (c.grant.ensures.step (sides_of a.size) (natural-fits a.size.width (search rules)) (natural-fits a.size.height (search rules)) c.self.invariant.state.simple)

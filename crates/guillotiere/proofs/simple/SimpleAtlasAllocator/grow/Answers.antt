@@ -7,9 +7,9 @@ use Rattle.guillotiere.specs.SimpleStored.{MayAskMemory, simple_state_of}
 use Rattle.atlas_model.specs.Simple.{IsGuarded}
 use Rattle.atlas_model.specs.Simple.SimpleAtlasCall.{Grow}
 use Rattle.atlas_model.proofs.SimpleLemmas.SimpleSteps.{grow-guarded}
-use Rattle.guillotiere.proofs.SimpleLemmas.CuttingBoxes.{at_error}
+use Rattle.guillotiere.proofs.SimpleLemmas.CutBoxes.{at_error}
 use Rattle.guillotiere.proofs.SimpleLemmas.EntryCounts.{uses-old, uses-same, used-free}
-use Rattle.guillotiere.proofs.SimpleLemmas.SimpleStarting.{grows-stored, grown-stored, equal-grows, same-sides}
+use Rattle.guillotiere.proofs.SimpleLemmas.SimpleStarts.{grows-stored, grown-stored, equal-grows, same-sides}
 use Rattle.guillotiere.proofs.simple.SimpleAtlasAllocator.grow.Goals as goal
 
 pub returns-then-eq-clause-step : goal.returns-then-eq-clause-step

@@ -8,7 +8,7 @@ use Rattle.atlas_store.specs.Visits.{free_areas}
 use Rattle.guillotiere.specs.FreeBoxes.BoxShelves.{box_shelf, free_item_boxes}
 use Rattle.atlas_model.proofs.SimpleLemmas.SimpleSteps.{starts-guarded}
 use Rattle.guillotiere.proofs.SimpleLemmas.EntryCounts.{used-free}
-use Rattle.guillotiere.proofs.SimpleLemmas.SimpleStarting.{areas-filed, starts-from, started-stored}
+use Rattle.guillotiere.proofs.SimpleLemmas.SimpleStarts.{areas-filed, starts-from, started-stored}
 use Rattle.guillotiere.proofs.simple.SimpleAtlasAllocator.init_from_allocator.Goals as goal
 
 pub file_free-requires-clause-areas : goal.file_free-requires-clause-areas

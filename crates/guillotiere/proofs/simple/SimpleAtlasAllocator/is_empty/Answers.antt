@@ -2,7 +2,7 @@ use Rattle.std.proofs.Common.{◌≡◌, ◌↔◌, refl, subst}
 use Rattle.std.specs.Bool.{IsTrue}
 use Rattle.std.specs.List.{Any}
 use Rattle.guillotiere.specs.FreeBoxes.BoxShelves.{box_shelf}
-use Rattle.guillotiere.proofs.SimpleLemmas.Storing.{whole-listed}
+use Rattle.guillotiere.proofs.SimpleLemmas.StoredStates.{whole-listed}
 use Rattle.guillotiere.proofs.simple.SimpleAtlasAllocator.is_empty.Goals as goal
 
 pub returns : goal.returns

@@ -1,6 +1,6 @@
 use Rattle.std.proofs.Common.{arith}
 use Rattle.atlas_model.proofs.SimpleLemmas.SimpleSteps.{none-guarded}
-use Rattle.guillotiere.proofs.SimpleLemmas.SimpleStarting.{restarted-stored}
+use Rattle.guillotiere.proofs.SimpleLemmas.SimpleStarts.{restarted-stored}
 use Rattle.guillotiere.proofs.simple.SimpleAtlasAllocator.reset.Goals as goal
 
 pub invariant_of-self : goal.invariant_of-self

@@ -5,7 +5,7 @@ use Rattle.guillotiere.specs.FreeBoxes.BoxShelves.{BoxShelf, box_shelf, free_ite
 use Rattle.guillotiere.specs.FreeBoxes.FreeLists.{kept_of}
 use Rattle.atlas_model.specs.Pixels.{box_of, options_of, sides_of}
 use Rattle.atlas_model.proofs.SimpleLemmas.SimpleSteps.{whole-positive}
-use Rattle.guillotiere.proofs.SimpleLemmas.CuttingBoxes.{at_error, length-kept}
+use Rattle.guillotiere.proofs.SimpleLemmas.CutBoxes.{at_error, length-kept}
 use Rattle.guillotiere.proofs.SimpleLemmas.SimpleLists.{rest-boxes, whole-exact}
 use Rattle.guillotiere.proofs.simple.changes.add_rest.Goals as goal
 

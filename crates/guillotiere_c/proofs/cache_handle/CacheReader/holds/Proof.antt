@@ -27,7 +27,7 @@ use Rattle.guillotiere_c.proofs.cache_handle.CacheReader.holds.Statement.{statem
 use Rattle.guillotiere_c.proofs.cache_handle.CacheReader.holds.Code as code
 use Rattle.guillotiere_c.proofs.cache_handle.CacheReader.TheLaws.{lowers}
 use Rattle.guillotiere_c.proofs.Lent.{by_kept}
-use Rattle.guillotiere_c.proofs.CacheReading.{opens}
+use Rattle.guillotiere_c.proofs.CacheReaders.{opens}
 
 abbrev stayed : Stays f.ended.signature.params f.ended.kept
 stayed = (stay_none_ref (0 ∷ []) tt (plain (λ _. view.the_row)) yes, tt)

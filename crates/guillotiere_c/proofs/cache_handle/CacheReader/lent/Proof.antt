@@ -32,7 +32,7 @@ use Rattle.guillotiere_c.proofs.cache_handle.CacheReader.lent.Statement.{stateme
 use Rattle.guillotiere_c.proofs.cache_handle.CacheReader.lent.Code as code
 use Rattle.guillotiere_c.proofs.cache_handle.CacheReader.TheLaws.{lowers}
 use Rattle.guillotiere_c.proofs.Lent.{by_held, lends_twice}
-use Rattle.guillotiere_c.proofs.CacheReading.{opens, row_laws}
+use Rattle.guillotiere_c.proofs.CacheReaders.{opens, row_laws}
 
 abbrev stayed : Stays f.ended.signature.params f.ended.kept
 stayed = (stay_none_ref (0 ∷ []) tt (plain (λ _. view.the_row)) yes, tt)

@@ -27,7 +27,7 @@ use Rattle.guillotiere_c.proofs.simple_handle.SimpleReader.holds.Statement.{stat
 use Rattle.guillotiere_c.proofs.simple_handle.SimpleReader.holds.Code as code
 use Rattle.guillotiere_c.proofs.simple_handle.SimpleReader.TheLaws.{lowers}
 use Rattle.guillotiere_c.proofs.Lent.{by_kept}
-use Rattle.guillotiere_c.proofs.SimpleReading.{opens}
+use Rattle.guillotiere_c.proofs.SimpleReaders.{opens}
 
 abbrev stayed : Stays f.ended.signature.params f.ended.kept
 stayed = (stay_none_ref (0 ∷ []) tt (plain (λ _. view.the_row)) yes, tt)

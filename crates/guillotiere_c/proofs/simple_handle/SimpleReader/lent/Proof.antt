@@ -32,7 +32,7 @@ use Rattle.guillotiere_c.proofs.simple_handle.SimpleReader.lent.Statement.{state
 use Rattle.guillotiere_c.proofs.simple_handle.SimpleReader.lent.Code as code
 use Rattle.guillotiere_c.proofs.simple_handle.SimpleReader.TheLaws.{lowers}
 use Rattle.guillotiere_c.proofs.Lent.{by_held, lends_twice}
-use Rattle.guillotiere_c.proofs.SimpleReading.{opens, row_laws}
+use Rattle.guillotiere_c.proofs.SimpleReaders.{opens, row_laws}
 
 abbrev stayed : Stays f.ended.signature.params f.ended.kept
 stayed = (stay_none_ref (0 ∷ []) tt (plain (λ _. view.the_row)) yes, tt)

@@ -9,7 +9,7 @@ use Rattle.guillotiere.specs.Steps as atlas
 use Rattle.guillotiere.specs.Steps.{Step}
 use Rattle.guillotiere_recording.specs.Logs.{with_event, recording_of}
 use Rattle.guillotiere_recording.specs.Events.EventValue.{Allocate}
-use Rattle.guillotiere_recording.proofs.Keeping.{unroomed_session, granted_session, led_by_grant, named_entry, under}
+use Rattle.guillotiere_recording.proofs.RecordedSessions.{unroomed_session, granted_session, led_by_grant, named_entry, under}
 use Rattle.guillotiere_recording.proofs.Refusals.{slots_step, names_left}
 use Rattle.guillotiere_recording.proofs.allocator.RecordingAllocator.allocate.Goals as goal
 

@@ -4,7 +4,7 @@ use Rattle.guillotiere.specs.Replies.{live_box}
 use Rattle.guillotiere_recording.specs.declared.names.LiveName.{LiveName as Entry}
 use Rattle.guillotiere_recording.specs.Names.{shown}
 use Rattle.guillotiere_recording.specs.Recordings.{SessionValue, AreBooked}
-use Rattle.guillotiere_recording.proofs.Showing.{entries_have_boxes, shown_book}
+use Rattle.guillotiere_recording.proofs.ShownBooks.{entries_have_boxes, shown_book}
 use Rattle.guillotiere_recording.proofs.allocator.RecordingAllocator.allocations.Goals as goal
 
 -- What holds of a list that is given holds of what it is.

@@ -4,7 +4,7 @@ use Rattle.guillotiere_recording.specs.Logs.{with_event, recording_of}
 use Rattle.guillotiere_recording.specs.Events.EventValue.{Deallocate}
 use Rattle.guillotiere_recording.specs.Sessions.{IsLiveName}
 use Rattle.guillotiere_recording.specs.Recordings.{SessionValue, session_of}
-use Rattle.guillotiere_recording.proofs.Keeping.{entry, led_by_freeing, freed_name, found_is_live, missing_is_not_live}
+use Rattle.guillotiere_recording.proofs.RecordedSessions.{entry, led_by_freeing, freed_name, found_is_live, missing_is_not_live}
 use Rattle.guillotiere_recording.proofs.Refusals.{freeing_succeeds, memory_only}
 use Rattle.guillotiere_recording.proofs.allocator.RecordingAllocator.deallocate.Goals as goal
 

@@ -7,7 +7,7 @@ use Rattle.guillotiere.specs.Walks.{IsShownArea}
 use Rattle.guillotiere_recording.specs.declared.names.LiveName.{LiveName as Entry}
 use Rattle.guillotiere_recording.specs.Names.{shown}
 use Rattle.guillotiere_recording.specs.Recordings.{SessionValue, AreBooked}
-use Rattle.guillotiere_recording.proofs.Showing.{entries_have_boxes, entries_show_areas, shown_book}
+use Rattle.guillotiere_recording.proofs.ShownBooks.{entries_have_boxes, entries_show_areas, shown_book}
 use Rattle.guillotiere_recording.proofs.allocator.RecordingAllocator.for_each_allocated_rectangle.Goals as goal
 
 pub visit_names-requires-clause-live : goal.visit_names-requires-clause-live

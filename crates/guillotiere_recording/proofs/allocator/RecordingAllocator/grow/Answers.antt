@@ -1,7 +1,7 @@
 use Rattle.std.proofs.Common.{refl, ap, ◌∙◌}
 use Rattle.guillotiere_recording.specs.Logs.{with_event, recording_of}
 use Rattle.guillotiere_recording.specs.Events.EventValue.{Grow}
-use Rattle.guillotiere_recording.proofs.Keeping.{grown_session}
+use Rattle.guillotiere_recording.proofs.RecordedSessions.{grown_session}
 use Rattle.guillotiere_recording.proofs.allocator.RecordingAllocator.grow.Goals as goal
 
 pub invariant_of-self-2 : goal.invariant_of-self-2

@@ -1,4 +1,4 @@
-use Rattle.guillotiere_recording.proofs.Keeping.{same_state}
+use Rattle.guillotiere_recording.proofs.RecordedSessions.{same_state}
 use Rattle.guillotiere_recording.proofs.allocator.RecordingAllocator.reserve.Goals as goal
 
 pub invariant_of-self-2 : goal.invariant_of-self-2

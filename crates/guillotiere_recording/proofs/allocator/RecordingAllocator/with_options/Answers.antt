@@ -1,5 +1,5 @@
 use Rattle.guillotiere_recording.specs.Logs.{recording_of}
-use Rattle.guillotiere_recording.proofs.Keeping.{new_session}
+use Rattle.guillotiere_recording.proofs.RecordedSessions.{new_session}
 use Rattle.guillotiere_recording.proofs.allocator.RecordingAllocator.with_options.Goals as goal
 
 pub invariant_of-result : goal.invariant_of-result

@@ -1,5 +1,5 @@
 use Rattle.std.proofs.Common.{refl, arith}
-use Rattle.guillotiere.proofs.SimpleLemmas.BoxStoring.{written-after}
+use Rattle.guillotiere.proofs.SimpleLemmas.BoxShelves.{written-after}
 use Rattle.guillotiere.proofs.simple.boxes.FreeBoxes.lead.Goals as goal
 
 pub returns-then-before-eq-NO_SLOT-clause-led : goal.returns-then-before-eq-NO_SLOT-clause-led

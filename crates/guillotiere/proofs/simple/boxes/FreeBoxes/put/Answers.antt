@@ -7,7 +7,7 @@ use Rattle.guillotiere.specs.FreeBoxes.BoxShelves.{AreKept, stored_item}
 use Rattle.atlas_search.specs.Items.{Item}
 use Rattle.atlas_model.specs.Pixels.{options_of}
 use Rattle.atlas_search.specs.Tables.{low_of}
-use Rattle.guillotiere.proofs.SimpleLemmas.BoxStoring.{put-kept, boxes-with, exact-width, untagged-path}
+use Rattle.guillotiere.proofs.SimpleLemmas.BoxShelves.{put-kept, boxes-with, exact-width, untagged-path}
 use Rattle.guillotiere.proofs.simple.boxes.FreeBoxes.put.Goals as goal
 
 pub returns-clause-kept : goal.returns-clause-kept

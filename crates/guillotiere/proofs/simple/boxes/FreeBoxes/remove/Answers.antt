@@ -10,7 +10,7 @@ use Rattle.atlas_search.specs.Numbers.{occurs}
 use Rattle.atlas_search.specs.Piles.{IsTag}
 use Rattle.atlas_model.specs.Pixels.{box_of, options_of}
 use Rattle.atlas_search.specs.Tables.{head_of, low_of}
-use Rattle.guillotiere.proofs.SimpleLemmas.BoxStoring.{first-removed, next-removed, free-inside, read-item, IsSameButLinks, same-links, linked-after, boxes-left, untagged-after, untagged-path}
+use Rattle.guillotiere.proofs.SimpleLemmas.BoxShelves.{first-removed, next-removed, free-inside, read-item, IsSameButLinks, same-links, linked-after, boxes-left, untagged-after, untagged-path}
 use Rattle.guillotiere.proofs.SimpleLemmas.EntryCounts.{used-some}
 use Rattle.guillotiere.proofs.simple.boxes.FreeBoxes.remove.Goals as goal
 

@@ -1,0 +1,107 @@
+-- A lone free child takes the place of its container.
+use Rattle.std.proofs.Common.{ℕ, ◌+◌, ◌<◌, ◌≤◌, ◌≡◌, List, refl, sym, ◌∙◌, ◌⊎◌, inl, inr, arith, rules}
+use Rattle.std.proofs.lemmas.Bool.{eqb-false}
+use Rattle.atlas_store.specs.declared.slots.Node.{Node}
+use Rattle.atlas_store.specs.declared.slots.NodeKind.TheVariants as kind
+use Rattle.atlas_store.specs.Slots.{node_at}
+use Rattle.atlas_search.specs.Numbers.{no_slot, same}
+use Rattle.atlas_store.specs.Slots.Numbered.{Numbered, tally, first_slot, lifted, is_seq_at, End, Free, Alloc, Seq}
+use Rattle.atlas_store.specs.Slots.Standing.{Sequence, Standing, Stands, inside}
+use Rattle.atlas_store.proofs.SlotLemmas.Frames.{same-self, same-ne, Standing-same, used-le, split_pos, ne-from_same}
+use Rattle.atlas_store.proofs.SlotLemmas.MemberLinks.{begins-none}
+use Rattle.atlas_store.proofs.SlotLemmas.Edits.{lifting, seq_here, first-edited, edited-keeps}
+
+-- A member's parent holds the sequence, or is a member itself.
+pub parent-in : (ns : List Node) (k : ℕ) (s : Sequence) (b p : ℕ) (n : Numbered) → Standing ns s b p n → 0 < tally k n
+    → ((node_at ns k).parent.number ≡ s.parent) ⊎ (0 < tally (node_at ns k).parent.number n)
+parent-in ns k s b p End h l = absurd (omega arith)
+parent-in ns k s b p (Free j e rest) h l = grind (arith, parent-in ns k s j (p + e) rest h.2, same-ne)
+parent-in ns k s b p (Alloc j g e rest) h l = grind (arith, parent-in ns k s j (p + e) rest h.3, same-ne)
+parent-in ns k s b p (Seq j e inner rest) h l =
+    search (rules, split_pos, same-ne, parent-in ns k (inside s j p e) no_slot s.start inner h.2, same-self, parent-in ns k s j (p + e) rest h.3)
+
+pub first-lifted : (i : ℕ) (n : Numbered) → first_slot (lifted i n) ≡ first_slot n
+first-lifted i = first-edited (is_seq_at i) lifting (grind arith) 0
+
+-- The nodes ms are ns after the lone free child k gave its place to c.
+pub record IsLiftOf (ns ms : List Node) (c k : ℕ) : Type 0 where
+  pub ends : (node_at ns no_slot).kind ≡ kind.Unused
+  pub free : (node_at ns k).kind ≡ kind.Free
+  pub parent : (node_at ns k).parent.number ≡ c
+  pub alone_before : (node_at ns k).previous.number ≡ no_slot
+  pub alone_after : (node_at ns k).next.number ≡ no_slot
+  pub nested : c ≡ no_slot → ⊥
+  pub outer : node_at ms c ≡ record (node_at ns c) { kind = kind.Free }
+  pub apart : c ≡ k → ⊥
+  pub container : (node_at ns c).kind ≡ kind.Container
+  pub gone : (node_at ms k).kind ≡ kind.Unused
+  pub given : node_at ms k ≡ record (node_at ns k) { kind = kind.Unused }
+  pub others : (x : ℕ) → (x ≡ c → ⊥) → (x ≡ k → ⊥) → node_at ms x ≡ node_at ns x
+
+module _ (ns ms : List Node) (c k : ℕ) (w : IsLiftOf ns ms c k) where
+  -- The child comes after no member.
+  not_later : (s : Sequence) (b q : ℕ) (n : Numbered) → (b ≡ no_slot → ⊥) → tally no_slot n ≡ 0 → tally c n ≡ 0
+      → 0 < tally k n → Standing ns s b q n → ⊥
+  not_later s b q End nb none zc l h = absurd (omega arith)
+  not_later s b q (Free j e rest) nb none zc l h =
+      grind (arith, same-ne k j, ne-from_same, not_later s j (q + e) rest)
+  not_later s b q (Alloc j g e rest) nb none zc l h =
+      grind (arith, same-ne k j, ne-from_same, not_later s j (q + e) rest)
+  not_later s b q (Seq j e inner rest) nb none zc l h =
+      grind (arith, split_pos, same-ne k j, parent-in, ne-from_same, not_later s j (q + e) rest)
+
+  -- In c there is the child alone.
+  lone : (s : Sequence) (b q : ℕ) (n : Numbered) → tally no_slot n ≡ 0 → tally c n ≡ 0 → 0 < tally k n
+      → Standing ns s b q n → (d : ℕ) × (n ≡ Free k d End)
+  lone s b q End none zc l h = absurd (omega arith)
+  lone s b q (Free j d rest) none zc l h = (d, grind (arith, same-ne k j, ne-from_same, not_later s j (q + d) rest, begins-none))
+  lone s b q (Alloc j g d rest) none zc l h = grind (arith, same-ne k j, ne-from_same, not_later s j (q + d) rest)
+  lone s b q (Seq j d inner rest) none zc l h =
+      grind (arith, split_pos, same-ne k j, parent-in, ne-from_same, not_later s j (q + d) rest)
+
+  -- Where k is, c is, but for the sequence of c itself.
+  container_in : (s : Sequence) (b q : ℕ) (n : Numbered) → (s.parent ≡ c → ⊥) → Standing ns s b q n → 0 < tally k n
+      → 0 < tally c n
+  container_in s b q n np h l = elim (parent-in ns k s b q n h l) [ inl x ↦ absurd (np (sym x ∙ w.parent)) | inr y ↦ (rw w.parent at y) ]
+
+  beside : (j : ℕ) (m : Numbered) → ((x : ℕ) → same x j + tally x m ≤ 1) → 0 < tally c m → 0 < tally k m
+      → node_at ms j ≡ node_at ns j
+  beside j m once lc lk = w.others j (ne-from_same c j (omega (arith, once c))) (ne-from_same k j (omega (arith, once k)))
+
+  -- Where c isn't, nothing changes; where k is, the tree stands, and the slot k alone leaves it.
+  abbrev IsLift : (across : ℕ) → (old new : Numbered) → Type 0
+  IsLift a m u =
+      (tally c m ≡ 0 → u ≡ m)
+      × (first_slot u ≡ first_slot m)
+      × ((s : Sequence) (b p : ℕ) → ((x : ℕ) → tally x m ≤ 1) → tally no_slot m ≡ 0 → (s.parent ≡ c → ⊥) → 0 < tally k m
+      → Standing ns s b p m → Standing ms s b p u × ((x : ℕ) → tally x u + same x k ≡ tally x m))
+
+  lifts : (n : Numbered) → IsLift 0 n (lifted c n)
+  lifts n =
+      edited-keeps (is_seq_at c) lifting IsLift (record {
+        ends = grind arith;
+        free = grind (arith, same-ne, container_in, beside);
+        alloc = grind (arith, same-ne, container_in, beside);
+        seq = λ a j e x y m u no f g. (
+          grind arith,
+          refl,
+          λ s b p once none np l h.
+              let nj : c ≡ j → ⊥ = eqb-false c j no in
+              let t = inside s j p e in
+              elim (split_pos (tally k x) (tally k m) (omega (arith, same-ne k j (λ q. grind arith)))) [
+                | inl lk ↦ grind (arith, container_in t no_slot s.start x, beside j x, Standing-same ns ms)
+                | inr lk ↦ grind (arith, container_in s j (p + e) m, beside j m, Standing-same ns ms)
+              ],
+        );
+      }) (λ a. seq_here c (λ m. IsLift a m (lifting a m)) (λ e inner rest. (
+        grind (arith, same-self),
+        grind arith,
+        λ s b p once none np l h.
+            let lk : 0 < tally k inner = grind (arith, same-ne k c, same-self c, container_in s c (p + e) rest) in
+            let o = lone (inside s c p e) no_slot s.start inner (omega (arith, none)) (omega (arith, once c, same-self c)) lk h.2 in
+            rw o.1 (grind (arith, w.outer, Standing-same ns ms)),
+      ))) 0 n
+
+  pub Stands-lifted : (s : Sequence) (n : Numbered) → s.parent ≡ no_slot → Stands ns s n
+      → (node_at ns c).kind ≡ kind.Container → Stands ms s (lifted c n)
+  Stands-lifted s n top h box = grind (arith, lifts n, used-le, same-self k, same-ne)
