@@ -31,6 +31,12 @@ impl Cache {
         }
     }
 
+    fn get(&mut self, key: u32) -> bool {
+        let place = self.cache.get(key);
+        self.answer(place);
+        place.is_some()
+    }
+
     fn insert(&mut self, key: u32) {
         let inserted = self.cache.insert(key, size_of(key)).expect("memory");
         for change in self.cache.drain_changes() {
@@ -53,15 +59,14 @@ pub fn run(calls: u32) -> Answers {
         if call % CALLS_IN_A_FRAME == 0 {
             cache.cache.begin_frame();
         }
-        if let Some(key) = wanted.take() {
+        if let Some(key) = wanted {
             cache.insert(key);
-            continue;
-        }
-        let key = key_of(next_rank(&mut random));
-        let place = cache.cache.get(key);
-        cache.answer(place);
-        if place.is_none() {
-            wanted = Some(key);
+            wanted = None;
+        } else {
+            let key = key_of(next_rank(&mut random));
+            if !cache.get(key) {
+                wanted = Some(key);
+            }
         }
     }
     cache.answers
