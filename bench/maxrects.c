@@ -2,6 +2,7 @@
  *
  *     maxrects        a line for each form: `WHAT SIDE`, the side of the smallest square that is found to take all, by bisection, and then
  *                     one by one until so many below it fail
+ *     maxrects SIDE   the largest square below this one that is found to take all, of all that have the area; 0 where none does
  *
  * A form is how a free rectangle is chosen, in which order sprites come, and whether they may be turned. */
 #include <stdio.h>
@@ -126,6 +127,12 @@ static int smallest(int first, int count, int choice, int turn) {
     return found;
 }
 
+static int below(int limit, int first, int count, int choice, int turn) {
+    int side = limit - 1;
+    while (side >= first && !packs(side, count, choice, turn)) side--;
+    return side >= first ? side : 0;
+}
+
 static int by_side(const void *one, const void *other) {
     const rect *a = one, *b = other;
     int by_longer = most(b->w, b->h) - most(a->w, a->h);
@@ -143,7 +150,8 @@ static int by_height(const void *one, const void *other) {
     return b->h != a->h ? b->h - a->h : b->w - a->w;
 }
 
-int main(void) {
+int main(int argc, char **argv) {
+    int limit = argc > 1 ? atoi(argv[1]) : 0;
     static int (*const orders[])(const void *, const void *) = {by_area, by_side, by_height};
     static const char *const named[] = {"area", "side", "height"}, *const chosen[] = {"short", "long", "area", "low"};
     long area = 0;
@@ -158,7 +166,8 @@ int main(void) {
         int choice = form % 4, order = form / 4 % 3, turn = form / 12;
         memcpy(sprites, given, sizeof sprites);
         qsort(sprites, (size_t)count, sizeof *sprites, orders[order]);
-        printf("%s,%s%s %d\n", chosen[choice], named[order], turn ? ",turned" : "", smallest(first, count, choice, turn));
+        int side = limit ? below(limit, first, count, choice, turn) : smallest(first, count, choice, turn);
+        printf("%s,%s%s %d\n", chosen[choice], named[order], turn ? ",turned" : "", side);
         fflush(stdout);
     }
     return 0;
