@@ -89,6 +89,7 @@ pub extern "C" fn guillotiere_atlas_get(
     ensures rectangle { IsSome atlas.now.kept → result ≡ DONE → HoldsAtlas atlas.now.kept
         (λ s. Some (corners_in found.new) ≡ option_map rectangle_of (live_box s id)) }
     ensures refused { result ≢ DONE → found.new ≡ found.old }
+    ensures unless { IsSome atlas.now.kept → result ≢ DONE → result ≡ NOT_LIVE }
     ensures empty { IsNone atlas.now.kept → result ≡ EMPTY }
 {
     if !atlas.holds() {

@@ -179,6 +179,7 @@ pub extern "C" fn guillotiere_atlas_resize_and_rearrange(
         (ResizeAndRearrange (sides_in width height)) (plain_reply result) atlas.new.kept }
     ensures short { result ≡ SHORT → HoldsAtlas atlas.old.kept
         (λ s. (used_in s ≤ length changes.old) × (used_in s ≤ length failures.old) → ⊥) }
+    ensures bad { IsSome atlas.old.kept → (IsPositive (sides_in width height) → ⊥) → result ≡ BAD_CALL }
     ensures room { IsPositive (sides_in width height) → HoldsAtlas atlas.old.kept
         (λ s. (length changes.old < used_in s) ⊎ (length failures.old < used_in s)) → result ≡ SHORT }
     ensures sound { IsSome atlas.old.kept → HoldsAtlas atlas.new.kept IsSound }
