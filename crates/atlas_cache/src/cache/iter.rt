@@ -70,9 +70,10 @@ impl<'a, K: Copy + Eq + Hash, S: BuildHasher, A: Allocator + Copy> Iterator for 
             return None;
         };
         let entry = self.entries.entry(number);
+        let place = place_of(entry, &self.options);
         self.next = self.entries.older(number);
         self.left -= 1;
-        Some((entry.key, place_of(entry, &self.options)))
+        Some((entry.key, place))
     }
 
     fn size_hint(&self) -> (usize, Option<usize>) {

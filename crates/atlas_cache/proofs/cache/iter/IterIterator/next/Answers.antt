@@ -18,8 +18,8 @@ entry-entry-requires g c =
     let to_come = rw c.in-Some.is at c.self.invariant.0 in
     turn-number c.in-Some.number i.left i.entries.now.entries (turn _ _ _ to_come) c.prove_kept.ensures.numbers
 
-pub place_of-requires : goal.place_of-requires
-place_of-requires g c =
+pub place_of-place-requires : goal.place_of-place-requires
+place_of-place-requires g c =
     let i = c.self.inside in
     bordered-at i.options.padding c.in-Some.number i.entries.now.entries c.entry-entry.result c.self.invariant.1 c.entry-entry.ensures
 
@@ -36,4 +36,4 @@ returns-clause-steps g c =
     let n = c.in-Some.number in
     let t = turn n i.left i.entries.now.entries (rw c.in-Some.is at c.self.invariant.0) in
     let gives = turn-gives n i.left i.entries.now.entries t i.options.padding e c.prove_kept.ensures.numbers c.entry-entry.ensures in
-    rw (← c.self.view_is, c.place_of.ensures) gives
+    rw (← c.self.view_is, c.place_of-place.ensures) gives
