@@ -114,8 +114,8 @@ def split_at_top(text):
 
 
 def parted(head):
-    """The type's name of an `impl`, and what is added to it: the trait's name with its argument, or the type's arguments where they aren't
-    the parameters."""
+    """The type's name of an `impl`, with Ref before it where the type is lent, and what is added to it: the trait's name with its argument,
+    or the type's arguments where they aren't the parameters."""
     head, depth, given = head[head.index("impl") + 4 :].strip(), 0, []
     if head.startswith("<"):
         for at, sign in enumerate(head):
@@ -124,7 +124,9 @@ def parted(head):
                 given, head = split_at_top(head[1:at]), head[at + 1 :].strip()
                 break
     first, _, second = head.partition(" for ")
-    of_type = re.sub(r"<.*", "", second or first).strip("& ").split("::")[-1].split(" ")[0]
+    target = (second or first).strip()
+    name = re.sub(r"<.*", "", re.sub(r"^&('\w+ )?(mut )?", "", target)).split("::")[-1].split(" ")[0]
+    of_type = "Ref" + name if target.startswith("&") else name
     if not second:
         taken = split_at_top(first.partition("<")[2].rpartition(">")[0])
         return of_type, "" if set(taken) <= set(given) else "".join(f"+{it}" for it in taken)

@@ -141,6 +141,10 @@ fn cache_calls(live: u64, run: &mut Run) {
     often(run, "get", &mut |turn| drop(black_box(cache.get(&(held + turn as u32 % (next - held))).is_some())));
     often(run, "miss", &mut |turn| drop(black_box(cache.get(&(next + turn as u32)).is_none())));
     often(run, "older", &mut |turn| drop(black_box((cache.older(&(held + turn as u32 % (next - held))), cache.newest(), cache.oldest()))));
+    let keys = cache.len() as u64;
+    run.part("iter", keys, &mut |limit, _| {
+        limit.done = cache.iter().map(black_box).count() as u64;
+    });
     run.part("remove", live / 4, &mut |limit, _| {
         limit.done = OFTEN.min(live / 4);
         for turn in 0..limit.done {

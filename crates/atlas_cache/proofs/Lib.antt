@@ -4,6 +4,7 @@ pub mod KeptEntries
 pub mod EntryLemmas
 pub mod GatherLemmas
 pub mod IdOrderLemmas
+pub mod IterLemmas
 pub mod RecencyCalls
 pub mod ReadyLemmas
 pub mod RelocateLemmas

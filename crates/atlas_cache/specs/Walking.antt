@@ -1,8 +1,10 @@
 -- Entries in the order of their use, one after another.
-use Rattle.std.specs.Prelude.{◌≡◌, ℤ, List, [], ◌∷◌, ◌++◌, Option, None, Some, option_map}
+use Rattle.std.specs.Prelude.{◌≡◌, ◌≤◌, ◌-◌, ℕ, ℤ, List, [], ◌∷◌, ◌++◌, drop, length, map, Option, None, Some, option_map}
 use Rattle.atlas_cache.specs.declared.entries.Entry.{Entry}
 use Rattle.atlas_cache.specs.declared.places.Place.{Place}
 use Rattle.atlas_cache.specs.Caches.{CacheState, shown}
+use Rattle.atlas_cache.specs.Entries.{numbers}
+use Rattle.atlas_cache.specs.Orders.{newest_of}
 
 module _ {K : Type 0} where
   -- The first entry of a list.
@@ -20,6 +22,10 @@ module _ {K : Type 0} where
   abbrev pub keyed : (padding : ℤ) → Entry K → K × Place
   keyed padding e = (e.key, shown padding e)
 
+  -- The keys with their places, the most recently used first.
+  abbrev pub keyed_entries : CacheState K → List (K × Place)
+  keyed_entries s = map (keyed s.options.padding) s.entries
+
   -- This comes after an entry of a list; None if the entry is the last.
   pub record IsNext (entry : Entry K) (next : Option (Entry K)) (es : List (Entry K)) : Type 0 where
     pub newer : List (Entry K)
@@ -32,3 +38,12 @@ module _ {K : Type 0} where
     pub next : Option (Entry K)
     pub after : IsNext entry next s.entries
     pub shown : shows ≡ option_map (keyed s.options.padding) next
+
+  -- The so many least recently used entries.
+  abbrev pub oldest_entries : ℕ → List (ℕ × Entry K) → List (ℕ × Entry K)
+  oldest_entries n es = drop (length es - n) es
+
+  -- So many entries are still to come, the least recently used ones, and this is the number of the first.
+  pub record AreToCome (next : Option ℕ) (left : ℕ) (es : List (ℕ × Entry K)) : Type 0 where
+    pub most : left ≤ length es
+    pub first : next ≡ newest_of (numbers (oldest_entries left es))

@@ -382,7 +382,7 @@ impl<K: Copy + Eq + Hash, S: BuildHasher> TextureCache<K, S> {
         self.cache.peek(&key).is_some()
     }
 
-    /// The keys with their places, the most recently used first. A step takes one look-up, and doesn't count as a use.
+    /// The keys with their places, the most recently used first. A step takes no look-up, and doesn't count as a use.
     ///
     /// ```
     /// use guillotiere::cache::{CacheOptions, TextureCache};
@@ -399,10 +399,10 @@ impl<K: Copy + Eq + Hash, S: BuildHasher> TextureCache<K, S> {
     /// ```
     #[must_use]
     pub fn iter(&self) -> Iter<'_, K, S> {
-        Iter::of(self)
+        Iter::of(&self.cache)
     }
 
-    /// The keys, the most recently used first. A step takes one look-up, and doesn't count as a use.
+    /// The keys, the most recently used first. A step takes no look-up, and doesn't count as a use.
     #[must_use]
     pub fn keys(&self) -> Keys<'_, K, S> {
         Keys {

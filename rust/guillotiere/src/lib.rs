@@ -65,7 +65,7 @@
 //! | `insert` of a new key | a request to each page, until one has room, but for pages that refused a size no larger and haven't changed since; if none has room, an eviction and one more request, again and again |
 //! | an eviction | a freeing; it passes each blank key that is older than the key that goes (see `insert`) once, and not again until it is used |
 //! | `remove`, `begin_frame` of a cache | one look-up, and a freeing; nothing |
-//! | `iter`, `keys` of a cache | a look-up for each key |
+//! | `iter`, `keys` of a cache | the keys, by a step each, without a look-up |
 //! | `drain_changes` | the changes |
 //! | `trim` | the keys that go |
 //! | `repack` | all keys, and the sorting of those on that page |

@@ -410,6 +410,40 @@ fn keys_by_their_use() {
     assert_eq!((cache.iter().next(), cache.keys().next()), (None, None));
 }
 
+// What `newest` and `older` give, one after another.
+fn followed(cache: &TextureCache) -> Vec<(u64, Place)> {
+    std::iter::successors(cache.newest(), |(key, _)| cache.older(*key)).collect()
+}
+
+#[test]
+fn an_iterator_gives_what_newest_and_older_give() {
+    let mut cache = TextureCache::new(&CacheOptions::new(size2(64, 64))).unwrap();
+    assert_eq!((cache.iter().len(), cache.iter().next()), (0, None));
+    for key in 0..9 {
+        let side = (key % 3) as i32 * 5; // every third key is blank
+        let _ = cache.insert(key, size2(side, 4)).unwrap();
+    }
+    for key in [0, 4, 3] {
+        cache.get(key);
+    }
+    cache.remove(5);
+    let keys: Vec<u64> = cache.keys().collect();
+    assert_eq!(keys, [3, 4, 0, 8, 7, 6, 2, 1]);
+    let entries: Vec<(u64, Place)> = cache.iter().collect();
+    assert_eq!(entries, followed(&cache));
+    let blank: Vec<u64> = (cache.iter().filter(|(_, place)| place.inner.is_empty()))
+        .map(|(key, _)| key)
+        .collect();
+    assert_eq!(blank, [3, 0, 6]);
+    let mut rest = cache.iter();
+    for left in (0..8).rev() {
+        assert!(rest.next().is_some());
+        assert_eq!(rest.size_hint(), (left, Some(left)));
+        assert!(rest.clone().eq(entries[8 - left..].iter().copied()));
+    }
+    assert_eq!((rest.next(), rest.next(), rest.len()), (None, None, 0));
+}
+
 fn points(area: Rectangle) -> impl Iterator<Item = usize> {
     (area.min.y..area.max.y)
         .flat_map(move |y| (area.min.x..area.max.x).map(move |x| (y * 64 + x) as usize))

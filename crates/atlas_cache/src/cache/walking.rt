@@ -68,7 +68,7 @@ impl<K: Copy + Eq + Hash, S: BuildHasher, A: Allocator + Copy> TextureCache<K, S
 
     /// The next less recently used key, and its place; None if this one is the least recently used, or isn't
     /// held. It doesn't count as a use. From `newest` on, this gives each key once, in the order of use, with one
-    /// look-up each.
+    /// look-up each, where `iter` takes none.
     pub fn older(&self, key: &K) -> Option<(K, Place)>
         ensures next { IfSome (entry_for K.eq key.now self.now.entries) (λ e. ShowsOlder e result self.now) }
         ensures none { entry_for K.eq key.now self.now.entries ≡ None → result ≡ None }

@@ -5,6 +5,7 @@ mod clearing;
 mod copying;
 mod figures;
 pub mod holding;
+mod iter;
 mod repacking;
 mod shrinking;
 mod walking;
@@ -21,6 +22,7 @@ use crate::atlas_cache::options::CacheOptions;
 use crate::atlas_cache::places::Place;
 use crate::atlas_cache::rooms::Rooms;
 use crate::guillotiere::Size;
+pub use iter::Iter;
 use wollemigo_support::alloc::{Allocator, Global};
 use wollemigo_support::hash::{BuildHasher, BuildHasherDefault, Hash};
 

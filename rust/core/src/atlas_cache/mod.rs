@@ -12,7 +12,7 @@ mod places;
 pub mod recency;
 pub mod rooms;
 
-pub use cache::TextureCache;
+pub use cache::{Iter, TextureCache};
 pub use changes::{CacheChange, Changes};
 pub use counts::Counts;
 pub use error::{CacheError, OptionsError};

@@ -19,6 +19,7 @@ mod keep;
 mod last_frame;
 mod lists;
 mod moves;
+mod numbered;
 mod pages;
 mod plain;
 mod recording;

@@ -46,7 +46,7 @@ const SAME: [(&str, &[&str]); 9] = [
     ("cell", &["Cell"]),
     ("cmp", &["Ordering", "Reverse"]),
     ("fmt", &["Display", "Debug", "Formatter", "Result", "Write"]),
-    ("iter", &[]),
+    ("iter", &["FusedIterator"]),
     ("mem", &["replace", "swap", "take"]),
     ("ops", &["Index"]),
     ("ptr", &["null_mut"]),

@@ -1,10 +1,11 @@
 //! Walks along the keys of a cache.
-use super::{Place, TextureCache};
+use super::{keyed, library, Place, TextureCache};
 use core::fmt;
 use core::hash::{BuildHasher, Hash};
 use core::iter::FusedIterator;
+use wollemigo_support::alloc::Global;
 
-/// The keys of a cache with their places, the most recently used first. A step takes one look-up, and doesn't count as a use.
+/// The keys of a cache with their places, the most recently used first. A step takes no look-up, and doesn't count as a use.
 ///
 /// ```
 /// use guillotiere::cache::{CacheOptions, TextureCache};
@@ -18,17 +19,13 @@ use core::iter::FusedIterator;
 /// # Ok::<(), guillotiere::cache::CacheError>(())
 /// ```
 pub struct Iter<'a, K: Copy + Eq + Hash, S: BuildHasher> {
-    cache: &'a TextureCache<K, S>,
-    next: Option<(K, Place)>,
-    left: usize,
+    entries: library::Iter<'a, K, S, Global>,
 }
 
 impl<'a, K: Copy + Eq + Hash, S: BuildHasher> Iter<'a, K, S> {
-    pub(super) fn of(cache: &'a TextureCache<K, S>) -> Self {
+    pub(super) fn of(cache: &'a library::TextureCache<K, S, Global>) -> Self {
         Iter {
-            cache,
-            next: cache.newest(),
-            left: cache.len(),
+            entries: cache.iter(),
         }
     }
 }
@@ -36,15 +33,13 @@ impl<'a, K: Copy + Eq + Hash, S: BuildHasher> Iter<'a, K, S> {
 impl<K: Copy + Eq + Hash, S: BuildHasher> Iterator for Iter<'_, K, S> {
     type Item = (K, Place);
 
+    #[inline]
     fn next(&mut self) -> Option<(K, Place)> {
-        let found = self.next?;
-        self.next = self.cache.older(found.0);
-        self.left -= 1;
-        Some(found)
+        self.entries.next().map(keyed)
     }
 
     fn size_hint(&self) -> (usize, Option<usize>) {
-        (self.left, Some(self.left))
+        self.entries.size_hint()
     }
 }
 
@@ -55,9 +50,7 @@ impl<K: Copy + Eq + Hash, S: BuildHasher> FusedIterator for Iter<'_, K, S> {}
 impl<K: Copy + Eq + Hash, S: BuildHasher> Clone for Iter<'_, K, S> {
     fn clone(&self) -> Self {
         Iter {
-            cache: self.cache,
-            next: self.next,
-            left: self.left,
+            entries: self.entries.copy(),
         }
     }
 }
@@ -77,7 +70,7 @@ impl<'a, K: Copy + Eq + Hash, S: BuildHasher> IntoIterator for &'a TextureCache<
     }
 }
 
-/// The keys of a cache, the most recently used first. A step takes one look-up, and doesn't count as a use.
+/// The keys of a cache, the most recently used first. A step takes no look-up, and doesn't count as a use.
 ///
 /// ```
 /// use guillotiere::cache::{CacheOptions, TextureCache};
@@ -95,6 +88,7 @@ pub struct Keys<'a, K: Copy + Eq + Hash, S: BuildHasher> {
 impl<K: Copy + Eq + Hash, S: BuildHasher> Iterator for Keys<'_, K, S> {
     type Item = K;
 
+    #[inline]
     fn next(&mut self) -> Option<K> {
         self.entries.next().map(|(key, _)| key)
     }

@@ -316,6 +316,27 @@ impl Plain {
         next.is_none()
     }
 
+    // Whether its iterator gives the same, and says all along how many are left; and so does a copy of it.
+    fn has_iterator<A: Allocator + Copy>(
+        &self,
+        cache: &TextureCache<u32, DefaultHasher, A>,
+    ) -> bool {
+        let mut rest = cache.iter();
+        let mut left = self.held.len();
+        for held in &self.held {
+            let next = Some((held.key, held.place));
+            let told = (rest.len(), rest.size_hint());
+            if told != (left, (left, Some(left)))
+                || rest.copy().next() != next
+                || rest.next() != next
+            {
+                return false;
+            }
+            left -= 1;
+        }
+        rest.len() == 0 && rest.next().is_none() && rest.next().is_none()
+    }
+
     /// Whether a cache has these pages, and holds these keys at these places, in this order, and no others.
     pub fn is_picture_of<A: Allocator + Copy>(
         &self,
@@ -329,6 +350,7 @@ impl Plain {
         cache.numbers() as usize == self.numbers
             && cache.len() == self.held.len()
             && self.has_order(cache)
+            && self.has_iterator(cache)
             && self.has_pages(cache)
     }
 }

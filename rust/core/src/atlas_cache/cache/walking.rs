@@ -56,7 +56,7 @@ impl<K: Copy + Eq + Hash, S: BuildHasher, A: Allocator + Copy> TextureCache<K, S
 
     /// The next less recently used key, and its place; None if this one is the least recently used, or isn't
     /// held. It doesn't count as a use. From `newest` on, this gives each key once, in the order of use, with one
-    /// look-up each.
+    /// look-up each, where `iter` takes none.
     #[inline]
     #[must_use]
     pub fn older(&self, key: &K) -> Option<(K, Place)> {
