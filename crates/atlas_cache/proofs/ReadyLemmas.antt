@@ -69,21 +69,28 @@ module _ {K : Type 0} where
     full = full had.full;
   }
 
-  -- An insert for which all is ready isn't refused for memory or slots, and all is ready for those after it.
-  pub ready_after : {X : Type 0} (result : Result X CacheError) (size : Size) (room rest : ℕ) (s t : CacheState K)
-      → ((n : ℕ) → HasReserves (n + 1) room s → KeepsPageSizes size s → (result ≢ Err Memory) × HasReserves n rest t)
-      → ((n : ℕ) → AllowSlots (4 * (n + 1)) s.pages → KeepsPageSizes size s
-          → (result ≢ Err Slots) × AllowSlots (4 * n) t.pages)
-      → (IsFull s → IsFull t) → (n left : ℕ) → IsReadyFor n room s → left < n
-      → (result ≢ Err Memory) × (result ≢ Err Slots) × IsReadyFor left rest t
-  ready_after result size room rest s t reserves allowed full n left ready less =
-      let keeps : KeepsPageSizes size s = λ positive none. ready.full in
-      let had = reserves_left (left + 1) n room room 0 s s (none_used 0 s.pages) (omega (arith, less)) (omega (arith, less))
-      (omega (arith, less)) ready.reserves in
-      let may = allowed_left 0 (4 * (left + 1)) (4 * n) s.pages s.pages (omega (arith, less)) (none_used 0 s.pages) ready.allowed in
-      let memory = reserves left had keeps in
-      let slots = allowed left may keeps in
-      (memory.0, slots.0, record { reserves = memory.1; allowed = slots.1; full = full ready.full })
+  -- An insert that keeps what is in reserve, what the pages may use and their sizes.
+  module _ {X : Type 0} (result : Result X CacheError) (size : Size) (room rest : ℕ) (s t : CacheState K)
+      (reserves : (n : ℕ) → HasReserves (n + 1) room s → KeepsPageSizes size s → (result ≢ Err Memory) × HasReserves n rest t)
+      (allowed : (n : ℕ) → AllowSlots (4 * (n + 1)) s.pages → KeepsPageSizes size s
+          → (result ≢ Err Slots) × AllowSlots (4 * n) t.pages) where
+    -- While all is ready for one more, it isn't refused for memory or for slots, and less is in reserve after it.
+    one_served : (n left : ℕ) → IsReadyFor n room s → left < n
+        → ((result ≢ Err Memory) × HasReserves left rest t) × ((result ≢ Err Slots) × AllowSlots (4 * left) t.pages)
+    one_served n left ready less =
+        let keeps : KeepsPageSizes size s = λ positive none. ready.full in
+        let had = reserves_left (left + 1) n room room 0 s s (none_used 0 s.pages) (omega (arith, less)) (omega (arith, less))
+        (omega (arith, less)) ready.reserves in
+        let may = allowed_left 0 (4 * (left + 1)) (4 * n) s.pages s.pages (omega (arith, less)) (none_used 0 s.pages) ready.allowed in
+        (reserves left had keeps, allowed left may keeps)
+
+    pub unrefused_while_ready : (n : ℕ) → IsReadyFor n room s → 0 < n → (result ≢ Err Memory) × (result ≢ Err Slots)
+    unrefused_while_ready n ready some = let served = one_served n 0 ready some in (served.0.0, served.1.0)
+
+    pub ready_after : (IsFull s → IsFull t) → (n left : ℕ) → IsReadyFor n room s → left < n → IsReadyFor left rest t
+    ready_after full n left ready less =
+        let served = one_served n left ready less in
+        record { reserves = served.0.1; allowed = served.1.1; full = full ready.full }
 
   -- A key of an empty size takes one entry at most, and nothing of the pages.
   pub blank_reserves : (key : K) (size : Size) (result : Result Inserted CacheError) (s t : CacheState K) (n room : ℕ)
@@ -95,6 +102,15 @@ module _ {K : Type 0} where
   blank_reserves key size (Ok FrameFull) s t n room ins had = absurd ins
   blank_reserves key size (Ok NeverFits) s t n room ins had = absurd ins
   blank_reserves key size (Err error) s t n room ins had = rw ins.0 (one_fewer n room s had)
+
+  -- And it uses no slot.
+  pub blank_uses : (key : K) (size : Size) (result : Result Inserted CacheError) (s t : CacheState K)
+      → InsertsBlank key size result s t → UseAtMost 4 s.pages t.pages
+  blank_uses key size (Ok (Placed place)) s t ins = rw ins.pages (none_used 4 s.pages)
+  blank_uses key size (Ok (Held place)) s t ins = absurd ins
+  blank_uses key size (Ok FrameFull) s t ins = absurd ins
+  blank_uses key size (Ok NeverFits) s t ins = absurd ins
+  blank_uses key size (Err error) s t ins = rw ins.0 (none_used 4 s.pages)
 
   -- And it changes no page.
   pub blank_full : (key : K) (size : Size) (result : Result Inserted CacheError) (s t : CacheState K)

@@ -229,6 +229,9 @@ impl<K: Copy + Eq + Hash, S: BuildHasher, A: Allocator + Copy> TextureCache<K, S
     /// Nor is an insert that neither adds a page nor grows one (since a page has room, or all allowed exist, at their largest) refused
     /// with `Memory`, given one entry in reserve (`reserve`), 4 slots on each page (`reserve_slots`), and room for one change more than
     /// there are entries. Given n entries in reserve, 4n slots and room for n changes more than entries, none of n such inserts is.
+    /// It uses at most 4 more slots of a page, and is refused with `Slots` only where a page used all but 3 at most before it. So once
+    /// `reserve_slots(4 * n)` was Ok, none of n such inserts is refused with `Slots` either; `get`, `remove`, `clear` and `begin_frame`
+    /// between them take nothing of it.
     ///
     /// Takes one look-up by a hash. A new key that isn't blank also takes a few steps for each page, and a request of an atlas for each
     /// page that isn't known to have no room: one that refused a size no larger in width and height, and hasn't changed since, is. An
@@ -273,7 +276,9 @@ impl<K: Copy + Eq + Hash, S: BuildHasher, A: Allocator + Copy> TextureCache<K, S
         ensures allowed { (n : ℕ) → AllowSlots (4 * (n + 1)) self.old.pages → KeepsPageSizes size self.old
             → (result ≢ Err Slots) × AllowSlots (4 * n) self.new.pages }
         ensures ready { (n left : ℕ) → IsReadyFor n (room_in changes.old) self.old → left < n
-            → (result ≢ Err Memory) × (result ≢ Err Slots) × IsReadyFor left (room_in changes.new) self.new }
+            → IsReadyFor left (room_in changes.new) self.new }
+        ensures unrefused { (n : ℕ) → IsReadyFor n (room_in changes.old) self.old → 0 < n
+            → (result ≢ Err Memory) × (result ≢ Err Slots) }
     {
         self.entries.prove_kept();
         if let Some((known, entry)) = look_up(&self.entries, &key) {

@@ -21,6 +21,7 @@ mod pages;
 mod plain;
 mod recording;
 mod reserved;
+mod reserving;
 mod sheet;
 mod shown;
 mod strips;

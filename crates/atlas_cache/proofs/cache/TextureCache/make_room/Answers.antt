@@ -1,6 +1,7 @@
-use Rattle.std.proofs.Common.{◌≡◌, ap, arith, rules, Err, Ok}
+use Rattle.std.proofs.Common.{◌≡◌, ap, arith, refl, rules, Err, Ok}
 use Rattle.atlas_cache.specs.Caches.{entries_of}
 use Rattle.atlas_cache.specs.Entries.{lying}
+use Rattle.atlas_cache.specs.declared.changes.CacheChange.TheVariants.{PageGrown}
 use Rattle.atlas_cache.proofs.HoldingLemmas.{stays}
 use Rattle.atlas_cache.proofs.ReadyLemmas.{error_is, reserves_left}
 use Rattle.atlas_cache.proofs.RoomLemmas.PageReserves.{none_used}
@@ -138,3 +139,26 @@ returns-clause-slots g c = λ full.
     let one = c.in_ok-page.ensures.nothing (ap Ok c.in_default.is) in
     let two = c.in_ok-page-2.ensures.nothing (ap Ok c.in_default-2.is) in
     rw (← c.self.view_is) (rw (two, one) at c.evict.ensures.slots)
+
+pub returns-in-Some-clause-does : goal.returns-in-Some-clause-does
+returns-in-Some-clause-does g c = λ _.
+    rw (← c.self.view_is) (record {
+      change = PageGrown c.in-Some.page c.in-Some.size;
+      listed = rw c.in_ok-reserve.ensures.items at c.push_reserved.ensures.items;
+      does = record {
+        first = rw c.in-Some.is at c.in_ok-page.ensures.first;
+        step = rw c.in-Some.is at c.in_ok-page.ensures.step;
+        sizes = rw c.in-Some.is at c.in_ok-page.ensures.sizes;
+        same = c.in_ok-page.ensures.same;
+        slots = c.in_ok-page.ensures.slots;
+        others = rw c.in-Some.is at c.in_ok-page.ensures.others;
+        keeps = record {
+          entries = refl;
+          numbers = refl;
+          reserved = refl;
+          options = c.in_ok-page.ensures.options;
+          frame = refl;
+          counts = refl;
+        };
+      };
+    })
