@@ -18,7 +18,7 @@ use Rattle.atlas_cache.specs.Asking.{CanStand}
 use Rattle.atlas_cache.specs.Caches.{CacheState, entry_for, place_for, shown, AreAllInUse, HasNoPageFor, IsFull}
 use Rattle.atlas_cache.specs.Counting.{one_more}
 use Rattle.atlas_cache.specs.Entries.{is_blank, lying}
-use Rattle.atlas_cache.specs.Placing.{GrantsOn}
+use Rattle.atlas_cache.specs.Placing.{GrantsOn, GrowsOn, StartsOn}
 use Rattle.atlas_cache.specs.Refusals.{IsWithoutNumber}
 use Rattle.atlas_cache.specs.Reserving.{UseAtMost}
 use Rattle.atlas_cache.specs.Rooms.{page_sizes, AreAllLargest, IsAtLeast, IsFirstToGrow, IsRounded}
@@ -64,20 +64,22 @@ module _ {K : Type 0} where
     pub frame : t.frame ≡ s.frame
     pub counts : t.counts ≡ s.counts
 
-  -- The first page that isn't at its largest grows, and nothing on it moves. It takes at most 3 of its slots, and the others
-  -- stay as they are, so that what is in reserve is left.
+  -- The first page that isn't at its largest grows by a step of its atlas, and nothing on it moves. It takes at most 3 of its
+  -- slots, and the others stay as they are, so that what is in reserve is left.
   pub record GrowsPage (page : ℕ) (size : Size) (s t : CacheState K) : Type 0 where
     pub first : IsFirstToGrow s.options (page_sizes s.pages) page size
+    pub step : GrowsOn size s.pages t.pages page
     pub sizes : page_sizes t.pages ≡ slice_set (page_sizes s.pages) page size
     pub same : HasSameRectangles s.pages t.pages
     pub slots : UseAtMost 3 s.pages t.pages
     pub others : KeepsPages s.pages t.pages page
     pub keeps : KeepsEntries s t
 
-  -- Each page is at its largest, and one is added. The others stay as they are.
+  -- Each page is at its largest, and one is added, a single free rectangle. The others stay as they are.
   pub record AddsPage (page : ℕ) (size : Size) (s t : CacheState K) : Type 0 where
     pub largest : AreAllLargest s.options (page_sizes s.pages)
     pub last : page ≡ length s.pages
+    pub start : StartsOn s.options t.pages page
     pub sized : size ≡ s.options.page
     pub sizes : page_sizes t.pages ≡ page_sizes s.pages ++ size ∷ []
     pub same : HasSameRectangles s.pages t.pages

@@ -3,14 +3,16 @@ use Rattle.std.specs.Prelude.{◌≡◌, ◌≢◌, ◌<◌, ℕ, List, length, 
 use Rattle.guillotiere.specs.declared.Allocation.{Allocation}
 use Rattle.guillotiere.specs.declared.Size.{Size}
 use Rattle.guillotiere.specs.Pages.{AddsBoxOn, NoneHasRoomBelow}
-use Rattle.guillotiere.specs.Pixels.{sides_of}
+use Rattle.guillotiere.specs.Pixels.{options_of, sides_of}
 use Rattle.guillotiere.specs.Replies.{grant_of}
+use Rattle.guillotiere.specs.States.{started}
 use Rattle.guillotiere.specs.Steps.{Step}
-use Rattle.guillotiere.specs.Steps.AtlasCall.{Allocate}
-use Rattle.guillotiere.specs.Steps.AtlasReply.{Allocated}
+use Rattle.guillotiere.specs.Steps.AtlasCall.{Allocate, Grow}
+use Rattle.guillotiere.specs.Steps.AtlasReply.{Allocated, Done}
 use Rattle.guillotiere.specs.Stored.{state_of, AtlasValue}
 use Rattle.atlas_cache.specs.declared.error.CacheError.{CacheError}
 use Rattle.atlas_cache.specs.declared.error.CacheError.TheVariants.{Memory, Slots}
+use Rattle.atlas_cache.specs.declared.options.CacheOptions.{CacheOptions}
 use Rattle.atlas_cache.specs.Entries.{no_page}
 use Rattle.atlas_cache.specs.Reserving.{HaveSlots, IsShortOfSlots, UseAtMost}
 use Rattle.atlas_cache.specs.Rooms.{page_sizes, IsAtLeast, IsRefusal, IsRounded, RoomsState}
@@ -20,6 +22,18 @@ abbrev pub GrantsOn : (asked : Size) → (old new : List AtlasValue) → (page :
 GrantsOn asked old new page granted =
     (s t : AtlasValue) → slice_get old page ≡ Some s → slice_get new page ≡ Some t
     → Step (state_of s) (Allocate (sides_of asked)) (Allocated (grant_of granted)) (state_of t)
+
+-- The atlas of a page grows to a size by a step of its own, which says where it has free rectangles then.
+abbrev pub GrowsOn : Size → (old new : List AtlasValue) → (page : ℕ) → Type 0
+GrowsOn size old new page =
+    (s t : AtlasValue) → slice_get old page ≡ Some s → slice_get new page ≡ Some t
+    → Step (state_of s) (Grow (sides_of size)) Done (state_of t)
+
+-- The atlas of a page begins as a single free rectangle, with the options of the cache and the greatest limit on slots.
+abbrev pub StartsOn : CacheOptions → List AtlasValue → (page : ℕ) → Type 0
+StartsOn o pages page =
+    (s : AtlasValue) → slice_get pages page ≡ Some s
+    → state_of s ≡ started (sides_of o.page) (options_of o.atlas) 16777216
 
 -- A request is granted on this page, the first that has room for it, with the sides that were asked for, rounded up to
 -- the alignment. Every other rectangle stays.

@@ -6,6 +6,8 @@ use Rattle.guillotiere.specs.Pixels.{sides_of, size_of}
 use Rattle.guillotiere.specs.Reserves.{HasReserve, UsesAtMost}
 use Rattle.guillotiere.specs.States.{used_in}
 use Rattle.guillotiere.specs.Stored.{state_of, AtlasValue}
+use Rattle.atlas_cache.specs.declared.error.CacheError.{CacheError}
+use Rattle.atlas_cache.specs.declared.error.CacheError.TheVariants.{Memory, Slots}
 use Rattle.atlas_cache.specs.Asking.{bordered}
 use Rattle.atlas_cache.specs.Caches.{CacheState, HasNoPageFor, IsFull}
 
@@ -24,9 +26,25 @@ abbrev pub IsShortFor : ℕ → List AtlasValue → Type 0
 IsShortFor n pages =
     (page : ℕ) × (s : AtlasValue) × (slice_get pages page ≡ Some s) × (16777216 < used_in (state_of s) + n)
 
+-- No page would: each may use n more.
+abbrev pub AllowSlots : ℕ → List AtlasValue → Type 0
+AllowSlots n pages =
+    (page : ℕ) (s : AtlasValue) → slice_get pages page ≡ Some s → used_in (state_of s) + n ≤ 16777216
+
 -- Some page uses all but 3 at most.
 abbrev pub IsShortOfSlots : List AtlasValue → Type 0
 IsShortOfSlots pages = IsShortFor 4 pages
+
+-- Page after page got n slots in reserve, until one was refused them: it would use more slots than there can be, or it hadn't as many in
+-- reserve and memory was refused. From that page on each is as it was.
+pub record StopsAtPage (n : ℕ) (error : CacheError) (old new : List AtlasValue) : Type 0 where
+  pub page : ℕ
+  pub refused : AtlasValue
+  pub here : slice_get old page ≡ Some refused
+  pub before : (k : ℕ) (s : AtlasValue) → k < page → slice_get new k ≡ Some s → HasReserve n s
+  pub after : (k : ℕ) → page ≤ k → slice_get new k ≡ slice_get old k
+  pub slots : error ≡ Slots → 16777216 < used_in (state_of refused) + n
+  pub memory : error ≡ Memory → HasReserve n refused → ⊥
 
 -- For how many more items a list has memory.
 abbrev pub room_in : {X Z : Type 0} → Vec X Z → ℕ
@@ -45,3 +63,10 @@ module _ {K : Type 0} where
   abbrev pub KeepsPageSizes : Size → CacheState K → Type 0
   KeepsPageSizes size s =
       IsPositive (sides_of size) → HasNoPageFor (size_of (bordered s.options size)) s → IsFull s
+
+  -- None of n inserts is refused for memory or for slots, where the changes have so much room: there is memory for them, each page may
+  -- use 4n more slots, and every page is there and at its largest.
+  pub record IsReadyFor (n room : ℕ) (s : CacheState K) : Type 0 where
+    pub reserves : HasReserves n room s
+    pub allowed : AllowSlots (4 * n) s.pages
+    pub full : IsFull s

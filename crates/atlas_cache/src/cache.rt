@@ -1,5 +1,5 @@
 //! The cache.
-ghost use Rattle.std.specs.Prelude.{◌≡◌, ◌≢◌, ◌↔◌, ◌⊎◌, ◌+◌, ◌<◌, ◌≤◌, ℕ, [], false, length, slice_get, IfErr, IfOk, IfSome, IsOk};
+ghost use Rattle.std.specs.Prelude.{◌≡◌, ◌≢◌, ◌↔◌, ◌⊎◌, ◌+◌, ◌*◌, ◌<◌, ◌≤◌, ℕ, [], false, length, slice_get, IfErr, IfOk, IfSome, IsOk};
 ghost use Rattle.std.specs.Prelude.{IsSome, IsTrue};
 ghost use Rattle.std.specs.Prelude.{Err, None, Ok, OnErr, vec_capacity, vec_len};
 ghost use Rattle.guillotiere.specs.Boxes.{IsPositive};
@@ -9,7 +9,8 @@ ghost use Rattle.atlas_cache.specs.Asking.{bordered, AreUsable, CanStand, IsFaul
 ghost use Rattle.atlas_cache.specs.Counting.{one_more};
 ghost use Rattle.atlas_cache.specs.Entries.{lying};
 ghost use Rattle.atlas_cache.specs.Refusals.{IsRefusedNew};
-ghost use Rattle.atlas_cache.specs.Reserving.{room_in, HasReserves, HaveSlots, IsShortOfSlots, KeepsPageSizes};
+ghost use Rattle.atlas_cache.specs.Reserving.{room_in, AllowSlots, HasReserves, HaveSlots, IsReadyFor, IsShortOfSlots, KeepsPageSizes};
+ghost use Rattle.atlas_cache.specs.Reserving.{UseAtMost};
 ghost use Rattle.atlas_cache.specs.Rooms.{page_sizes, HasRoomOnlyAmong, IsRefusal};
 ghost use Rattle.atlas_cache.specs.declared.error.CacheError.TheVariants.{Memory, Slots};
 ghost use Rattle.atlas_cache.specs.declared.inserted.Inserted.TheVariants.{FrameFull, Held, NeverFits, Placed};
@@ -126,6 +127,7 @@ impl<K: Copy + Eq + Hash, S: BuildHasher, A: Allocator + Copy> TextureCache<K, S
         ensures frame { self.new ≡ record self.old { frame = one_more self.old.frame } }
         ensures unused { self.old.frame < 18446744073709551615 → IsNoneInUse self.new }
         ensures told { ShowsSame (picture_of K.eq self.old) (picture_of K.eq self.new) }
+        ensures stays_ready { (n room : ℕ) → IsReadyFor n room self.old → IsReadyFor n room self.new }
     {
         self.frame = count(self.frame);
     }
@@ -200,6 +202,7 @@ impl<K: Copy + Eq + Hash, S: BuildHasher, A: Allocator + Copy> TextureCache<K, S
               record self.old.counts { misses = one_more self.old.counts.misses };
         } }
         ensures told { ShowsSame (picture_of K.eq self.old) (picture_of K.eq self.new) }
+        ensures stays_ready { (n room : ℕ) → IsReadyFor n room self.old → IsReadyFor n room self.new }
     {
         self.entries.prove_kept();
         let Some((number, entry)) = look_up(&self.entries, key) else {
@@ -228,6 +231,9 @@ impl<K: Copy + Eq + Hash, S: BuildHasher, A: Allocator + Copy> TextureCache<K, S
     /// Nor is an insert that neither adds a page nor grows one (since a page has room, or all allowed exist, at their largest) refused
     /// with `Memory`, given one entry in reserve (`reserve`), 4 slots on each page (`reserve_slots`), and room for one change more than
     /// there are entries. Given n entries in reserve, 4n slots and room for n changes more than entries, none of n such inserts is.
+    /// It uses at most 4 more slots of a page, and is refused with `Slots` only where a page used all but 3 at most before it. So once
+    /// `reserve_slots(4 * n)` was Ok, none of n such inserts is refused with `Slots` either; `get`, `remove`, `clear` and `begin_frame`
+    /// between them take nothing of it.
     ///
     /// Takes one look-up by a hash. A new key that isn't blank also takes a few steps for each page, and a request of an atlas for each
     /// page that isn't known to have no room: one that refused a size no larger in width and height, and hasn't changed since, is. An
@@ -267,6 +273,14 @@ impl<K: Copy + Eq + Hash, S: BuildHasher, A: Allocator + Copy> TextureCache<K, S
         ensures one { 0 < self.old.reserved → HaveSlots 4 self.old.pages
             → vec_len changes.old + length self.old.entries < vec_capacity changes.old → KeepsPageSizes size self.old
             → result ≢ Err Memory }
+        ensures slots { KeepsPageSizes size self.old → UseAtMost 4 self.old.pages self.new.pages }
+        ensures already { KeepsPageSizes size self.old → result ≡ Err Slots → IsShortOfSlots self.old.pages }
+        ensures allowed { (n : ℕ) → AllowSlots (4 * (n + 1)) self.old.pages → KeepsPageSizes size self.old
+            → (result ≢ Err Slots) × AllowSlots (4 * n) self.new.pages }
+        ensures ready { (n left : ℕ) → IsReadyFor n (room_in changes.old) self.old → left < n
+            → IsReadyFor left (room_in changes.new) self.new }
+        ensures unrefused { (n : ℕ) → IsReadyFor n (room_in changes.old) self.old → 0 < n
+            → (result ≢ Err Memory) × (result ≢ Err Slots) }
     {
         self.entries.prove_kept();
         if let Some((known, entry)) = look_up(&self.entries, &key) {
@@ -296,6 +310,8 @@ impl<K: Copy + Eq + Hash, S: BuildHasher, A: Allocator + Copy> TextureCache<K, S
         ensures ready { (n : ℕ) → HaveSlots n self.old.pages → HaveSlots n self.new.pages }
         ensures reserves { (n room : ℕ) → HasReserves n room self.old → HasReserves n room self.new }
         ensures full { IsFull self.old → IsFull self.new }
+        ensures allowed { (n : ℕ) → AllowSlots n self.old.pages → AllowSlots n self.new.pages }
+        ensures stays_ready { (n room : ℕ) → IsReadyFor n room self.old → IsReadyFor n room self.new }
     {
         self.entries.prove_kept();
         let Some((number, gone)) = look_up(&self.entries, key) else {
@@ -335,6 +351,9 @@ impl<K: Copy + Eq + Hash, S: BuildHasher, A: Allocator + Copy> TextureCache<K, S
             → (HasNoPageFor asked self.old → IsFull self.old)
             → (result ≢ Err Memory) × HasReserves n (room_in changes.new) self.new }
         ensures full { IsFull self.old → IsFull self.new }
+        ensures slots { (HasNoPageFor asked self.old → IsFull self.old) → UseAtMost 4 self.old.pages self.new.pages }
+        ensures already { (HasNoPageFor asked self.old → IsFull self.old) → result ≡ Err Slots
+            → IsShortOfSlots self.old.pages }
     {
         let mut from = 0;
         let mut to = self.rooms.len() as usize;
@@ -375,6 +394,8 @@ impl<K: Copy + Eq + Hash, S: BuildHasher, A: Allocator + Copy> TextureCache<K, S
         ensures short { result ≡ Err Slots → IsShortOfSlots self.new.pages }
         ensures reserves { (n room : ℕ) → HasReserves (n + 1) room self.old
             → (result ≢ Err Memory) × HasReserves n room self.new }
+        ensures slots { UseAtMost 4 self.old.pages self.new.pages }
+        ensures already { result ≡ Err Slots → IsShortOfSlots self.old.pages }
     {
         let granted = grant(
             &mut self.rooms,
@@ -414,6 +435,8 @@ impl<K: Copy + Eq + Hash, S: BuildHasher, A: Allocator + Copy> TextureCache<K, S
             → HasReserves n (room_in changes.new) self.new }
         ensures memory { IsFull self.old → 0 < room_in changes.old → result ≢ Err Memory }
         ensures full { IsFull self.old → IsFull self.new }
+        ensures slots { IsFull self.old → UseAtMost 0 self.old.pages self.new.pages }
+        ensures ample { IsFull self.old → result ≢ Err Slots }
     {
         changes.reserve(1)?;
         if let Some((page, size)) = self.rooms.grow_page()? {
@@ -440,6 +463,7 @@ impl<K: Copy + Eq + Hash, S: BuildHasher, A: Allocator + Copy> TextureCache<K, S
         ensures reserves { (n : ℕ) → HasReserves n (room_in changes.old) self.old
             → HasReserves n (room_in changes.new) self.new }
         ensures full { IsFull self.new }
+        ensures slots { UseAtMost 0 self.old.pages self.new.pages }
     {
         let Some((number, entry)) = oldest_lying(&mut self.entries) else {
             return None;

@@ -10,7 +10,7 @@ ghost use Rattle.guillotiere.specs.Pixels.{natural, sides_of, size_of};
 ghost use Rattle.atlas_cache.specs.declared.options.CacheOptions.{CacheOptions};
 ghost use Rattle.atlas_cache.specs.Asking.{AreUsable};
 ghost use Rattle.atlas_cache.specs.Entries.{no_page};
-ghost use Rattle.atlas_cache.specs.Placing.{PlacesFirst};
+ghost use Rattle.atlas_cache.specs.Placing.{GrowsOn, PlacesFirst, StartsOn};
 ghost use Rattle.atlas_cache.specs.Reserving.{IsShortOfSlots, UseAtMost};
 ghost use Rattle.atlas_cache.specs.Rooms.{grown_sides, growth_left, page_sizes, rooms_of, AreAllLargest};
 ghost use Rattle.atlas_cache.specs.Rooms.{AreLargestBelow, HasRoomOnlyAmong, IsFirstToGrow, IsNothingLive};
@@ -258,6 +258,8 @@ impl<A: Allocator + Copy> Rooms<A> {
         ensures refused { OnErr result (self.new ≡ self.old) }
         ensures errors { IfErr result IsRefusal }
         ensures short { result ≡ Err Slots → IsShortOfSlots self.old.pages }
+        ensures step { IfOk result (λ grown. IfSome grown (λ growth.
+            GrowsOn growth.1 self.old.pages self.new.pages growth.0)) }
     {
         let Some((page, old)) = first_to_grow(&self.pages, self.options.largest_page) else {
             return Ok(None);
@@ -288,6 +290,8 @@ impl<A: Allocator + Copy> Rooms<A> {
         ensures nothing { result ≡ Ok None → self.new ≡ self.old }
         ensures refused { OnErr result (self.new ≡ self.old) }
         ensures unless { IsOkUnless result CacheError.Memory }
+        ensures start { IfOk result (λ added. IfSome added (λ page.
+            StartsOn self.old.options self.new.pages page.0)) }
     {
         let number = self.len();
         if number == self.options.pages {

@@ -22,6 +22,7 @@ mod pages;
 mod plain;
 mod recording;
 mod reserved;
+mod reserving;
 mod sheet;
 mod shown;
 mod strips;

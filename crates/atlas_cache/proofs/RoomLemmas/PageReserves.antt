@@ -1,5 +1,5 @@
 -- What is in reserve on the pages of a cache.
-use Rattle.std.proofs.Common.{◌≡◌, ◌+◌, ◌<◌, ◌≤◌, ◌∙◌, ◌∷◌, [], ℕ, List, Option, None, Some, length, map, get_or, slice_get, slice_set}
+use Rattle.std.proofs.Common.{◌≡◌, ◌+◌, ◌<◌, ◌≤◌, ◌∙◌, ◌∷◌, ◌++◌, [], ℕ, List, Option, None, Some, length, map, get_or, slice_get, slice_set}
 use Rattle.std.proofs.Common.{option_map, refl, sym, ap, subst, inl, inr, arith, IfOk, IfSome, Result, Ok, Err}
 use Rattle.std.specs.Option.{option_and_then}
 use Rattle.std.proofs.lemmas.Bool.Decides.{eqb_tells}
@@ -14,20 +14,20 @@ use Rattle.guillotiere.specs.Boxes.{Fits, Sides}
 use Rattle.guillotiere.specs.Callers.{rectangle_in}
 use Rattle.guillotiere.specs.Choice.{rounded}
 use Rattle.guillotiere.specs.Pages.{HasSameRectangles, KeepsPages}
-use Rattle.guillotiere.specs.Pixels.{sides_of, size_of}
+use Rattle.guillotiere.specs.Pixels.{options_of, sides_of, size_of}
 use Rattle.guillotiere.specs.Replies.{allocate_reply, grant_of}
 use Rattle.guillotiere.specs.Reserves.{HasReserve, UsesAtMost}
-use Rattle.guillotiere.specs.States.{IsSound, State}
+use Rattle.guillotiere.specs.States.{started, IsSound, State}
 use Rattle.guillotiere.specs.Steps.{Step}
 use Rattle.guillotiere.specs.Steps.AtlasCall.{Allocate, Grow}
-use Rattle.guillotiere.specs.Steps.AtlasReply.{Allocated, Refused}
+use Rattle.guillotiere.specs.Steps.AtlasReply.{Allocated, Done, Refused}
 use Rattle.guillotiere.specs.Stored.{AtlasValue, state_of}
 use Rattle.guillotiere.proofs.ChoiceLemmas.RoundedSides.{rounded_positive}
 use Rattle.guillotiere.proofs.TreeLemmas.TreeCounts.{grow_most, place_most}
 use Rattle.guillotiere.proofs.ListLemmas.CallerLemmas.{slice_get-set_here, slice_get-set_other}
 use Rattle.atlas_cache.specs.declared.options.CacheOptions.{CacheOptions}
-use Rattle.atlas_cache.specs.Placing.{GrantsOn}
-use Rattle.atlas_cache.specs.Reserving.{HaveSlots, IsShortOfSlots, UseAtMost}
+use Rattle.atlas_cache.specs.Placing.{GrantsOn, GrowsOn, StartsOn}
+use Rattle.atlas_cache.specs.Reserving.{AllowSlots, HaveSlots, IsShortFor, IsShortOfSlots, UseAtMost}
 use Rattle.atlas_cache.specs.Rooms.{page_sizes, rooms_of, size_of_page, KeepsRooms}
 
 -- Where nothing changes, no slot is used.
@@ -55,6 +55,26 @@ slots_left m n k old new most uses have page t is =
     let was = uses page t is in
     let had = have page was.0 was.1 in
     omega (arith, most, had, was.2.used, was.2.capacity)
+
+-- What the pages may still use.
+pub allowed_left : (m n k : ℕ) (old new : List AtlasValue) → n + m ≤ k → UseAtMost m old new → AllowSlots k old
+    → AllowSlots n new
+allowed_left m n k old new most uses allow page t is =
+    let was = uses page t is in
+    let may = allow page was.0 was.1 in
+    omega (arith, most, may, was.2.used)
+
+-- A page that is short was so before, if no slot was used since.
+pub short_before : (n : ℕ) (old new : List AtlasValue) → UseAtMost 0 old new → IsShortFor n new → IsShortFor n old
+short_before n old new uses short =
+    let was = uses short.0 short.1 short.2 in
+    (short.0, was.0, was.1, omega (arith, short.3, was.2.used))
+
+-- Where each page may use as many more, none is short.
+pub none_short : (n k : ℕ) (pages : List AtlasValue) → n ≤ k → AllowSlots k pages → IsShortFor n pages → ⊥
+none_short n k pages most allow short =
+    let may = allow short.0 short.1 short.2 in
+    omega (arith, most, may, short.3)
 
 -- Where a request is granted, the step says what.
 pub granted_by : (s t : State) (r : Sides) (result : Result (Option Allocation) AtlasError)
@@ -111,22 +131,31 @@ module _ (pages : List AtlasValue) (page : ℕ) (a b : AtlasValue) (is : a ≡ g
       subst (λ (u : AtlasValue). Step (state_of u) (Allocate (sides_of asked)) (Allocated (grant_of g)) (state_of t)) first
       (subst (λ (u : AtlasValue). Step (state_of a) (Allocate (sides_of asked)) (Allocated (grant_of g)) (state_of u)) second step)
 
+  -- What it grows to by a step of its own.
+  pub page_steps_on : (size : Size) → Step (state_of a) (Grow (sides_of size)) Done (state_of b)
+      → GrowsOn size pages (slice_set pages page b) page
+  page_steps_on size step s t was now =
+      let at = rw (slice_get-set_here pages page b within) at now in
+      let first : a ≡ s = let both = sym there ∙ was in cc in
+      let second : b ≡ t = cc in
+      subst (λ (u : AtlasValue). Step (state_of u) (Grow (sides_of size)) Done (state_of t)) first
+      (subst (λ (u : AtlasValue). Step (state_of a) (Grow (sides_of size)) Done (state_of u)) second step)
+
   pub page_states : state_of b ≡ state_of a → map state_of (slice_set pages page b) ≡ map state_of pages
   page_states same = map-set_same state_of pages page b a (same ∙ ap state_of is)
 
-  pub reserve_there : (n : ℕ) → HasReserve n b → (s : AtlasValue) → slice_get (slice_set pages page b) page ≡ Some s
-      → HasReserve n s
-  reserve_there n has s at =
+  pub holds_there : (P : AtlasValue → Type 0) → P b → (s : AtlasValue) → slice_get (slice_set pages page b) page ≡ Some s → P s
+  holds_there P has s at =
       let now = rw (slice_get-set_here pages page b within) at at in
       let same : b ≡ s = cc in
-      subst (HasReserve n) same has
+      subst P same has
 
--- Another page has so many slots in reserve, beside those before it.
-pub one_more_ready : (n page : ℕ) (old new : List AtlasValue) → KeepsPages old new page
-    → ((s : AtlasValue) → slice_get new page ≡ Some s → HasReserve n s)
-    → ((k : ℕ) (s : AtlasValue) → k < page → slice_get old k ≡ Some s → HasReserve n s)
-    → (k : ℕ) (s : AtlasValue) → k < page + 1 → slice_get new k ≡ Some s → HasReserve n s
-one_more_ready n page old new others here before k s below at = elim (eqb_tells k page) [
+-- What holds of the pages before one, and of that one, holds of one page more.
+pub one_more_page : (P : AtlasValue → Type 0) (page : ℕ) (old new : List AtlasValue) → KeepsPages old new page
+    → ((s : AtlasValue) → slice_get new page ≡ Some s → P s)
+    → ((k : ℕ) (s : AtlasValue) → k < page → slice_get old k ≡ Some s → P s)
+    → (k : ℕ) (s : AtlasValue) → k < page + 1 → slice_get new k ≡ Some s → P s
+one_more_page P page old new others here before k s below at = elim (eqb_tells k page) [
   | inl same ↦ here s (rw same.1 at at)
   | inr other ↦ before k s (omega (arith, below, other.1)) (sym (others k other.1) ∙ at)
 ]
@@ -134,6 +163,18 @@ one_more_ready n page old new others here before k s below at = elim (eqb_tells 
 sizes_by_state : (pages : List AtlasValue) → page_sizes pages ≡ map (λ (s : State). size_of s.size) (map state_of pages)
 sizes_by_state [] = refl
 sizes_by_state (p ∷ pages) = ap (λ sizes. size_of_page p ∷ sizes) (sizes_by_state pages)
+
+-- A page that begins comes last.
+last_is : (pages : List AtlasValue) (b : AtlasValue) → slice_get (pages ++ b ∷ []) (length pages) ≡ Some b
+last_is [] b = refl
+last_is (p ∷ pages) b = last_is pages b
+
+pub starts_last : (o : CacheOptions) (pages : List AtlasValue) (b : AtlasValue)
+    → state_of b ≡ started (sides_of o.page) (options_of o.atlas) 16777216
+    → StartsOn o (pages ++ b ∷ []) (length pages)
+starts_last o pages b state s at =
+    let same : b ≡ s = let both = sym (last_is pages b) ∙ at in cc in
+    subst (λ (u : AtlasValue). state_of u ≡ started (sides_of o.page) (options_of o.atlas) 16777216) same state
 
 -- Each page stands for what it stood for.
 module _ (old new : List AtlasValue) (same : map state_of new ≡ map state_of old) where

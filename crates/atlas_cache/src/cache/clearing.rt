@@ -1,12 +1,12 @@
 //! Removing entries without inserting one, and reserving room beforehand.
-ghost use Rattle.std.specs.Prelude.{◌≡◌, ◌≢◌, ◌+◌, ◌≤◌, false, length, map, Err, IfErr, IsOk, IsOkUnless, IsTrue, OnErr, OnOk};
+ghost use Rattle.std.specs.Prelude.{◌≡◌, ◌≢◌, ◌+◌, ◌≤◌, ℕ, false, length, map, Err, IfErr, IsOk, IsOkUnless, IsTrue, OnErr, OnOk};
 ghost use Rattle.std.specs.Prelude.{vec_capacity, vec_len};
 ghost use Rattle.std.specs.List.{AllByRecursion};
 ghost use Rattle.guillotiere.specs.Stored.{state_of};
 ghost use Rattle.atlas_cache.specs.Caches.{with_reserve, IsFull};
 ghost use Rattle.atlas_cache.specs.Changes.{picture_of, ShowsSame};
 ghost use Rattle.atlas_cache.specs.Clearing.{all_forgotten, Clears, DropsLast, IsUsedSince, TellsChanges, Trims};
-ghost use Rattle.atlas_cache.specs.Reserving.{HaveSlots, IsShortFor, UseAtMost};
+ghost use Rattle.atlas_cache.specs.Reserving.{AllowSlots, HaveSlots, IsReadyFor, IsShortFor, StopsAtPage, UseAtMost};
 ghost use Rattle.atlas_cache.specs.Rooms.{IsRefusal};
 ghost use Rattle.atlas_cache.specs.declared.error.CacheError.TheVariants.{Memory, Slots};
 
@@ -26,6 +26,7 @@ impl<K: Copy + Eq + Hash, S: BuildHasher, A: Allocator + Copy> TextureCache<K, S
     pub fn clear(&mut self)
         ensures clears { Clears self.old self.new }
         ensures told { ShowsSame (all_forgotten (picture_of K.eq self.old)) (picture_of K.eq self.new) }
+        ensures stays_ready { (n room : ℕ) → IsReadyFor n room self.old → IsReadyFor n room self.new }
     {
         self.entries.clear();
         self.rooms.clear();
@@ -59,11 +60,12 @@ impl<K: Copy + Eq + Hash, S: BuildHasher, A: Allocator + Copy> TextureCache<K, S
         Ok(())
     }
 
-    /// Makes sure that at least this many slots are in reserve on each page. An insert that neither adds a page nor grows one takes
-    /// at most 4 of each page; a page that is added later has none in reserve, one that grows takes up to 3 of its own, and
-    /// one that is repacked may have none; `remove`, `trim` and `clear` take none away. Nothing else changes. `Slots` only if a page
-    /// would use more than 16,777,216 with them, `Memory` only if some page hasn't as many in reserve and memory is refused; the
-    /// pages before that one have theirs in reserve then. Takes as many steps as there are pages, and memory for those that need it.
+    /// Makes sure that at least this many slots are in reserve on each page, and that each page may use so many more of the 16,777,216
+    /// that there can be. An insert that neither adds a page nor grows one takes at most 4 of each page; a page that is added later
+    /// has none in reserve, one that grows takes up to 3 of its own, and one that is repacked may have none; `remove`, `trim` and
+    /// `clear` take none away. Nothing else changes. `Slots` only if a page would use more than 16,777,216 with them, `Memory` only if
+    /// some page hasn't as many in reserve and memory is refused; the pages before that one have theirs in reserve then, and it and those
+    /// after it are as they were. Takes as many steps as there are pages, and memory for those that need it.
     pub fn reserve_slots(&mut self, additional: u32) -> Result<(), CacheError>
         ensures ready { OnOk result (HaveSlots additional self.new.pages) }
         ensures states { map state_of self.new.pages ≡ map state_of self.old.pages }
@@ -73,6 +75,8 @@ impl<K: Copy + Eq + Hash, S: BuildHasher, A: Allocator + Copy> TextureCache<K, S
         ensures errors { IfErr result IsRefusal }
         ensures short { result ≡ Err Slots → IsShortFor additional self.old.pages }
         ensures had { HaveSlots additional self.old.pages → result ≢ Err Memory }
+        ensures allowed { OnOk result (AllowSlots additional self.new.pages) }
+        ensures stops { IfErr result (λ error. StopsAtPage additional error self.old.pages self.new.pages) }
     {
         self.rooms.reserve_slots(additional)
     }

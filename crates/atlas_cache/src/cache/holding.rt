@@ -128,6 +128,7 @@ pub fn grant<K: Copy + Eq + Hash, S: BuildHasher, A: Allocator + Copy>(
     ensures short { result ≡ Err Slots → IsShortOfSlots rooms.new.pages }
     ensures slots { UseAtMost 4 rooms.old.pages rooms.new.pages }
     ensures memory { 0 < entries.old.reserved → HaveSlots 4 rooms.old.pages → result ≢ Err Memory }
+    ensures already { result ≡ Err Slots → IsShortOfSlots rooms.old.pages }
 {
     let Some((page, granted)) = rooms.place_among(from, to, asked)? else {
         return Ok(None);

@@ -98,3 +98,18 @@ pub returns-in_err-granted-clause-short : goal.returns-in_err-granted-clause-sho
 returns-in_err-granted-clause-short g c = λ is.
     let same : c.from_residual.result ≡ Err c.in_err-granted.field-0.0 = search rules in
     c.in_err-granted.ensures.short (ap Err (error_is c.in_err-granted.field-0.0 c.from_residual.result same is))
+
+pub returns-in_err-granted-clause-slots : goal.returns-in_err-granted-clause-slots
+returns-in_err-granted-clause-slots g c = rw (← c.self.view_is) c.grant.ensures.slots
+
+pub returns-in_default-clause-slots : goal.returns-in_default-clause-slots
+returns-in_default-clause-slots g c = rw (← c.self.view_is) c.grant.ensures.slots
+
+pub returns-clause-slots : goal.returns-clause-slots
+returns-clause-slots g c = rw (← c.self.view_is) c.grant.ensures.slots
+
+pub returns-in_err-granted-clause-already : goal.returns-in_err-granted-clause-already
+returns-in_err-granted-clause-already g c = λ is.
+    let same : c.from_residual.result ≡ Err c.in_err-granted.field-0.0 = search rules in
+    rw (← c.self.view_is)
+    (c.in_err-granted.ensures.already (ap Err (error_is c.in_err-granted.field-0.0 c.from_residual.result same is)))

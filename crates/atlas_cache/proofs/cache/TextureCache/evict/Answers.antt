@@ -7,6 +7,7 @@ use Rattle.atlas_cache.proofs.BlankLemmas.{all-in-use, falls-here, length-less}
 use Rattle.atlas_cache.proofs.ListLemmas.{parts}
 use Rattle.atlas_cache.proofs.RoomLemmas.KeptPages.{as_many, page_of}
 use Rattle.atlas_cache.proofs.ReadyLemmas.{full_stays, reserves_left}
+use Rattle.atlas_cache.proofs.RoomLemmas.PageReserves.{none_used}
 use Rattle.atlas_cache.proofs.cache.TextureCache.evict.Goals as goal
 
 pub returns-in_default-clause-stops : goal.returns-in_default-clause-stops
@@ -128,3 +129,12 @@ pub returns-clause-full : goal.returns-clause-full
 returns-clause-full g c =
     full_stays c.args.self.now _ (rw (← c.self.view_is) c.take_out.ensures.options) (rw (← c.self.view_is) c.take_out.ensures.sizes)
     c.requires.full
+
+pub returns-in_default-clause-slots : goal.returns-in_default-clause-slots
+returns-in_default-clause-slots g c = rw (← c.self.view_is) (none_used 0 c.self.inside.rooms.pages)
+
+pub returns-then-entry-self-clause-slots : goal.returns-then-entry-self-clause-slots
+returns-then-entry-self-clause-slots g c = rw (← c.self.view_is) (none_used 0 c.self.inside.rooms.pages)
+
+pub returns-clause-slots : goal.returns-clause-slots
+returns-clause-slots g c = rw (← c.self.view_is) c.take_out.ensures.slots

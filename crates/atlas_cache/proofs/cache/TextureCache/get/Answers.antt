@@ -1,12 +1,15 @@
-use Rattle.std.proofs.Common.{ap, refl, ◌∷◌}
+use Rattle.std.proofs.Common.{ap, arith, length, refl, ◌≡◌, ◌+◌, ◌∷◌, ◌++◌}
 use Rattle.atlas_cache.specs.Caches.{CacheState, entries_of}
 use Rattle.atlas_cache.specs.Changes.{Uses}
 use Rattle.atlas_cache.specs.Entries.{without_number}
 use Rattle.atlas_cache.specs.declared.entries.Entry.{Entry}
+use Rattle.atlas_cache.proofs.BlankLemmas.{length-less}
 use Rattle.atlas_cache.proofs.CacheLemmas.{bordered-at, touched-is, used}
 use Rattle.atlas_cache.proofs.KeyLemmas.{own_keys}
 use Rattle.atlas_cache.proofs.ListLemmas.{parts}
 use Rattle.atlas_cache.proofs.PictureLemmas.{uses_same}
+use Rattle.atlas_cache.proofs.ReadyLemmas.{still_ready}
+use Rattle.atlas_cache.proofs.RoomLemmas.PageReserves.{none_used}
 use Rattle.atlas_cache.proofs.cache.TextureCache.get.Goals as goal
 
 pub place_of-requires : goal.place_of-requires
@@ -79,3 +82,25 @@ returns-clause-told g c =
       frame = refl;
     } in
     rw (← c.self.view_is) (uses_same eq g.met.K.Eq.laws e s t (own_keys eq it.entries.entries c.prove_kept.ensures.keys) uses)
+
+pub returns-in_default-clause-stays_ready : goal.returns-in_default-clause-stays_ready
+returns-in_default-clause-stays_ready g c =
+    rw (← c.self.view_is) (λ n room.
+    still_ready n room room _ _ (none_used 0 c.self.inside.rooms.pages) (omega arith) (omega arith) (λ full. record {
+      all = full.all;
+      largest = full.largest;
+    }))
+
+pub returns-clause-stays_ready : goal.returns-clause-stays_ready
+returns-clause-stays_ready g c =
+    let found = rw c.in-Some.is at c.look_up.ensures.found in
+    let it = c.self.inside in
+    let n = c.in-Some.number in
+    let e = c.in-Some.entry in
+    let p = parts n it.entries.entries e found.at in
+    let less = length-less p.newer e p.older in
+    let now : length (entries_of c.touch.new.self.entries) ≡ length (p.newer ++ p.older) + 1 =
+    rw (c.touch.ensures.entries, touched-is n it.frame it.entries.entries e found.at) (omega (arith, ap length p.rests)) in
+    rw (← c.self.view_is) (λ k room.
+    still_ready k room room _ _ (none_used 0 it.rooms.pages) (omega (arith, c.touch.ensures.reserved))
+    (omega (arith, less, ap length p.was, now)) (λ full. record { all = full.all; largest = full.largest }))

@@ -14,7 +14,8 @@ use Rattle.guillotiere.specs.Pixels.{size_of}
 use Rattle.atlas_cache.specs.Asking.{bordered}
 use Rattle.atlas_cache.specs.Caches.{HasNoPageFor}
 use Rattle.atlas_cache.proofs.BlankLemmas.{length-less}
-use Rattle.atlas_cache.proofs.ReadyLemmas.{blank_full, blank_not_short, blank_reserves, one_fewer, one_reserved, reserves_left}
+use Rattle.atlas_cache.proofs.ReadyLemmas.{allowed_after, blank_full, blank_not_short, blank_reserves, blank_uses, one_fewer}
+use Rattle.atlas_cache.proofs.ReadyLemmas.{one_reserved, ready_after, reserves_left, unrefused_while_ready}
 use Rattle.atlas_cache.proofs.RoomLemmas.PageReserves.{none_used}
 use Rattle.atlas_cache.proofs.cache.TextureCache.insert.Goals as goal
 
@@ -228,3 +229,103 @@ returns-clause-one g c = λ some slots room keeps.
 pub returns-then-not-is_positive-clause-short : goal.returns-then-not-is_positive-clause-short
 returns-then-not-is_positive-clause-short g c = λ is.
     absurd (blank_not_short c.args.key c.args.size c.add_blank.result c.args.self.now c.add_blank.new.self c.add_blank.ensures.inserts is)
+
+pub returns-then-ne-clause-slots : goal.returns-then-ne-clause-slots
+returns-then-ne-clause-slots g c = λ _. rw (← c.self.view_is) (none_used 4 c.self.inside.rooms.pages)
+
+pub returns-in-Some-clause-slots : goal.returns-in-Some-clause-slots
+returns-in-Some-clause-slots g c = λ _. rw (← c.self.view_is) (none_used 4 c.self.inside.rooms.pages)
+
+pub returns-in_default-asked-clause-slots : goal.returns-in_default-asked-clause-slots
+returns-in_default-asked-clause-slots g c = λ _. rw (← c.self.view_is) (none_used 4 c.self.inside.rooms.pages)
+
+pub returns-then-not-is_positive-clause-slots : goal.returns-then-not-is_positive-clause-slots
+returns-then-not-is_positive-clause-slots g c = λ _.
+    blank_uses c.args.key c.args.size c.add_blank.result c.args.self.now c.add_blank.new.self c.add_blank.ensures.inserts
+
+pub returns-clause-slots : goal.returns-clause-slots
+returns-clause-slots g c = λ keeps.
+    let stands = c.in-Some-asked.ensures.0 in
+    let asked = rw c.options-2.ensures.options at c.in-Some-asked.ensures.1 in
+    let is : c.in-Some-asked.asked ≡ size_of (bordered c.args.self.now.options c.args.size) = rw (← c.self.view_is) asked in
+    c.insert_new.ensures.slots (λ none.
+    keeps stands.positive (subst (λ (asked : Size). HasNoPageFor asked c.args.self.now) is none))
+
+pub returns-then-not-is_positive-clause-already : goal.returns-then-not-is_positive-clause-already
+returns-then-not-is_positive-clause-already g c = λ _ is.
+    absurd (blank_not_short c.args.key c.args.size c.add_blank.result c.args.self.now c.add_blank.new.self c.add_blank.ensures.inserts is)
+
+pub returns-clause-already : goal.returns-clause-already
+returns-clause-already g c = λ keeps.
+    let stands = c.in-Some-asked.ensures.0 in
+    let asked = rw c.options-2.ensures.options at c.in-Some-asked.ensures.1 in
+    let is : c.in-Some-asked.asked ≡ size_of (bordered c.args.self.now.options c.args.size) = rw (← c.self.view_is) asked in
+    c.insert_new.ensures.already (λ none.
+    keeps stands.positive (subst (λ (asked : Size). HasNoPageFor asked c.args.self.now) is none))
+
+pub returns-then-ne-clause-allowed : goal.returns-then-ne-clause-allowed
+returns-then-ne-clause-allowed g c = λ n allow keeps.
+    allowed_after _ c.args.self.now.pages _ (returns-then-ne-clause-slots g c keeps) (λ is. cc) n allow
+
+pub returns-in-Some-clause-allowed : goal.returns-in-Some-clause-allowed
+returns-in-Some-clause-allowed g c = λ n allow keeps.
+    allowed_after _ c.args.self.now.pages _ (returns-in-Some-clause-slots g c keeps) (λ is. cc) n allow
+
+pub returns-in_default-asked-clause-allowed : goal.returns-in_default-asked-clause-allowed
+returns-in_default-asked-clause-allowed g c = λ n allow keeps.
+    allowed_after _ c.args.self.now.pages _ (returns-in_default-asked-clause-slots g c keeps) (λ is. cc) n allow
+
+pub returns-then-not-is_positive-clause-allowed : goal.returns-then-not-is_positive-clause-allowed
+returns-then-not-is_positive-clause-allowed g c = λ n allow keeps.
+    allowed_after c.add_blank.result c.args.self.now.pages c.add_blank.new.self.pages
+    (returns-then-not-is_positive-clause-slots g c keeps) (returns-then-not-is_positive-clause-already g c keeps) n allow
+
+pub returns-clause-allowed : goal.returns-clause-allowed
+returns-clause-allowed g c = λ n allow keeps.
+    allowed_after c.insert_new.result c.args.self.now.pages c.insert_new.new.self.pages (returns-clause-slots g c keeps)
+    (returns-clause-already g c keeps) n allow
+
+pub returns-then-ne-clause-ready : goal.returns-then-ne-clause-ready
+returns-then-ne-clause-ready g c =
+    ready_after _ c.args.size _ _ c.args.self.now _ (returns-then-ne-clause-reserves g c) (returns-then-ne-clause-allowed g c)
+    (rw (← c.self.view_is) (λ full. full))
+
+pub returns-then-ne-clause-unrefused : goal.returns-then-ne-clause-unrefused
+returns-then-ne-clause-unrefused g c =
+    unrefused_while_ready _ c.args.size _ _ c.args.self.now _ (returns-then-ne-clause-reserves g c) (returns-then-ne-clause-allowed g c)
+
+pub returns-in-Some-clause-ready : goal.returns-in-Some-clause-ready
+returns-in-Some-clause-ready g c =
+    ready_after _ c.args.size _ _ c.args.self.now _ (returns-in-Some-clause-reserves g c) (returns-in-Some-clause-allowed g c)
+    (rw (← c.self.view_is) (λ full. record { all = full.all; largest = full.largest }))
+
+pub returns-in-Some-clause-unrefused : goal.returns-in-Some-clause-unrefused
+returns-in-Some-clause-unrefused g c =
+    unrefused_while_ready _ c.args.size _ _ c.args.self.now _ (returns-in-Some-clause-reserves g c) (returns-in-Some-clause-allowed g c)
+
+pub returns-then-not-is_positive-clause-ready : goal.returns-then-not-is_positive-clause-ready
+returns-then-not-is_positive-clause-ready g c =
+    ready_after c.add_blank.result c.args.size _ _ c.args.self.now c.add_blank.new.self (returns-then-not-is_positive-clause-reserves g c) (returns-then-not-is_positive-clause-allowed g c)
+    (returns-then-not-is_positive-clause-full g c)
+
+pub returns-then-not-is_positive-clause-unrefused : goal.returns-then-not-is_positive-clause-unrefused
+returns-then-not-is_positive-clause-unrefused g c =
+    unrefused_while_ready c.add_blank.result c.args.size _ _ c.args.self.now c.add_blank.new.self (returns-then-not-is_positive-clause-reserves g c) (returns-then-not-is_positive-clause-allowed g c)
+
+pub returns-in_default-asked-clause-ready : goal.returns-in_default-asked-clause-ready
+returns-in_default-asked-clause-ready g c =
+    ready_after _ c.args.size _ _ c.args.self.now _ (returns-in_default-asked-clause-reserves g c) (returns-in_default-asked-clause-allowed g c)
+    (rw (← c.self.view_is) (λ full. full))
+
+pub returns-in_default-asked-clause-unrefused : goal.returns-in_default-asked-clause-unrefused
+returns-in_default-asked-clause-unrefused g c =
+    unrefused_while_ready _ c.args.size _ _ c.args.self.now _ (returns-in_default-asked-clause-reserves g c) (returns-in_default-asked-clause-allowed g c)
+
+pub returns-clause-ready : goal.returns-clause-ready
+returns-clause-ready g c =
+    ready_after c.insert_new.result c.args.size _ _ c.args.self.now c.insert_new.new.self (returns-clause-reserves g c) (returns-clause-allowed g c)
+    (c.insert_new.ensures.full)
+
+pub returns-clause-unrefused : goal.returns-clause-unrefused
+returns-clause-unrefused g c =
+    unrefused_while_ready c.insert_new.result c.args.size _ _ c.args.self.now c.insert_new.new.self (returns-clause-reserves g c) (returns-clause-allowed g c)

@@ -3,6 +3,7 @@ use Rattle.std.proofs.lemmas.Option.{slice_get_within}
 use Rattle.atlas_cache.proofs.ListLemmas.{append-none}
 use Rattle.atlas_cache.proofs.LoopLemmas.{inserted, nothing_yet, one_absent, one_more_change, one_options}
 use Rattle.atlas_cache.proofs.RoomLemmas.KeptPages.{only_changed}
+use Rattle.atlas_cache.proofs.RoomLemmas.PageReserves.{both_used, none_used, short_before}
 use Rattle.atlas_cache.proofs.StandLemmas.{never-without}
 use Rattle.atlas_cache.specs.Caches.{entries_of}
 use Rattle.atlas_cache.specs.declared.inserted.Inserted.TheVariants.{FrameFull}
@@ -21,6 +22,7 @@ loop-place-init g c = record {
   full = λ full. full;
   keeps = λ keeps. keeps;
   reserves = λ n keeps had. had;
+  slots = λ keeps. none_used 0 c.args.self.now.pages;
 }
 
 pub loop-place-preserved : goal.loop-place-preserved
@@ -45,6 +47,9 @@ loop-place-preserved g c =
       full = λ f. let stays = rw same at c.make_room.ensures.full in stays (was.full f);
       keeps = λ k _. let stays = rw same at c.make_room.ensures.full in stays (was.keeps k full);
       reserves = λ n k had. let goes = rw same at c.make_room.ensures.reserves in goes (was.keeps k full) n (was.reserves n k had);
+      slots = λ k.
+          let goes = rw same at c.make_room.ensures.slots in
+          both_used 0 0 0 c.args.self.now.pages t.pages u.pages (omega arith) (was.slots k) (goes (was.keeps k full));
     }
 
 pub returns-in_default-2-clause-room : goal.returns-in_default-2-clause-room
@@ -144,3 +149,45 @@ pub returns-in_err-page-clause-short : goal.returns-in_err-page-clause-short
 returns-in_err-page-clause-short g c = λ is.
     let same : c.from_residual-in_err-page.result ≡ Err c.in_err-page.field-0.0 = search rules in
     c.in_err-page.ensures.short (ap Err (error_is c.in_err-page.field-0.0 c.from_residual-in_err-page.result same is))
+
+pub returns-in_err-place-clause-slots : goal.returns-in_err-place-clause-slots
+returns-in_err-place-clause-slots g c = λ keeps.
+    both_used 0 4 4 c.args.self.now.pages c.loop-place.self.pages c.add.new.self.pages (omega arith) (c.loop-place.invariant.slots keeps)
+    c.add.ensures.slots
+
+pub returns-in-Some-clause-slots : goal.returns-in-Some-clause-slots
+returns-in-Some-clause-slots g c = λ keeps.
+    both_used 0 4 4 c.args.self.now.pages c.loop-place.self.pages c.add.new.self.pages (omega arith) (c.loop-place.invariant.slots keeps)
+    c.add.ensures.slots
+
+pub returns-in_err-page-clause-slots : goal.returns-in_err-page-clause-slots
+returns-in_err-page-clause-slots g c = λ keeps.
+    let was = c.loop-place.invariant in
+    let same = c.in_ok-place.ensures.none (ap Ok c.in_default.is) in
+    let none = c.in_ok-place.ensures.full (ap Ok c.in_default.is) in
+    let goes = rw same at c.make_room.ensures.slots in
+    both_used 0 0 4 c.args.self.now.pages c.loop-place.self.pages c.make_room.new.self.pages (omega arith) (was.slots keeps)
+    (goes (was.keeps keeps none))
+
+pub returns-in_default-2-clause-slots : goal.returns-in_default-2-clause-slots
+returns-in_default-2-clause-slots g c = λ keeps.
+    let was = c.loop-place.invariant in
+    let same = c.in_ok-place.ensures.none (ap Ok c.in_default.is) in
+    let none = c.in_ok-place.ensures.full (ap Ok c.in_default.is) in
+    let goes = rw same at c.make_room.ensures.slots in
+    both_used 0 0 4 c.args.self.now.pages c.loop-place.self.pages _ (omega arith) (was.slots keeps) (goes (was.keeps keeps none))
+
+pub returns-in_err-place-clause-already : goal.returns-in_err-place-clause-already
+returns-in_err-place-clause-already g c = λ keeps is.
+    let same : c.from_residual.result ≡ Err c.in_err-place.field-0.0 = search rules in
+    short_before 4 c.args.self.now.pages c.loop-place.self.pages (c.loop-place.invariant.slots keeps)
+    (c.in_err-place.ensures.already (ap Err (error_is c.in_err-place.field-0.0 c.from_residual.result same is)))
+
+pub returns-in_err-page-clause-already : goal.returns-in_err-page-clause-already
+returns-in_err-page-clause-already g c = λ keeps is.
+    let same = c.in_ok-place.ensures.none (ap Ok c.in_default.is) in
+    let none = c.in_ok-place.ensures.full (ap Ok c.in_default.is) in
+    let never = rw same at c.in_err-page.ensures.ample in
+    let told : c.from_residual-in_err-page.result ≡ Err c.in_err-page.field-0.0 = search rules in
+    absurd (never (c.loop-place.invariant.keeps keeps none)
+    (ap Err (error_is c.in_err-page.field-0.0 c.from_residual-in_err-page.result told is)))

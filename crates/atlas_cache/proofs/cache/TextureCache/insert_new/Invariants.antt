@@ -1,6 +1,6 @@
 use Rattle.std.proofs.Common.{◌≡◌, ◌≤◌, ℕ, length, None}
 use Rattle.atlas_cache.specs.Caches.{entry_for, steps_left, HasNoPageFor, IsFull}
-use Rattle.atlas_cache.specs.Reserving.{room_in, HasReserves}
+use Rattle.atlas_cache.specs.Reserving.{room_in, HasReserves, UseAtMost}
 use Rattle.atlas_cache.specs.Rooms.{HasRoomOnlyAmong}
 use Rattle.atlas_cache.proofs.LoopLemmas.{Reached}
 use Rattle.atlas_cache.proofs.cache.TextureCache.insert_new.Given as goal
@@ -18,6 +18,7 @@ invariant-loop-place g l =
       reserves : (n : ℕ) → (HasNoPageFor l.asked l.fn.self → IsFull l.fn.self)
           → HasReserves n (room_in l.fn.changes) l.fn.self
           → HasReserves n (room_in l.changes) l.self;
+      slots : (HasNoPageFor l.asked l.fn.self → IsFull l.fn.self) → UseAtMost 0 l.fn.self.pages l.self.pages;
     }
 
 abbrev pub decreases-loop-place : goal.decreases-loop-place

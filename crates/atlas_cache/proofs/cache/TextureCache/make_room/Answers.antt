@@ -1,6 +1,7 @@
-use Rattle.std.proofs.Common.{◌≡◌, ap, arith, rules, Err, Ok}
+use Rattle.std.proofs.Common.{◌≡◌, ap, arith, refl, rules, Err, Ok}
 use Rattle.atlas_cache.specs.Caches.{entries_of}
 use Rattle.atlas_cache.specs.Entries.{lying}
+use Rattle.atlas_cache.specs.declared.changes.CacheChange.TheVariants.{PageGrown}
 use Rattle.atlas_cache.proofs.HoldingLemmas.{stays}
 use Rattle.atlas_cache.proofs.ReadyLemmas.{error_is, reserves_left}
 use Rattle.atlas_cache.proofs.RoomLemmas.PageReserves.{none_used}
@@ -99,3 +100,65 @@ returns-in_err-page-clause-short g c = λ is.
     let same : c.from_residual-in_err-page.result ≡ Err c.in_err-page.field-0.0 = search rules in
     rw c.in_err-page.ensures.refused
     (c.in_err-page.ensures.short (ap Err (error_is c.in_err-page.field-0.0 c.from_residual-in_err-page.result same is)))
+
+pub returns-in_err-reserve-clause-slots : goal.returns-in_err-reserve-clause-slots
+returns-in_err-reserve-clause-slots g c = λ full. none_used 0 c.args.self.now.pages
+
+pub returns-in_err-page-clause-slots : goal.returns-in_err-page-clause-slots
+returns-in_err-page-clause-slots g c = λ full.
+    let it = rw (← c.self.view_is) at full in let no = c.in_err-page.ensures.none.1 it.largest in cc
+
+pub returns-in_err-page-clause-ample : goal.returns-in_err-page-clause-ample
+returns-in_err-page-clause-ample g c = λ full is.
+    let it = rw (← c.self.view_is) at full in let no = c.in_err-page.ensures.none.1 it.largest in cc
+
+pub returns-in-Some-clause-slots : goal.returns-in-Some-clause-slots
+returns-in-Some-clause-slots g c = λ full.
+    let it = rw (← c.self.view_is) at full in let no = c.in_ok-page.ensures.none.1 it.largest in cc
+
+pub returns-in_err-page-2-clause-slots : goal.returns-in_err-page-2-clause-slots
+returns-in_err-page-2-clause-slots g c = λ full.
+    let it = rw (← c.self.view_is) at full in
+    let same = c.in_ok-page.ensures.nothing (ap Ok c.in_default.is) in
+    let none = rw same at c.in_err-page-2.ensures.none in let no = none.1 it.all in cc
+
+pub returns-in_err-page-2-clause-ample : goal.returns-in_err-page-2-clause-ample
+returns-in_err-page-2-clause-ample g c = λ full is.
+    let it = rw (← c.self.view_is) at full in
+    let same = c.in_ok-page.ensures.nothing (ap Ok c.in_default.is) in
+    let none = rw same at c.in_err-page-2.ensures.none in let no = none.1 it.all in cc
+
+pub returns-in-Some-2-clause-slots : goal.returns-in-Some-2-clause-slots
+returns-in-Some-2-clause-slots g c = λ full.
+    let it = rw (← c.self.view_is) at full in
+    let same = c.in_ok-page.ensures.nothing (ap Ok c.in_default.is) in
+    let none = rw same at c.in_ok-page-2.ensures.none in let no = none.1 it.all in cc
+
+pub returns-clause-slots : goal.returns-clause-slots
+returns-clause-slots g c = λ full.
+    let one = c.in_ok-page.ensures.nothing (ap Ok c.in_default.is) in
+    let two = c.in_ok-page-2.ensures.nothing (ap Ok c.in_default-2.is) in
+    rw (← c.self.view_is) (rw (two, one) at c.evict.ensures.slots)
+
+pub returns-in-Some-clause-does : goal.returns-in-Some-clause-does
+returns-in-Some-clause-does g c = λ _.
+    rw (← c.self.view_is) (record {
+      change = PageGrown c.in-Some.page c.in-Some.size;
+      listed = rw c.in_ok-reserve.ensures.items at c.push_reserved.ensures.items;
+      does = record {
+        first = rw c.in-Some.is at c.in_ok-page.ensures.first;
+        step = rw c.in-Some.is at c.in_ok-page.ensures.step;
+        sizes = rw c.in-Some.is at c.in_ok-page.ensures.sizes;
+        same = c.in_ok-page.ensures.same;
+        slots = c.in_ok-page.ensures.slots;
+        others = rw c.in-Some.is at c.in_ok-page.ensures.others;
+        keeps = record {
+          entries = refl;
+          numbers = refl;
+          reserved = refl;
+          options = c.in_ok-page.ensures.options;
+          frame = refl;
+          counts = refl;
+        };
+      };
+    })

@@ -1,4 +1,4 @@
-use Rattle.std.proofs.Common.{◌≡◌, ◌+◌, ◌∙◌, ◌++◌, ap, arith, length, refl}
+use Rattle.std.proofs.Common.{◌≡◌, ◌+◌, ◌*◌, ◌∙◌, ◌++◌, ap, arith, length, refl}
 use Rattle.atlas_cache.specs.Caches.{CacheState, entries_of}
 use Rattle.atlas_cache.specs.Changes.{Removes}
 use Rattle.atlas_cache.specs.Entries.{without_number}
@@ -8,7 +8,7 @@ use Rattle.atlas_cache.proofs.ListLemmas.{parts}
 use Rattle.atlas_cache.proofs.PictureLemmas.{removes_tell}
 use Rattle.atlas_cache.proofs.BlankLemmas.{length-less}
 use Rattle.atlas_cache.proofs.ReadyLemmas.{full_stays, reserves_left}
-use Rattle.atlas_cache.proofs.RoomLemmas.PageReserves.{slots_left}
+use Rattle.atlas_cache.proofs.RoomLemmas.PageReserves.{allowed_left, slots_left}
 use Rattle.atlas_cache.proofs.cache.TextureCache.remove.Goals as goal
 
 pub take_out-requires-clause-here : goal.take_out-requires-clause-here
@@ -121,3 +121,15 @@ returns-clause-reserves g c =
     rw (← c.self.view_is) (λ n room.
     reserves_left n n room room 0 _ _ c.take_out.ensures.slots (omega arith) (omega (arith, c.take_out.ensures.reserved))
     (omega (arith, less, ap length p.was, now)))
+
+pub returns-clause-allowed : goal.returns-clause-allowed
+returns-clause-allowed g c =
+    rw (← c.self.view_is)
+    (λ n. allowed_left 0 n n c.self.inside.rooms.pages c.take_out.new.rooms.pages (omega arith) c.take_out.ensures.slots)
+
+pub returns-clause-stays_ready : goal.returns-clause-stays_ready
+returns-clause-stays_ready g c = λ n room had. record {
+  reserves = returns-clause-reserves g c n room had.reserves;
+  allowed = returns-clause-allowed g c (4 * n) had.allowed;
+  full = returns-clause-full g c had.full;
+}

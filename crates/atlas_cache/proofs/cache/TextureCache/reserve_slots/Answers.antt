@@ -29,3 +29,6 @@ returns-clause-full g c =
 
 pub returns-clause-had : goal.returns-clause-had
 returns-clause-had g c = rw (← c.self.view_is) c.reserve_slots.ensures.had
+
+pub returns-clause-stops : goal.returns-clause-stops
+returns-clause-stops g c = rw (← c.self.view_is) c.reserve_slots.ensures.stops

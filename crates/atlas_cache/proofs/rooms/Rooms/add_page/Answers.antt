@@ -5,6 +5,7 @@ use Rattle.guillotiere.proofs.Callers.{page_added}
 use Rattle.atlas_cache.specs.Rooms.{page_sizes, size_of_page}
 use Rattle.atlas_cache.proofs.RoomLemmas.PageGrowth.{joined_less, sizes_joined}
 use Rattle.atlas_cache.proofs.RoomLemmas.KeptPages.{new_is_page, others_stay, rooms_joined}
+use Rattle.atlas_cache.proofs.RoomLemmas.PageReserves.{starts_last}
 use Rattle.atlas_cache.proofs.RoomLemmas.RefusedSizes.{refused_joined}
 use Rattle.atlas_cache.proofs.rooms.Rooms.add_page.Goals as goal
 
@@ -52,3 +53,8 @@ invariant_of-self-in_err-push-in-Ok g c = (
   rw c.in_err-push-in-Ok.ensures.items c.self.invariant.0,
   rw (c.in_err-push-in-Ok.ensures.items, c.in_ok-reserve.ensures.items) c.self.invariant.1,
 )
+
+pub returns-in_ok-push-in-Ok-clause-start : goal.returns-in_ok-push-in-Ok-clause-start
+returns-in_ok-push-in-Ok-clause-start g c =
+    rw (c.in_ok-push-in-Ok.ensures.items, c.len-number.ensures.pages, ← c.self.view_is)
+    (starts_last c.self.inside.options c.self.inside.pages.items c.in-Ok.page c.in-Ok.ensures.state)

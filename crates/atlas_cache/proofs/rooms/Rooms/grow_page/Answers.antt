@@ -9,7 +9,7 @@ use Rattle.atlas_cache.specs.declared.error.CacheError.TheVariants.{Slots}
 use Rattle.atlas_cache.specs.Rooms.{page_sizes, rooms_of, AreRefused, KeepsRooms}
 use Rattle.atlas_cache.proofs.RoomLemmas.PageGrowth.{grown_less, growth_of, not_all_largest}
 use Rattle.atlas_cache.proofs.RoomLemmas.KeptPages.{nothing_changes, others_kept, page_grows, rectangles_stay, rooms_keep, sizes_set}
-use Rattle.atlas_cache.proofs.RoomLemmas.PageReserves.{growth_short, none_used, page_uses}
+use Rattle.atlas_cache.proofs.RoomLemmas.PageReserves.{growth_short, none_used, page_steps_on, page_uses}
 use Rattle.atlas_cache.proofs.RoomLemmas.RefusedSizes.{refused_changed}
 use Rattle.atlas_cache.proofs.rooms.Rooms.grow_page.Goals as goal
 
@@ -164,3 +164,10 @@ returns-clause-none g c =
       λ all. absurd (not_all_largest c.self.inside.options (page_sizes c.self.inside.pages.items) c.in-Some.page c.in-Some.old
           (rw c.deref.ensures.value at c.in-Some.ensures.here) c.in-Some.ensures.smaller all),
     )
+
+pub returns-clause-step : goal.returns-clause-step
+returns-clause-step g c =
+    let growth = growth_of (rooms_of c.self.inside.options c.self.inside.pages.items) c.self.invariant.0 c.in-Some.page c.in-Some.old
+    (rw c.deref.ensures.value at c.in-Some.ensures.here) c.in-Some.ensures.smaller in
+    rw (c.number.ensures, ← c.self.view_is) (page_steps_on c.self.inside.pages.items c.in-Some.page c.index_mut.result.now
+    c.grow.new.self c.index_mut.ensures.value growth.within c.grown-size.result c.in_default-grow.ensures.step)

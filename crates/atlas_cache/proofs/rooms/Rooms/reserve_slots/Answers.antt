@@ -1,11 +1,12 @@
-use Rattle.std.proofs.Common.{◌∙◌, ◌≡◌, ◌<◌, Err, Some, ap, arith, sym, length, map, slice_get, slice_set}
-use Rattle.std.proofs.lemmas.{List.{length-set}, Option.{slice_get-get_or, slice_get_within}}
+use Rattle.std.proofs.Common.{◌∙◌, ◌≡◌, ◌+◌, ◌<◌, ◌≤◌, Err, Some, ap, arith, inl, inr, sym, length, map, slice_get, slice_set}
+use Rattle.std.proofs.lemmas.{Bool.{cases_lt}, List.{length-set}, Option.{slice_get-get_or, slice_get_within}}
+use Rattle.guillotiere.specs.Reserves.{HasReserve}
 use Rattle.guillotiere.specs.States.{used_in, State}
 use Rattle.guillotiere.specs.Stored.{state_of}
 use Rattle.atlas_cache.specs.declared.error.CacheError.TheVariants.{Memory, Slots}
 use Rattle.atlas_cache.specs.Rooms.{RoomsState}
-use Rattle.atlas_cache.proofs.RoomLemmas.KeptPages.{others_kept}
-use Rattle.atlas_cache.proofs.RoomLemmas.PageReserves.{both_used, none_used, one_more_ready, page_states, page_uses, reserve_there, same_rooms}
+use Rattle.atlas_cache.proofs.RoomLemmas.KeptPages.{nothing_changes, others_kept}
+use Rattle.atlas_cache.proofs.RoomLemmas.PageReserves.{both_used, none_used, one_more_page, page_states, page_uses, holds_there, same_rooms}
 use Rattle.atlas_cache.proofs.RoomLemmas.RefusedSizes.{refused_same}
 use Rattle.atlas_cache.proofs.rooms.Rooms.reserve_slots.Goals as goal
 
@@ -14,6 +15,7 @@ loop-page-init g c = record {
   options = ap (λ (r : RoomsState). r.options) c.self.view_is;
   same = omega (arith, c.len-page-end.ensures, c.self.inside.pages.ok.0);
   ready = λ k s below at. absurd (omega (arith, below));
+  allowed = λ k s below at. absurd (omega (arith, below));
   later = λ k from. ap (λ (r : RoomsState). slice_get r.pages k) c.self.view_is;
   states = ap (λ (r : RoomsState). map state_of r.pages) c.self.view_is;
   slots = rw (← c.self.view_is) (none_used 0 c.self.inside.pages.items);
@@ -31,11 +33,22 @@ loop-page-preserved g c =
     let is = c.index_mut.ensures.value in
     let within : page < length pages = omega (arith, was.same) in
     let states = page_states pages page a b is within c.reserve.ensures.state in
+    let at = slice_get-get_or pages page a within ∙ ap Some (sym is) in
+    let limit = (was.kept.each page a at).limit in
+    let may : used_in (state_of b) + c.args.additional ≤ 16777216 =
+    elim (cases_lt 16777216 (used_in (state_of b) + c.args.additional)) [
+      | inl past ↦
+          let slots = c.reserve.ensures.slots.1 (omega (arith, past, limit, ap (λ (u : State). used_in u) c.reserve.ensures.state)) in cc
+      | inr most ↦ most
+    ] in
     record {
       options = was.options;
       same = omega (arith, length-set pages page b, was.same);
-      ready = one_more_ready c.args.additional page pages (slice_set pages page b) (others_kept pages page a b is within)
-          (reserve_there pages page a b is within c.args.additional c.in_default.ensures.ready) was.ready;
+      ready = one_more_page (HasReserve c.args.additional) page pages (slice_set pages page b) (others_kept pages page a b is within)
+          (holds_there pages page a b is within (HasReserve c.args.additional) c.in_default.ensures.ready) was.ready;
+      allowed = one_more_page (λ s. used_in (state_of s) + c.args.additional ≤ 16777216) page pages (slice_set pages page b)
+          (others_kept pages page a b is within)
+          (holds_there pages page a b is within (λ s. used_in (state_of s) + c.args.additional ≤ 16777216) may) was.allowed;
       later = λ k from. others_kept pages page a b is within k (λ here. omega (arith, from, here)) ∙ was.later k (omega (arith, from));
       states = states ∙ was.states;
       slots = both_used 0 0 0 c.args.self.now.pages pages (slice_set pages page b) (omega arith) was.slots
@@ -100,3 +113,30 @@ returns-in-Err-clause-had g c = λ have is.
     let at = slice_get-get_or pages page a within ∙ ap Some (sym c.index_mut.ensures.value) in
     let memory : c.refusal.result ≡ Memory = cc in
     c.reserve.ensures.had (have page a (sym (was.later page (omega arith)) ∙ at)) (c.in-Err.is ∙ ap Err (c.refusal.ensures.memory memory))
+
+pub returns-clause-allowed : goal.returns-clause-allowed
+returns-clause-allowed g c = λ page s at.
+    let within = slice_get_within c.loop-page.self-inside.pages.items page s at in
+    c.loop-page.invariant.allowed page s (omega (arith, within, c.loop-page.invariant.same)) at
+
+pub returns-in-Err-clause-stops : goal.returns-in-Err-clause-stops
+returns-in-Err-clause-stops g c =
+    let was = c.loop-page.invariant in
+    let pages = c.loop-page.self-inside.pages.items in
+    let page = c.loop-page.page in
+    let a = c.index_mut.result.now in
+    let is = c.index_mut.ensures.value in
+    let within : page < length pages = omega (arith, was.same) in
+    let at = slice_get-get_or pages page a within ∙ ap Some (sym is) in
+    let same = nothing_changes pages page a c.reserve.new.self is within c.in-Err.ensures.refused in
+    record {
+      page = page;
+      refused = a;
+      here = sym (was.later page (omega arith)) ∙ at;
+      before = rw same was.ready;
+      after = rw same was.later;
+      slots = λ slots.
+          let own = c.reserve.ensures.slots.0 (c.in-Err.is ∙ ap Err (c.refusal.ensures.slots slots)) in
+          omega (arith, own, (was.kept.each page a at).limit);
+      memory = λ memory has. c.reserve.ensures.had has (c.in-Err.is ∙ ap Err (c.refusal.ensures.memory memory));
+    }

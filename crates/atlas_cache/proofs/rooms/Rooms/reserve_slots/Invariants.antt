@@ -1,5 +1,6 @@
-use Rattle.std.proofs.Common.{◌≡◌, ◌<◌, ◌≤◌, ℕ, Some, length, map, slice_get}
+use Rattle.std.proofs.Common.{◌≡◌, ◌+◌, ◌<◌, ◌≤◌, ℕ, Some, length, map, slice_get}
 use Rattle.guillotiere.specs.Reserves.{HasReserve}
+use Rattle.guillotiere.specs.States.{used_in}
 use Rattle.guillotiere.specs.Stored.{AtlasValue, state_of}
 use Rattle.atlas_cache.specs.Reserving.{UseAtMost}
 use Rattle.atlas_cache.specs.Rooms.{rooms_of, AreRefused, KeepsRooms}
@@ -12,6 +13,8 @@ invariant-loop-page g l =
       same : length l.self-inside.pages.items ≡ l.page-end;
       ready : (k : ℕ) (s : AtlasValue) → k < l.page → slice_get l.self-inside.pages.items k ≡ Some s
           → HasReserve l.additional s;
+      allowed : (k : ℕ) (s : AtlasValue) → k < l.page → slice_get l.self-inside.pages.items k ≡ Some s
+          → used_in (state_of s) + l.additional ≤ 16777216;
       later : (k : ℕ) → l.page ≤ k → slice_get l.self-inside.pages.items k ≡ slice_get l.fn.self.pages k;
       states : map state_of l.self-inside.pages.items ≡ map state_of l.fn.self.pages;
       slots : UseAtMost 0 l.fn.self.pages l.self-inside.pages.items;

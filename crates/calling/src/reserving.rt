@@ -1,0 +1,64 @@
+//! Inserts of which none is refused for memory or for slots, since all that they need was taken first.
+ghost use Rattle.std.specs.Prelude.{◌≡◌, ◌≢◌, ◌+◌, ◌<◌, Err, OnOk, length};
+ghost use Rattle.atlas_cache.specs.Caches.{IsFull};
+ghost use Rattle.atlas_cache.specs.Reserving.{room_in, IsReadyFor};
+ghost use Rattle.atlas_cache.specs.declared.error.CacheError.TheVariants.{Memory, Slots};
+
+use atlas_cache::entries::DefaultHasher;
+use atlas_cache::{CacheError, Changes, TextureCache};
+use guillotiere::Size;
+use std::alloc::Allocator;
+
+/// Takes what so many inserts need: entries, slots of each page, and room for their changes.
+pub fn take_for<A: Allocator + Copy>(
+    cache: &mut TextureCache<u64, DefaultHasher, A>,
+    inserts: u32,
+    changes: &mut Changes<u64, A>,
+) -> Result<(), CacheError>
+    requires { IsFull cache.old }
+    ensures { OnOk result (IsReadyFor inserts (room_in changes.new) cache.new) }
+{
+    if inserts > 4_194_304 {
+        return Err(CacheError::Slots); // no page may use so many
+    }
+    cache.reserve(inserts as usize)?;
+    cache.reserve_slots(4 * inserts)?;
+    changes.reserve(cache.len() + inserts as usize)?;
+    Ok(())
+}
+
+/// The glyphs of a text, each of which finds what was taken for it.
+pub fn insert_all<A: Allocator + Copy>(
+    cache: &mut TextureCache<u64, DefaultHasher, A>,
+    keys: &[u64],
+    size: Size,
+    changes: &mut Changes<u64, A>,
+) -> Result<(), CacheError>
+    requires { IsReadyFor (length keys.now) (room_in changes.old) cache.old }
+    ensures memory { result ≢ Err Memory }
+    ensures slots { result ≢ Err Slots }
+{
+    for key in keys {
+        let _answer = cache.insert(*key, size, changes)?;
+    }
+    Ok(())
+}
+
+/// One glyph, another that goes, a new frame, and a glyph more: what was taken for two is enough.
+pub fn replace<A: Allocator + Copy>(
+    cache: &mut TextureCache<u64, DefaultHasher, A>,
+    first: u64,
+    gone: u64,
+    second: u64,
+    size: Size,
+    changes: &mut Changes<u64, A>,
+)
+    requires { IsReadyFor 2 (room_in changes.old) cache.old }
+{
+    let one = cache.insert(first, size, changes);
+    prove!(!matches!(&one, Err(CacheError::Memory | CacheError::Slots)));
+    let _gone = cache.remove(&gone);
+    cache.begin_frame();
+    let two = cache.insert(second, size, changes);
+    prove!(!matches!(&two, Err(CacheError::Memory | CacheError::Slots)));
+}
