@@ -42,6 +42,7 @@ impl<K: Copy + Eq + Hash, S: BuildHasher, A: Allocator + Copy> TextureCache<K, S
         ensures refused { OnErr result ((self.new ≡ self.old) × (changes.new.items ≡ changes.old.items)) }
         ensures unless { IsOkUnless result CacheError.Memory }
         ensures room { vec_len changes.old + length self.old.entries ≤ vec_capacity changes.old → IsOk result }
+        ensures capacity { vec_capacity changes.old ≤ vec_capacity changes.new }
     {
         changes.reserve(self.entries.len())?;
         self.drop_unused(frames, changes);
@@ -86,6 +87,7 @@ impl<K: Copy + Eq + Hash, S: BuildHasher, A: Allocator + Copy> TextureCache<K, S
         requires { vec_len changes.old + length self.old.entries ≤ vec_capacity changes.old }
         ensures trims { Trims frames changes.old.items changes.new.items self.old self.new }
         ensures told { TellsChanges K.eq changes.old.items changes.new.items self.old self.new }
+        ensures capacity { vec_capacity changes.old ≤ vec_capacity changes.new }
     {
         self.entries.prove_kept();
         'each: loop {
@@ -100,6 +102,7 @@ impl<K: Copy + Eq + Hash, S: BuildHasher, A: Allocator + Copy> TextureCache<K, S
         requires { vec_len changes.old + length self.old.entries ≤ vec_capacity changes.old }
         ensures drops { IsTrue result → DropsLast frames changes.old.items changes.new.items self.old self.new }
         ensures room { vec_len changes.new + length self.new.entries ≤ vec_capacity changes.new }
+        ensures capacity { vec_capacity changes.old ≤ vec_capacity changes.new }
         ensures stops { result ≡ false
             → AllByRecursion (IsUsedSince frames self.old.frame) self.old.entries }
         ensures stays { result ≡ false → (self.new ≡ self.old) × (changes.new.items ≡ changes.old.items) }

@@ -133,6 +133,7 @@ fn settle_all<K: Copy + Eq + Hash, S: BuildHasher, A: Allocator + Copy>(
     ensures reserved { entries.new.reserved ≡ entries.old.reserved }
     ensures told { changes.new.items ≡ changes.old.items
         ++ filter_map (told_of options.now.padding page (renewed_by moves.now)) (entries_of entries.old.entries) }
+    ensures capacity { vec_capacity changes.old ≤ vec_capacity changes.new }
 {
     let mut next = entries.newest();
     for _ in 0..entries.len() {
@@ -167,6 +168,7 @@ impl<K: Copy + Eq + Hash, S: BuildHasher, A: Allocator + Copy> TextureCache<K, S
         ensures told { TellsChanges K.eq changes.old.items changes.new.items self.old self.new }
         ensures refused { OnErr result ((self.new ≡ self.old) × (changes.new.items ≡ changes.old.items)) }
         ensures errors { IfErr result IsRefusal }
+        ensures capacity { vec_capacity changes.old ≤ vec_capacity changes.new }
     {
         if page >= self.rooms.len() {
             return Ok(false);

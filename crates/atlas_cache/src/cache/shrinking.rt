@@ -21,6 +21,7 @@ impl<K: Copy + Eq + Hash, S: BuildHasher, A: Allocator + Copy> TextureCache<K, S
         ensures refused { OnErr result ((self.new ≡ self.old) × (changes.new.items ≡ changes.old.items)) }
         ensures unless { IsOkUnless result CacheError.Memory }
         ensures room { vec_len changes.old + length self.old.pages ≤ vec_capacity changes.old → IsOk result }
+        ensures capacity { vec_capacity changes.old ≤ vec_capacity changes.new }
     {
         changes.reserve(self.rooms.len() as usize)?;
         self.drop_pages(changes);
@@ -32,6 +33,7 @@ impl<K: Copy + Eq + Hash, S: BuildHasher, A: Allocator + Copy> TextureCache<K, S
         requires { vec_len changes.old + length self.old.pages ≤ vec_capacity changes.old }
         ensures shrinks { Shrinks changes.old.items changes.new.items self.old self.new }
         ensures told { TellsChanges K.eq changes.old.items changes.new.items self.old self.new }
+        ensures capacity { vec_capacity changes.old ≤ vec_capacity changes.new }
     {
         'each: loop {
             if !self.drop_page(changes) {
@@ -46,6 +48,7 @@ impl<K: Copy + Eq + Hash, S: BuildHasher, A: Allocator + Copy> TextureCache<K, S
         requires { vec_len changes.old + length self.old.pages ≤ vec_capacity changes.old }
         ensures drops { IsTrue result → DropsPage changes.old.items changes.new.items self.old self.new }
         ensures room { vec_len changes.new + length self.new.pages ≤ vec_capacity changes.new }
+        ensures capacity { vec_capacity changes.old ≤ vec_capacity changes.new }
         ensures stops { result ≡ false → IsLastInUse self.old.pages }
         ensures stays { result ≡ false → (self.new ≡ self.old) × (changes.new.items ≡ changes.old.items) }
     {

@@ -10,6 +10,7 @@ each-init g c =
       dropped = none-dropped g.K.PartialEq.eq c.args.frames c.args.changes.now.items c.args.self.now (rw (← c.self.view_is) own)
           (rw (← c.self.view_is) (let fits = c.self.ranges.1.1.1.0.1.1.1.1.0.1 in omega arith));
       room = c.requires;
+      capacity = omega arith;
     }
 
 pub each-preserved : goal.each-preserved
@@ -19,4 +20,5 @@ each-preserved g c =
       dropped = one-dropped g.K.PartialEq.eq g.met.K.Eq.laws c.args.frames c.args.changes.now.items c.each.changes.items
           c.drop_last.new.changes.items c.args.self.now c.each.self c.drop_last.new.self was.dropped (c.drop_last.ensures.drops c.if-not-drop_last.false);
       room = c.drop_last.ensures.room;
+      capacity = omega (arith, was.capacity, c.drop_last.ensures.capacity);
     }

@@ -7,6 +7,7 @@ invariant-each g l =
     record {
       dropped : Dropped g.K.PartialEq.eq l.frames l.fn.changes.items l.changes.items l.fn.self l.self;
       room : vec_len l.changes + length l.self.entries ≤ vec_capacity l.changes;
+      capacity : vec_capacity l.fn.changes ≤ vec_capacity l.changes;
     }
 
 abbrev pub decreases-each : goal.decreases-each

@@ -13,6 +13,7 @@ loop-init g c = record {
       (omega (arith, c.requires.room));
   made = refl;
   reserved = refl;
+  capacity = omega arith;
 }
 
 pub returns-in_default-clause-entries : goal.returns-in_default-clause-entries
@@ -73,11 +74,13 @@ loop-preserved g c =
                 (w.settle.ensures.settled (filter_map (settled padding page cs) a.done) a.rest a.is) w.settle.ensures.told;
             made = w.settle.ensures.made ∙ c.loop.invariant.made;
             reserved = w.settle.ensures.reserved ∙ c.loop.invariant.reserved;
+            capacity = omega (arith, c.loop.invariant.capacity, w.settle.ensures.room);
           })
       | else-entry-page w ↦
           rw (w.entries-is, w.changes-is) (record {
             walked = walked-past padding page cs _ _ _ _ _ _ _ _ _ _ _ _ a first (omega (arith, a.room)) w.if-entry-page.false refl refl;
             made = c.loop.invariant.made;
             reserved = c.loop.invariant.reserved;
+            capacity = c.loop.invariant.capacity;
           })
     ]

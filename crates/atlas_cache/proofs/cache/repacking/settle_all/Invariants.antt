@@ -1,4 +1,4 @@
-use Rattle.std.proofs.Common.{◌≡◌, ◌-◌, vec_capacity, vec_len}
+use Rattle.std.proofs.Common.{◌≡◌, ◌-◌, ◌≤◌, vec_capacity, vec_len}
 use Rattle.atlas_cache.proofs.RelocateLemmas.{Walked}
 use Rattle.atlas_cache.proofs.cache.repacking.settle_all.Given as goal
 
@@ -9,4 +9,5 @@ invariant-loop g l =
           (vec_capacity l.changes - vec_len l.changes);
       made : l.entries.made ≡ l.fn.entries.made;
       reserved : l.entries.reserved ≡ l.fn.entries.reserved;
+      capacity : vec_capacity l.fn.changes ≤ vec_capacity l.changes;
     }
