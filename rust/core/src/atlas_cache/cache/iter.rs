@@ -46,9 +46,10 @@ impl<'a, K: Copy + Eq + Hash, S: BuildHasher, A: Allocator + Copy> Iterator for 
     fn next(&mut self) -> Option<(K, Place)> {
         let number = self.next?;
         let entry = self.entries.entry(number);
+        let place = place_of(entry, &self.options);
         self.next = self.entries.older(number);
         self.left -= 1;
-        Some((entry.key, place_of(entry, &self.options)))
+        Some((entry.key, place))
     }
 
     #[inline]
