@@ -5,7 +5,7 @@ ghost use Rattle.atlas_cache.specs.Reserving.{room_in, IsReadyFor};
 ghost use Rattle.atlas_cache.specs.declared.error.CacheError.TheVariants.{Memory, Slots};
 
 use atlas_cache::entries::DefaultHasher;
-use atlas_cache::{CacheError, Changes, TextureCache};
+use atlas_cache::{CacheError, Changes, Inserted, TextureCache};
 use guillotiere::Size;
 use std::alloc::Allocator;
 
@@ -27,7 +27,42 @@ pub fn take_for<A: Allocator + Copy>(
     Ok(())
 }
 
-/// The glyphs of a text, each of which finds what was taken for it.
+/// One insert of those for which all is ready leaves it ready for the others.
+pub fn insert_one<A: Allocator + Copy>(
+    cache: &mut TextureCache<u64, DefaultHasher, A>,
+    key: u64,
+    size: Size,
+    left: u32,
+    changes: &mut Changes<u64, A>,
+) -> Result<Inserted, CacheError>
+    requires { IsReadyFor (left + 1) (room_in changes.old) cache.old }
+    ensures ready { IsReadyFor left (room_in changes.new) cache.new }
+    ensures memory { result ≢ Err Memory }
+    ensures slots { result ≢ Err Slots }
+{
+    cache.insert(key, size, changes)
+}
+
+/// Two inserts, a key that goes and a new frame between them: what was taken for two is enough.
+pub fn insert_again<A: Allocator + Copy>(
+    cache: &mut TextureCache<u64, DefaultHasher, A>,
+    first: u64,
+    gone: u64,
+    second: u64,
+    size: Size,
+    changes: &mut Changes<u64, A>,
+)
+    requires { IsReadyFor 2 (room_in changes.old) cache.old }
+{
+    let one = insert_one(cache, first, size, 1, changes);
+    prove!(!matches!(&one, Err(CacheError::Memory | CacheError::Slots)));
+    let _gone = cache.remove(&gone);
+    cache.begin_frame();
+    let two = insert_one(cache, second, size, 0, changes);
+    prove!(!matches!(&two, Err(CacheError::Memory | CacheError::Slots)));
+}
+
+/// The glyphs of a text, of which none is refused for memory or for slots.
 pub fn insert_all<A: Allocator + Copy>(
     cache: &mut TextureCache<u64, DefaultHasher, A>,
     keys: &[u64],
@@ -42,23 +77,4 @@ pub fn insert_all<A: Allocator + Copy>(
         let _answer = cache.insert(*key, size, changes)?;
     }
     Ok(())
-}
-
-/// One glyph, another that goes, a new frame, and a glyph more: what was taken for two is enough.
-pub fn replace<A: Allocator + Copy>(
-    cache: &mut TextureCache<u64, DefaultHasher, A>,
-    first: u64,
-    gone: u64,
-    second: u64,
-    size: Size,
-    changes: &mut Changes<u64, A>,
-)
-    requires { IsReadyFor 2 (room_in changes.old) cache.old }
-{
-    let one = cache.insert(first, size, changes);
-    prove!(!matches!(&one, Err(CacheError::Memory | CacheError::Slots)));
-    let _gone = cache.remove(&gone);
-    cache.begin_frame();
-    let two = cache.insert(second, size, changes);
-    prove!(!matches!(&two, Err(CacheError::Memory | CacheError::Slots)));
 }
