@@ -8,8 +8,10 @@ use Rattle.guillotiere.specs.declared.Rectangle.{Rectangle}
 use Rattle.guillotiere.specs.Boxes.{Sides}
 use Rattle.atlas_sheet.specs.declared.options.Spacing.{Spacing}
 use Rattle.atlas_sheet.specs.declared.ways.Way.{Way}
-use Rattle.atlas_sheet.specs.Fillings.{AreBest, IsNoBetter}
+use Rattle.atlas_sheet.specs.Fillings.{AreBest, FindsFewer, IsNoBetter}
+use Rattle.atlas_sheet.specs.Firsts.{StandsBefore}
 use Rattle.atlas_sheet.specs.Sheets.{AreFoundBy, ArePlaces, used_area}
+use Rattle.atlas_sheet.proofs.FirstOnes.{stands_earlier, stands_last}
 
 -- An element more of which something holds.
 pub all_more : {X : Type 0} (P : X → Type 0) (xs : List X) (k : ℕ) (d : X) → k < length xs → All P (take k xs)
@@ -26,6 +28,7 @@ pub record IsGoing (sheet : Sides) (spacing : Spacing) (sprites : List Size) (wa
   pub good : 0 < k → ArePlaces sheet spacing sprites places
   pub begun : 0 < k → Contains ways way × AreFoundBy sheet spacing sprites way order places
   pub best : All (IsNoBetter sheet spacing sprites most) (take k ways)
+  pub last : 0 < k → StandsBefore (FindsFewer sheet spacing sprites most) (take k ways) way
 
 pub begin : (sheet : Sides) (spacing : Spacing) (sprites : List Size) (ways : List Way) (best : Way)
     (order : List (ℕ × Size))
@@ -36,6 +39,7 @@ begin sheet spacing sprites ways best order places is = record {
   good = λ past. absurd (omega (arith, past));
   begun = λ past. absurd (omega (arith, past));
   best = All-nil (IsNoBetter sheet spacing sprites 0);
+  last = λ past. absurd (omega (arith, past));
 }
 
 module _ (sheet : Sides) (spacing : Spacing) (sprites : List Size) (ways : List Way) (k : ℕ) (d best : Way) (order asked : List (ℕ × Size))
@@ -55,6 +59,8 @@ module _ (sheet : Sides) (spacing : Spacing) (sprites : List Size) (ways : List 
             (All-weaker (IsNoBetter sheet spacing sprites most) (IsNoBetter sheet spacing sprites area)
             (λ way no. let few : used_area no.1 ≤ most = no.3 in (no.0, no.1, no.2, omega (arith, few, le))) (take k ways) before.best)
             (asked, found, are, omega arith);
+        last = λ _. subst (λ l. StandsBefore (FindsFewer sheet spacing sprites area) l (get_or ways k d)) (sym (take-suc ways k d inside))
+            (stands_last (FindsFewer sheet spacing sprites area) (take k ways) (get_or ways k d));
       }
 
   -- A way that finds fewer.
@@ -67,6 +73,9 @@ module _ (sheet : Sides) (spacing : Spacing) (sprites : List Size) (ways : List 
         good = λ _. before.good begun;
         begun = λ _. before.begun begun;
         best = all_more (IsNoBetter sheet spacing sprites most) ways k d inside before.best (asked, found, are, omega arith);
+        last = λ _. subst (λ l. StandsBefore (FindsFewer sheet spacing sprites most) l best) (sym (take-suc ways k d inside))
+            (stands_earlier (FindsFewer sheet spacing sprites most) (take k ways) best (get_or ways k d) (asked, found, are, omega (arith, less, is))
+            (before.last begun));
       }
     where
       by_number : (n : ℕ) → k ≡ n → 0 < k
@@ -85,6 +94,8 @@ all_tried sheet spacing sprites ways k best order places most end some going =
       found = begun.1;
       best = subst (λ n. All (IsNoBetter sheet spacing sprites n) ways) going.area
           (subst (All (IsNoBetter sheet spacing sprites most)) (take_all k ways end) going.best);
+      last = subst (λ n. StandsBefore (FindsFewer sheet spacing sprites n) ways best) going.area
+          (subst (λ l. StandsBefore (FindsFewer sheet spacing sprites most) l best) (take_all k ways end) (going.last (omega arith)));
     }
 
 -- What is no better than few pixels is no better than more.
@@ -93,4 +104,12 @@ pub still_best : (sheet : Sides) (spacing : Spacing) (sprites : List Size) (ways
     → All (IsNoBetter sheet spacing sprites less) ways → All (IsNoBetter sheet spacing sprites more) ways
 still_best sheet spacing sprites ways less more le each =
     All-weaker (IsNoBetter sheet spacing sprites less) (IsNoBetter sheet spacing sprites more)
+    (λ way no. let few : used_area no.1 ≤ less = no.3 in (no.0, no.1, no.2, omega (arith, few, le))) ways each
+
+-- What is no better than few pixels is fewer than more.
+pub all_fewer : (sheet : Sides) (spacing : Spacing) (sprites : List Size) (ways : List Way) (less more : ℕ)
+    → less < more
+    → All (IsNoBetter sheet spacing sprites less) ways → All (FindsFewer sheet spacing sprites more) ways
+all_fewer sheet spacing sprites ways less more le each =
+    All-weaker (IsNoBetter sheet spacing sprites less) (FindsFewer sheet spacing sprites more)
     (λ way no. let few : used_area no.1 ≤ less = no.3 in (no.0, no.1, no.2, omega (arith, few, le))) ways each

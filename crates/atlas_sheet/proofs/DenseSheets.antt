@@ -14,13 +14,13 @@ use Rattle.atlas_sheet.specs.declared.sheets.Sheet.{Sheet}
 use Rattle.atlas_sheet.specs.declared.ways.TheConstants.{WAYS}
 use Rattle.atlas_sheet.specs.Allowances.{IsAllowed, pixels}
 use Rattle.atlas_sheet.specs.Dense.{AreAllPlaced, ArePaddedApart, FindAllTopmost, IsByHeight, IsLeastDense, IsNoLargerThanWays, IsSmallerThanWays}
-use Rattle.atlas_sheet.specs.Dense.{IsWholeSheet, LeavesDense, NoWayFinds, NoneIsDense, empty_grid}
-use Rattle.atlas_sheet.specs.Turnings.{AreLaid, InEach, InOne, turnings}
+use Rattle.atlas_sheet.specs.Dense.{IsUpright, IsWholeSheet, LeavesDense, NoWayFinds, NoneIsDense, empty_grid}
+use Rattle.atlas_sheet.specs.Turnings.{AreLaid, InEach, InFirst, InOne, turnings}
 use Rattle.atlas_sheet.specs.Lying.{IsPlacedFor, IsShown, areas_of}
 use Rattle.atlas_sheet.specs.Orders.{IsOrder}
 use Rattle.atlas_sheet.specs.Settings.{spacing_of}
 use Rattle.atlas_sheet.specs.Sheets.{used_area, with_places}
-use Rattle.atlas_sheet.specs.Packings.{IsFirstFound, IsLeastFound, IsNoLarger, NoneIsFound, Packed}
+use Rattle.atlas_sheet.specs.Packings.{IsFirstFound, IsNoLarger, IsSmaller, NoneIsFound}
 use Rattle.atlas_sheet.proofs.NumberedSprites.{numbers_order, shown_order}
 use Rattle.atlas_sheet.proofs.ShownPlaces.{counts, inside_each, upright_each}
 
@@ -31,17 +31,13 @@ each_weaker o sprites P Q weaker each =
     All-weaker (λ how. (lying : List Size) × AreLaid o how sprites lying × P lying) (λ how. (lying : List Size) × AreLaid o how sprites lying × Q lying)
     (λ how is. (is.0, is.1, weaker is.0 is.2)) (turnings o.turn) each
 
--- Fewer pixels than the first sheet that a way finds.
-abbrev IsSmaller : SheetOptions → (sheet : Sides) → List Size → Type 0
-IsSmaller o sheet lying =
-    NoneIsFound WAYS o.allowed (spacing_of o) lying
-    ⊎ ((first : Sides) × (packed : Packed) × IsLeastFound WAYS o.allowed (spacing_of o) lying first packed × (pixels sheet < pixels first))
-
-smaller_yet : (o : SheetOptions) (s t : Sides) (l : List Size) → pixels s < pixels t → IsNoLarger WAYS o.allowed (spacing_of o) l t → IsSmaller o s l
+smaller_yet : (o : SheetOptions) (s t : Sides) (l : List Size) → pixels s < pixels t → IsNoLarger WAYS o.allowed (spacing_of o) l t
+    → IsSmaller WAYS o.allowed (spacing_of o) l s
 smaller_yet o s t l less (inl none) = inl none
 smaller_yet o s t l less (inr (first, packed, least, le)) = inr (first, packed, least, omega (arith, less, le))
 
-still_no_larger : (o : SheetOptions) (s : Sides) (l : List Size) → IsSmaller o s l → IsNoLarger WAYS o.allowed (spacing_of o) l s
+still_no_larger : (o : SheetOptions) (s : Sides) (l : List Size) → IsSmaller WAYS o.allowed (spacing_of o) l s
+    → IsNoLarger WAYS o.allowed (spacing_of o) l s
 still_no_larger o s l (inl none) = inl none
 still_no_larger o s l (inr (first, packed, least, less)) = inr (first, packed, least, omega (arith, less))
 
@@ -50,14 +46,15 @@ pub may_try : {T : Type 0} (best : Option T) (size_of : T → Sides) (o : SheetO
     → IfSome best (λ b. IsNoLargerThanWays o sprites (size_of b)) → IfNone best (NoWayFinds o sprites)
     → IfSome best (λ b. pixels s < pixels (size_of b)) → IsSmallerThanWays o sprites s
 may_try None size_of o sprites s larger none few =
-    each_weaker o sprites (λ l. NoneIsFound WAYS o.allowed (spacing_of o) l) (IsSmaller o s) (λ l no. inl no) none
+    each_weaker o sprites (λ l. NoneIsFound WAYS o.allowed (spacing_of o) l) (λ l. IsSmaller WAYS o.allowed (spacing_of o) l s) (λ l no. inl no) none
 may_try (Some b) size_of o sprites s larger none few =
-    each_weaker o sprites (λ l. IsNoLarger WAYS o.allowed (spacing_of o) l (size_of b)) (IsSmaller o s)
+    each_weaker o sprites (λ l. IsNoLarger WAYS o.allowed (spacing_of o) l (size_of b))
+    (λ l. IsSmaller WAYS o.allowed (spacing_of o) l s)
     (λ l is. smaller_yet o s (size_of b) l few is) larger
 
 no_larger_yet : (o : SheetOptions) (sprites : List Size) (s : Sides) → IsSmallerThanWays o sprites s → IsNoLargerThanWays o sprites s
 no_larger_yet o sprites s smaller =
-    each_weaker o sprites (IsSmaller o s) (λ l. IsNoLarger WAYS o.allowed (spacing_of o) l s) (still_no_larger o s) smaller
+    each_weaker o sprites (λ l. IsSmaller WAYS o.allowed (spacing_of o) l s) (λ l. IsNoLarger WAYS o.allowed (spacing_of o) l s) (still_no_larger o s) smaller
 
 -- What holds of what was found and of the best one holds of the newer.
 pub newer_some : {T : Type 0} (P : T → Type 0) (found best next : Option T)
@@ -77,11 +74,11 @@ pub whole_sheet : {A : Type 0} (o : SheetOptions) (sprites : List Size) (sheet :
     → now ≡ areas
     → sheet.used_area ≡ used_area now → sheet.order.items ≡ map (λ s. s.0) order → IsByHeight sprites order
     → IsAllowed o.allowed (sides_of sheet.size)
-    → AreAllPlaced o (sides_of sheet.size) sprites opts → ArePaddedApart (spacing_of o) opts
+    → AreAllPlaced o (sides_of sheet.size) sprites opts → ArePaddedApart (spacing_of o) opts → All IsUpright opts
     → FindAllTopmost (spacing_of o) (empty_grid (spacing_of o) (sides_of sheet.size)) (with_places (areas_of opts) order)
     → IsSmallerThanWays o sprites (sides_of sheet.size)
     → IsWholeSheet o sprites sheet
-whole_sheet o sprites sheet opts now areas order somes found same area copied by allowed each apart topmost smaller = record {
+whole_sheet o sprites sheet opts now areas order somes found same area copied by allowed each apart upright topmost smaller = record {
   allowed = allowed;
   each = subst (AreAllPlaced o (sides_of sheet.size) sprites) (sym somes) each;
   apart = subst (ArePaddedApart (spacing_of o)) (sym somes) apart;
@@ -94,6 +91,7 @@ whole_sheet o sprites sheet opts now areas order somes found same area copied by
     by = by;
     numbers = copied;
     found = subst (λ ps. FindAllTopmost (spacing_of o) (empty_grid (spacing_of o) (sides_of sheet.size)) (with_places (areas_of ps) order)) (sym somes) topmost;
+    upright = subst (All IsUpright) (sym somes) upright;
   });
 }
 
@@ -105,16 +103,19 @@ pub whole_packed : {A : Type 0} (o : SheetOptions) (sprites : List Size) (found 
     → IfSome found (λ t. IsNoLargerThanWays o sprites (sides_of t.size))
     → (o.effort ≡ 0 → IfSome found (λ t. InOne o sprites (λ lying.
     IsFirstFound WAYS o.allowed (spacing_of o) lying (sides_of t.size) t.order.items (areas_of (map Some t.places.items)))))
+    → (o.effort ≡ 0 → IfSome found (λ t. InFirst o sprites
+    (λ lying. IsFirstFound WAYS o.allowed (spacing_of o) lying (sides_of t.size) t.order.items (areas_of (map Some t.places.items)))
+    (λ lying. IsSmaller WAYS o.allowed (spacing_of o) lying (sides_of t.size))))
     → IfSome found (IsWholeSheet o sprites)
-whole_packed o sprites None allowed shown area larger first = tt
-whole_packed o sprites (Some t) allowed shown area larger first = record {
+whole_packed o sprites None allowed shown area larger first earliest = tt
+whole_packed o sprites (Some t) allowed shown area larger first earliest = record {
   allowed = allowed;
   each = shown.each;
   apart = shown.arranged.good.apart;
   area = area;
   numbers = shown_order (sides_of t.size) (spacing_of o) o.turn sprites t.order.items (map Some t.places.items) shown;
   larger = larger;
-  way = inl (record { shown = shown; first = first });
+  way = inl (record { shown = shown; first = first; earliest = earliest });
 }
 
 module _ {A : Type 0} {o : SheetOptions} {sprites : List Size} {sheet : Sheet A} (whole : IsWholeSheet o sprites sheet) where

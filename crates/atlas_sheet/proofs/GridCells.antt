@@ -4,7 +4,7 @@ use Rattle.std.specs.List.{AllZip, count_by}
 use Rattle.std.proofs.Math.Nat.{mul-le-mul_right, mul-mod_left}
 use Rattle.std.proofs.lemmas.List.{length-map, map-set}
 use Rattle.std.proofs.lemmas.List.Sums.{sum_by-set}
-use Rattle.std.proofs.lemmas.List.Elements.{All-get_or}
+use Rattle.std.proofs.lemmas.List.Elements.{All-get_or, All-replicate, All-set}
 use Rattle.std.proofs.lemmas.Nat.{div_below, le-div}
 use Rattle.std.proofs.lemmas.Bool.{false≢true}
 use Rattle.std.proofs.lemmas.Bool.Decides.{nat_tests}
@@ -20,7 +20,7 @@ use Rattle.atlas_maxrects.proofs.TopmostPlaces.{disjoint_push}
 use Rattle.atlas_sheet.specs.declared.options.Spacing.{Spacing}
 use Rattle.atlas_sheet.specs.declared.options.SheetOptions.{SheetOptions}
 use Rattle.atlas_sheet.specs.declared.placed.Placed.{Placed}
-use Rattle.atlas_sheet.specs.Dense.{AreAllPlaced, ArePaddedApart, IsGridIn, IsSmallGrid, TakesCells, box_from}
+use Rattle.atlas_sheet.specs.Dense.{AreAllPlaced, ArePaddedApart, IsGridIn, IsSmallGrid, IsUpright, TakesCells, box_from}
 use Rattle.atlas_sheet.specs.Lying.{IsPlacedFor, areas_of, placed_area}
 use Rattle.atlas_sheet.specs.Settings.{spacing_of}
 use Rattle.atlas_sheet.specs.Sheets.{IsPackable, IsPlaceFor, asked_sides, covers_place, inner_sides, padded}
@@ -244,6 +244,7 @@ pub record IsGoing (o : SheetOptions) (sheet : Sides) (sprites : List Size) (pac
   pub disjoint : AreDisjoint packer.placed
   pub each : AreAllPlaced o sheet sprites placed
   pub counted : AreCounted (spacing_of o) placed packer.placed
+  pub unturned : All IsUpright placed
 
 pub going_first : (o : SheetOptions) (sheet grid : Sides) (sprites : List Size) (packer : Placing) (spacing : Spacing)
     (placed : List (Option Placed)) → spacing ≡ spacing_of o → IsGridIn grid spacing sheet → IsSmallGrid grid spacing
@@ -257,6 +258,7 @@ going_first o sheet grid sprites packer spacing placed same lies small empty non
       disjoint = λ x y. omega arith;
       each = none_placed o sheet sprites;
       counted = λ x y. let none = none_counted (spacing_of o) x y (length sprites) in omega (arith, none);
+      unturned = All-replicate IsUpright (length sprites) None tt;
     }))
 
 pub going_more : (o : SheetOptions) (sheet : Sides) (sprites : List Size) (old new : Placing) (spacing : Spacing)
@@ -278,4 +280,5 @@ going_more o sheet sprites old new spacing placed n d place p lying same positiv
       each = all_more o sheet sprites placed n d place before.each below
           (placed_for sheet s old new (get_or sprites n d) place positive (All-get_or (IsPackable s) sprites n d below packable) before.grid t);
       counted = counted_more s old new (get_or sprites n d) place placed n aligned (omega (arith, long, below)) t before.counted;
+      unturned = All-set IsUpright placed n (Some (upright place)) refl before.unturned;
     })

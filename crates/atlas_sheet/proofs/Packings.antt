@@ -2,7 +2,7 @@
 use Rattle.std.proofs.Common.{◌≡◌, ◌+◌, ◌++◌, ◌<◌, ℕ, suc, List, [], ◌∷◌, length, map, take, set, get_or, append-nil, All, Some, None, ap, sym, subst, ◌∙◌}
 use Rattle.std.specs.Prelude.{Contains}
 use Rattle.std.proofs.Math.Seq.{take-suc}
-use Rattle.std.proofs.lemmas.List.{length-map, map-append, map-set, map_more, map_push, take_more, get_or-map, get_or-set_same}
+use Rattle.std.proofs.lemmas.List.{length-map, map-append, map-set, map_more, map_push, take_more, get_or-set_same}
 use Rattle.std.proofs.lemmas.List.Elements.{All-push, Contains-push}
 use Rattle.guillotiere.specs.declared.Size.{Size}
 use Rattle.guillotiere.specs.declared.Rectangle.{Rectangle}
@@ -12,9 +12,11 @@ use Rattle.guillotiere.specs.Simple.{SimpleState, simple_start}
 use Rattle.atlas_sheet.specs.declared.options.Spacing.{Spacing}
 use Rattle.atlas_sheet.specs.declared.ways.Choice.{Choice}
 use Rattle.atlas_sheet.specs.declared.ways.Way.{Way}
-use Rattle.atlas_sheet.specs.Packings.{AllFindPlaces, ArePacked, Packed, IsOrderBy, LeavesOne}
+use Rattle.atlas_sheet.specs.Firsts.{StandsAfter}
+use Rattle.atlas_sheet.specs.Packings.{AllFindPlaces, ArePacked, Packed, IsOrderBy, LeavesOne, LeavesSprite}
 use Rattle.atlas_sheet.specs.Orders.{AreNumberedOnce, choice_options}
 use Rattle.atlas_sheet.specs.Sheets.{FindPlaces, FindsPlace, IsPackable, inner_sides, place_of_sprite, with_places}
+use Rattle.atlas_sheet.proofs.FirstOnes.{stands_in}
 use Rattle.atlas_sheet.proofs.FoundPlaces.{HaveFound, more}
 use Rattle.atlas_sheet.proofs.WholeSheets.{found_places}
 
@@ -54,25 +56,22 @@ module _ (spacing : Spacing) (start now next : SimpleState) (order : List (ℕ �
 
 -- One of the ways packs all.
 pub a_way_packs : (ways : List Way) (sheet : Sides) (spacing : Spacing) (sprites : List Size) (packed : Packed)
-    → Contains ways packed.way → IsPositive sheet → IsPositive (sides_of spacing.alignment)
+    → StandsAfter (LeavesSprite sheet spacing sprites) ways packed.way → IsPositive sheet → IsPositive (sides_of spacing.alignment)
     → All (IsPackable spacing) sprites
     → IsOrderBy packed.way sprites packed.order → length packed.places ≡ length sprites
     → AllFindPlaces sheet spacing packed.way.choice packed.order packed.places
     → ArePacked ways sheet spacing sprites packed
-a_way_packs ways sheet spacing sprites packed tried positive aligned packable by long found =
+a_way_packs ways sheet spacing sprites packed first positive aligned packable by long found =
     let count : length (map Some packed.places) ≡ length sprites = length-map packed.places Some ∙ long in
     record {
       good = found_places sheet spacing packed.way.choice sprites packed.order (map Some packed.places) positive aligned packable by.permuted count found;
-      tried = tried;
+      tried = stands_in (LeavesSprite sheet spacing sprites) ways packed.way first;
       by = by;
       found = found;
+      first = first;
     }
 
 module _ {T : Type 0} (f : T → Way) (xs : List T) (k : ℕ) (x : T) (inside : k < length xs) (is : x ≡ get_or xs k x) where
-  pub tried_at : Contains (map f xs) (f x)
-  tried_at =
-      (k, subst (λ n. k < n) (sym (length-map xs f)) inside, get_or-map f xs k x (f x) inside ∙ ap f (sym is))
-
   -- One way more of which something holds.
   pub way_more : (P : Way → Type 0) → All P (map f (take k xs)) → P (f x) → All P (map f (take (k + 1) xs))
   way_more P each here =

@@ -43,9 +43,19 @@ pub record IsGreatest (by : Allowed) (sheet : Sides) : Type 0 where
 abbrev pub pixels : Sides → ℕ
 pixels s = s.width * s.height
 
--- What is looked at before a sheet: of powers of two each with fewer pixels, else the one that is a pixel lower.
+-- Of two sheets with as many pixels one comes before the other: both its sides are shorter than one of the other's, so it is
+-- nearer to a square; or it is the other one turned, and wider than high.
+abbrev pub IsShapedBefore : Sides → Sides → Type 0
+IsShapedBefore s sheet =
+    ((s.width < sheet.width) × (s.height < sheet.width))
+    ⊎ (((s.width < sheet.height) × (s.height < sheet.height))
+    ⊎ ((s.width ≡ sheet.height) × (s.height ≡ sheet.width) × (s.height < s.width)))
+
+-- What is looked at before a sheet: of powers of two each with fewer pixels, and of those with as many each that is nearer to
+-- a square, and the wide one before the high one; else the one that is a pixel lower.
 abbrev pub ComesBefore : Allowed → Sides → Sides → Type 0
-ComesBefore (allowed.Powers greatest) s sheet = s.width * s.height < sheet.width * sheet.height
+ComesBefore (allowed.Powers greatest) s sheet =
+    (pixels s < pixels sheet) ⊎ ((pixels s ≡ pixels sheet) × IsShapedBefore s sheet)
 ComesBefore _ s sheet = s.height + 1 ≡ sheet.height
 
 -- Neither is the least sheet empty, nor the greatest less.

@@ -16,10 +16,10 @@ use Rattle.atlas_sheet.specs.declared.ways.TheConstants.{WAYS}
 use Rattle.atlas_sheet.specs.Allowances.{IsAllowed, IsGreatest, IsNextSmaller, pixels}
 use Rattle.atlas_sheet.specs.Lying.{IsPlacedFor, IsShown, areas_of}
 use Rattle.atlas_sheet.specs.Orders.{IsOrder, IsOrderOf}
-use Rattle.atlas_sheet.specs.Packings.{IsFirstFound, IsLeastFound, IsNoLarger, NoneIsFound, Packed}
+use Rattle.atlas_sheet.specs.Packings.{IsFirstFound, IsNoLarger, IsSmaller, NoneIsFound}
 use Rattle.atlas_sheet.specs.Settings.{spacing_of}
 use Rattle.atlas_sheet.specs.Sheets.{asked_sides, covers_place, inner_sides, padded, place_of_sprite, used_area, with_places}
-use Rattle.atlas_sheet.specs.Turnings.{InEach, InOne}
+use Rattle.atlas_sheet.specs.Turnings.{InEach, InFirst, InOne}
 
 -- A grid of cells of the alignment's sides lies in what is left of a sheet without the padding at one end.
 abbrev pub IsGridIn : (grid : Sides) (spacing : Spacing) (sheet : Sides) → Type 0
@@ -117,6 +117,10 @@ abbrev pub AreAllPlaced : SheetOptions → (sheet : Sides) → List Size → Lis
 AreAllPlaced o sheet sprites placed =
     AllZip (λ sprite p. IfSome p (IsPlacedFor sheet (spacing_of o) o.turn sprite)) sprites placed
 
+-- The sprite isn't turned, if it has a place.
+abbrev pub IsUpright : Option Placed → Type 0
+IsUpright p = IfSome p (λ q. q.turned ≡ false)
+
 -- No pixel lies in two places with the padding to their left and above them.
 abbrev pub ArePaddedApart : Spacing → List (Option Placed) → Type 0
 ArePaddedApart spacing placed = (x y : ℕ) → count_by (covers_place spacing x y) (areas_of placed) ≤ 1
@@ -131,19 +135,21 @@ NoWayFinds o sprites = InEach o sprites (λ lying. NoneIsFound WAYS o.allowed (s
 
 -- A sheet with fewer pixels than the first one that a way finds, if one does, however sprites that may be turned are laid.
 abbrev pub IsSmallerThanWays : SheetOptions → List Size → (sheet : Sides) → Type 0
-IsSmallerThanWays o sprites sheet =
-    InEach o sprites (λ lying. NoneIsFound WAYS o.allowed (spacing_of o) lying
-    ⊎ ((first : Sides) × (packed : Packed) × IsLeastFound WAYS o.allowed (spacing_of o) lying first packed
-    × (pixels sheet < pixels first)))
+IsSmallerThanWays o sprites sheet = InEach o sprites (λ lying. IsSmaller WAYS o.allowed (spacing_of o) lying sheet)
 
--- What `pack` gives: these places in the order of these numbers, and without effort they are what a way finds first.
+-- What `pack` gives: these places in the order of these numbers, and without effort they are what a way finds first; however
+-- the sprites are laid before that, each sheet that a way finds first is larger.
 pub record IsAsPacked (o : SheetOptions) (sprites : List Size) (sheet : Sides) (order : List ℕ) (places : List Placed)
     : Type 0 where
   pub shown : IsShown sheet (spacing_of o) o.turn sprites order (map Some places)
   pub first : o.effort ≡ 0 → InOne o sprites (λ lying.
       IsFirstFound WAYS o.allowed (spacing_of o) lying sheet order (areas_of (map Some places)))
+  pub earliest : o.effort ≡ 0 → InFirst o sprites
+      (λ lying. IsFirstFound WAYS o.allowed (spacing_of o) lying sheet order (areas_of (map Some places)))
+      (λ lying. IsSmaller WAYS o.allowed (spacing_of o) lying sheet)
 
--- A sheet that is smaller than those of the ways, and on which the sprites lie as they find topmost places by height.
+-- A sheet that is smaller than those of the ways, and on which the sprites lie as they find topmost places by height. None is
+-- turned.
 pub record IsDense (o : SheetOptions) (sprites : List Size) (sheet : Sides) (order : List ℕ) (places : List Placed)
     : Type 0 where
   pub smaller : IsSmallerThanWays o sprites sheet
@@ -151,6 +157,7 @@ pub record IsDense (o : SheetOptions) (sprites : List Size) (sheet : Sides) (ord
   pub by : IsByHeight sprites numbered
   pub numbers : order ≡ map (λ s. s.0) numbered
   pub found : FindAllTopmost (spacing_of o) (empty_grid (spacing_of o) sheet) (with_places (areas_of (map Some places)) numbered)
+  pub upright : All IsUpright (map Some places)
 
 -- A sheet of this size has fewer pixels than the sprites together, or leaves one of them, which are placed so by height.
 abbrev pub LeavesDense : SheetOptions → List Size → (sheet : Sides) → Type 0

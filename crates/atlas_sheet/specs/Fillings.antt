@@ -9,6 +9,7 @@ use Rattle.atlas_sheet.specs.declared.options.Spacing.{Spacing}
 use Rattle.atlas_sheet.specs.declared.error.SheetError.{SheetError}
 use Rattle.atlas_sheet.specs.declared.error.SheetError.TheVariants as error
 use Rattle.atlas_sheet.specs.declared.ways.Way.{Way}
+use Rattle.atlas_sheet.specs.Firsts.{StandsBefore}
 use Rattle.atlas_sheet.specs.Sheets.{AreFoundBy, IsPackable, used_area}
 
 -- What a way finds has no more pixels than this.
@@ -17,12 +18,19 @@ IsNoBetter sheet spacing sprites area way =
     (order : List (ℕ × Size)) × (others : List (Option Rectangle))
     × AreFoundBy sheet spacing sprites way order others × (used_area others ≤ area)
 
--- This one of the ways finds these places in this order, and none finds more pixels.
+-- What a way finds has fewer pixels than this.
+abbrev pub FindsFewer : (sheet : Sides) (spacing : Spacing) → List Size → (area : ℕ) → Way → Type 0
+FindsFewer sheet spacing sprites area way =
+    (order : List (ℕ × Size)) × (others : List (Option Rectangle))
+    × AreFoundBy sheet spacing sprites way order others × (used_area others < area)
+
+-- This one of the ways finds these places in this order, none finds more pixels, and each after it fewer.
 pub record AreBest (ways : List Way) (sheet : Sides) (spacing : Spacing) (sprites : List Size) (way : Way)
     (order : List (ℕ × Size)) (places : List (Option Rectangle)) : Type 0 where
   pub tried : Contains ways way
   pub found : AreFoundBy sheet spacing sprites way order places
   pub best : All (IsNoBetter sheet spacing sprites (used_area places)) ways
+  pub last : StandsBefore (FindsFewer sheet spacing sprites (used_area places)) ways way
 
 -- The sprite with a number.
 abbrev pub sprite_at : List Size → ℕ → Size

@@ -1,6 +1,7 @@
 pub mod Allowances
 pub mod Dense
 pub mod Fillings
+pub mod Firsts
 pub mod Grouping
 pub mod Lying
 pub mod Orders

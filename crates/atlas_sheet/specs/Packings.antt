@@ -10,7 +10,8 @@ use Rattle.atlas_sheet.specs.declared.options.Spacing.{Spacing}
 use Rattle.atlas_sheet.specs.declared.allowed.Allowed.{Allowed}
 use Rattle.atlas_sheet.specs.declared.ways.Choice.{Choice}
 use Rattle.atlas_sheet.specs.declared.ways.Way.{Way}
-use Rattle.atlas_sheet.specs.Allowances.{ComesBefore, IsAllowed, IsGreatest, pixels, power_sides}
+use Rattle.atlas_sheet.specs.Allowances.{ComesBefore, IsAllowed, IsGreatest, IsShapedBefore, pixels, power_sides}
+use Rattle.atlas_sheet.specs.Firsts.{StandsAfter}
 use Rattle.atlas_sheet.specs.Orders.{AreGreatestFirst, IsOrderOf, choice_options}
 use Rattle.atlas_sheet.specs.Sheets.{ArePlaces, FindPlaces, inner_sides, place_of_sprite, with_places}
 
@@ -48,13 +49,14 @@ pub record Packed : Type 0 where
   pub order : List (ℕ × Size)
   pub places : List Rectangle
 
--- Places for all sprites, which one of the ways finds.
+-- Places for all sprites, which the first of the ways that finds them all finds.
 pub record ArePacked (ways : List Way) (sheet : Sides) (spacing : Spacing) (sprites : List Size) (packed : Packed)
     : Type 0 where
   pub good : ArePlaces sheet spacing sprites (map Some packed.places)
   pub tried : Contains ways packed.way
   pub by : IsOrderBy packed.way sprites packed.order
   pub found : AllFindPlaces sheet spacing packed.way.choice packed.order packed.places
+  pub first : StandsAfter (LeavesSprite sheet spacing sprites) ways packed.way
 
 -- An allowed sheet into which one of the ways packs all sprites; into an allowed sheet that comes before it none does.
 pub record IsLeastFound (ways : List Way) (by : Allowed) (spacing : Spacing) (sprites : List Size) (sheet : Sides)
@@ -63,7 +65,8 @@ pub record IsLeastFound (ways : List Way) (by : Allowed) (spacing : Spacing) (sp
   pub good : ArePacked ways sheet spacing sprites packed
   pub least : (s : Sides) → IsAllowed by s → ComesBefore by s sheet → NoWayPacks ways s spacing sprites
 
--- A sheet of 2 ^ sum pixels with sides up to 2 ^ most, into which one of the ways packs all sprites.
+-- A sheet of 2 ^ sum pixels with sides up to 2 ^ most, into which one of the ways packs all sprites; into one of as many
+-- pixels that comes before it none does.
 pub record IsPowerPacked (ways : List Way) (most sum : ℕ) (spacing : Spacing) (sprites : List Size) (sheet : Sides)
     (packed : Packed) : Type 0 where
   pub wide : ℕ
@@ -72,6 +75,8 @@ pub record IsPowerPacked (ways : List Way) (most sum : ℕ) (spacing : Spacing) 
   pub inside : (wide ≤ most) × (high ≤ most)
   pub sides : sheet ≡ power_sides wide high
   pub good : ArePacked ways sheet spacing sprites packed
+  pub first : (x y : ℕ) → x + y ≡ sum → x ≤ most → y ≤ most
+      → IsShapedBefore (power_sides x y) (power_sides wide high) → NoWayPacks ways (power_sides x y) spacing sprites
 
 -- Into no such sheet one of the ways packs all sprites.
 abbrev pub NoShapePacks : List Way → (most sum : ℕ) (spacing : Spacing) → List Size → Type 0
@@ -91,6 +96,13 @@ IsNoLarger ways by spacing sprites sheet =
     NoneIsFound ways by spacing sprites
     ⊎ ((first : Sides) × (packed : Packed) × IsLeastFound ways by spacing sprites first packed
     × (pixels sheet ≤ pixels first))
+
+-- A sheet with fewer pixels than the first one that is found, if one of the ways finds one.
+abbrev pub IsSmaller : List Way → Allowed → Spacing → List Size → (sheet : Sides) → Type 0
+IsSmaller ways by spacing sprites sheet =
+    NoneIsFound ways by spacing sprites
+    ⊎ ((first : Sides) × (packed : Packed) × IsLeastFound ways by spacing sprites first packed
+    × (pixels sheet < pixels first))
 
 -- A sheet that one of the ways finds first, with these places and in the order of these numbers.
 abbrev pub IsFirstFound : List Way → Allowed → Spacing → List Size → (sheet : Sides) → (order : List ℕ)

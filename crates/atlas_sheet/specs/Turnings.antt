@@ -10,6 +10,7 @@ use Rattle.atlas_sheet.specs.declared.options.Spacing.{Spacing}
 use Rattle.atlas_sheet.specs.declared.turnings.Turning.{Turning}
 use Rattle.atlas_sheet.specs.declared.turnings.Turning.TheVariants as turning
 use Rattle.atlas_sheet.specs.Allowances.{IsGreatest}
+use Rattle.atlas_sheet.specs.Firsts.{StandsAfter}
 use Rattle.atlas_sheet.specs.Lying.{turned_size}
 use Rattle.atlas_sheet.specs.Settings.{spacing_of}
 use Rattle.atlas_sheet.specs.Sheets.{asked_sides, inner_sides}
@@ -56,3 +57,12 @@ InEach o sprites P = All (λ how. (lying : List Size) × AreLaid o how sprites l
 abbrev pub InOne : SheetOptions → List Size → (List Size → Type 0) → Type 0
 InOne o sprites P =
     (how : Turning) × Contains (turnings o.turn) how × (lying : List Size) × AreLaid o how sprites lying × P lying
+
+-- Something holds of the sprites as they are laid so.
+abbrev pub IsLaidSo : SheetOptions → List Size → (List Size → Type 0) → Turning → Type 0
+IsLaidSo o sprites P how = (lying : List Size) × AreLaid o how sprites lying × P lying
+
+-- Something holds of the sprites as they are laid once, and another thing as they are laid each time before.
+abbrev pub InFirst : SheetOptions → List Size → (now before : List Size → Type 0) → Type 0
+InFirst o sprites now before =
+    (how : Turning) × IsLaidSo o sprites now how × StandsAfter (IsLaidSo o sprites before) (turnings o.turn) how

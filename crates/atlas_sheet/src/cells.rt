@@ -7,7 +7,7 @@ ghost use Rattle.guillotiere.specs.Pixels.{box_of, natural, sides_of};
 ghost use Rattle.guillotiere.specs.Replies.{IsExact};
 ghost use Rattle.atlas_sheet.specs.declared.error.SheetError.TheVariants.{Memory};
 ghost use Rattle.atlas_sheet.specs.Dense.{AreAllPlaced, ArePaddedApart, FindAllTopmost, FindsTopmost, IsGridIn};
-ghost use Rattle.atlas_sheet.specs.Dense.{IsSmallGrid, LeavesTopmost, TakesCells, cell_sides, empty_grid, grid_of};
+ghost use Rattle.atlas_sheet.specs.Dense.{IsSmallGrid, IsUpright, LeavesTopmost, TakesCells, cell_sides, empty_grid, grid_of};
 ghost use Rattle.atlas_sheet.specs.Lying.{areas_of};
 ghost use Rattle.atlas_sheet.specs.Orders.{IsOrderOf};
 ghost use Rattle.atlas_sheet.specs.Settings.{spacing_of};
@@ -173,6 +173,7 @@ pub fn topmost_places<A: Allocator + Copy>(
     ensures apart { IfOk result (λ found. IfSome found (λ placed.
         ArePaddedApart (spacing_of options.now) placed.items)) }
     ensures whole { IfOk result (λ found. IfSome found (λ placed. All IsSome placed.items)) }
+    ensures upright { IfOk result (λ found. IfSome found (λ placed. All IsUpright placed.items)) }
     ensures found { IfOk result (λ found. IfSome found (λ placed. FindAllTopmost (spacing_of options.now)
         (empty_grid (spacing_of options.now) (sides_of sheet)) (with_places (areas_of placed.items) order.now))) }
     ensures left { IfOk result (λ found. IfNone found

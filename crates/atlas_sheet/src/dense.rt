@@ -7,7 +7,7 @@ ghost use Rattle.guillotiere.specs.Pixels.{box_of, natural, sides_of};
 ghost use Rattle.atlas_sheet.specs.declared.error.SheetError.TheVariants.{Memory};
 ghost use Rattle.atlas_sheet.specs.Allowances.{HasNoSmaller, IsAllowed, IsGreatest, IsNextSmaller, IsRow, IsUsable, pixels};
 ghost use Rattle.atlas_sheet.specs.Dense.{AreAllPlaced, ArePaddedApart, FindAllTopmost, IsByHeight, IsLeastDense};
-ghost use Rattle.atlas_sheet.specs.Dense.{IsNoLargerThanWays, IsPackedOrDense, IsSmallerThanWays, IsWholeSheet, LeavesDense};
+ghost use Rattle.atlas_sheet.specs.Dense.{IsNoLargerThanWays, IsPackedOrDense, IsSmallerThanWays, IsUpright, IsWholeSheet, LeavesDense};
 ghost use Rattle.atlas_sheet.specs.Dense.{NoWayFinds, NoneIsDense, empty_grid, height_rank};
 ghost use Rattle.atlas_sheet.specs.Lying.{areas_of, placed_area};
 ghost use Rattle.atlas_sheet.specs.Orders.{IsOrder};
@@ -103,6 +103,7 @@ fn sheet_of<A: Allocator + Copy>(
     requires allowed { IsAllowed options.now.allowed (sides_of size) }
     requires each { AreAllPlaced options.now (sides_of size) sprites.now placed.now }
     requires apart { ArePaddedApart (spacing_of options.now) placed.now }
+    requires upright { All IsUpright placed.now }
     requires by { IsByHeight sprites.now order.now }
     requires found { FindAllTopmost (spacing_of options.now)
         (empty_grid (spacing_of options.now) (sides_of size)) (with_places (areas_of placed.now) order.now) }

@@ -6,9 +6,9 @@ ghost use Rattle.atlas_sheet.specs.declared.ways.TheConstants.{WAYS};
 ghost use Rattle.atlas_sheet.specs.Allowances.{IsAllowed, pixels};
 ghost use Rattle.atlas_sheet.specs.Dense.{IsNoLargerThanWays, NoWayFinds};
 ghost use Rattle.atlas_sheet.specs.Lying.{IsArranged, HoldsAll};
-ghost use Rattle.atlas_sheet.specs.Packings.{IsFirstFound, IsLeastFound, IsToldLast, NoneIsFound};
+ghost use Rattle.atlas_sheet.specs.Packings.{IsFirstFound, IsLeastFound, IsSmaller, IsToldLast, NoneIsFound};
 ghost use Rattle.atlas_sheet.specs.Settings.{CanPack, spacing_of};
-ghost use Rattle.atlas_sheet.specs.Turnings.{AreLaid, InOne};
+ghost use Rattle.atlas_sheet.specs.Turnings.{AreLaid, InFirst};
 
 use crate::arrangement::Arrangement;
 use crate::climbing::{asked_in, improve, is_whole};
@@ -108,6 +108,7 @@ fn smaller_of<A: Allocator>(
     other: Option<Arrangement<A>>,
 ) -> Option<Arrangement<A>>
     ensures kept { (result ≡ one) ⊎ (result ≡ other) }
+    ensures earlier { (result ≡ one) ⊎ IfSome one (λ a. IfSome result (λ b. pixels (sides_of b.size) < pixels (sides_of a.size))) }
     ensures one { IfSome one (λ a. IfSome result (λ b. pixels (sides_of b.size) ≤ pixels (sides_of a.size))) }
     ensures other { IfSome other (λ a. IfSome result (λ b. pixels (sides_of b.size) ≤ pixels (sides_of a.size))) }
     ensures none_one { IfNone result (IsNone one) }
@@ -136,9 +137,10 @@ fn first_found<A: Allocator + Copy>(
     ensures arranged { IfOk result (λ found. IfSome found (IsArranged options.now sprites.now)) }
     ensures allowed { IfOk result (λ found. IfSome found (λ a. IsAllowed options.now.allowed (sides_of a.size))) }
     ensures whole { IfOk result (λ found. IfSome found (λ a. All IsSome a.places.items)) }
-    ensures first { IfOk result (λ found. IfSome found (λ a. InOne options.now sprites.now (λ lying. IsFirstFound WAYS
-        options.now.allowed (spacing_of options.now) lying (sides_of a.size) (map (λ s. s.0) a.order.items)
-        a.places.items))) }
+    ensures first { IfOk result (λ found. IfSome found (λ a. InFirst options.now sprites.now
+        (λ lying. IsFirstFound WAYS options.now.allowed (spacing_of options.now) lying (sides_of a.size)
+        (map (λ s. s.0) a.order.items) a.places.items)
+        (λ lying. IsSmaller WAYS options.now.allowed (spacing_of options.now) lying (sides_of a.size)))) }
     ensures larger { IfOk result (λ found. IfSome found (λ a. IsNoLargerThanWays options.now sprites.now (sides_of a.size))) }
     ensures none { IfOk result (λ found. IfNone found (NoWayFinds options.now sprites.now)) }
     ensures unless { IsOkUnless result Memory }
@@ -237,9 +239,10 @@ fn first_whole<A: Allocator + Copy>(
     ensures arranged { IfOk result (λ found. IfSome found (IsArranged options.now sprites.now)) }
     ensures allowed { IfOk result (λ found. IfSome found (λ a. IsAllowed options.now.allowed (sides_of a.size))) }
     ensures whole { IfOk result (λ found. IfSome found (λ a. All IsSome a.places.items)) }
-    ensures first { tries.old ≡ 0 → IfOk result (λ found. IfSome found (λ a. InOne options.now sprites.now (λ lying.
-        IsFirstFound WAYS options.now.allowed (spacing_of options.now) lying (sides_of a.size)
-        (map (λ s. s.0) a.order.items) a.places.items))) }
+    ensures first { tries.old ≡ 0 → IfOk result (λ found. IfSome found (λ a. InFirst options.now sprites.now
+        (λ lying. IsFirstFound WAYS options.now.allowed (spacing_of options.now) lying (sides_of a.size)
+        (map (λ s. s.0) a.order.items) a.places.items)
+        (λ lying. IsSmaller WAYS options.now.allowed (spacing_of options.now) lying (sides_of a.size)))) }
     ensures larger { IfOk result (λ found. IfSome found (λ a. IsNoLargerThanWays options.now sprites.now (sides_of a.size))) }
     ensures none { IfOk result (λ found. IfNone found (NoWayFinds options.now sprites.now)) }
     ensures unless { IsOkUnless result Memory }
@@ -267,9 +270,10 @@ pub fn packed<A: Allocator + Copy, F: FnMut(Size)>(
     ensures arranged { IfOk result (λ found. IfSome found (IsArranged options.now sprites.now)) }
     ensures allowed { IfOk result (λ found. IfSome found (λ a. IsAllowed options.now.allowed (sides_of a.size))) }
     ensures whole { IfOk result (λ found. IfSome found (λ a. All IsSome a.places.items)) }
-    ensures first { options.now.effort ≡ 0 → IfOk result (λ found. IfSome found (λ a. InOne options.now sprites.now
+    ensures first { options.now.effort ≡ 0 → IfOk result (λ found. IfSome found (λ a. InFirst options.now sprites.now
         (λ lying. IsFirstFound WAYS options.now.allowed (spacing_of options.now) lying (sides_of a.size)
-        (map (λ s. s.0) a.order.items) a.places.items))) }
+        (map (λ s. s.0) a.order.items) a.places.items)
+        (λ lying. IsSmaller WAYS options.now.allowed (spacing_of options.now) lying (sides_of a.size)))) }
     ensures larger { IfOk result (λ found. IfSome found (λ a. IsNoLargerThanWays options.now sprites.now (sides_of a.size))) }
     ensures none { IfOk result (λ found. IfNone found (NoWayFinds options.now sprites.now)) }
     ensures told { IfOk result (λ found. IfSome found (λ a. IsToldLast (λ p size q. F.step p size tt q)

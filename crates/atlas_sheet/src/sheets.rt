@@ -1,18 +1,18 @@
 //! Sheets as callers see them.
 ghost use Rattle.std.specs.List.{AllZip};
-ghost use Rattle.std.specs.Prelude.{◌≡◌, ◌≤◌, ◌⊎◌, false, length, map, take, All, IfErr, IfNone, IfOk, IfSome, IsOkUnless};
+ghost use Rattle.std.specs.Prelude.{◌≡◌, ◌<◌, ◌≤◌, ◌⊎◌, false, length, map, take, All, IfErr, IfNone, IfOk, IfSome, IsOkUnless};
 ghost use Rattle.std.specs.Prelude.{IsSome, OnOk, Some};
 ghost use Rattle.guillotiere.specs.Boxes.{AreDisjoint, IsWithin, box_sides};
 ghost use Rattle.guillotiere.specs.Pixels.{box_of, sides_of};
 ghost use Rattle.atlas_sheet.specs.declared.error.SheetError.TheVariants.{Memory};
 ghost use Rattle.atlas_sheet.specs.declared.ways.TheConstants.{WAYS};
 ghost use Rattle.atlas_sheet.specs.Allowances.{IsAllowed, IsGreatest};
-ghost use Rattle.atlas_sheet.specs.Fillings.{IsBestFound, IsNoBetter, ways_tried};
+ghost use Rattle.atlas_sheet.specs.Fillings.{FindsFewer, IsBestFound, IsNoBetter, ways_tried};
 ghost use Rattle.atlas_sheet.specs.Lying.{IsArranged, IsShown, HoldsAll, areas_of};
-ghost use Rattle.atlas_sheet.specs.Packings.{IsFirstFound, IsNoLarger, IsToldLast, NoneIsFound};
+ghost use Rattle.atlas_sheet.specs.Packings.{IsFirstFound, IsNoLarger, IsSmaller, IsToldLast, NoneIsFound};
 ghost use Rattle.atlas_sheet.specs.Settings.{CanPack, IsSheetFault, spacing_of};
 ghost use Rattle.atlas_sheet.specs.Sheets.{used_area};
-ghost use Rattle.atlas_sheet.specs.Turnings.{AreLaid, InEach, InOne};
+ghost use Rattle.atlas_sheet.specs.Turnings.{AreLaid, InEach, InFirst, InOne};
 
 use crate::allowed::check_allowed;
 use crate::arrangement::Arrangement;
@@ -140,7 +140,7 @@ fn filled_so<A: Allocator + Copy>(
 // The arrangement with more pixels of sprites; of two with as many the first.
 fn fuller<A: Allocator>(one: Arrangement<A>, other: Arrangement<A>) -> Arrangement<A>
     ensures { ((result ≡ one) × (used_area other.places.items ≤ used_area one.places.items))
-        ⊎ ((result ≡ other) × (used_area one.places.items ≤ used_area other.places.items)) }
+        ⊎ ((result ≡ other) × (used_area one.places.items < used_area other.places.items)) }
 {
     if used_area(&one.places) < used_area(&other.places) {
         other
@@ -161,9 +161,11 @@ fn first_filled<A: Allocator + Copy>(
     ensures best { IfOk result (λ a. InEach options.now sprites.now (λ lying. All
         (IsNoBetter (sides_of a.size) (spacing_of options.now) lying (used_area a.places.items))
         (take (ways_tried (length sprites.now)) WAYS))) }
-    ensures found { IfOk result (λ a. InOne options.now sprites.now (λ lying. IsBestFound
-        (take (ways_tried (length sprites.now)) WAYS) (sides_of a.size) (spacing_of options.now) lying
-        (map (λ s. s.0) a.order.items) a.places.items)) }
+    ensures found { IfOk result (λ a. InFirst options.now sprites.now
+        (λ lying. IsBestFound (take (ways_tried (length sprites.now)) WAYS) (sides_of a.size) (spacing_of options.now)
+        lying (map (λ s. s.0) a.order.items) a.places.items)
+        (λ lying. All (FindsFewer (sides_of a.size) (spacing_of options.now) lying (used_area a.places.items))
+        (take (ways_tried (length sprites.now)) WAYS))) }
     ensures unless { IsOkUnless result Memory }
 {
     let size = greatest_sheet(options.allowed);
@@ -188,9 +190,11 @@ pub fn best_filled<A: Allocator + Copy>(
     ensures best { IfOk result (λ a. InEach options.now sprites.now (λ lying. All
         (IsNoBetter (sides_of a.size) (spacing_of options.now) lying (used_area a.places.items))
         (take (ways_tried (length sprites.now)) WAYS))) }
-    ensures plain { options.now.effort ≡ 0 → IfOk result (λ a. InOne options.now sprites.now (λ lying. IsBestFound
-        (take (ways_tried (length sprites.now)) WAYS) (sides_of a.size) (spacing_of options.now) lying
-        (map (λ s. s.0) a.order.items) a.places.items)) }
+    ensures plain { options.now.effort ≡ 0 → IfOk result (λ a. InFirst options.now sprites.now
+        (λ lying. IsBestFound (take (ways_tried (length sprites.now)) WAYS) (sides_of a.size) (spacing_of options.now)
+        lying (map (λ s. s.0) a.order.items) a.places.items)
+        (λ lying. All (FindsFewer (sides_of a.size) (spacing_of options.now) lying (used_area a.places.items))
+        (take (ways_tried (length sprites.now)) WAYS))) }
     ensures unless { IsOkUnless result Memory }
 {
     let first = first_filled(alloc, sprites, options)?;
@@ -204,9 +208,10 @@ pub fn best_filled<A: Allocator + Copy>(
 }
 
 /// Places sprites in the greatest sheet that is allowed. The places have no fewer pixels than those that any of the
-/// first `ways_tried` of `WAYS` finds; without effort they are those of the best of these ways. Where sprites may be
-/// turned, this holds with each `Turning`. With effort the order is changed so many times, and a change stays if it
-/// leaves no more pixels of sprites without a place. A sprite that found no room has no place.
+/// first `ways_tried` of `WAYS` finds; without effort they are those of the best of these ways, of equal ones the last.
+/// Where sprites may be turned, this holds with each `Turning`, and of equal ones the first is taken. With effort the order
+/// is changed so many times, and a change stays if it leaves no more pixels of sprites without a place. A sprite that found
+/// no room has no place.
 ///
 /// `EmptySheet` if the least allowed side is below 1, else `EmptyRange` if the greatest is less than the least, else
 /// `EmptyAlignment` if a side of the alignment is below 1; else `EmptySprite` and `GreatSprite` name the first sprite that
@@ -226,6 +231,11 @@ pub fn fill<A: Allocator + Copy>(
     ensures plain { options.now.effort ≡ 0 → IfOk result (λ filled. InOne options.now sprites.now (λ lying. IsBestFound
         (take (ways_tried (length sprites.now)) WAYS) (sides_of filled.size) (spacing_of options.now) lying
         filled.order.items (areas_of filled.places.items))) }
+    ensures earliest { options.now.effort ≡ 0 → IfOk result (λ filled. InFirst options.now sprites.now
+        (λ lying. IsBestFound (take (ways_tried (length sprites.now)) WAYS) (sides_of filled.size)
+        (spacing_of options.now) lying filled.order.items (areas_of filled.places.items))
+        (λ lying. All (FindsFewer (sides_of filled.size) (spacing_of options.now) lying filled.used_area)
+        (take (ways_tried (length sprites.now)) WAYS))) }
     ensures fault { IfErr result (λ e. IsSheetFault options.now sprites.now e) }
 {
     check_all(sprites, options)?;
@@ -251,12 +261,13 @@ fn sheet_of<A: Allocator + Copy>(alloc: A, filled: Filled<A>) -> Result<Sheet<A>
     })
 }
 
-/// Places all sprites in a sheet that is as small as the search finds. Without effort one of `WAYS` packs them into it,
-/// and none does into the allowed sheet that is a pixel lower (among powers of two: into any with fewer pixels). Where
-/// sprites may be turned, this is the smallest of the sheets that are found so with each `Turning`. With effort so many
-/// more orders are tried, each a small change of the one before, on a sheet that is one step smaller than the best; the
-/// sheet is never larger than without effort. None only where no way, and no order that was tried, packs all sprites
-/// into the greatest sheet that is allowed.
+/// Places all sprites in a sheet that is as small as the search finds. Without effort the first of `WAYS` that packs them
+/// into it is taken, and none does into the allowed sheet that is a pixel lower (among powers of two: into any with fewer
+/// pixels, nor into one with as many that is nearer to a square, or that is this one turned and wider than high). Where
+/// sprites may be turned, this is the smallest of the sheets that are found so with each `Turning`, of equal ones the
+/// first. With effort so many more orders are tried, each a small change of the one before, on a sheet that is one step
+/// smaller than the best; the sheet is never larger than without effort. None only where no way, and no order that was
+/// tried, packs all sprites into the greatest sheet that is allowed.
 ///
 /// `EmptySheet` if the least allowed side is below 1, else `EmptyRange` if the greatest is less than the least, else
 /// `EmptyAlignment` if a side of the alignment is below 1; else `EmptySprite` and `GreatSprite` name the first sprite that
@@ -281,6 +292,11 @@ pub fn pack<A: Allocator + Copy>(
     ensures first { options.now.effort ≡ 0 → IfOk result (λ found. IfSome found (λ sheet.
         InOne options.now sprites.now (λ lying. IsFirstFound WAYS options.now.allowed (spacing_of options.now) lying
         (sides_of sheet.size) sheet.order.items (areas_of (map Some sheet.places.items))))) }
+    ensures earliest { options.now.effort ≡ 0 → IfOk result (λ found. IfSome found (λ sheet.
+        InFirst options.now sprites.now
+        (λ lying. IsFirstFound WAYS options.now.allowed (spacing_of options.now) lying (sides_of sheet.size)
+        sheet.order.items (areas_of (map Some sheet.places.items)))
+        (λ lying. IsSmaller WAYS options.now.allowed (spacing_of options.now) lying (sides_of sheet.size)))) }
     ensures larger { IfOk result (λ found. IfSome found (λ sheet. InEach options.now sprites.now (λ lying.
         IsNoLarger WAYS options.now.allowed (spacing_of options.now) lying (sides_of sheet.size)))) }
     ensures none { IfOk result (λ found. IfNone found (InEach options.now sprites.now (λ lying.
@@ -314,6 +330,11 @@ pub fn pack_telling<A: Allocator + Copy, F: FnMut(Size)>(
     ensures first { options.now.effort ≡ 0 → IfOk result (λ found. IfSome found (λ sheet.
         InOne options.now sprites.now (λ lying. IsFirstFound WAYS options.now.allowed (spacing_of options.now) lying
         (sides_of sheet.size) sheet.order.items (areas_of (map Some sheet.places.items))))) }
+    ensures earliest { options.now.effort ≡ 0 → IfOk result (λ found. IfSome found (λ sheet.
+        InFirst options.now sprites.now
+        (λ lying. IsFirstFound WAYS options.now.allowed (spacing_of options.now) lying (sides_of sheet.size)
+        sheet.order.items (areas_of (map Some sheet.places.items)))
+        (λ lying. IsSmaller WAYS options.now.allowed (spacing_of options.now) lying (sides_of sheet.size)))) }
     ensures larger { IfOk result (λ found. IfSome found (λ sheet. InEach options.now sprites.now (λ lying.
         IsNoLarger WAYS options.now.allowed (spacing_of options.now) lying (sides_of sheet.size)))) }
     ensures none { IfOk result (λ found. IfNone found (InEach options.now sprites.now (λ lying.

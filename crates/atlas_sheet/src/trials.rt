@@ -1,8 +1,9 @@
 //! All ways to place sprites, each with its order.
-ghost use Rattle.std.specs.Prelude.{◌≡◌, map, All, Contains, IfNone, IfOk, IfSome, IsOkUnless, List};
+ghost use Rattle.std.specs.Prelude.{◌≡◌, map, All, IfNone, IfOk, IfSome, IsOkUnless, List};
 ghost use Rattle.guillotiere.specs.Boxes.{IsPositive};
 ghost use Rattle.guillotiere.specs.Pixels.{sides_of};
 ghost use Rattle.atlas_sheet.specs.declared.error.SheetError.TheVariants.{Memory};
+ghost use Rattle.atlas_sheet.specs.Firsts.{StandsAfter};
 ghost use Rattle.atlas_sheet.specs.Packings.{ArePacked, IsOrderBy, LeavesSprite, NoWayPacks};
 ghost use Rattle.atlas_sheet.specs.Sheets.{ArePackable};
 ghost use Rattle.atlas_sheet.specs.declared.ways.Way.{Way};
@@ -61,7 +62,8 @@ fn try_trial<A: Allocator + Copy>(
     requires good { ArePackable spacing sprites.now }
     requires order { IsOrderBy trial.now.way sprites.now trial.now.order.items }
     ensures size { IfOk result (λ found. IfSome found (λ p. p.size ≡ size)) }
-    ensures packed { IfOk result (λ found. IfSome found (λ p. (ways : List Way) → Contains ways trial.now.way
+    ensures packed { IfOk result (λ found. IfSome found (λ p. (ways : List Way)
+        → StandsAfter (LeavesSprite (sides_of size) spacing sprites.now) ways trial.now.way
         → ArePacked ways (sides_of size) spacing sprites.now
         (record { way = p.way; order = p.order.items; places = p.places.items }))) }
     ensures left { IfOk result (λ found. IfNone found

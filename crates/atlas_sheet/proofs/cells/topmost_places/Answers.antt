@@ -90,3 +90,6 @@ returns-clause-whole g c =
     placing_whole (spacing_of c.args.options.now) _ c.loop-sprite.packer c.args.order.now c.loop-sprite.sprite-index c.loop-sprite.placed.items c.loop-sprite-test.false
     c.loop-sprite.invariant.placing c.args.sprites.now c.requires.permuted
     (length_zip c.args.options.now (sides_of c.args.sheet) c.args.sprites.now c.loop-sprite.placed.items c.loop-sprite.invariant.going.each)
+
+pub returns-clause-upright : goal.returns-clause-upright
+returns-clause-upright g c = c.loop-sprite.invariant.going.unturned

@@ -38,8 +38,8 @@ returns-clause-first g c =
     turning.Wide c.in_ok-wide.wide (λ a. a.lying.items) c.in_ok-wide.ensures.laid c.in_ok-wide.ensures.first c.in_ok-wide.ensures.none)
     (found_best c.args.options.now c.args.sprites.now WAYS (λ a. a.size) (λ a. map (λ s. s.0) a.order.items) (λ a. a.places.items)
     turning.High c.in_ok-high.high (λ a. a.lying.items) c.in_ok-high.ensures.laid c.in_ok-high.ensures.first c.in_ok-high.ensures.none)
-    c.smaller_of.ensures.kept (c.smaller_of.ensures.one, c.smaller_of.ensures.none_one) (c.smaller_of.ensures.other, c.smaller_of.ensures.none_other)
-    c.smaller_of-2.ensures.kept (c.smaller_of-2.ensures.one, c.smaller_of-2.ensures.none_one) (c.smaller_of-2.ensures.other, c.smaller_of-2.ensures.none_other))
+    c.smaller_of.ensures.kept c.smaller_of.ensures.earlier (c.smaller_of.ensures.one, c.smaller_of.ensures.none_one) (c.smaller_of.ensures.other, c.smaller_of.ensures.none_other)
+    c.smaller_of-2.ensures.kept c.smaller_of-2.ensures.earlier (c.smaller_of-2.ensures.one, c.smaller_of-2.ensures.none_one) (c.smaller_of-2.ensures.other, c.smaller_of-2.ensures.none_other))
 
 pub returns-then-not-options-clause-first : goal.returns-then-not-options-clause-first
 returns-then-not-options-clause-first g c =
@@ -62,8 +62,8 @@ returns-clause-larger g c =
     turning.Wide c.in_ok-wide.wide (λ a. a.lying.items) c.in_ok-wide.ensures.laid c.in_ok-wide.ensures.first c.in_ok-wide.ensures.none)
     (found_best c.args.options.now c.args.sprites.now WAYS (λ a. a.size) (λ a. map (λ s. s.0) a.order.items) (λ a. a.places.items)
     turning.High c.in_ok-high.high (λ a. a.lying.items) c.in_ok-high.ensures.laid c.in_ok-high.ensures.first c.in_ok-high.ensures.none)
-    c.smaller_of.ensures.kept (c.smaller_of.ensures.one, c.smaller_of.ensures.none_one) (c.smaller_of.ensures.other, c.smaller_of.ensures.none_other)
-    c.smaller_of-2.ensures.kept (c.smaller_of-2.ensures.one, c.smaller_of-2.ensures.none_one) (c.smaller_of-2.ensures.other, c.smaller_of-2.ensures.none_other))
+    c.smaller_of.ensures.kept c.smaller_of.ensures.earlier (c.smaller_of.ensures.one, c.smaller_of.ensures.none_one) (c.smaller_of.ensures.other, c.smaller_of.ensures.none_other)
+    c.smaller_of-2.ensures.kept c.smaller_of-2.ensures.earlier (c.smaller_of-2.ensures.one, c.smaller_of-2.ensures.none_one) (c.smaller_of-2.ensures.other, c.smaller_of-2.ensures.none_other))
 
 pub returns-then-not-options-clause-larger : goal.returns-then-not-options-clause-larger
 returns-then-not-options-clause-larger g c =
@@ -86,8 +86,8 @@ returns-clause-none g c =
     turning.Wide c.in_ok-wide.wide (λ a. a.lying.items) c.in_ok-wide.ensures.laid c.in_ok-wide.ensures.first c.in_ok-wide.ensures.none)
     (found_best c.args.options.now c.args.sprites.now WAYS (λ a. a.size) (λ a. map (λ s. s.0) a.order.items) (λ a. a.places.items)
     turning.High c.in_ok-high.high (λ a. a.lying.items) c.in_ok-high.ensures.laid c.in_ok-high.ensures.first c.in_ok-high.ensures.none)
-    c.smaller_of.ensures.kept (c.smaller_of.ensures.one, c.smaller_of.ensures.none_one) (c.smaller_of.ensures.other, c.smaller_of.ensures.none_other)
-    c.smaller_of-2.ensures.kept (c.smaller_of-2.ensures.one, c.smaller_of-2.ensures.none_one) (c.smaller_of-2.ensures.other, c.smaller_of-2.ensures.none_other))
+    c.smaller_of.ensures.kept c.smaller_of.ensures.earlier (c.smaller_of.ensures.one, c.smaller_of.ensures.none_one) (c.smaller_of.ensures.other, c.smaller_of.ensures.none_other)
+    c.smaller_of-2.ensures.kept c.smaller_of-2.ensures.earlier (c.smaller_of-2.ensures.one, c.smaller_of-2.ensures.none_one) (c.smaller_of-2.ensures.other, c.smaller_of-2.ensures.none_other))
 
 pub returns-then-not-options-clause-none : goal.returns-then-not-options-clause-none
 returns-then-not-options-clause-none g c =

@@ -4,11 +4,11 @@ use Rattle.guillotiere.specs.Pixels.{sides_of}
 use Rattle.atlas_sheet.specs.declared.turnings.Turning.TheVariants as turning
 use Rattle.atlas_sheet.specs.declared.ways.TheConstants.{WAYS}
 use Rattle.atlas_sheet.specs.Allowances.{IsGreatest}
-use Rattle.atlas_sheet.specs.Fillings.{IsBestFound, IsNoBetter, ways_tried}
+use Rattle.atlas_sheet.specs.Fillings.{FindsFewer, IsBestFound, IsNoBetter, ways_tried}
 use Rattle.atlas_sheet.specs.Lying.{IsArranged}
 use Rattle.atlas_sheet.specs.Settings.{spacing_of}
 use Rattle.atlas_sheet.specs.Sheets.{used_area}
-use Rattle.atlas_sheet.specs.Turnings.{InEach, InOne}
+use Rattle.atlas_sheet.specs.Turnings.{InEach, InFirst}
 use Rattle.atlas_sheet.proofs.LaidWays.{filled_best, full_each, full_one, fullest, taken}
 use Rattle.atlas_sheet.proofs.sheets.first_filled.Goals as goal
 
@@ -56,8 +56,9 @@ returns-clause-found g c =
     let size : best.size ≡ c.greatest_sheet-size.result =
     taken (λ a. a.size ≡ c.greatest_sheet-size.result) c.in_ok-given.given c.in_ok-wide.wide c.in_ok-high.high c.fuller.result best
     c.fuller.ensures c.fuller-2.ensures c.in_ok-given.ensures.size c.in_ok-wide.ensures.size c.in_ok-high.ensures.size in
-    subst (λ (s : Size). InOne c.args.options.now sprites
-    (λ lying. IsBestFound ways (sides_of s) (spacing_of c.args.options.now) lying (map (λ s. s.0) best.order.items) best.places.items)) (sym size)
+    subst (λ (s : Size). InFirst c.args.options.now sprites
+    (λ lying. IsBestFound ways (sides_of s) (spacing_of c.args.options.now) lying (map (λ s. s.0) best.order.items) best.places.items)
+    (λ lying. All (FindsFewer (sides_of s) (spacing_of c.args.options.now) lying (used_area best.places.items)) ways)) (sym size)
     (full_one c.args.options.now sprites ways sheet (λ a. map (λ s. s.0) a.order.items) (λ a. a.places.items) true best on all)
 
 pub returns-then-not-options-clause-best : goal.returns-then-not-options-clause-best
@@ -80,8 +81,9 @@ returns-then-not-options-clause-found g c =
     let ways = take (ways_tried (length sprites)) WAYS in
     let off : c.args.options.now.turn ≡ false = search rules in
     let sheet = sides_of c.greatest_sheet-size.result in
-    subst (λ (s : Size). InOne c.args.options.now sprites
-    (λ lying. IsBestFound ways (sides_of s) (spacing_of c.args.options.now) lying (map (λ s. s.0) a.order.items) a.places.items))
+    subst (λ (s : Size). InFirst c.args.options.now sprites
+    (λ lying. IsBestFound ways (sides_of s) (spacing_of c.args.options.now) lying (map (λ s. s.0) a.order.items) a.places.items)
+    (λ lying. All (FindsFewer (sides_of s) (spacing_of c.args.options.now) lying (used_area a.places.items)) ways))
     (sym c.in_ok-given.ensures.size)
     (full_one c.args.options.now sprites ways sheet (λ a. map (λ s. s.0) a.order.items) (λ a. a.places.items) false a off
     (filled_best c.args.options.now sprites ways sheet (λ a. map (λ s. s.0) a.order.items) (λ a. a.places.items) turning.AsGiven a a.lying.items

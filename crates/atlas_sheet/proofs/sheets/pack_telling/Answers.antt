@@ -5,9 +5,10 @@ use Rattle.guillotiere.specs.Pixels.{sides_of}
 use Rattle.atlas_sheet.specs.declared.ways.TheConstants.{WAYS}
 use Rattle.atlas_sheet.specs.Lying.{IsShown, HoldsAll, areas_of}
 use Rattle.atlas_sheet.specs.Settings.{spacing_of}
-use Rattle.atlas_sheet.specs.Packings.{AreFalling, IsNoLarger}
+use Rattle.atlas_sheet.specs.Packings.{AreFalling, IsFirstFound, IsNoLarger, IsSmaller}
 use Rattle.atlas_sheet.specs.Turnings.{InEach}
 use Rattle.atlas_sheet.proofs.Arrangements.{shown_whole}
+use Rattle.atlas_sheet.proofs.LaidWays.{first_in_one}
 use Rattle.atlas_sheet.proofs.ShownPlaces.{shows_apart, shows_inside, shows_upright}
 use Rattle.atlas_sheet.proofs.sheets.pack_telling.Goals as goal
 
@@ -23,6 +24,17 @@ returns-clause-larger g c =
     (λ lying. IsNoLarger WAYS c.args.options.now.allowed (spacing_of c.args.options.now) lying (sides_of s))) (sym size)
     (rw c.in-Some.is at c.in_ok-found.ensures.larger)
 
+pub returns-clause-earliest : goal.returns-clause-earliest
+returns-clause-earliest g c e =
+    let best = c.in-Some.best in
+    let sheet = c.in_ok-sheet.sheet in
+    let size : sheet.size ≡ best.size = c.in_ok-sheet.ensures.size ∙ c.in_ok-filled.ensures.size in
+    let order : sheet.order.items ≡ map (λ s. s.0) best.order.items = c.in_ok-sheet.ensures.order ∙ c.in_ok-filled.ensures.order in
+    let areas : areas_of (map Some sheet.places.items) ≡ best.places.items =
+    ap areas_of c.in_ok-sheet.ensures.places ∙ c.in_ok-filled.ensures.areas in
+    let found = c.in_ok-found.ensures.first e in
+    rw (size, order, areas) (rw c.in-Some.is at found)
+
 pub returns-clause-first : goal.returns-clause-first
 returns-clause-first g c e =
     let best = c.in-Some.best in
@@ -32,7 +44,12 @@ returns-clause-first g c e =
     let areas : areas_of (map Some sheet.places.items) ≡ best.places.items =
     ap areas_of c.in_ok-sheet.ensures.places ∙ c.in_ok-filled.ensures.areas in
     let found = c.in_ok-found.ensures.first e in
-    rw (size, order, areas) (rw c.in-Some.is at found)
+    rw (size, order, areas)
+    (first_in_one c.args.options.now c.args.sprites.now
+    (λ lying. IsFirstFound WAYS c.args.options.now.allowed (spacing_of c.args.options.now) lying (sides_of best.size)
+    (map (λ s. s.0) best.order.items) best.places.items)
+    (λ lying. IsSmaller WAYS c.args.options.now.allowed (spacing_of c.args.options.now) lying (sides_of best.size))
+    (rw c.in-Some.is at found))
 
 pub returns-clause-inside : goal.returns-clause-inside
 returns-clause-inside g c =

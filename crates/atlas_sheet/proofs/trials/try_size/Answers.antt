@@ -4,7 +4,8 @@ use Rattle.std.proofs.lemmas.Option.{IfSome_then}
 use Rattle.guillotiere.specs.Pixels.{sides_of}
 use Rattle.atlas_sheet.specs.Packings.{IsOrderBy, LeavesSprite, NoWayPacks}
 use Rattle.atlas_sheet.proofs.Maybes.{at_none}
-use Rattle.atlas_sheet.proofs.Packings.{tried_at, way_more}
+use Rattle.atlas_sheet.proofs.FirstOnes.{stands_at}
+use Rattle.atlas_sheet.proofs.Packings.{way_more}
 use Rattle.atlas_sheet.proofs.trials.try_size.Goals as goal
 
 pub try_trial-requires-clause-order : goal.try_trial-requires-clause-order
@@ -17,7 +18,8 @@ pub returns-then-is_some-clause-packed : goal.returns-then-is_some-clause-packed
 returns-then-is_some-clause-packed g c =
     IfSome_then c.in_ok-found.found c.in_ok-found.ensures.packed (λ p packed.
     packed (map (λ t. t.way) c.args.trials.now)
-    (tried_at (λ t. t.way) c.args.trials.now c.loop-trial.trial-index c.trial-item.result c.loop-trial-test.true c.trial-item.is))
+    (stands_at (LeavesSprite (sides_of c.args.size) c.args.spacing c.args.sprites.now) (λ t. t.way) c.args.trials.now c.loop-trial.trial-index
+    c.trial-item.result c.loop-trial-test.true c.trial-item.is c.loop-trial.invariant))
 
 pub loop-trial-preserved : goal.loop-trial-preserved
 loop-trial-preserved g c =
