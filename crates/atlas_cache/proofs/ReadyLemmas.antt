@@ -73,7 +73,7 @@ module _ {K : Type 0} where
   module _ {X : Type 0} (result : Result X CacheError) (size : Size) (room rest : ℕ) (s t : CacheState K)
       (reserves : (n : ℕ) → HasReserves (n + 1) room s → KeepsPageSizes size s → (result ≢ Err Memory) × HasReserves n rest t)
       (allowed : (n : ℕ) → AllowSlots (4 * (n + 1)) s.pages → KeepsPageSizes size s
-          → (result ≢ Err Slots) × AllowSlots (4 * n) t.pages) where
+      → (result ≢ Err Slots) × AllowSlots (4 * n) t.pages) where
     -- While all is ready for one more, it isn't refused for memory or for slots, and less is in reserve after it.
     one_served : (n left : ℕ) → IsReadyFor n room s → left < n
         → ((result ≢ Err Memory) × HasReserves left rest t) × ((result ≢ Err Slots) × AllowSlots (4 * left) t.pages)

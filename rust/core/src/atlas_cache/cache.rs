@@ -148,6 +148,9 @@ impl<K: Copy + Eq + Hash, S: BuildHasher, A: Allocator + Copy> TextureCache<K, S
     /// Nor is an insert that neither adds a page nor grows one (since a page has room, or all allowed exist, at their largest) refused
     /// with `Memory`, given one entry in reserve (`reserve`), 4 slots on each page (`reserve_slots`), and room for one change more than
     /// there are entries. Given n entries in reserve, 4n slots and room for n changes more than entries, none of n such inserts is.
+    /// It uses at most 4 more slots of a page, and is refused with `Slots` only where a page used all but 3 at most before it. So once
+    /// `reserve_slots(4 * n)` was Ok, none of n such inserts is refused with `Slots` either; `get`, `remove`, `clear` and `begin_frame`
+    /// between them take nothing of it.
     ///
     /// Takes one look-up by a hash. A new key that isn't blank also takes a few steps for each page, and a request of an atlas for each
     /// page that isn't known to have no room: one that refused a size no larger in width and height, and hasn't changed since, is. An

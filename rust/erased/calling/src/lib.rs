@@ -1,6 +1,6 @@
 // Erased from crates/calling/src/lib.rt by rust/erase: don't edit.
 //! What callers write first over an atlas. All of it is proved without a proof file, except `apart::two`,
-//! `beside::place_beside` and `tiled`, which show how a clause and a law are cited.
+//! `beside::place_beside`, `tiled` and `reserving`, which show how a clause, a law and a loop's invariant are cited.
 #![forbid(unsafe_code)]
 #![allow(dead_code, unused_imports, unused_labels, unused_variables)]
 
@@ -24,6 +24,7 @@ mod pages;
 mod plain;
 mod recording;
 mod reserved;
+mod reserving;
 mod sheet;
 mod shown;
 mod strips;

@@ -40,11 +40,12 @@ impl<K: Copy + Eq + Hash, S: BuildHasher, A: Allocator + Copy> TextureCache<K, S
         Ok(())
     }
 
-    /// Makes sure that at least this many slots are in reserve on each page. An insert that neither adds a page nor grows one takes
-    /// at most 4 of each page; a page that is added later has none in reserve, one that grows takes up to 3 of its own, and
-    /// one that is repacked may have none; `remove`, `trim` and `clear` take none away. Nothing else changes. `Slots` only if a page
-    /// would use more than 16,777,216 with them, `Memory` only if some page hasn't as many in reserve and memory is refused; the
-    /// pages before that one have theirs in reserve then. Takes as many steps as there are pages, and memory for those that need it.
+    /// Makes sure that at least this many slots are in reserve on each page, and that each page may use so many more of the 16,777,216
+    /// that there can be. An insert that neither adds a page nor grows one takes at most 4 of each page; a page that is added later
+    /// has none in reserve, one that grows takes up to 3 of its own, and one that is repacked may have none; `remove`, `trim` and
+    /// `clear` take none away. Nothing else changes. `Slots` only if a page would use more than 16,777,216 with them, `Memory` only if
+    /// some page hasn't as many in reserve and memory is refused; the pages before that one have theirs in reserve then, and it and those
+    /// after it are as they were. Takes as many steps as there are pages, and memory for those that need it.
     #[inline]
     pub fn reserve_slots(&mut self, additional: u32) -> Result<(), CacheError> {
         self.rooms.reserve_slots(additional)

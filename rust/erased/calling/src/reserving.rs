@@ -1,0 +1,64 @@
+// Erased from crates/calling/src/reserving.rt by rust/erase: don't edit.
+//! Inserts of which none is refused for memory or for slots, since all that they need was taken first.
+
+use wollemigo_core::atlas_cache::entries::DefaultHasher;
+use wollemigo_core::atlas_cache::{CacheError, Changes, Inserted, TextureCache};
+use wollemigo_core::guillotiere::Size;
+use wollemigo_support::alloc::Allocator;
+use wollemigo_support::prelude::prove;
+
+/// Takes what so many inserts need: entries, slots of each page, and room for their changes.
+pub fn take_for<A: Allocator + Copy>(
+    cache: &mut TextureCache<u64, DefaultHasher, A>,
+    inserts: u32,
+    changes: &mut Changes<u64, A>,
+) -> Result<(), CacheError> {
+    if inserts > 4_194_304 {
+        return Err(CacheError::Slots); // no page may use so many
+    }
+    cache.reserve(inserts as usize)?;
+    cache.reserve_slots(4 * inserts)?;
+    changes.reserve(cache.len() + inserts as usize)?;
+    Ok(())
+}
+
+/// One insert of those for which all is ready leaves it ready for the others.
+pub fn insert_one<A: Allocator + Copy>(
+    cache: &mut TextureCache<u64, DefaultHasher, A>,
+    key: u64,
+    size: Size,
+    left: u32,
+    changes: &mut Changes<u64, A>,
+) -> Result<Inserted, CacheError> {
+    cache.insert(key, size, changes)
+}
+
+/// Two inserts, a key that goes and a new frame between them: what was taken for two is enough.
+pub fn insert_again<A: Allocator + Copy>(
+    cache: &mut TextureCache<u64, DefaultHasher, A>,
+    first: u64,
+    gone: u64,
+    second: u64,
+    size: Size,
+    changes: &mut Changes<u64, A>,
+) {
+    let one = insert_one(cache, first, size, 1, changes);
+    prove!(!matches!(&one, Err(CacheError::Memory | CacheError::Slots)));
+    let _gone = cache.remove(&gone);
+    cache.begin_frame();
+    let two = insert_one(cache, second, size, 0, changes);
+    prove!(!matches!(&two, Err(CacheError::Memory | CacheError::Slots)));
+}
+
+/// The glyphs of a text, of which none is refused for memory or for slots.
+pub fn insert_all<A: Allocator + Copy>(
+    cache: &mut TextureCache<u64, DefaultHasher, A>,
+    keys: &[u64],
+    size: Size,
+    changes: &mut Changes<u64, A>,
+) -> Result<(), CacheError> {
+    for key in keys {
+        let _answer = cache.insert(*key, size, changes)?;
+    }
+    Ok(())
+}
