@@ -1,5 +1,5 @@
 -- What a packing with no guillotine cuts answers, and what it writes.
-use Rattle.std.specs.Prelude.{◌≡◌, ℕ, ◌≤◌, List, length, map, Some}
+use Rattle.std.specs.Prelude.{◌≡◌, ℕ, ◌≤◌, min, List, length, map, Some}
 use Rattle.guillotiere.specs.declared.Size.{Size}
 use Rattle.guillotiere.specs.Pixels.{sides_of}
 use Rattle.atlas_sheet.specs.declared.options.SheetOptions.{SheetOptions}
@@ -9,8 +9,8 @@ use Rattle.atlas_sheet.specs.Dense.{AreAllPlaced, ArePaddedApart, IsLeastDense, 
 use Rattle.atlas_sheet.specs.Settings.{spacing_of}
 use Rattle.guillotiere_c.specs.declared.plain_sheet.PlainPlaced.{PlainPlaced}
 use Rattle.guillotiere_c.specs.Packing.{HasNoSheet}
-use Rattle.guillotiere_c.specs.SheetNumbers.{placed_in}
-use Rattle.guillotiere_c.specs.Writing.{IsWritten}
+use Rattle.guillotiere_c.specs.SheetNumbers.{placed_in, IsToldByBit}
+use Rattle.guillotiere_c.specs.Writing.{AreFirst, IsWritten}
 
 -- A sheet that takes all sprites, as `atlas_sheet::pack_dense` finds it, with their places in the order of the sprites: they
 -- lie apart with their padding, and the sheet has no more pixels than the first one that a way of `pack` finds. They lie as
@@ -35,3 +35,4 @@ pub record IsDenseSheetWritten (o : SheetOptions) (sprites : List Size) (sheet :
   pub room : length sprites ≤ length old
   pub packed : IsDenseSheet o sprites sheet placed
   pub written : IsWritten placed_in placed old new
+  pub bits : AreFirst IsToldByBit (min (length placed) (length old)) new

@@ -6,11 +6,11 @@ use Rattle.atlas_sheet.specs.declared.options.SheetOptions.{SheetOptions}
 use Rattle.atlas_sheet.specs.declared.placed.Placed.{Placed}
 use Rattle.atlas_sheet.specs.declared.ways.TheConstants.{WAYS}
 use Rattle.atlas_sheet.specs.Allowances.{IsGreatest}
-use Rattle.atlas_sheet.specs.Fillings.{IsBestFound, IsNoBetter, ways_tried}
+use Rattle.atlas_sheet.specs.Fillings.{FindsFewer, IsBestFound, IsNoBetter, ways_tried}
 use Rattle.atlas_sheet.specs.Lying.{IsShown, areas_of}
 use Rattle.atlas_sheet.specs.Settings.{spacing_of}
 use Rattle.atlas_sheet.specs.Sheets.{used_area}
-use Rattle.atlas_sheet.specs.Turnings.{InEach, InOne}
+use Rattle.atlas_sheet.specs.Turnings.{InEach, InFirst, InOne}
 use Rattle.guillotiere_c.specs.declared.plain_sheet.PlainMaybePlaced.{PlainMaybePlaced}
 use Rattle.guillotiere_c.specs.SheetNumbers.{maybe_placed_in, IsMaybeToldByBit}
 use Rattle.guillotiere_c.specs.Writing.{AreFirst, IsWritten}
@@ -32,6 +32,11 @@ pub record IsFilledSheet (o : SheetOptions) (sprites : List Size) (sheet : Size)
       (take (ways_tried (length sprites)) WAYS))
   pub plain : o.effort ≡ 0 → InOne o sprites (λ lying. IsBestFound (take (ways_tried (length sprites)) WAYS)
       (sides_of sheet) (spacing_of o) lying order (areas_of placed))
+  pub earliest : o.effort ≡ 0 → InFirst o sprites
+      (λ lying. IsBestFound (take (ways_tried (length sprites)) WAYS) (sides_of sheet) (spacing_of o) lying order
+      (areas_of placed))
+      (λ lying. All (FindsFewer (sides_of sheet) (spacing_of o) lying (used_area (areas_of placed)))
+      (take (ways_tried (length sprites)) WAYS))
 
 -- These places stand at the start of an array, which has room for them, and those that are missing are counted.
 pub record IsFillingWritten (o : SheetOptions) (sprites : List Size) (sheet : Size) (left : ℕ)

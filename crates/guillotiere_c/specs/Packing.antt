@@ -7,9 +7,9 @@ use Rattle.atlas_sheet.specs.declared.placed.Placed.{Placed}
 use Rattle.atlas_sheet.specs.declared.ways.TheConstants.{WAYS}
 use Rattle.atlas_sheet.specs.Allowances.{IsAllowed}
 use Rattle.atlas_sheet.specs.Lying.{IsShown, areas_of}
-use Rattle.atlas_sheet.specs.Packings.{IsFirstFound, IsNoLarger, NoneIsFound}
+use Rattle.atlas_sheet.specs.Packings.{IsFirstFound, IsNoLarger, IsSmaller, NoneIsFound}
 use Rattle.atlas_sheet.specs.Settings.{spacing_of}
-use Rattle.atlas_sheet.specs.Turnings.{InEach, InOne}
+use Rattle.atlas_sheet.specs.Turnings.{InEach, InFirst, InOne}
 use Rattle.guillotiere_c.specs.declared.plain_sheet.PlainPlaced.{PlainPlaced}
 use Rattle.guillotiere_c.specs.SheetNumbers.{placed_in, IsToldByBit}
 use Rattle.guillotiere_c.specs.Writing.{AreFirst, IsWritten}
@@ -21,6 +21,9 @@ pub record IsPackedSheet (o : SheetOptions) (sprites : List Size) (sheet : Size)
   pub shown : IsShown (sides_of sheet) (spacing_of o) o.turn sprites order (map Some placed)
   pub first : o.effort ≡ 0 → InOne o sprites (λ lying.
       IsFirstFound WAYS o.allowed (spacing_of o) lying (sides_of sheet) order (areas_of (map Some placed)))
+  pub earliest : o.effort ≡ 0 → InFirst o sprites
+      (λ lying. IsFirstFound WAYS o.allowed (spacing_of o) lying (sides_of sheet) order (areas_of (map Some placed)))
+      (λ lying. IsSmaller WAYS o.allowed (spacing_of o) lying (sides_of sheet))
   pub larger : InEach o sprites (λ lying. IsNoLarger WAYS o.allowed (spacing_of o) lying (sides_of sheet))
 
 -- The places of such a sheet stand at the start of an array, which has room for them.

@@ -43,6 +43,10 @@ pub record IsMaybeToldByBit (p : PlainMaybePlaced) : Type 0 where
 abbrev pub on_page_in : PlainOnPage → OnPage
 on_page_in p = record { page = p.page; placed = placed_in p.placed }
 
+-- The same of a place on one of several sheets.
+abbrev pub IsPageToldByBit : PlainOnPage → Type 0
+IsPageToldByBit p = IsToldByBit p.placed
+
 -- The sheets that are allowed, if they are of one of the four kinds.
 abbrev pub allowed_in : PlainSheetOptions → Option Allowed
 allowed_in o =

@@ -1,5 +1,5 @@
 //! The export that packs sprites known beforehand into a sheet with no guillotine cuts.
-ghost use Rattle.std.specs.Prelude.{◌≡◌, ◌≢◌, ◌≤◌, length, map, IfErr, IfNone, IfOk, IfSome, IsSomeAnd, None};
+ghost use Rattle.std.specs.Prelude.{◌≡◌, ◌≢◌, ◌<◌, ◌≤◌, length, map, IfErr, IfNone, IfOk, IfSome, IsSomeAnd, None};
 ghost use Rattle.atlas_sheet.specs.Settings.{IsSheetFault};
 ghost use Rattle.guillotiere_c.specs.DensePacking.{HasNoDenseSheet, IsDenseSheet, IsDenseSheetWritten};
 ghost use Rattle.guillotiere_c.specs.Numbers.{size_in};
@@ -51,6 +51,8 @@ pub extern "C" fn guillotiere_pack_dense(
         (λ o. HasNoDenseSheet o (map size_in sprites.now)) }
     ensures bad { result ≡ BAD_CALL → sheet_options_in options.now ≡ None }
     ensures short { result ≡ SHORT → length sprites.now ≤ length places.old → ⊥ }
+    ensures bad_first { sheet_options_in options.now ≡ None → result ≡ BAD_CALL }
+    ensures short_next { result ≢ BAD_CALL → length places.old < length sprites.now → result ≡ SHORT }
     ensures fault { result ≢ DONE → result ≢ NO_ROOM → result ≢ BAD_CALL → result ≢ SHORT
         → IsSomeAnd (sheet_options_in options.now) (λ o. IsSomeAnd (sheet_error result sprite.new)
         (λ e. IsSheetFault o (map size_in sprites.now) e)) }

@@ -1,5 +1,5 @@
 //! The export that packs sprites known beforehand into several sheets, those of a group on one.
-ghost use Rattle.std.specs.Prelude.{◌≡◌, ◌≢◌, ◌≤◌, length, map, IfErr, IfNone, IfOk, IfSome, IsOkUnless, IsSomeAnd, None};
+ghost use Rattle.std.specs.Prelude.{◌≡◌, ◌≢◌, ◌<◌, ◌≤◌, length, map, IfErr, IfNone, IfOk, IfSome, IsOkUnless, IsSomeAnd, None};
 ghost use Rattle.atlas_sheet.specs.declared.error.SheetError.TheVariants.{Memory};
 ghost use Rattle.atlas_sheet.specs.Paging.{OneIsTooLarge};
 ghost use Rattle.atlas_sheet.specs.Settings.{IsSheetFault};
@@ -84,6 +84,8 @@ pub extern "C" fn guillotiere_pack_groups(
     ensures short { result ≡ SHORT → length sprites.now ≤ length places.old
         → IsSomeAnd (sheet_options_in options.now)
         (λ o. AreMoreGroups o (map size_in sprites.now) (map group_in groups.now) (length sizes.old)) }
+    ensures bad_first { sheet_options_in options.now ≡ None → result ≡ BAD_CALL }
+    ensures short_next { result ≢ BAD_CALL → length places.old < length sprites.now → result ≡ SHORT }
     ensures fault { result ≢ DONE → result ≢ NO_ROOM → result ≢ BAD_CALL → result ≢ SHORT
         → IsSomeAnd (sheet_options_in options.now) (λ o. IsSomeAnd (sheet_error result sprite.new)
         (λ e. IsSheetFault o (map size_in sprites.now) e)) }

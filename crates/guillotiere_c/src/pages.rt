@@ -1,5 +1,5 @@
 //! The export that packs sprites known beforehand into several sheets.
-ghost use Rattle.std.specs.Prelude.{◌≡◌, ◌≢◌, ◌≤◌, length, map, IfErr, IfNone, IfOk, IfSome, IsSomeAnd, None};
+ghost use Rattle.std.specs.Prelude.{◌≡◌, ◌≢◌, ◌<◌, ◌≤◌, length, map, IfErr, IfNone, IfOk, IfSome, IsSomeAnd, None};
 ghost use Rattle.atlas_sheet.specs.Paging.{OneIsTooLarge};
 ghost use Rattle.atlas_sheet.specs.Settings.{IsSheetFault};
 ghost use Rattle.guillotiere_c.specs.Numbers.{size_in};
@@ -58,6 +58,8 @@ pub extern "C" fn guillotiere_pack_pages(
     ensures short { result ≡ SHORT → length sprites.now ≤ length places.old
         → IsSomeAnd (sheet_options_in options.now)
         (λ o. AreMorePages o (map size_in sprites.now) (length sizes.old)) }
+    ensures bad_first { sheet_options_in options.now ≡ None → result ≡ BAD_CALL }
+    ensures short_next { result ≢ BAD_CALL → length places.old < length sprites.now → result ≡ SHORT }
     ensures fault { result ≢ DONE → result ≢ NO_ROOM → result ≢ BAD_CALL → result ≢ SHORT
         → IsSomeAnd (sheet_options_in options.now) (λ o. IsSomeAnd (sheet_error result sprite.new)
         (λ e. IsSheetFault o (map size_in sprites.now) e)) }

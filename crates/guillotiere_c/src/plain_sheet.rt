@@ -1,7 +1,7 @@
 //! What crosses to C of sheets: options and places. All lengths are in pixels.
 ghost use Rattle.std.specs.Prelude.{◌≡◌, ◌≢◌, Some};
 ghost use Rattle.guillotiere_c.specs.SheetNumbers.{allowed_in, maybe_placed_in, on_page_in, options_over, placed_in};
-ghost use Rattle.guillotiere_c.specs.SheetNumbers.{sheet_error, sheet_options_in, IsMaybeToldByBit, IsToldByBit};
+ghost use Rattle.guillotiere_c.specs.SheetNumbers.{sheet_error, sheet_options_in, IsMaybeToldByBit, IsPageToldByBit, IsToldByBit};
 
 use crate::plain::{
     BAD_CALL, DONE, EMPTY_ALIGNMENT, EMPTY_RANGE, EMPTY_SHEET, EMPTY_SPRITE, GREAT_SPRITE, HEIGHTS,
@@ -103,7 +103,8 @@ pub fn plain_maybe_placed(place: Option<Placed>) -> PlainMaybePlaced
 
 /// The same for C.
 pub fn plain_on_page(place: OnPage) -> PlainOnPage
-    ensures { on_page_in result ≡ place }
+    ensures value { on_page_in result ≡ place }
+    ensures bit { IsPageToldByBit result }
 {
     PlainOnPage {
         page: place.page,

@@ -1,7 +1,7 @@
 //! Lists, written into arrays of the caller's: as much as there is room for.
 ghost use Rattle.std.specs.Prelude.{length, min};
 ghost use Rattle.guillotiere_c.specs.Numbers.{allocation_in, change_in, corners_in, size_in};
-ghost use Rattle.guillotiere_c.specs.SheetNumbers.{maybe_placed_in, on_page_in, placed_in, IsMaybeToldByBit, IsToldByBit};
+ghost use Rattle.guillotiere_c.specs.SheetNumbers.{maybe_placed_in, on_page_in, placed_in, IsMaybeToldByBit, IsPageToldByBit, IsToldByBit};
 ghost use Rattle.guillotiere_c.specs.Writing.{AreFirst, IsWritten};
 
 use crate::plain::{
@@ -63,7 +63,8 @@ pub fn write_maybe_placed(list: &[Option<Placed>], array: &mut [PlainMaybePlaced
 
 /// Writes the places of sprites on several sheets.
 pub fn write_on_pages(list: &[OnPage], array: &mut [PlainOnPage])
-    ensures { IsWritten on_page_in list.now array.old array.new }
+    ensures written { IsWritten on_page_in list.now array.old array.new }
+    ensures bits { AreFirst IsPageToldByBit (min (length list.now) (length array.old)) array.new }
 {
     for i in 0..list.len().min(array.len()) {
         array[i] = plain_on_page(list[i]);

@@ -8,4 +8,4 @@ returns-clause-filled c =
     let told = c.in_ok-filled.ensures in
     let sheet = c.in_ok-filled.filled in
     filled_sheet c.args.options.now _ (map size_in c.args.sprites.now) sheet.size sheet.order.items sheet.places.items
-    sheet.used_area (search rules) told.size told.shown told.area told.best told.plain
+    sheet.used_area (search rules) told.size told.shown told.area told.best told.plain told.earliest

@@ -9,4 +9,4 @@ returns-clause-packed c =
     let told = c.in_ok-pages.ensures in
     packed_groups c.args.options.now _ (map size_in c.args.sprites.now) _ (map group_in c.args.groups.now)
     (λ p. p.sizes.items) (λ p. p.places.items) c.in_ok-pages.pages (search rules) (search rules)
-    told.each told.apart told.used told.allowed told.together told.pages
+    told.each told.apart told.used told.allowed told.together told.pages told.sheets told.plain

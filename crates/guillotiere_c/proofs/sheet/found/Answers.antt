@@ -9,7 +9,7 @@ pub returns-clause-packed : goal.returns-clause-packed
 returns-clause-packed c =
     let told = c.in_ok-sheet.ensures in
     packed c.args.options.now _ (map size_in c.args.sprites.now) (λ s. s.size) (λ s. s.order.items) (λ s. s.places.items)
-    c.in_ok-sheet.sheet (search rules) told.allowed told.shown told.first told.larger
+    c.in_ok-sheet.sheet (search rules) told.allowed told.shown told.first told.earliest told.larger
 
 pub returns-clause-none : goal.returns-clause-none
 returns-clause-none c =
