@@ -17,7 +17,7 @@ use Rattle.guillotiere.specs.Pages.{HasSameRectangles, KeepsPages}
 use Rattle.guillotiere.specs.Pixels.{options_of, sides_of, size_of}
 use Rattle.guillotiere.specs.Replies.{allocate_reply, grant_of}
 use Rattle.guillotiere.specs.Reserves.{HasReserve, UsesAtMost}
-use Rattle.guillotiere.specs.States.{started, IsSound, State}
+use Rattle.guillotiere.specs.States.{started, used_in, IsSound, State}
 use Rattle.guillotiere.specs.Steps.{Step}
 use Rattle.guillotiere.specs.Steps.AtlasCall.{Allocate, Grow}
 use Rattle.guillotiere.specs.Steps.AtlasReply.{Allocated, Done, Refused}
@@ -84,6 +84,14 @@ granted_by s t r (Ok (Some a)) step = step
 granted_by s t r (Ok None) step = tt
 granted_by s t r (Err error) step = tt
 
+-- A request that is refused for want of slots lacks 4 of them.
+pub request_needs : (s t : State) (r : Sides) → IsSound s → Step s (Allocate r) (Refused Slots) t → s.limit < used_in s + 4
+request_needs s t r sound step =
+    let positive = rounded_positive s.options r sound.valid step.1.positive in
+    let few = place_most s.size s.tree step.0 (rounded s.options r) sound.well_formed positive
+    step.1.pick.best.candidate.fitting.fits in
+    omega (arith, step.2, few)
+
 -- One page of a list, a, becomes b.
 module _ (pages : List AtlasValue) (page : ℕ) (a b : AtlasValue) (is : a ≡ get_or pages page a) (within : page < length pages) where
   there : slice_get pages page ≡ Some a
@@ -106,12 +114,8 @@ module _ (pages : List AtlasValue) (page : ℕ) (a b : AtlasValue) (is : a ≡ g
   pub request_short : (o : CacheOptions) → KeepsRooms (rooms_of o pages) → (r : Sides) (t : State)
       → Step (state_of a) (Allocate r) (Refused Slots) t → IsShortOfSlots pages
   request_short o kept r t step =
-      let s = state_of a in
       let own = kept.each page a there in
-      let positive = rounded_positive s.options r own.sound.valid step.1.positive in
-      let few = place_most s.size s.tree step.0 (rounded s.options r) own.sound.well_formed positive
-      step.1.pick.best.candidate.fitting.fits in
-      (page, a, there, omega (arith, step.2, few, own.limit))
+      (page, a, there, omega (arith, request_needs (state_of a) t r own.sound step, own.limit))
 
   pub growth_short : (o : CacheOptions) → KeepsRooms (rooms_of o pages) → (n : Sides) (t : State)
       → Step (state_of a) (Grow n) (Refused Slots) t → IsShortOfSlots pages

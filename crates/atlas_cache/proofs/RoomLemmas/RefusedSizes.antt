@@ -1,6 +1,6 @@
 -- What pages have no room for, as is kept of each.
-use Rattle.std.proofs.Common.{◌≡◌, ◌+◌, ◌<◌, ◌≤◌, ◌∙◌, ◌++◌, ◌∷◌, [], ℕ, zero, suc, List, Option, None, Some, length, map, min, pos, take, slice_get, slice_set}
-use Rattle.std.proofs.Common.{refl, sym, ap, subst, inl, inr, arith, length-append}
+use Rattle.std.proofs.Common.{◌≡◌, ◌<◌, ◌∙◌, ◌++◌, ◌∷◌, [], ℕ, zero, suc, List, Some, length, map, min, pos, take, slice_get, slice_set}
+use Rattle.std.proofs.Common.{sym, subst, inl, inr, arith, length-append}
 use Rattle.std.proofs.lemmas.Bool.Decides.{eqb_tells}
 use Rattle.std.proofs.lemmas.List.{length-set}
 use Rattle.guillotiere.specs.declared.Size.{Size}

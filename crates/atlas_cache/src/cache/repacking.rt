@@ -1,6 +1,6 @@
 //! A page's entries placed anew.
-ghost use Rattle.std.specs.Prelude.{◌≡◌, ◌==◌, ◌↔◌, ◌+◌, ◌≤◌, ◌<◌, ◌++◌, [], ◌∷◌, ℕ, List, true, false, find, length};
-ghost use Rattle.std.specs.Prelude.{IfErr, IfOk, IsOkUnless, IsPermutation, IsTrue, OnErr, Ok, Some};
+ghost use Rattle.std.specs.Prelude.{◌≡◌, ◌==◌, ◌↔◌, ◌+◌, ◌*◌, ◌≤◌, ◌<◌, ◌++◌, [], ◌∷◌, ℕ, List, true, false, find, length};
+ghost use Rattle.std.specs.Prelude.{Err, IfErr, IfOk, IsOkUnless, IsPermutation, IsTrue, OnErr, Ok, Some};
 ghost use Rattle.std.specs.Prelude.{vec_capacity, vec_len};
 ghost use Rattle.std.specs.List.{cons_option, filter_map};
 ghost use Rattle.std.specs.List.Sorted.{IsSortedByKey};
@@ -11,6 +11,7 @@ ghost use Rattle.atlas_cache.specs.Entries.{entry_at};
 ghost use Rattle.atlas_cache.specs.Relocating.{become, former_id, held_on, numbered_as, renewed_by, told_as, told_of, AreInIdOrder};
 ghost use Rattle.atlas_cache.specs.Relocating.{Repacks};
 ghost use Rattle.atlas_cache.specs.Rooms.{IsRefusal};
+ghost use Rattle.atlas_cache.specs.declared.error.CacheError.TheVariants.{Slots};
 
 use crate::cache::TextureCache;
 use crate::cache::holding::place_of;
@@ -157,8 +158,8 @@ impl<K: Copy + Eq + Hash, S: BuildHasher, A: Allocator + Copy> TextureCache<K, S
     /// turn came. Every other entry stays, and so do the order of use, the frame and the options.
     ///
     /// A place that an entry moves to can overlap one that a later change moves from: copy all pixels from the page as
-    /// it was before the call. `Slots` if the page has too few of them, `Memory` if memory is refused; then nothing
-    /// changes. Takes as many steps as there are entries of all pages, and for each entry of the page one request of an atlas
+    /// it was before the call. `Slots` if the page has too few of them, which takes more than 4,194,303 entries on it, `Memory` if memory is
+    /// refused; then nothing changes. Takes as many steps as there are entries of all pages, and for each entry of the page one request of an atlas
     /// and as many steps as the logarithm of their number.
     pub fn repack(&mut self, page: u32, changes: &mut Changes<K, A>) -> Result<bool, CacheError>
         ensures repacks { result ≡ Ok true → Repacks page changes.old.items changes.new.items self.old self.new }
@@ -169,6 +170,7 @@ impl<K: Copy + Eq + Hash, S: BuildHasher, A: Allocator + Copy> TextureCache<K, S
         ensures refused { OnErr result ((self.new ≡ self.old) × (changes.new.items ≡ changes.old.items)) }
         ensures errors { IfErr result IsRefusal }
         ensures capacity { vec_capacity changes.old ≤ vec_capacity changes.new }
+        ensures short { result ≡ Err Slots → 16777216 < 1 + 4 * length (held_on page self.old.entries) }
     {
         if page >= self.rooms.len() {
             return Ok(false);

@@ -1,17 +1,20 @@
 //! A page's rectangles placed anew, and the areas of a page.
-ghost use Rattle.std.specs.Prelude.{◌≡◌, ◌-◌, ◌<◌, All, IsPermutation, length, map, slice_get, IfErr, IfOk, IfSome};
+ghost use Rattle.std.specs.Prelude.{◌≡◌, ◌+◌, ◌-◌, ◌*◌, ◌<◌, All, Err, IsPermutation, length, map, slice_get, IfErr, IfOk, IfSome};
 ghost use Rattle.std.specs.Prelude.{IsOkUnless, Ok, OnErr, OnOk, Some};
 ghost use Rattle.guillotiere.specs.Boxes.{area, box_sides};
 ghost use Rattle.guillotiere.specs.Pixels.{box_of, sides_of};
 ghost use Rattle.guillotiere.specs.Rearranging.{rearrangement_of, AreExactChanges};
 ghost use Rattle.guillotiere.specs.Refits.Refitted.{HasExactRectangle, IsRefitOf};
 ghost use Rattle.guillotiere.specs.Replies.{allocate_reply, grant_of, IsExact};
+ghost use Rattle.guillotiere.specs.Reserves.{UsesAtMost};
+ghost use Rattle.guillotiere.specs.States.{used_in};
 ghost use Rattle.guillotiere.specs.Steps.{Step};
 ghost use Rattle.guillotiere.specs.Steps.AtlasCall.{Allocate};
 ghost use Rattle.guillotiere.specs.Stored.{state_of};
 ghost use Rattle.atlas_cache.specs.Repacking.{free_by_page, live_by_page, IsLargestFirst, NamesPage, PlacesAnew};
 ghost use Rattle.atlas_cache.specs.Repacking.{RepacksPage};
 ghost use Rattle.atlas_cache.specs.Rooms.{page_sizes, IsRefusal};
+ghost use Rattle.atlas_cache.specs.declared.error.CacheError.TheVariants.{Slots};
 
 use crate::error::CacheError;
 use crate::rooms::asking::NO_SIZE;
@@ -56,6 +59,9 @@ fn request<A: Allocator + Copy>(
         (allocate_reply (Ok granted)) (state_of atlas.new)) }
     ensures exact { IfOk result (λ granted. IfSome granted HasExactRectangle) }
     ensures errors { IfErr result IsRefusal }
+    ensures slots { UsesAtMost 4 atlas.old atlas.new }
+    ensures limit { (state_of atlas.new).limit ≡ (state_of atlas.old).limit }
+    ensures short { result ≡ Err Slots → (state_of atlas.old).limit < used_in (state_of atlas.old) + 4 }
 {
     match atlas.allocate(size_of_box(rectangle)) {
         Ok(granted) => Ok(granted),
@@ -73,6 +79,8 @@ fn place_all<A: Allocator + Copy>(
         (rearrangement_of list) (state_of atlas.new)) }
     ensures exact { IfOk result AreExactChanges }
     ensures errors { IfErr result IsRefusal }
+    ensures short { result ≡ Err Slots
+        → (state_of atlas.old).limit < used_in (state_of atlas.old) + 4 * length order.items }
 {
     let mut failures = order;
     let mut changes = Vec::new(*failures.allocator());
@@ -97,7 +105,8 @@ impl<A: Allocator + Copy> Rooms<A> {
     /// of boxes. If the list names what is live on the page, each once, then the answer lists each rectangle of the
     /// page once: those that were placed anew, with their former and their new ids, and those that found no room when
     /// their turn came, whose ids are no longer live. All former ids of the page are void. Other pages stay as they
-    /// are. `Slots` if the page has too few of them, `Memory` if memory is refused; then nothing changes.
+    /// are. `Slots` if the page has too few of them, which takes more than 4,194,303 rectangles, `Memory` if memory is refused; then
+    /// nothing changes.
     pub fn repack(
         &mut self,
         page: u32,
@@ -113,6 +122,7 @@ impl<A: Allocator + Copy> Rooms<A> {
         ensures options { self.new.options ≡ self.old.options }
         ensures refused { OnErr result (self.new ≡ self.old) }
         ensures errors { IfErr result IsRefusal }
+        ensures short { result ≡ Err Slots → 16777216 < 1 + 4 * length held.items }
     {
         let mut order = held;
         sort_by_area(&mut order)?;

@@ -11,9 +11,9 @@ use std::alloc::Allocator;
 
 impl<A: Allocator + Copy> Rooms<A> {
     /// At least so many slots are in reserve on each page from now on, so that a grant on it, which takes at most 4, asks for
-    /// no memory, and no page passes the 16,777,216 that it may use. Nothing else changes. `Slots` only if a page would use more
-    /// than that with them, `Memory` only if some page hasn't as many in reserve and memory is refused; the pages before that one have
-    /// theirs in reserve then, and it and those after it are as they were.
+    /// no memory, and no page passes the 16,777,216 that it may use. Nothing else changes. `Slots` only if a page would use more than
+    /// that with them, `Memory` only if some page hasn't as many in reserve and memory is refused; the pages before that one have theirs
+    /// in reserve then, and it and those after it are as they were.
     pub fn reserve_slots(&mut self, additional: u32) -> Result<(), CacheError>
         ensures ready { OnOk result (HaveSlots additional self.new.pages) }
         ensures states { map state_of self.new.pages ≡ map state_of self.old.pages }

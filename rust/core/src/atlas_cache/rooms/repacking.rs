@@ -70,7 +70,8 @@ impl<A: Allocator + Copy> Rooms<A> {
     /// of boxes. If the list names what is live on the page, each once, then the answer lists each rectangle of the
     /// page once: those that were placed anew, with their former and their new ids, and those that found no room when
     /// their turn came, whose ids are no longer live. All former ids of the page are void. Other pages stay as they
-    /// are. `Slots` if the page has too few of them, `Memory` if memory is refused; then nothing changes.
+    /// are. `Slots` if the page has too few of them, which takes more than 4,194,303 rectangles, `Memory` if memory is refused; then
+    /// nothing changes.
     #[inline]
     pub fn repack(
         &mut self,

@@ -1,4 +1,4 @@
-use Rattle.std.proofs.Common.{◌≡◌, ◌∙◌, ◌+◌, ◌-◌, ◌++◌, min, length, refl, arith, ap}
+use Rattle.std.proofs.Common.{◌≡◌, ◌∙◌, ◌+◌, ◌-◌, ◌++◌, min, length, refl, arith, rules, ap, Err}
 use Rattle.atlas_cache.specs.Caches.{entries_of}
 use Rattle.atlas_cache.specs.Entries.{no_page}
 use Rattle.atlas_cache.specs.Relocating.{become, renewed_by}
@@ -8,6 +8,7 @@ use Rattle.atlas_cache.proofs.GatherLemmas.{entries-exact, entries-name}
 use Rattle.atlas_cache.proofs.IdOrderLemmas.{become-same, in-order, told-same}
 use Rattle.atlas_cache.proofs.KeyLemmas.{own_keys}
 use Rattle.atlas_cache.proofs.ListLemmas.{length-listed}
+use Rattle.atlas_cache.proofs.ReadyLemmas.{error_is}
 use Rattle.atlas_cache.proofs.RepackLemmas.{old_once, repacked_held, repacked_falls, repacked_bordered, renewed_same, shorter}
 use Rattle.atlas_cache.proofs.ToldRepacks.{repacks_tell}
 use Rattle.atlas_cache.proofs.TrimLemmas.{none-told}
@@ -124,3 +125,10 @@ returns-clause-told g c =
     let own = own_keys g.K.PartialEq.eq c.self.inside.entries.entries c.prove_kept.ensures.keys in
     repacks_tell g.K.PartialEq.eq g.met.K.Eq.laws c.args.page c.args.changes.now.items c.settle_all.new.changes.items c.args.self.now _
     (rw (← c.self.view_is) own) (returns-clause-repacks g c refl)
+
+pub returns-in_err-list-clause-short : goal.returns-in_err-list-clause-short
+returns-in_err-list-clause-short g c = λ is.
+    let same : c.from_residual-in_err-list.result ≡ Err c.in_err-list.field-0.0 = search rules in
+    let short = c.in_err-list.ensures.short (ap Err (error_is c.in_err-list.field-0.0 c.from_residual-in_err-list.result same is)) in
+    let many = ap length c.in_ok-held.ensures.held in
+    rw (← c.self.view_is) (omega (arith, short, many))

@@ -1,7 +1,9 @@
-use Rattle.std.proofs.Common.{◌<◌, arith, length}
-use Rattle.std.proofs.lemmas.List.Sorted.{All-permutation}
+use Rattle.std.proofs.Common.{◌<◌, ◌≡◌, ap, arith, rules, length, Err}
+use Rattle.std.proofs.lemmas.List.Sorted.{All-permutation, length_permutation}
 use Rattle.guillotiere.specs.Refits.Refitted.{HasExactRectangle}
+use Rattle.guillotiere.specs.States.{used_in, State}
 use Rattle.guillotiere.specs.Stored.{state_of}
+use Rattle.atlas_cache.proofs.ReadyLemmas.{error_is}
 use Rattle.atlas_cache.proofs.RoomLemmas.KeptPages.{rooms_stay, sizes_stay}
 use Rattle.atlas_cache.proofs.RoomLemmas.RepackedPages.{frame_here, named_permuted, named_there, page_placed, page_repacks, placing_tells, refits_here, starts_alike, state_here}
 use Rattle.atlas_cache.proofs.RoomLemmas.RefusedSizes.{refused_changed}
@@ -78,3 +80,12 @@ returns-clause-sizes g c =
     rw (← c.self.view_is) (sizes_stay pages c.args.page a b c.index.ensures within
     (frame_here (state_of a) (state_of c.in-Ok.placed) (state_of b) c.sort_by_area.new.held.items c.in_ok-list.list
     c.size-size.ensures.sound c.prove_sound.ensures.sound start c.in_ok-list.ensures.refits))
+
+pub returns-in_err-list-clause-short : goal.returns-in_err-list-clause-short
+returns-in_err-list-clause-short g c = λ is.
+    let same : c.from_residual-in_err-list.result ≡ Err c.in_err-list.field-0.0 = search rules in
+    let short = c.in_err-list.ensures.short (ap Err (error_is c.in_err-list.field-0.0 c.from_residual-in_err-list.result same is)) in
+    let state = c.in-Ok.ensures.state in
+    let limit = ap (λ (s : State). s.limit) state in
+    let used = ap (λ (s : State). used_in s) state in
+    omega (arith, short, limit, used, length_permutation _ _ c.sort_by_area.ensures.permuted)
