@@ -118,9 +118,9 @@ impl<K: Copy + Eq + Hash, S: BuildHasher, A: Allocator + Copy> TextureCache<K, S
     /// turn came. Every other entry stays, and so do the order of use, the frame and the options.
     ///
     /// A place that an entry moves to can overlap one that a later change moves from: copy all pixels from the page as
-    /// it was before the call. `Slots` if the page has too few of them, which takes more than 4,194,303 entries on it, `Memory` if memory is
-    /// refused; then nothing changes. Takes as many steps as there are entries of all pages, and for each entry of the page one request of an atlas
-    /// and as many steps as the logarithm of their number.
+    /// it was before the call. `Slots` if the page has too few of them, which takes more than 4,194,303 entries on it, `Memory` if
+    /// memory is refused; then nothing changes. Takes as many steps as there are entries of all pages, and for each entry of the page
+    /// one request of an atlas and as many steps as the logarithm of their number.
     #[inline]
     pub fn repack(&mut self, page: u32, changes: &mut Changes<K, A>) -> Result<bool, CacheError> {
         if page >= self.rooms.len() {
