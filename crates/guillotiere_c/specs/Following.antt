@@ -1,5 +1,5 @@
 -- A cache with the changes that its caller has yet to be told.
-use Rattle.std.specs.Prelude.{◌≡◌, ℕ, List, [], Option, Some, None}
+use Rattle.std.specs.Prelude.{◌≡◌, ◌≤◌, ℕ, List, [], Option, Some, None}
 use Rattle.atlas_cache.specs.declared.changes.CacheChange.{CacheChange}
 use Rattle.atlas_cache.specs.declared.options.CacheOptions.{CacheOptions}
 use Rattle.atlas_cache.specs.Caches.{CacheState, nothing_held}
@@ -29,9 +29,9 @@ GoesOver None new R = ⊥
 abbrev pub KeepsChanges : (f g : Followed) → Type 0
 KeepsChanges f g = (g.changes ≡ f.changes) × (g.room ≡ f.room)
 
--- Nothing happened to the cache, and the same changes weren't handed over.
+-- Nothing happened to the cache, and the same changes weren't handed over; there is memory for no fewer.
 abbrev pub IsAsItWas : (f g : Followed) → Type 0
-IsAsItWas f g = (g.cache ≡ f.cache) × (g.changes ≡ f.changes)
+IsAsItWas f g = (g.cache ≡ f.cache) × (g.changes ≡ f.changes) × (f.room ≤ g.room)
 
 -- The handle holds what it held: nothing, or a cache to which nothing happened.
 abbrev pub StaysHeld : (old new : Option Followed) → Type 0
