@@ -147,9 +147,10 @@ pub fn best_filled<A: Allocator + Copy>(
 }
 
 /// Places sprites in the greatest sheet that is allowed. The places have no fewer pixels than those that any of the
-/// first `ways_tried` of `WAYS` finds; without effort they are those of the best of these ways. Where sprites may be
-/// turned, this holds with each `Turning`. With effort the order is changed so many times, and a change stays if it
-/// leaves no more pixels of sprites without a place. A sprite that found no room has no place.
+/// first `ways_tried` of `WAYS` finds; without effort they are those of the best of these ways, of equal ones the last.
+/// Where sprites may be turned, this holds with each `Turning`, and of equal ones the first is taken. With effort the order
+/// is changed so many times, and a change stays if it leaves no more pixels of sprites without a place. A sprite that found
+/// no room has no place.
 ///
 /// `EmptySheet` if the least allowed side is below 1, else `EmptyRange` if the greatest is less than the least, else
 /// `EmptyAlignment` if a side of the alignment is below 1; else `EmptySprite` and `GreatSprite` name the first sprite that
@@ -177,12 +178,13 @@ fn sheet_of<A: Allocator + Copy>(alloc: A, filled: Filled<A>) -> Result<Sheet<A>
     })
 }
 
-/// Places all sprites in a sheet that is as small as the search finds. Without effort one of `WAYS` packs them into it,
-/// and none does into the allowed sheet that is a pixel lower (among powers of two: into any with fewer pixels). Where
-/// sprites may be turned, this is the smallest of the sheets that are found so with each `Turning`. With effort so many
-/// more orders are tried, each a small change of the one before, on a sheet that is one step smaller than the best; the
-/// sheet is never larger than without effort. None only where no way, and no order that was tried, packs all sprites
-/// into the greatest sheet that is allowed.
+/// Places all sprites in a sheet that is as small as the search finds. Without effort the first of `WAYS` that packs them
+/// into it is taken, and none does into the allowed sheet that is a pixel lower (among powers of two: into any with fewer
+/// pixels, nor into one with as many that is nearer to a square, or that is this one turned and wider than high). Where
+/// sprites may be turned, this is the smallest of the sheets that are found so with each `Turning`, of equal ones the
+/// first. With effort so many more orders are tried, each a small change of the one before, on a sheet that is one step
+/// smaller than the best; the sheet is never larger than without effort. None only where no way, and no order that was
+/// tried, packs all sprites into the greatest sheet that is allowed.
 ///
 /// `EmptySheet` if the least allowed side is below 1, else `EmptyRange` if the greatest is less than the least, else
 /// `EmptyAlignment` if a side of the alignment is below 1; else `EmptySprite` and `GreatSprite` name the first sprite that
