@@ -540,12 +540,14 @@ uint32_t guillotiere_cache_next_change(guillotiere_cache *cache, guillotiere_cac
 uint32_t guillotiere_cache_clear(guillotiere_cache *cache);
 
 /* Evicts the keys that weren't used for at least this many frames, each reported by a change, the least recently used first:
- * with 1, what this frame didn't use; with 0, all. DONE; MEMORY, and then all is as it was; EMPTY. */
+ * with 1, what this frame didn't use; with 0, all. DONE; MEMORY, and then all is as it was: never if
+ * guillotiere_cache_reserve_changes made room for as many changes as keys are held, and for one at least; EMPTY. */
 uint32_t guillotiere_cache_trim(guillotiere_cache *cache, uint64_t frames);
 
 /* Removes the pages after the last one with a key, each reported by a change, GUILLOTIERE_PAGE_REMOVED, the last one
  * first. The others stay, with their sizes, and so do all keys; after guillotiere_cache_clear all pages go. DONE;
- * MEMORY, and then all is as it was; EMPTY. */
+ * MEMORY, and then all is as it was: never if guillotiere_cache_reserve_changes made room for as many changes as there
+ * are pages, and for one at least; EMPTY. */
 uint32_t guillotiere_cache_shrink(guillotiere_cache *cache);
 
 /* Repacks the keys of a page, the largest first, and among equal areas the most recently used, so that what is free comes
@@ -606,7 +608,7 @@ uint32_t guillotiere_cache_areas(const guillotiere_cache *cache, uint32_t page, 
 /* Of the area of a page that is free, what lies in free boxes which have no room for a key of this size, with its padding
  * and rounded up to the alignment. A side below 0 counts as 0, and 0 as the padding on both sides, though a key of an empty
  * size takes no room. Asked with the size of a usual key it says how fragmented the page is: where much is of no use, it is
- * time to repack it. Takes memory for a list of the page's free boxes.
+ * time to repack it. Takes memory for a list of the page's free boxes, if there is such a page.
  * DONE; NO_PAGE; MEMORY; EMPTY. */
 uint32_t guillotiere_cache_unusable_area(const guillotiere_cache *cache, uint32_t page, int32_t width, int32_t height,
                                          uint64_t *area);

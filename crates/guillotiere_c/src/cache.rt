@@ -1,5 +1,5 @@
 //! The exports of a cache: its life, its keys and its changes.
-ghost use Rattle.std.specs.Prelude.{◌≡◌, ◌≢◌, ◌≤◌, ◌∷◌, [], length, IfSome, IsNone, IsSome, IsSomeAnd, None, Some};
+ghost use Rattle.std.specs.Prelude.{◌≡◌, ◌≢◌, ◌<◌, ◌≤◌, ◌∷◌, [], length, IfSome, IsNone, IsSome, IsSomeAnd, None, Some};
 ghost use Rattle.std.specs.Prelude.{nat_eq};
 ghost use Rattle.atlas_cache.specs.Asking.{AreUsable, IsFaultIn};
 ghost use Rattle.atlas_cache.specs.Caches.{place_for};
@@ -281,10 +281,13 @@ pub extern "C" fn guillotiere_cache_clear(alloc: Global, cache: &mut CacheHandle
 }
 
 /// Evicts the keys that weren't used for at least this many frames, each reported by a change, the least recently used first:
-/// with 1, what this frame didn't use; with 0, all. `DONE`; `MEMORY`, and then all is as it was; `EMPTY`.
+/// with 1, what this frame didn't use; with 0, all. `DONE`; `MEMORY`, and then all is as it was: never if
+/// `guillotiere_cache_reserve_changes` made room for as many changes as keys are held, and for one at least; `EMPTY`.
 #[unsafe(no_mangle)]
 pub extern "C" fn guillotiere_cache_trim(alloc: Global, cache: &mut CacheHandle, frames: u64) -> u32
     ensures trims { result ≡ DONE → GoesOver cache.old.kept cache.new.kept (IsTrim frames) }
+    ensures room { HoldsCache cache.old.kept (λ f. (0 < f.room) × (length f.cache.entries ≤ f.room))
+        → result ≡ DONE }
     ensures refused { result ≢ DONE → StaysHeld cache.old.kept cache.new.kept }
     ensures unless { IsSome cache.old.kept → result ≢ DONE → result ≡ MEMORY }
     ensures empty { IsNone cache.old.kept → result ≡ EMPTY }
@@ -303,10 +306,13 @@ pub extern "C" fn guillotiere_cache_trim(alloc: Global, cache: &mut CacheHandle,
 
 /// Removes the pages after the last one with a key, each reported by a change, `GUILLOTIERE_PAGE_REMOVED`, the last one
 /// first. The others stay, with their sizes, and so do all keys; after `guillotiere_cache_clear` all pages go. `DONE`;
-/// `MEMORY`, and then all is as it was; `EMPTY`.
+/// `MEMORY`, and then all is as it was: never if `guillotiere_cache_reserve_changes` made room for as many changes as there
+/// are pages, and for one at least; `EMPTY`.
 #[unsafe(no_mangle)]
 pub extern "C" fn guillotiere_cache_shrink(alloc: Global, cache: &mut CacheHandle) -> u32
     ensures shrinks { result ≡ DONE → GoesOver cache.old.kept cache.new.kept IsShrinking }
+    ensures room { HoldsCache cache.old.kept (λ f. (0 < f.room) × (length f.cache.pages ≤ f.room))
+        → result ≡ DONE }
     ensures refused { result ≢ DONE → StaysHeld cache.old.kept cache.new.kept }
     ensures unless { IsSome cache.old.kept → result ≢ DONE → result ≡ MEMORY }
     ensures empty { IsNone cache.old.kept → result ≡ EMPTY }

@@ -1,5 +1,5 @@
 //! The exports that report on a cache: how many keys and pages it has, and how it was used.
-ghost use Rattle.std.specs.Prelude.{◌≡◌, ◌≢◌, ◌⊎◌, Some, None, IsNone, IsSome, length, slice_get};
+ghost use Rattle.std.specs.Prelude.{◌≡◌, ◌≢◌, ◌≤◌, ◌⊎◌, Some, None, IsNone, IsSome, length, slice_get};
 ghost use Rattle.atlas_cache.specs.Repacking.{free_by_page, live_by_page};
 ghost use Rattle.atlas_cache.specs.Rooms.{page_sizes};
 ghost use Rattle.atlas_cache.specs.Usable.{unusable_by_page};
@@ -127,7 +127,7 @@ pub extern "C" fn guillotiere_cache_areas(
 /// Of the area of a page that is free, what lies in free boxes which have no room for a key of this size, with its padding
 /// and rounded up to the alignment. A side below 0 counts as 0, and 0 as the padding on both sides, though a key of an empty
 /// size takes no room. Asked with the size of a usual key it says how fragmented the page is: where much is of no use, it is
-/// time to repack it. Takes memory for a list of the page's free boxes.
+/// time to repack it. Takes memory for a list of the page's free boxes, if there is such a page.
 /// `DONE`; `NO_PAGE`; `MEMORY`; `EMPTY`.
 #[unsafe(no_mangle)]
 pub extern "C" fn guillotiere_cache_unusable_area(
@@ -142,6 +142,7 @@ pub extern "C" fn guillotiere_cache_unusable_area(
         ≡ Some area.new) }
     ensures none { result ≡ NO_PAGE → HoldsCache cache.now.kept (λ f. slice_get
         (unusable_by_page f.cache.options (record { width = width; height = height }) f.cache.pages) page ≡ None) }
+    ensures absent { HoldsCache cache.now.kept (λ f. length f.cache.pages ≤ page) → result ≡ NO_PAGE }
     ensures unless { IsSome cache.now.kept → result ≢ DONE → result ≢ NO_PAGE → result ≡ MEMORY }
     ensures unwritten { result ≢ DONE → area.new ≡ area.old }
     ensures empty { IsNone cache.now.kept → result ≡ EMPTY }

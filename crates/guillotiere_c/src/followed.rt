@@ -1,5 +1,5 @@
 //! A cache with the list of its changes, from which its caller takes one after another.
-ghost use Rattle.std.specs.Prelude.{◌≡◌, ◌↔◌, ◌≤◌, ◌∷◌, [], drop, IfErr, IfOk, IfSome, IsOk, IsOkUnless, None, OnErr};
+ghost use Rattle.std.specs.Prelude.{◌≡◌, ◌↔◌, ◌<◌, ◌≤◌, ◌∷◌, [], drop, IfErr, IfOk, IfSome, IsOk, IsOkUnless, None, OnErr};
 ghost use Rattle.std.specs.Prelude.{◌≢◌, Err, Ok, OnOk, false, length, true, vec_capacity, vec_len};
 ghost use Rattle.atlas_cache.specs.declared.error.CacheError.TheVariants.{Memory, Slots};
 ghost use Rattle.atlas_cache.specs.Asking.{AreUsable, IsFaultIn};
@@ -151,6 +151,7 @@ impl FollowedCache {
     /// As `TextureCache::trim`. Its changes come behind those that weren't handed over.
     pub fn trim(&mut self, frames: u64) -> Result<(), CacheError>
         ensures trim { OnOk result (IsTrim frames self.old self.new) }
+        ensures room { 0 < self.old.room → length self.old.cache.entries ≤ self.old.room → IsOk result }
         ensures refused { OnErr result (IsAsItWas self.old self.new) }
         ensures unless { IsOkUnless result Memory }
     {
@@ -161,6 +162,7 @@ impl FollowedCache {
     /// As `TextureCache::shrink`. Its changes come behind those that weren't handed over.
     pub fn shrink(&mut self) -> Result<(), CacheError>
         ensures shrinks { OnOk result (IsShrinking self.old self.new) }
+        ensures room { 0 < self.old.room → length self.old.cache.pages ≤ self.old.room → IsOk result }
         ensures refused { OnErr result (IsAsItWas self.old self.new) }
         ensures unless { IsOkUnless result Memory }
     {

@@ -278,7 +278,8 @@ pub extern "C" fn guillotiere_cache_clear(cache: Option<&mut CacheHandle>) -> u3
 }
 
 /// Evicts the keys that weren't used for at least this many frames, each reported by a change, the least recently used first:
-/// with 1, what this frame didn't use; with 0, all. `DONE`; `MEMORY`, and then all is as it was; `EMPTY`.
+/// with 1, what this frame didn't use; with 0, all. `DONE`; `MEMORY`, and then all is as it was: never if
+/// `guillotiere_cache_reserve_changes` made room for as many changes as keys are held, and for one at least; `EMPTY`.
 #[no_mangle]
 pub extern "C" fn guillotiere_cache_trim(cache: Option<&mut CacheHandle>, frames: u64) -> u32 {
     let alloc = Global;
@@ -300,7 +301,8 @@ pub extern "C" fn guillotiere_cache_trim(cache: Option<&mut CacheHandle>, frames
 
 /// Removes the pages after the last one with a key, each reported by a change, `GUILLOTIERE_PAGE_REMOVED`, the last one
 /// first. The others stay, with their sizes, and so do all keys; after `guillotiere_cache_clear` all pages go. `DONE`;
-/// `MEMORY`, and then all is as it was; `EMPTY`.
+/// `MEMORY`, and then all is as it was: never if `guillotiere_cache_reserve_changes` made room for as many changes as there
+/// are pages, and for one at least; `EMPTY`.
 #[no_mangle]
 pub extern "C" fn guillotiere_cache_shrink(cache: Option<&mut CacheHandle>) -> u32 {
     let alloc = Global;

@@ -145,7 +145,7 @@ pub extern "C" fn guillotiere_cache_areas(
 /// Of the area of a page that is free, what lies in free boxes which have no room for a key of this size, with its padding
 /// and rounded up to the alignment. A side below 0 counts as 0, and 0 as the padding on both sides, though a key of an empty
 /// size takes no room. Asked with the size of a usual key it says how fragmented the page is: where much is of no use, it is
-/// time to repack it. Takes memory for a list of the page's free boxes.
+/// time to repack it. Takes memory for a list of the page's free boxes, if there is such a page.
 /// `DONE`; `NO_PAGE`; `MEMORY`; `EMPTY`.
 #[no_mangle]
 pub extern "C" fn guillotiere_cache_unusable_area(
