@@ -17,10 +17,7 @@ pub fn keys<A: Allocator + Copy>(
 }
 
 /// How many keys have a place on a page.
-pub fn keys_on<A: Allocator + Copy>(
-    cache: &TextureCache<u64, DefaultHasher, A>,
-    page: u32,
-) -> usize
+pub fn keys_on<A: Allocator + Copy>(cache: &TextureCache<u64, DefaultHasher, A>, page: u32) -> usize
     ensures { result ≡ count_by (λ k. k.1.page == page) (keyed_entries cache.now) }
 {
     cache.iter().filter(|(_, place)| place.page == page).count()
