@@ -33,12 +33,3 @@ pub fn key_of_number<A: Allocator + Copy>(
 {
     cache.iter().find(|(_, place)| place.number == number)
 }
-
-/// The widths of all places, added up.
-pub fn widths<A: Allocator + Copy>(cache: &TextureCache<u64, DefaultHasher, A>) -> i32 {
-    let mut sum: i32 = 0;
-    for (_, place) in cache {
-        sum = sum.wrapping_add(place.inner.width());
-    }
-    sum
-}
