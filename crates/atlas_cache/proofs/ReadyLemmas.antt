@@ -1,5 +1,6 @@
 -- What an insert leaves in reserve.
-use Rattle.std.proofs.Common.{ℕ, ◌≡◌, ◌≢◌, ◌+◌, ◌-◌, ◌*◌, ◌<◌, ◌≤◌, ◌∙◌, List, length, Result, Ok, Err, sym, ap, arith, inl, inr}
+use Rattle.std.proofs.Common.{ℕ, ◌≡◌, ◌≢◌, ◌+◌, ◌-◌, ◌*◌, ◌<◌, ◌≤◌, ◌∙◌, List, length, Result, Ok, Err, OnOk, sym, ap, arith, inl, inr}
+use Rattle.std.proofs.lemmas.Bool.{cases_lt}
 use Rattle.guillotiere.specs.declared.Size.{Size}
 use Rattle.atlas_cache.specs.declared.error.CacheError.{CacheError}
 use Rattle.atlas_cache.specs.declared.error.CacheError.TheVariants.{Memory, Slots}
@@ -10,10 +11,12 @@ use Rattle.guillotiere.specs.Stored.{AtlasValue}
 use Rattle.atlas_cache.specs.Caches.{CacheState, IsFull}
 use Rattle.atlas_cache.specs.Changes.{InsertsBlank}
 use Rattle.atlas_cache.specs.Refusals.{IsWithoutNumber}
-use Rattle.atlas_cache.specs.Reserving.{AllowSlots, HasReserves, HaveSlots, IsReadyFor, IsShortOfSlots, KeepsPageSizes, UseAtMost}
+use Rattle.atlas_cache.specs.Reserving.{ready_inserts, AllowSlots, HasReserves, HaveSlots, IsReadyFor, IsShortOfSlots, KeepsPageSizes}
+use Rattle.atlas_cache.specs.Reserving.{KeepsReady, KeepsReadyButOne, UseAtMost}
 use Rattle.atlas_cache.specs.Rooms.{page_sizes}
 use Rattle.atlas_cache.proofs.RoomLemmas.KeptPages.{as_many}
 use Rattle.atlas_cache.proofs.RoomLemmas.PageReserves.{allowed_left, none_short, none_used, slots_left}
+use Rattle.atlas_cache.proofs.RoomLemmas.ReadySlots.{allow_ready, have_ready, most_ready, ready_had, ready_left}
 
 -- What an error is that is passed on.
 pub error_is : {X : Type 0} {kind : CacheError} (error : CacheError) (result : Result X CacheError) → result ≡ Err error
@@ -60,37 +63,86 @@ module _ {K : Type 0} where
   one_fewer n room s had =
       reserves_left n (n + 1) room room 4 s s (none_used 4 s.pages) (omega arith) (omega arith) (omega arith) had
 
-  -- What is ready stays so where it is used by no step.
-  pub still_ready : (n room left : ℕ) (s t : CacheState K) → UseAtMost 0 s.pages t.pages → s.reserved ≤ t.reserved
-      → length t.entries + room ≤ length s.entries + left → (IsFull s → IsFull t) → IsReadyFor n room s → IsReadyFor n left t
-  still_ready n room left s t slots entries changes full had = record {
-    reserves = reserves_left n n room left 0 s t slots (omega arith) (omega (arith, entries)) (omega (arith, changes)) had.reserves;
-    allowed = allowed_left 0 (4 * n) (4 * n) s.pages t.pages (omega arith) slots had.allowed;
-    full = full had.full;
+  -- Where all is ready for n inserts, memory is there for them.
+  reserves_ready : (n room : ℕ) (s : CacheState K) → 0 < n → n ≤ ready_inserts room s → HasReserves n room s
+  unfolding ready_inserts
+  reserves_ready n room s some most = record {
+    entries = omega (arith, most);
+    slots = have_ready (4 * n) s.pages (omega (arith, some)) (omega (arith, most));
+    changes = omega (arith, some, most);
   }
+
+  -- And each page may use their slots.
+  allowed_ready : (n room : ℕ) (s : CacheState K) → 0 < n → n ≤ ready_inserts room s → AllowSlots (4 * n) s.pages
+  unfolding ready_inserts
+  allowed_ready n room s some most = allow_ready (4 * n) s.pages (omega (arith, some)) (omega (arith, most))
+
+  -- Where memory is there for n inserts, and each page may use their slots, all is ready for them.
+  inserts_ready : (n room : ℕ) (s : CacheState K) → 4 * n ≤ 4294967295 → HasReserves n room s → AllowSlots (4 * n) s.pages
+      → n ≤ ready_inserts room s
+  unfolding ready_inserts
+  inserts_ready n room s few had allow =
+      let slots = ready_had (4 * n) s.pages few had.slots allow in
+      omega (arith, had.entries, had.changes, slots)
+
+  few_ready : (room : ℕ) (s : CacheState K) → 4 * ready_inserts room s ≤ 4294967295
+  unfolding ready_inserts
+  few_ready room s = omega (arith, most_ready s.pages)
+
+  ready_stays : (s t : CacheState K) → UseAtMost 0 s.pages t.pages → s.reserved ≤ t.reserved
+      → length t.entries ≤ length s.entries → (room : ℕ) → ready_inserts room s ≤ ready_inserts room t
+  unfolding ready_inserts
+  ready_stays s t slots entries changes room = omega (arith, ready_left 0 s.pages t.pages slots, entries, changes)
+
+  -- What is ready stays so where it is used by no step.
+  pub still_ready : (s t : CacheState K) → UseAtMost 0 s.pages t.pages → s.reserved ≤ t.reserved
+      → length t.entries ≤ length s.entries → (IsFull s → IsFull t) → KeepsReady s t
+  still_ready s t slots entries changes full = record { inserts = ready_stays s t slots entries changes; full = full }
+
+  -- What was taken before for some inserts is ready once their slots are there.
+  pub ready_reserved : {X : Type 0} (result : Result X CacheError) (slots reserved held : ℕ) (t : CacheState K)
+      → OnOk result (HaveSlots slots t.pages) → OnOk result (AllowSlots slots t.pages) → slots ≤ 4294967295
+      → reserved ≡ t.reserved → held ≡ length t.entries
+      → OnOk result ((n room : ℕ) → 4 * n ≤ slots → n ≤ reserved → held + n ≤ room → n ≤ ready_inserts room t)
+  ready_reserved (Ok x) slots reserved held t have allow few is holds = λ n room enough some changes.
+      let none = none_used 0 t.pages in
+      inserts_ready n room t (omega (arith, few, enough)) (record {
+        entries = omega (arith, some, is);
+        slots = slots_left 0 (4 * n) slots t.pages t.pages (omega (arith, enough)) none have;
+        changes = omega (arith, changes, holds);
+      }) (allowed_left 0 (4 * n) slots t.pages t.pages (omega (arith, enough)) none allow)
+  ready_reserved (Err error) slots reserved held t have allow few is holds = tt
 
   -- An insert that keeps what is in reserve, what the pages may use and their sizes.
   module _ {X : Type 0} (result : Result X CacheError) (size : Size) (room rest : ℕ) (s t : CacheState K)
       (reserves : (n : ℕ) → HasReserves (n + 1) room s → KeepsPageSizes size s → (result ≢ Err Memory) × HasReserves n rest t)
       (allowed : (n : ℕ) → AllowSlots (4 * (n + 1)) s.pages → KeepsPageSizes size s
       → (result ≢ Err Slots) × AllowSlots (4 * n) t.pages) where
-    -- While all is ready for one more, it isn't refused for memory or for slots, and less is in reserve after it.
-    one_served : (n left : ℕ) → IsReadyFor n room s → left < n
+    -- While all is ready for one more, it isn't refused for memory or for slots, and what it takes is that of one.
+    one_served : (left : ℕ) → left < ready_inserts room s → IsFull s
         → ((result ≢ Err Memory) × HasReserves left rest t) × ((result ≢ Err Slots) × AllowSlots (4 * left) t.pages)
-    one_served n left ready less =
-        let keeps : KeepsPageSizes size s = λ positive none. ready.full in
-        let had = reserves_left (left + 1) n room room 0 s s (none_used 0 s.pages) (omega (arith, less)) (omega (arith, less))
-        (omega (arith, less)) ready.reserves in
-        let may = allowed_left 0 (4 * (left + 1)) (4 * n) s.pages s.pages (omega (arith, less)) (none_used 0 s.pages) ready.allowed in
+    one_served left less full =
+        let keeps : KeepsPageSizes size s = λ positive none. full in
+        let had = reserves_ready (left + 1) room s (omega arith) (omega (arith, less)) in
+        let may = allowed_ready (left + 1) room s (omega arith) (omega (arith, less)) in
         (reserves left had keeps, allowed left may keeps)
 
-    pub unrefused_while_ready : (n : ℕ) → IsReadyFor n room s → 0 < n → (result ≢ Err Memory) × (result ≢ Err Slots)
-    unrefused_while_ready n ready some = let served = one_served n 0 ready some in (served.0.0, served.1.0)
+    pub unrefused_while_ready : IsReadyFor 1 room s → (result ≢ Err Memory) × (result ≢ Err Slots)
+    unrefused_while_ready ready =
+        let served = one_served 0 (omega (arith, ready.inserts)) ready.full in (served.0.0, served.1.0)
 
-    pub ready_after : (IsFull s → IsFull t) → (n left : ℕ) → IsReadyFor n room s → left < n → IsReadyFor left rest t
-    ready_after full n left ready less =
-        let served = one_served n left ready less in
-        record { reserves = served.0.1; allowed = served.1.1; full = full ready.full }
+    but_one : IsFull s → ready_inserts room s ≤ ready_inserts rest t + 1
+    but_one full = elim (cases_lt 0 (ready_inserts room s)) [
+      | inl some ↦
+          let left = ready_inserts room s - 1 in
+          let served = one_served left (omega (arith, some)) full in
+          let now = inserts_ready left rest t (omega (arith, few_ready room s)) served.0.1 served.1.1 in
+          omega (arith, now)
+      | inr none ↦ omega (arith, none)
+    ]
+
+    pub ready_after : (IsFull s → IsFull t) → KeepsReadyButOne room rest s t
+    ready_after full = record { inserts = but_one; full = full }
 
   -- A key of an empty size takes one entry at most, and nothing of the pages.
   pub blank_reserves : (key : K) (size : Size) (result : Result Inserted CacheError) (s t : CacheState K) (n room : ℕ)

@@ -4,6 +4,7 @@ pub mod KeptPages
 pub mod PageGrowth
 pub mod PageReserves
 pub mod PageRoom
+pub mod ReadySlots
 pub mod RefusedSizes
 pub mod RepackedPages
 pub mod StoredPages

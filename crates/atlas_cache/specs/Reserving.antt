@@ -1,5 +1,5 @@
 -- What is in reserve on the pages of a cache, and for inserts that are still to come.
-use Rattle.std.specs.Prelude.{◌≡◌, ◌+◌, ◌-◌, ◌*◌, ◌<◌, ◌≤◌, ℕ, List, length, Some, slice_get, Vec, vec_capacity, vec_len}
+use Rattle.std.specs.Prelude.{◌≡◌, ◌+◌, ◌-◌, ◌*◌, ◌/◌, ◌<◌, ◌≤◌, ℕ, min, List, [], ◌∷◌, length, Some, slice_get, Vec, vec_capacity, vec_len}
 use Rattle.guillotiere.specs.declared.Size.{Size}
 use Rattle.guillotiere.specs.Boxes.{IsPositive}
 use Rattle.guillotiere.specs.Pixels.{sides_of, size_of}
@@ -30,6 +30,15 @@ IsShortFor n pages =
 abbrev pub AllowSlots : ℕ → List AtlasValue → Type 0
 AllowSlots n pages =
     (page : ℕ) (s : AtlasValue) → slice_get pages page ≡ Some s → used_in (state_of s) + n ≤ 16777216
+
+-- How many more slots a page may use, of those for which it has memory.
+abbrev pub ready_slots_of : AtlasValue → ℕ
+ready_slots_of v = min (v.capacity - used_in (state_of v)) (16777216 - used_in (state_of v))
+
+-- How many each page may use so; 4294967295, the most that can be asked for, where there are no pages.
+abbrev pub ready_slots : List AtlasValue → ℕ
+ready_slots [] = 4294967295
+ready_slots (page ∷ pages) = min (ready_slots_of page) (ready_slots pages)
 
 -- Some page uses all but 3 at most.
 abbrev pub IsShortOfSlots : List AtlasValue → Type 0
@@ -64,9 +73,29 @@ module _ {K : Type 0} where
   KeepsPageSizes size s =
       IsPositive (sides_of size) → HasNoPageFor (size_of (bordered s.options size)) s → IsFull s
 
-  -- None of n inserts is refused for memory or for slots, where the changes have so much room: there is memory for them, each page may
-  -- use 4n more slots, and every page is there and at its largest.
+  -- How many inserts all is ready for, where the changes have so much room: an entry of each is in reserve, 4 slots on each page, which
+  -- may use them, and room for its change and for one of each entry.
+  unfoldable pub ready_inserts : (room : ℕ) → CacheState K → ℕ
+  ready_inserts room s = min s.reserved (min (ready_slots s.pages / 4) (room - length s.entries))
+
+  -- None of n inserts is refused for memory or for slots, where the changes have so much room: all is ready for them, and every page is
+  -- there and at its largest.
   pub record IsReadyFor (n room : ℕ) (s : CacheState K) : Type 0 where
-    pub reserves : HasReserves n room s
-    pub allowed : AllowSlots (4 * n) s.pages
+    pub inserts : n ≤ ready_inserts room s
     pub full : IsFull s
+
+  -- Once there are so many more slots of each page, all is ready for the inserts that they are enough for, as far as entries are in
+  -- reserve and the changes have room.
+  abbrev pub ReadiesInserts : (slots : ℕ) → (s t : CacheState K) → Type 0
+  ReadiesInserts slots s t =
+      (n room : ℕ) → 4 * n ≤ slots → n ≤ s.reserved → length s.entries + n ≤ room → n ≤ ready_inserts room t
+
+  -- All is ready for no fewer inserts than before, however much room the changes have.
+  pub record KeepsReady (s t : CacheState K) : Type 0 where
+    pub inserts : (room : ℕ) → ready_inserts room s ≤ ready_inserts room t
+    pub full : IsFull s → IsFull t
+
+  -- It is for all but one at least, where the changes had so much room, and have so much now.
+  pub record KeepsReadyButOne (room left : ℕ) (s t : CacheState K) : Type 0 where
+    pub inserts : IsFull s → ready_inserts room s ≤ ready_inserts left t + 1
+    pub full : IsFull s → IsFull t

@@ -10,7 +10,7 @@ ghost use Rattle.atlas_cache.specs.Counting.{one_more};
 ghost use Rattle.atlas_cache.specs.Entries.{lying};
 ghost use Rattle.atlas_cache.specs.Refusals.{IsRefusedNew};
 ghost use Rattle.atlas_cache.specs.Reserving.{room_in, AllowSlots, HasReserves, HaveSlots, IsReadyFor, IsShortOfSlots, KeepsPageSizes};
-ghost use Rattle.atlas_cache.specs.Reserving.{UseAtMost};
+ghost use Rattle.atlas_cache.specs.Reserving.{KeepsReady, KeepsReadyButOne, UseAtMost};
 ghost use Rattle.atlas_cache.specs.Rooms.{page_sizes, HasRoomOnlyAmong, IsRefusal};
 ghost use Rattle.atlas_cache.specs.declared.error.CacheError.TheVariants.{Memory, Slots};
 ghost use Rattle.atlas_cache.specs.declared.inserted.Inserted.TheVariants.{FrameFull, Held, NeverFits, Placed};
@@ -127,7 +127,7 @@ impl<K: Copy + Eq + Hash, S: BuildHasher, A: Allocator + Copy> TextureCache<K, S
         ensures frame { self.new ≡ record self.old { frame = one_more self.old.frame } }
         ensures unused { self.old.frame < 18446744073709551615 → IsNoneInUse self.new }
         ensures told { ShowsSame (picture_of K.eq self.old) (picture_of K.eq self.new) }
-        ensures stays_ready { (n room : ℕ) → IsReadyFor n room self.old → IsReadyFor n room self.new }
+        ensures stays_ready { KeepsReady self.old self.new }
     {
         self.frame = count(self.frame);
     }
@@ -202,7 +202,7 @@ impl<K: Copy + Eq + Hash, S: BuildHasher, A: Allocator + Copy> TextureCache<K, S
               record self.old.counts { misses = one_more self.old.counts.misses };
         } }
         ensures told { ShowsSame (picture_of K.eq self.old) (picture_of K.eq self.new) }
-        ensures stays_ready { (n room : ℕ) → IsReadyFor n room self.old → IsReadyFor n room self.new }
+        ensures stays_ready { KeepsReady self.old self.new }
     {
         self.entries.prove_kept();
         let Some((number, entry)) = look_up(&self.entries, key) else {
@@ -277,10 +277,8 @@ impl<K: Copy + Eq + Hash, S: BuildHasher, A: Allocator + Copy> TextureCache<K, S
         ensures already { KeepsPageSizes size self.old → result ≡ Err Slots → IsShortOfSlots self.old.pages }
         ensures allowed { (n : ℕ) → AllowSlots (4 * (n + 1)) self.old.pages → KeepsPageSizes size self.old
             → (result ≢ Err Slots) × AllowSlots (4 * n) self.new.pages }
-        ensures ready { (n left : ℕ) → IsReadyFor n (room_in changes.old) self.old → left < n
-            → IsReadyFor left (room_in changes.new) self.new }
-        ensures unrefused { (n : ℕ) → IsReadyFor n (room_in changes.old) self.old → 0 < n
-            → (result ≢ Err Memory) × (result ≢ Err Slots) }
+        ensures ready { KeepsReadyButOne (room_in changes.old) (room_in changes.new) self.old self.new }
+        ensures unrefused { IsReadyFor 1 (room_in changes.old) self.old → (result ≢ Err Memory) × (result ≢ Err Slots) }
     {
         self.entries.prove_kept();
         if let Some((known, entry)) = look_up(&self.entries, &key) {
@@ -311,7 +309,7 @@ impl<K: Copy + Eq + Hash, S: BuildHasher, A: Allocator + Copy> TextureCache<K, S
         ensures reserves { (n room : ℕ) → HasReserves n room self.old → HasReserves n room self.new }
         ensures full { IsFull self.old → IsFull self.new }
         ensures allowed { (n : ℕ) → AllowSlots n self.old.pages → AllowSlots n self.new.pages }
-        ensures stays_ready { (n room : ℕ) → IsReadyFor n room self.old → IsReadyFor n room self.new }
+        ensures stays_ready { KeepsReady self.old self.new }
     {
         self.entries.prove_kept();
         let Some((number, gone)) = look_up(&self.entries, key) else {

@@ -1,12 +1,12 @@
 //! Removing entries without inserting one, and reserving room beforehand.
-ghost use Rattle.std.specs.Prelude.{◌≡◌, ◌≢◌, ◌+◌, ◌≤◌, ℕ, false, length, map, Err, IfErr, IsOk, IsOkUnless, IsTrue, OnErr, OnOk};
+ghost use Rattle.std.specs.Prelude.{◌≡◌, ◌≢◌, ◌+◌, ◌≤◌, false, length, map, Err, IfErr, IsOk, IsOkUnless, IsTrue, OnErr, OnOk};
 ghost use Rattle.std.specs.Prelude.{vec_capacity, vec_len};
 ghost use Rattle.std.specs.List.{AllByRecursion};
 ghost use Rattle.guillotiere.specs.Stored.{state_of};
 ghost use Rattle.atlas_cache.specs.Caches.{with_reserve, IsFull};
 ghost use Rattle.atlas_cache.specs.Changes.{picture_of, ShowsSame};
 ghost use Rattle.atlas_cache.specs.Clearing.{all_forgotten, Clears, DropsLast, IsUsedSince, TellsChanges, Trims};
-ghost use Rattle.atlas_cache.specs.Reserving.{AllowSlots, HaveSlots, IsReadyFor, IsShortFor, StopsAtPage, UseAtMost};
+ghost use Rattle.atlas_cache.specs.Reserving.{AllowSlots, HaveSlots, IsShortFor, KeepsReady, ReadiesInserts, StopsAtPage, UseAtMost};
 ghost use Rattle.atlas_cache.specs.Rooms.{IsRefusal};
 ghost use Rattle.atlas_cache.specs.declared.error.CacheError.TheVariants.{Memory, Slots};
 
@@ -26,7 +26,7 @@ impl<K: Copy + Eq + Hash, S: BuildHasher, A: Allocator + Copy> TextureCache<K, S
     pub fn clear(&mut self)
         ensures clears { Clears self.old self.new }
         ensures told { ShowsSame (all_forgotten (picture_of K.eq self.old)) (picture_of K.eq self.new) }
-        ensures stays_ready { (n room : ℕ) → IsReadyFor n room self.old → IsReadyFor n room self.new }
+        ensures stays_ready { KeepsReady self.old self.new }
     {
         self.entries.clear();
         self.rooms.clear();
@@ -78,6 +78,7 @@ impl<K: Copy + Eq + Hash, S: BuildHasher, A: Allocator + Copy> TextureCache<K, S
         ensures had { HaveSlots additional self.old.pages → result ≢ Err Memory }
         ensures allowed { OnOk result (AllowSlots additional self.new.pages) }
         ensures stops { IfErr result (λ error. StopsAtPage additional error self.old.pages self.new.pages) }
+        ensures inserts { OnOk result (ReadiesInserts additional self.old self.new) }
     {
         self.rooms.reserve_slots(additional)
     }

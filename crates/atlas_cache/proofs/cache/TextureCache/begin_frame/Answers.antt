@@ -23,8 +23,7 @@ returns-clause-unused g c = λ early.
 
 pub returns-clause-stays_ready : goal.returns-clause-stays_ready
 returns-clause-stays_ready g c =
-    rw (← c.self.view_is) (λ n room.
-    still_ready n room room _ _ (none_used 0 c.self.inside.rooms.pages) (omega arith) (omega arith) (λ full. record {
+    rw (← c.self.view_is) (still_ready _ _ (none_used 0 c.self.inside.rooms.pages) (omega arith) (omega arith) (λ full. record {
       all = full.all;
       largest = full.largest;
     }))

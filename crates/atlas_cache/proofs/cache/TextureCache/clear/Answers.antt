@@ -11,6 +11,5 @@ invariant_of-self g c =
 pub returns-clause-stays_ready : goal.returns-clause-stays_ready
 returns-clause-stays_ready g c =
     let none : length (entries_of c.clear.new.self.entries) ≡ 0 = rw c.clear.ensures.entries refl in
-    rw (← c.self.view_is) (λ n room.
-    still_ready n room room _ _ c.clear-2.ensures.slots (omega (arith, c.clear.ensures.reserved)) (omega (arith, none))
+    rw (← c.self.view_is) (still_ready _ _ c.clear-2.ensures.slots (omega (arith, c.clear.ensures.reserved)) (omega (arith, none))
     (full_stays _ _ c.clear-2.ensures.options c.clear-2.ensures.sizes))

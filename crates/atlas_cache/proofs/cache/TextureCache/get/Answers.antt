@@ -85,8 +85,7 @@ returns-clause-told g c =
 
 pub returns-in_default-clause-stays_ready : goal.returns-in_default-clause-stays_ready
 returns-in_default-clause-stays_ready g c =
-    rw (← c.self.view_is) (λ n room.
-    still_ready n room room _ _ (none_used 0 c.self.inside.rooms.pages) (omega arith) (omega arith) (λ full. record {
+    rw (← c.self.view_is) (still_ready _ _ (none_used 0 c.self.inside.rooms.pages) (omega arith) (omega arith) (λ full. record {
       all = full.all;
       largest = full.largest;
     }))
@@ -101,6 +100,5 @@ returns-clause-stays_ready g c =
     let less = length-less p.newer e p.older in
     let now : length (entries_of c.touch.new.self.entries) ≡ length (p.newer ++ p.older) + 1 =
     rw (c.touch.ensures.entries, touched-is n it.frame it.entries.entries e found.at) (omega (arith, ap length p.rests)) in
-    rw (← c.self.view_is) (λ k room.
-    still_ready k room room _ _ (none_used 0 it.rooms.pages) (omega (arith, c.touch.ensures.reserved))
+    rw (← c.self.view_is) (still_ready _ _ (none_used 0 it.rooms.pages) (omega (arith, c.touch.ensures.reserved))
     (omega (arith, less, ap length p.was, now)) (λ full. record { all = full.all; largest = full.largest }))

@@ -7,7 +7,7 @@ use Rattle.atlas_cache.proofs.KeyLemmas.{found_named, own_keys}
 use Rattle.atlas_cache.proofs.ListLemmas.{parts}
 use Rattle.atlas_cache.proofs.PictureLemmas.{removes_tell}
 use Rattle.atlas_cache.proofs.BlankLemmas.{length-less}
-use Rattle.atlas_cache.proofs.ReadyLemmas.{full_stays, reserves_left}
+use Rattle.atlas_cache.proofs.ReadyLemmas.{full_stays, reserves_left, still_ready}
 use Rattle.atlas_cache.proofs.RoomLemmas.PageReserves.{allowed_left, slots_left}
 use Rattle.atlas_cache.proofs.cache.TextureCache.remove.Goals as goal
 
@@ -128,8 +128,12 @@ returns-clause-allowed g c =
     (λ n. allowed_left 0 n n c.self.inside.rooms.pages c.take_out.new.rooms.pages (omega arith) c.take_out.ensures.slots)
 
 pub returns-clause-stays_ready : goal.returns-clause-stays_ready
-returns-clause-stays_ready g c = λ n room had. record {
-  reserves = returns-clause-reserves g c n room had.reserves;
-  allowed = returns-clause-allowed g c (4 * n) had.allowed;
-  full = returns-clause-full g c had.full;
-}
+returns-clause-stays_ready g c =
+    let found = rw c.in-Some.is at c.look_up.ensures.found in
+    let it = c.self.inside in
+    let p = parts c.in-Some.number it.entries.entries c.in-Some.gone found.at in
+    let less = length-less p.newer c.in-Some.gone p.older in
+    let now : length (entries_of c.take_out.new.entries.entries) ≡ length (p.newer ++ p.older) =
+    rw c.take_out.ensures.without (ap length p.rests) in
+    rw (← c.self.view_is) (still_ready _ _ c.take_out.ensures.slots (omega (arith, c.take_out.ensures.reserved))
+    (omega (arith, less, ap length p.was, now)) (full_stays _ _ c.take_out.ensures.options c.take_out.ensures.sizes))

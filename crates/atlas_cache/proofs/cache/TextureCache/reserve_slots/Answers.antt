@@ -1,8 +1,8 @@
-use Rattle.std.proofs.Common.{refl}
+use Rattle.std.proofs.Common.{arith, refl}
 use Rattle.atlas_cache.specs.Caches.{entries_of}
 use Rattle.atlas_cache.specs.Entries.{lying}
 use Rattle.atlas_cache.proofs.HoldingLemmas.{stays}
-use Rattle.atlas_cache.proofs.ReadyLemmas.{full_stays}
+use Rattle.atlas_cache.proofs.ReadyLemmas.{full_stays, ready_reserved}
 use Rattle.atlas_cache.proofs.RoomLemmas.PageReserves.{same_rectangles, same_sizes}
 use Rattle.atlas_cache.proofs.cache.TextureCache.reserve_slots.Goals as goal
 
@@ -32,3 +32,8 @@ returns-clause-had g c = rw (← c.self.view_is) c.reserve_slots.ensures.had
 
 pub returns-clause-stops : goal.returns-clause-stops
 returns-clause-stops g c = rw (← c.self.view_is) c.reserve_slots.ensures.stops
+
+pub returns-clause-inserts : goal.returns-clause-inserts
+returns-clause-inserts g c =
+    rw (← c.self.view_is) (ready_reserved c.reserve_slots.result c.args.additional _ _ _ c.reserve_slots.ensures.ready
+    c.reserve_slots.ensures.allowed (omega arith) refl refl)
