@@ -1,6 +1,7 @@
 """What the tests over sheets have in common; none of it needs Pillow."""
 import json
 import os
+import signal
 import subprocess
 import sys
 import tempfile
@@ -14,6 +15,9 @@ from runner import Suite, outcome  # noqa: E402
 PROGRAM = os.path.abspath(sys.argv[1]) if len(sys.argv) == 2 else sys.exit(sys.modules['__main__'].__doc__)
 SUITE = Suite()
 test = SUITE.run
+# Programs begun here mind a closed terminal and Ctrl-C, even where the gate runs by nohup: a signal that this process handles is in them as
+# it is at first.
+signal.signal(signal.SIGHUP, lambda *_: None)
 
 
 def ended(words, **more):
