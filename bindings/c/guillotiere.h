@@ -554,7 +554,8 @@ uint32_t guillotiere_cache_shrink(guillotiere_cache *cache);
  * together; pages are counted from 0. Each key of the page is reported by a change, the most recently used first:
  * GUILLOTIERE_MOVED, also where it stays, or GUILLOTIERE_EVICTED, where it found no room. A place that a key moves to
  * can overlap one that a later change moves from: take the changes that wait, then copy the page, then call this, and copy
- * all pixels from that copy. DONE; NO_PAGE, SLOTS or MEMORY, and then all is as it was; EMPTY. */
+ * all pixels from that copy. DONE; NO_PAGE, SLOTS (only of a page with more than 4194303 keys) or MEMORY, and then all
+ * is as it was; EMPTY. */
 GUILLOTIERE_CHECKED
 uint32_t guillotiere_cache_repack(guillotiere_cache *cache, uint32_t page);
 
@@ -575,9 +576,11 @@ uint32_t guillotiere_cache_reserve(guillotiere_cache *cache, size_t additional);
 
 /* Makes sure that this many slots are in reserve on each page. An insertion that neither adds a page nor grows one uses at
  * most 4 of each page; a page that is added later has none in reserve, one that grows uses up to 3, and one that is repacked
- * may have none.
+ * may have none. So once guillotiere_cache_reserve(n), this with 4 times n and guillotiere_cache_reserve_changes for n and
+ * all keys that are held were DONE, and every page is there and at its largest, none of n insertions is refused with SLOTS
+ * or MEMORY.
  * DONE; SLOTS if those of a page don't suffice; MEMORY; EMPTY. The pages before the one that was refused have theirs
- * all the same. */
+ * then, and it and those after it are as they were. */
 GUILLOTIERE_CHECKED
 uint32_t guillotiere_cache_reserve_slots(guillotiere_cache *cache, uint32_t additional);
 
@@ -586,7 +589,7 @@ uint32_t guillotiere_cache_reserve_slots(guillotiere_cache *cache, uint32_t addi
 GUILLOTIERE_CHECKED
 uint32_t guillotiere_cache_reserve_changes(guillotiere_cache *cache, size_t additional);
 
-/* How many keys are held. DONE; EMPTY. */
+/* How many keys are held, at most 4294967295. DONE; EMPTY. */
 uint32_t guillotiere_cache_len(const guillotiere_cache *cache, size_t *len);
 
 /* How many numbers keys have had since the cache was made or cleared: the number of each place is below this. The numbers of

@@ -22,8 +22,8 @@ pub fn take_for<A: Allocator + Copy>(
         return Err(CacheError::Slots); // no page may use so many
     }
     cache.reserve(inserts as usize)?;
-    cache.reserve_slots(4 * inserts)?;
     changes.reserve(cache.len() + inserts as usize)?;
+    cache.reserve_slots(4 * inserts)?;
     Ok(())
 }
 
@@ -62,7 +62,7 @@ pub fn insert_again<A: Allocator + Copy>(
     prove!(!matches!(&two, Err(CacheError::Memory | CacheError::Slots)));
 }
 
-/// The glyphs of a text, of which none is refused for memory or for slots.
+/// The glyphs of a text, of which none is refused for memory or for slots: each takes the place of one that goes.
 pub fn insert_all<A: Allocator + Copy>(
     cache: &mut TextureCache<u64, DefaultHasher, A>,
     keys: &[u64],
@@ -75,6 +75,25 @@ pub fn insert_all<A: Allocator + Copy>(
 {
     for key in keys {
         let _answer = cache.insert(*key, size, changes)?;
+        let _gone = cache.remove(&0);
     }
     Ok(())
+}
+
+/// All of it at once: what is missing is said before the first glyph.
+pub fn draw_text<A: Allocator + Copy>(
+    cache: &mut TextureCache<u64, DefaultHasher, A>,
+    keys: &[u64],
+    size: Size,
+    changes: &mut Changes<u64, A>,
+) -> Result<(), CacheError>
+    requires { IsFull cache.old }
+{
+    if keys.len() > 4_194_304 {
+        return Err(CacheError::Slots);
+    }
+    take_for(cache, keys.len() as u32, changes)?;
+    let drawn = insert_all(cache, keys, size, changes);
+    prove!(!matches!(&drawn, Err(CacheError::Memory | CacheError::Slots)));
+    drawn
 }

@@ -1,5 +1,5 @@
 -- What a call does with a cache that has keys of 64 bits.
-use Rattle.std.specs.Prelude.{◌≡◌, ◌≢◌, ◌↔◌, ◌+◌, ◌<◌, ◌≤◌, ℕ, length, map, IfErr, IfSome, IsSome, Option, None, Some}
+use Rattle.std.specs.Prelude.{◌≡◌, ◌≢◌, ◌↔◌, ◌+◌, ◌*◌, ◌<◌, ◌≤◌, ℕ, length, map, IfErr, IfSome, IsSome, Option, None, Some}
 use Rattle.std.specs.Prelude.{Result, Ok, Err, nat_eq}
 use Rattle.guillotiere.specs.declared.Size.{Size}
 use Rattle.guillotiere.specs.Boxes.{IsPositive}
@@ -13,15 +13,24 @@ use Rattle.atlas_cache.specs.declared.places.Place.{Place}
 use Rattle.atlas_cache.specs.Asking.{bordered, CanStand}
 use Rattle.atlas_cache.specs.Caches.{CacheState, entry_for, place_for, IsFull, IsNoneInUse}
 use Rattle.atlas_cache.specs.Changes.{FindsKnown, Inserts, InsertsBlank, IsNewAndEmpty, IsNewAndTooLarge, Removes, Uses}
-use Rattle.atlas_cache.specs.Clearing.{TellsChanges, Trims}
+use Rattle.atlas_cache.specs.Changes.{picture_of, placed, ShowsSame}
+use Rattle.atlas_cache.specs.Clearing.{all_forgotten, Clears, TellsChanges, Trims}
 use Rattle.atlas_cache.specs.Counting.{one_more}
 use Rattle.atlas_cache.specs.Refusals.{IsRefusedNew}
 use Rattle.atlas_cache.specs.Relocating.{Repacks}
-use Rattle.atlas_cache.specs.Reserving.{HasReserves, HaveSlots, IsShortOfSlots, KeepsPageSizes, UseAtMost}
+use Rattle.atlas_cache.specs.Reserving.{AllowSlots, HasReserves, HaveSlots, IsReadyFor, IsShortOfSlots, KeepsPageSizes, UseAtMost}
+use Rattle.atlas_cache.specs.Reserving.{KeepsReady, KeepsReadyButOne}
 use Rattle.atlas_cache.specs.Shrinking.{Shrinks}
 use Rattle.atlas_cache.specs.Telling.{Tells}
 use Rattle.atlas_cache.specs.Walking.{ShowsOlder}
 use Rattle.guillotiere_c.specs.Following.{Followed}
+
+-- What `TextureCache::begin_frame` does: no key moves, and none counts as used in the new frame.
+pub record BeginsFrame (s t : CacheState ℕ) : Type 0 where
+  pub frame : t ≡ record s { frame = one_more s.frame }
+  pub unused : s.frame < 18446744073709551615 → IsNoneInUse t
+  pub told : ShowsSame (picture_of nat_eq s) (picture_of nat_eq t)
+  pub stays_ready : KeepsReady s t
 
 -- What `TextureCache::get` does: the key is used in this frame, and counted as a hit; or it isn't held, and counted as
 -- a miss.
@@ -31,14 +40,26 @@ pub record IsGet (key : ℕ) (found : Option Place) (s t : CacheState ℕ) : Typ
   pub hit : IsSome found → t.counts ≡ record s.counts { hits = one_more s.counts.hits }
   pub miss : found ≡ None
       → t ≡ record s { counts = record s.counts { misses = one_more s.counts.misses } }
+  pub told : ShowsSame (picture_of nat_eq s) (picture_of nat_eq t)
+  pub stays_ready : KeepsReady s t
 
 -- What `TextureCache::remove` does: the key goes with its place, or it isn't held, and nothing changes.
 pub record IsRemoval (key : ℕ) (found : Option Place) (s t : CacheState ℕ) : Type 0 where
   pub place : found ≡ place_for nat_eq s key
   pub removes : IfSome (entry_for nat_eq key s.entries) (λ e. Removes e s t)
   pub none : found ≡ None → t ≡ s
+  pub told : ShowsSame (placed nat_eq key None (picture_of nat_eq s)) (picture_of nat_eq t)
   pub ready : (n : ℕ) → HaveSlots n s.pages → HaveSlots n t.pages
+  pub reserves : (n room : ℕ) → HasReserves n room s → HasReserves n room t
   pub full : IsFull s → IsFull t
+  pub allowed : (n : ℕ) → AllowSlots n s.pages → AllowSlots n t.pages
+  pub stays_ready : KeepsReady s t
+
+-- What `TextureCache::clear` does: no key is held, and none has a place.
+pub record IsClearing (s t : CacheState ℕ) : Type 0 where
+  pub clears : Clears s t
+  pub told : ShowsSame (all_forgotten (picture_of nat_eq s)) (picture_of nat_eq t)
+  pub stays_ready : KeepsReady s t
 
 -- What `TextureCache::insert` does. The changes that it makes come behind those that weren't handed over.
 pub record IsInsert (key : ℕ) (size : Size) (result : Result Inserted CacheError) (f g : Followed) : Type 0 where
@@ -50,6 +71,8 @@ pub record IsInsert (key : ℕ) (size : Size) (result : Result Inserted CacheErr
   pub nothing : result ≡ Ok NeverFits → (g.cache ≡ f.cache) × (g.changes ≡ f.changes)
   pub placed : (place : Place) → result ≡ Ok (Placed place) → place_for nat_eq f.cache key ≡ None
   pub held : (place : Place) → result ≡ Ok (Held place) → place_for nat_eq f.cache key ≡ Some place
+  pub hit : (place : Place) → result ≡ Ok (Held place)
+      → g.cache.counts ≡ record f.cache.counts { hits = one_more f.cache.counts.hits }
   pub new : entry_for nat_eq key f.cache.entries ≡ None → CanStand f.cache.options size
       → Inserts (size_of (bordered f.cache.options size)) key size result f.changes g.changes f.cache g.cache
   pub told : Tells nat_eq key result f.changes g.changes f.cache g.cache
@@ -63,6 +86,12 @@ pub record IsInsert (key : ℕ) (size : Size) (result : Result Inserted CacheErr
       → (result ≢ Err Memory) × HasReserves n g.room g.cache
   pub takes : f.cache.reserved ≤ g.cache.reserved + 1
   pub full : IsFull f.cache → IsFull g.cache
+  pub slots : KeepsPageSizes size f.cache → UseAtMost 4 f.cache.pages g.cache.pages
+  pub already : KeepsPageSizes size f.cache → result ≡ Err Slots → IsShortOfSlots f.cache.pages
+  pub allowed : (n : ℕ) → AllowSlots (4 * (n + 1)) f.cache.pages → KeepsPageSizes size f.cache
+      → (result ≢ Err Slots) × AllowSlots (4 * n) g.cache.pages
+  pub ready : KeepsReadyButOne f.room g.room f.cache g.cache
+  pub unrefused : IsReadyFor 1 f.room f.cache → (result ≢ Err Memory) × (result ≢ Err Slots)
   pub stays : (g.cache.options ≡ f.cache.options) × (g.cache.frame ≡ f.cache.frame)
 
 -- What `TextureCache::older` finds of a key: the key that was used next before it, if it is held.

@@ -1,12 +1,11 @@
 //! The exports of a cache: its life, its keys and its changes.
-ghost use Rattle.std.specs.Prelude.{◌≡◌, ◌≢◌, ◌<◌, ◌≤◌, ◌∷◌, [], length, IfSome, IsNone, IsSome, IsSomeAnd, None, Some};
+ghost use Rattle.std.specs.Prelude.{◌≡◌, ◌≢◌, ◌+◌, ◌*◌, ◌<◌, ◌≤◌, ◌∷◌, [], length, IfSome, IsNone, IsSome, IsSomeAnd, None, Some};
 ghost use Rattle.std.specs.Prelude.{nat_eq};
 ghost use Rattle.atlas_cache.specs.Asking.{AreUsable, IsFaultIn};
 ghost use Rattle.atlas_cache.specs.Caches.{place_for};
-ghost use Rattle.atlas_cache.specs.Clearing.{Clears};
-ghost use Rattle.atlas_cache.specs.Counting.{one_more};
-ghost use Rattle.guillotiere_c.specs.CacheCalls.{IsGet, IsInsert, IsRemoval, IsRepacking, IsShrinking};
-ghost use Rattle.guillotiere_c.specs.CacheCalls.{IsTrim};
+ghost use Rattle.atlas_cache.specs.Relocating.{held_on};
+ghost use Rattle.guillotiere_c.specs.CacheCalls.{BeginsFrame, IsClearing, IsGet, IsInsert, IsRemoval};
+ghost use Rattle.guillotiere_c.specs.CacheCalls.{IsRepacking, IsShrinking, IsTrim};
 ghost use Rattle.guillotiere_c.specs.CacheNumbers.{cache_change_in, cache_options_in, found_answer, insert_answer};
 ghost use Rattle.guillotiere_c.specs.CacheNumbers.{options_fault};
 ghost use Rattle.guillotiere_c.specs.Following.{GoesOver, HoldsCache, KeepsChanges, StaysHeld, new_cache};
@@ -75,8 +74,8 @@ pub extern "C" fn guillotiere_cache_free(alloc: Global, cache: &mut CacheHandle)
 /// held counts as used in the current frame. `DONE`; `EMPTY`.
 #[unsafe(no_mangle)]
 pub extern "C" fn guillotiere_cache_begin_frame(alloc: Global, cache: &mut CacheHandle) -> u32
-    ensures frame { IsSome cache.old.kept → GoesOver cache.old.kept cache.new.kept (λ f g.
-        (g.cache ≡ record f.cache { frame = one_more f.cache.frame }) × KeepsChanges f g) }
+    ensures begins { IsSome cache.old.kept → GoesOver cache.old.kept cache.new.kept (λ f g.
+        BeginsFrame f.cache g.cache × KeepsChanges f g) }
     ensures done { IsSome cache.old.kept → result ≡ DONE }
     ensures empty { IsNone cache.old.kept → (result ≡ EMPTY) × (cache.new.kept ≡ None) }
 {
@@ -267,7 +266,7 @@ pub extern "C" fn guillotiere_cache_next_change(
 #[unsafe(no_mangle)]
 pub extern "C" fn guillotiere_cache_clear(alloc: Global, cache: &mut CacheHandle) -> u32
     ensures clears { IsSome cache.old.kept → GoesOver cache.old.kept cache.new.kept (λ f g.
-        Clears f.cache g.cache × KeepsChanges f g) }
+        IsClearing f.cache g.cache × KeepsChanges f g) }
     ensures done { IsSome cache.old.kept → result ≡ DONE }
     ensures empty { IsNone cache.old.kept → (result ≡ EMPTY) × (cache.new.kept ≡ None) }
 {
@@ -333,13 +332,16 @@ pub extern "C" fn guillotiere_cache_shrink(alloc: Global, cache: &mut CacheHandl
 /// together; pages are counted from 0. Each key of the page is reported by a change, the most recently used first:
 /// `GUILLOTIERE_MOVED`, also where it stays, or `GUILLOTIERE_EVICTED`, where it found no room. A place that a key moves to
 /// can overlap one that a later change moves from: take the changes that wait, then copy the page, then call this, and copy
-/// all pixels from that copy. `DONE`; `NO_PAGE`, `SLOTS` or `MEMORY`, and then all is as it was; `EMPTY`.
+/// all pixels from that copy. `DONE`; `NO_PAGE`, `SLOTS` (only of a page with more than 4194303 keys) or `MEMORY`, and then all
+/// is as it was; `EMPTY`.
 #[unsafe(no_mangle)]
 pub extern "C" fn guillotiere_cache_repack(alloc: Global, cache: &mut CacheHandle, page: u32) -> u32
     ensures repacks { result ≡ DONE → GoesOver cache.old.kept cache.new.kept (IsRepacking page) }
     ensures there { result ≡ NO_PAGE → HoldsCache cache.old.kept (λ f. length f.cache.pages ≤ page) }
     ensures absent { HoldsCache cache.old.kept (λ f. length f.cache.pages ≤ page) → result ≡ NO_PAGE }
     ensures refused { result ≢ DONE → StaysHeld cache.old.kept cache.new.kept }
+    ensures short { result ≡ SLOTS → HoldsCache cache.old.kept (λ f.
+        16777216 < 1 + 4 * length (held_on page f.cache.entries)) }
     ensures unless { IsSome cache.old.kept → result ≢ DONE → result ≢ NO_PAGE → result ≢ SLOTS → result ≡ MEMORY }
     ensures empty { IsNone cache.old.kept → result ≡ EMPTY }
 {

@@ -1,5 +1,6 @@
 //! The exports that report on a cache: how many keys and pages it has, and how it was used.
 ghost use Rattle.std.specs.Prelude.{◌≡◌, ◌≢◌, ◌≤◌, ◌⊎◌, Some, None, IsNone, IsSome, length, slice_get};
+ghost use Rattle.atlas_cache.specs.Asking.{AreUsable};
 ghost use Rattle.atlas_cache.specs.Repacking.{free_by_page, live_by_page};
 ghost use Rattle.atlas_cache.specs.Rooms.{page_sizes};
 ghost use Rattle.atlas_cache.specs.Usable.{unusable_by_page};
@@ -12,10 +13,11 @@ use crate::plain::{DONE, EMPTY, MEMORY, NO_PAGE, PlainAreas, PlainSize, plain_si
 use crate::plain_cache::{PlainCacheOptions, PlainCounts, plain_cache_options, plain_counts};
 use guillotiere::size2;
 
-/// How many keys are held. `DONE`; `EMPTY`.
+/// How many keys are held, at most 4294967295. `DONE`; `EMPTY`.
 #[unsafe(no_mangle)]
 pub extern "C" fn guillotiere_cache_len(cache: &CacheReader, len: &mut usize) -> u32
     ensures len { IsSome cache.now.kept → HoldsCache cache.now.kept (λ f. len.new ≡ length f.cache.entries) }
+    ensures few { IsSome cache.now.kept → len.new ≤ 4294967295 }
     ensures done { IsSome cache.now.kept → result ≡ DONE }
     ensures empty { IsNone cache.now.kept → (result ≡ EMPTY) × (len.new ≡ len.old) }
 {
@@ -170,6 +172,7 @@ pub extern "C" fn guillotiere_cache_options_of(
 ) -> u32
     ensures options { IsSome cache.now.kept → HoldsCache cache.now.kept
         (λ f. cache_options_in options.new ≡ f.cache.options) }
+    ensures usable { IsSome cache.now.kept → AreUsable (cache_options_in options.new) }
     ensures done { IsSome cache.now.kept → result ≡ DONE }
     ensures empty { IsNone cache.now.kept → (result ≡ EMPTY) × (options.new ≡ options.old) }
 {

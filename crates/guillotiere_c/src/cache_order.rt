@@ -2,7 +2,8 @@
 ghost use Rattle.std.specs.Prelude.{◌≡◌, ◌≢◌, ◌≤◌, IsNone, IsSome, IsSomeAnd, None, Some, option_map};
 ghost use Rattle.atlas_cache.specs.Caches.{with_reserve};
 ghost use Rattle.atlas_cache.specs.Walking.{first_entry, keyed, last_entry};
-ghost use Rattle.atlas_cache.specs.Reserving.{HaveSlots, IsShortFor};
+ghost use Rattle.atlas_cache.specs.Reserving.{AllowSlots, HaveSlots, IsShortFor, ReadiesInserts, StopsAtPage};
+ghost use Rattle.atlas_cache.specs.declared.error.CacheError.TheVariants.{Memory, Slots};
 ghost use Rattle.guillotiere_c.specs.CacheCalls.{IsOlder, KeepsStates};
 ghost use Rattle.guillotiere_c.specs.CacheNumbers.{keyed_answer};
 ghost use Rattle.guillotiere_c.specs.Following.{GoesOver, HoldsCache, StaysHeld};
@@ -120,9 +121,11 @@ pub extern "C" fn guillotiere_cache_reserve(
 
 /// Makes sure that this many slots are in reserve on each page. An insertion that neither adds a page nor grows one uses at
 /// most 4 of each page; a page that is added later has none in reserve, one that grows uses up to 3, and one that is repacked
-/// may have none.
+/// may have none. So once `guillotiere_cache_reserve(n)`, this with 4 times n and `guillotiere_cache_reserve_changes` for n and
+/// all keys that are held were `DONE`, and every page is there and at its largest, none of n insertions is refused with `SLOTS`
+/// or `MEMORY`.
 /// `DONE`; `SLOTS` if those of a page don't suffice; `MEMORY`; `EMPTY`. The pages before the one that was refused have theirs
-/// all the same.
+/// then, and it and those after it are as they were.
 #[unsafe(no_mangle)]
 pub extern "C" fn guillotiere_cache_reserve_slots(
     alloc: Global,
@@ -134,6 +137,13 @@ pub extern "C" fn guillotiere_cache_reserve_slots(
     ensures unless { IsSome cache.old.kept → result ≢ DONE → result ≢ SLOTS → result ≡ MEMORY }
     ensures short { result ≡ SLOTS → HoldsCache cache.old.kept (λ f. IsShortFor additional f.cache.pages) }
     ensures had { HoldsCache cache.old.kept (λ f. HaveSlots additional f.cache.pages) → result ≢ MEMORY }
+    ensures allowed { result ≡ DONE → HoldsCache cache.new.kept (λ f. AllowSlots additional f.cache.pages) }
+    ensures stops { result ≡ SLOTS → GoesOver cache.old.kept cache.new.kept (λ f g.
+        StopsAtPage additional Slots f.cache.pages g.cache.pages) }
+    ensures stops_for_memory { result ≡ MEMORY → GoesOver cache.old.kept cache.new.kept (λ f g.
+        StopsAtPage additional Memory f.cache.pages g.cache.pages) }
+    ensures inserts { result ≡ DONE → GoesOver cache.old.kept cache.new.kept (λ f g.
+        ReadiesInserts additional f.cache g.cache) }
     ensures empty { IsNone cache.old.kept → (result ≡ EMPTY) × (cache.new.kept ≡ None) }
 {
     if !cache.holds() {

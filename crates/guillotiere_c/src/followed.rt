@@ -1,14 +1,13 @@
 //! A cache with the list of its changes, from which its caller takes one after another.
-ghost use Rattle.std.specs.Prelude.{◌≡◌, ◌↔◌, ◌<◌, ◌≤◌, ◌∷◌, [], drop, IfErr, IfOk, IfSome, IsOk, IsOkUnless, None, OnErr};
+ghost use Rattle.std.specs.Prelude.{◌≡◌, ◌↔◌, ◌+◌, ◌*◌, ◌<◌, ◌≤◌, ◌∷◌, [], drop, IfErr, IfOk, IfSome, IsOk, IsOkUnless, None, OnErr};
 ghost use Rattle.std.specs.Prelude.{◌≢◌, Err, Ok, OnOk, false, length, true, vec_capacity, vec_len};
 ghost use Rattle.atlas_cache.specs.declared.error.CacheError.TheVariants.{Memory, Slots};
 ghost use Rattle.atlas_cache.specs.Asking.{AreUsable, IsFaultIn};
 ghost use Rattle.atlas_cache.specs.Caches.{with_reserve};
-ghost use Rattle.atlas_cache.specs.Clearing.{Clears};
-ghost use Rattle.atlas_cache.specs.Counting.{one_more};
-ghost use Rattle.atlas_cache.specs.Reserving.{HaveSlots, IsShortFor};
+ghost use Rattle.atlas_cache.specs.Relocating.{held_on};
+ghost use Rattle.atlas_cache.specs.Reserving.{AllowSlots, HaveSlots, IsShortFor, ReadiesInserts, StopsAtPage};
 ghost use Rattle.atlas_cache.specs.Rooms.{IsRefusal};
-ghost use Rattle.guillotiere_c.specs.CacheCalls.{IsGet, IsInsert, IsRemoval, IsRepacking};
+ghost use Rattle.guillotiere_c.specs.CacheCalls.{BeginsFrame, IsClearing, IsGet, IsInsert, IsRemoval, IsRepacking};
 ghost use Rattle.guillotiere_c.specs.CacheCalls.{IsShrinking, IsTrim, KeepsStates};
 ghost use Rattle.guillotiere_c.specs.Following.{IsAsItWas, KeepsChanges, new_cache};
 
@@ -110,7 +109,7 @@ impl FollowedCache {
 
     /// A new frame: what was used before may go from now on.
     pub fn begin_frame(&mut self)
-        ensures cache { self.new.cache ≡ record self.old.cache { frame = one_more self.old.cache.frame } }
+        ensures begins { BeginsFrame self.old.cache self.new.cache }
         ensures changes { KeepsChanges self.old self.new }
     {
         self.cache.begin_frame();
@@ -142,7 +141,7 @@ impl FollowedCache {
 
     /// As `TextureCache::clear`. The changes that weren't handed over stay.
     pub fn clear(&mut self)
-        ensures clears { Clears self.old.cache self.new.cache }
+        ensures clears { IsClearing self.old.cache self.new.cache }
         ensures changes { KeepsChanges self.old self.new }
     {
         self.cache.clear();
@@ -178,6 +177,7 @@ impl FollowedCache {
         ensures none { result ≡ Ok false → IsAsItWas self.old self.new }
         ensures refused { OnErr result (IsAsItWas self.old self.new) }
         ensures errors { IfErr result IsRefusal }
+        ensures short { result ≡ Err Slots → 16777216 < 1 + 4 * length (held_on page self.old.cache.entries) }
     {
         drop_taken(&mut self.changes, &mut self.taken);
         self.cache.repack(page, &mut self.changes)
@@ -200,6 +200,9 @@ impl FollowedCache {
         ensures errors { IfErr result IsRefusal }
         ensures short { result ≡ Err Slots → IsShortFor additional self.old.cache.pages }
         ensures had { HaveSlots additional self.old.cache.pages → result ≢ Err Memory }
+        ensures allowed { OnOk result (AllowSlots additional self.new.cache.pages) }
+        ensures stops { IfErr result (λ error. StopsAtPage additional error self.old.cache.pages self.new.cache.pages) }
+        ensures inserts { OnOk result (ReadiesInserts additional self.old.cache self.new.cache) }
     {
         self.cache.reserve_slots(additional)
     }

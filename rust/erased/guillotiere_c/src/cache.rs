@@ -326,7 +326,8 @@ pub extern "C" fn guillotiere_cache_shrink(cache: Option<&mut CacheHandle>) -> u
 /// together; pages are counted from 0. Each key of the page is reported by a change, the most recently used first:
 /// `GUILLOTIERE_MOVED`, also where it stays, or `GUILLOTIERE_EVICTED`, where it found no room. A place that a key moves to
 /// can overlap one that a later change moves from: take the changes that wait, then copy the page, then call this, and copy
-/// all pixels from that copy. `DONE`; `NO_PAGE`, `SLOTS` or `MEMORY`, and then all is as it was; `EMPTY`.
+/// all pixels from that copy. `DONE`; `NO_PAGE`, `SLOTS` (only of a page with more than 4194303 keys) or `MEMORY`, and then all
+/// is as it was; `EMPTY`.
 #[no_mangle]
 pub extern "C" fn guillotiere_cache_repack(cache: Option<&mut CacheHandle>, page: u32) -> u32 {
     let alloc = Global;

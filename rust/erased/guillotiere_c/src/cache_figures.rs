@@ -6,7 +6,7 @@ use crate::plain::{plain_size, PlainAreas, PlainSize, DONE, EMPTY, MEMORY, NO_PA
 use crate::plain_cache::{plain_cache_options, plain_counts, PlainCacheOptions, PlainCounts};
 use wollemigo_core::guillotiere::size2;
 
-/// How many keys are held. `DONE`; `EMPTY`.
+/// How many keys are held, at most 4294967295. `DONE`; `EMPTY`.
 #[no_mangle]
 pub extern "C" fn guillotiere_cache_len(
     cache: Option<&CacheReader>,

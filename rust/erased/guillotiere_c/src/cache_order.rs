@@ -128,9 +128,11 @@ pub extern "C" fn guillotiere_cache_reserve(
 
 /// Makes sure that this many slots are in reserve on each page. An insertion that neither adds a page nor grows one uses at
 /// most 4 of each page; a page that is added later has none in reserve, one that grows uses up to 3, and one that is repacked
-/// may have none.
+/// may have none. So once `guillotiere_cache_reserve(n)`, this with 4 times n and `guillotiere_cache_reserve_changes` for n and
+/// all keys that are held were `DONE`, and every page is there and at its largest, none of n insertions is refused with `SLOTS`
+/// or `MEMORY`.
 /// `DONE`; `SLOTS` if those of a page don't suffice; `MEMORY`; `EMPTY`. The pages before the one that was refused have theirs
-/// all the same.
+/// then, and it and those after it are as they were.
 #[no_mangle]
 pub extern "C" fn guillotiere_cache_reserve_slots(
     cache: Option<&mut CacheHandle>,

@@ -9,6 +9,10 @@ returns-clause-removal c =
       place = c.remove.ensures.place;
       removes = c.remove.ensures.removes;
       none = c.remove.ensures.none;
+      told = c.remove.ensures.told;
       ready = c.remove.ensures.ready;
+      reserves = c.remove.ensures.reserves;
       full = c.remove.ensures.full;
+      allowed = c.remove.ensures.allowed;
+      stays_ready = c.remove.ensures.stays_ready;
     })
