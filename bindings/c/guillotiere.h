@@ -345,7 +345,8 @@ uint32_t guillotiere_atlas_clone(const guillotiere_atlas *atlas, guillotiere_atl
 /* --- An atlas: its boxes, its size, and what it holds ---------------------------------------------------------------- */
 
 /* Asks for a box of this size, rounded up by the options. DONE: `granted` has its id and its rectangle, which overlaps no
- * other live box. NO_ROOM if the size is empty or fits no free box; SLOTS; MEMORY; EMPTY. */
+ * other live box. NO_ROOM if the size is empty, fits no free box, or passes 2147483647 once it is rounded up; SLOTS;
+ * MEMORY; EMPTY. */
 GUILLOTIERE_CHECKED
 uint32_t guillotiere_atlas_allocate(guillotiere_atlas *atlas, int32_t width, int32_t height,
                                     guillotiere_allocation *granted);

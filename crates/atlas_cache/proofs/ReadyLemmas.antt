@@ -1,7 +1,8 @@
 -- What an insert leaves in reserve.
-use Rattle.std.proofs.Common.{ℕ, ◌≡◌, ◌≢◌, ◌+◌, ◌-◌, ◌*◌, ◌<◌, ◌≤◌, ◌∙◌, List, length, Result, Ok, Err, OnOk, sym, ap, arith, inl, inr}
+use Rattle.std.proofs.Common.{ℕ, ◌≡◌, ◌≢◌, ◌+◌, ◌-◌, ◌*◌, ◌<◌, ◌≤◌, ◌∙◌, List, length, length-append, Result, Ok, Err, OnOk, sym, ap, arith, inl, inr}
 use Rattle.std.proofs.lemmas.Bool.{cases_lt}
 use Rattle.guillotiere.specs.declared.Size.{Size}
+use Rattle.atlas_cache.specs.declared.changes.CacheChange.{CacheChange}
 use Rattle.atlas_cache.specs.declared.error.CacheError.{CacheError}
 use Rattle.atlas_cache.specs.declared.error.CacheError.TheVariants.{Memory, Slots}
 use Rattle.atlas_cache.specs.declared.inserted.Inserted.{Inserted}
@@ -10,6 +11,7 @@ use Rattle.atlas_cache.specs.declared.options.CacheOptions.{CacheOptions}
 use Rattle.guillotiere.specs.Stored.{AtlasValue}
 use Rattle.atlas_cache.specs.Caches.{CacheState, IsFull}
 use Rattle.atlas_cache.specs.Changes.{InsertsBlank}
+use Rattle.atlas_cache.specs.Clearing.{Trims}
 use Rattle.atlas_cache.specs.Refusals.{IsWithoutNumber}
 use Rattle.atlas_cache.specs.Reserving.{ready_inserts, AllowSlots, HasReserves, HaveSlots, IsReadyFor, IsShortOfSlots, KeepsPageSizes}
 use Rattle.atlas_cache.specs.Reserving.{KeepsReady, KeepsReadyButOne, UseAtMost}
@@ -98,6 +100,16 @@ module _ {K : Type 0} where
   pub still_ready : (s t : CacheState K) → UseAtMost 0 s.pages t.pages → s.reserved ≤ t.reserved
       → length t.entries ≤ length s.entries → (IsFull s → IsFull t) → KeepsReady s t
   still_ready s t slots entries changes full = record { inserts = ready_stays s t slots entries changes; full = full }
+
+  pub same_ready : (s : CacheState K) → KeepsReady s s
+  same_ready s = still_ready s s (none_used 0 s.pages) (omega arith) (omega arith) (λ full. full)
+
+  -- What goes unused takes nothing of it.
+  pub trim_ready : (frames : ℕ) (before after : List (CacheChange K)) (s t : CacheState K) → Trims frames before after s t
+      → KeepsReady s t
+  trim_ready frames before after s t trims =
+      still_ready s t trims.slots (omega (arith, trims.reserved))
+      (omega (arith, ap length trims.was, length-append t.entries trims.gone)) (full_stays s t trims.options trims.sizes)
 
   -- What was taken before for some inserts is ready once their slots are there.
   pub ready_reserved : {X : Type 0} (result : Result X CacheError) (slots reserved held : ℕ) (t : CacheState K)

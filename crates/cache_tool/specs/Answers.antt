@@ -1,5 +1,5 @@
 -- What each call answers, and what it does, by the clauses of the cache.
-use Rattle.std.specs.Prelude.{◌≡◌, ◌≢◌, ◌↔◌, ◌<◌, ℕ, Bool, true, false, IsTrue, List, [], length, nat_eq, slice_get}
+use Rattle.std.specs.Prelude.{◌≡◌, ◌≢◌, ◌↔◌, ◌+◌, ◌*◌, ◌<◌, ℕ, Bool, true, false, IsTrue, List, [], length, nat_eq, slice_get}
 use Rattle.std.specs.Prelude.{Option, None, Some, IfSome, IsSome, option_map}
 use Rattle.std.specs.Prelude.{Result, Ok, Err, IfErr, IfOk, IsOkUnless, OnErr, OnOk}
 use Rattle.guillotiere.specs.declared.Size.{Size}
@@ -16,7 +16,7 @@ use Rattle.atlas_cache.specs.Changes.{FindsKnown, Inserts, InsertsBlank, IsNewAn
 use Rattle.atlas_cache.specs.Clearing.{Clears, Trims}
 use Rattle.atlas_cache.specs.Counting.{one_more}
 use Rattle.atlas_cache.specs.Refusals.{IsRefusedNew}
-use Rattle.atlas_cache.specs.Relocating.{Repacks}
+use Rattle.atlas_cache.specs.Relocating.{held_on, Repacks}
 use Rattle.atlas_cache.specs.Repacking.{free_by_page, live_by_page}
 use Rattle.atlas_cache.specs.Reserving.{IsShortOfSlots}
 use Rattle.atlas_cache.specs.Rooms.{IsRefusal, page_sizes}
@@ -111,6 +111,7 @@ pub record AnswersRepack (n : ℕ) (r : Reply) (before after : List (CacheChange
   pub none : result ≡ Ok false → (t ≡ s) × (after ≡ before)
   pub refused : OnErr result ((t ≡ s) × (after ≡ before))
   pub errors : IfErr result IsRefusal
+  pub short : result ≡ Err Slots → 16777216 < 1 + 4 * length (held_on n s.entries)
 
 -- What a word and a number do.
 abbrev pub AnswersKeyed : Keyed → (n : ℕ) → Reply → (before after : List (CacheChange ℕ)) (s t : CacheState ℕ) → Type 0

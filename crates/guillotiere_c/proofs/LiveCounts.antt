@@ -1,5 +1,5 @@
 -- There are no more live ids than members, so what a rearranging lists has room where each member has.
-use Rattle.std.proofs.Common.{◌≡◌, ◌≤◌, ◌+◌, ℕ, List, ◌++◌, length, map, arith, refl, ap, ◌∙◌}
+use Rattle.std.proofs.Common.{◌≡◌, ◌≤◌, ◌+◌, ℕ, List, ◌++◌, length, map, arith, refl, ap, ◌∙◌, All}
 use Rattle.std.proofs.lemmas.List.{length-append, length-map}
 use Rattle.std.proofs.lemmas.List.Elements.{filter_map-append}
 use Rattle.std.proofs.lemmas.List.Sorted.{length_permutation}
@@ -9,8 +9,8 @@ use Rattle.guillotiere.specs.Trees.Members.{End, Free, Alloc, Seq}
 use Rattle.guillotiere.specs.States.{State, live_in, used_in}
 use Rattle.guillotiere.specs.Refits.{Rearrangement, Transfer}
 use Rattle.guillotiere.specs.Laws.StepLaws.{IsRearrangingStep}
-use Rattle.guillotiere.specs.Rearranging.{transfer_of}
-use Rattle.guillotiere.specs.Replies.{grant_of}
+use Rattle.guillotiere.specs.Rearranging.{transfer_of, IsExactChange}
+use Rattle.guillotiere.specs.Replies.{grant_of, IsExact}
 use Rattle.guillotiere.specs.declared.Allocation.{Allocation}
 use Rattle.guillotiere.specs.declared.Change.{Change}
 use Rattle.guillotiere_c.specs.declared.plain.PlainChangeCount.{PlainChangeCount}
@@ -47,11 +47,12 @@ pub listed :
     (old new : State) (moves : List Change) (lost : List Allocation) (before after : Arrays) (count : PlainChangeCount)
     → IsRearrangingStep old (record { changes = map transfer_of moves; failures = map grant_of lost }) new
     → used_in old ≤ length before.changes → used_in old ≤ length before.failures
+    → All IsExactChange moves → All (λ (a : Allocation). IsExact a.rectangle) lost
     → IsWritten change_in moves before.changes after.changes
     → IsWritten allocation_in lost before.failures after.failures
     → count.changes ≡ length moves → count.failures ≡ length lost
     → AreBothWritten (record { changes = map transfer_of moves; failures = map grant_of lost }) before after count
-listed old new moves lost before after count step changes_room failures_room changes failures changes_count failures_count =
+listed old new moves lost before after count step changes_room failures_room moved_exact lost_exact changes failures changes_count failures_count =
     let all = listed_count old new _ step in
     let many = length-map moves transfer_of in
     let few = length-map lost grant_of in
@@ -60,6 +61,8 @@ listed old new moves lost before after count step changes_room failures_room cha
       failures = lost;
       moved = refl;
       lost = refl;
+      moved_exact = moved_exact;
+      lost_exact = lost_exact;
       changes_room = omega (arith, all, many, few, changes_room);
       failures_room = omega (arith, all, many, few, failures_room);
       changes_written = changes;

@@ -11,11 +11,13 @@ use Rattle.atlas_cache.specs.declared.inserted.Inserted.{Inserted}
 use Rattle.atlas_cache.specs.declared.inserted.Inserted.TheVariants.{Placed, Held, FrameFull, NeverFits}
 use Rattle.atlas_cache.specs.declared.places.Place.{Place}
 use Rattle.atlas_cache.specs.Asking.{bordered, CanStand}
-use Rattle.atlas_cache.specs.Caches.{CacheState, entry_for, place_for, IsFull, IsNoneInUse}
+use Rattle.atlas_cache.specs.Caches.{CacheState, entry_for, place_for, EntriesLieApart, EntriesLieWithin, HaveNumbersBelow, HaveOwnKeys}
+use Rattle.atlas_cache.specs.Caches.{HaveOwnNumbers, IsFull, IsKept, IsNoneInUse}
 use Rattle.atlas_cache.specs.Changes.{FindsKnown, Inserts, InsertsBlank, IsNewAndEmpty, IsNewAndTooLarge, Removes, Uses}
 use Rattle.atlas_cache.specs.Changes.{picture_of, placed, ShowsSame}
 use Rattle.atlas_cache.specs.Clearing.{all_forgotten, Clears, TellsChanges, Trims}
 use Rattle.atlas_cache.specs.Counting.{one_more}
+use Rattle.atlas_cache.specs.Entries.{lying}
 use Rattle.atlas_cache.specs.Refusals.{IsRefusedNew}
 use Rattle.atlas_cache.specs.Relocating.{Repacks}
 use Rattle.atlas_cache.specs.Reserving.{AllowSlots, HasReserves, HaveSlots, IsReadyFor, IsShortOfSlots, KeepsPageSizes, UseAtMost}
@@ -25,7 +27,17 @@ use Rattle.atlas_cache.specs.Telling.{Tells}
 use Rattle.atlas_cache.specs.Walking.{ShowsOlder}
 use Rattle.guillotiere_c.specs.Following.{Followed}
 
--- What `TextureCache::begin_frame` does: no key moves, and none counts as used in the new frame.
+-- What always holds of a cache, as `TextureCache::prove_kept` says: what is live on its pages is what the entries that lie there hold, each
+-- once; two of one page lie apart, and each lies within its page; and each entry has a key and a number of its own.
+pub record AlwaysHolds (s : CacheState ℕ) : Type 0 where
+  pub kept : IsKept s
+  pub apart : EntriesLieApart (lying s.entries)
+  pub within : EntriesLieWithin s.pages (lying s.entries)
+  pub keys : HaveOwnKeys nat_eq s.entries
+  pub numbers : HaveOwnNumbers s.entries
+  pub below : HaveNumbersBelow s.numbers s.entries
+
+-- What `TextureCache::begin_frame` does: no key moves, and none counts as used in the new frame, if one begins.
 pub record BeginsFrame (s t : CacheState ℕ) : Type 0 where
   pub frame : t ≡ record s { frame = one_more s.frame }
   pub unused : s.frame < 18446744073709551615 → IsNoneInUse t
@@ -103,6 +115,7 @@ pub record IsOlder (key : ℕ) (found : Option (ℕ × Place)) (s : CacheState �
 pub record IsTrim (frames : ℕ) (f g : Followed) : Type 0 where
   pub trims : Trims frames f.changes g.changes f.cache g.cache
   pub told : TellsChanges nat_eq f.changes g.changes f.cache g.cache
+  pub stays_ready : KeepsReady f.cache g.cache
 
 -- What `TextureCache::shrink` does. The pages that go come behind the changes that weren't handed over.
 pub record IsShrinking (f g : Followed) : Type 0 where

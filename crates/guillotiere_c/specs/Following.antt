@@ -1,5 +1,5 @@
 -- A cache with the changes that its caller has yet to be told.
-use Rattle.std.specs.Prelude.{◌≡◌, ◌≤◌, ℕ, List, [], Option, Some, None}
+use Rattle.std.specs.Prelude.{◌≡◌, ◌+◌, ◌≤◌, ℕ, List, [], length, Option, Some, None}
 use Rattle.atlas_cache.specs.declared.changes.CacheChange.{CacheChange}
 use Rattle.atlas_cache.specs.declared.options.CacheOptions.{CacheOptions}
 use Rattle.atlas_cache.specs.Caches.{CacheState, nothing_held}
@@ -28,6 +28,10 @@ GoesOver None new R = ⊥
 -- The same changes weren't handed over, and there is memory for as many more.
 abbrev pub KeepsChanges : (f g : Followed) → Type 0
 KeepsChanges f g = (g.changes ≡ f.changes) × (g.room ≡ f.room)
+
+-- The list of changes has memory for no fewer than before, those that wait included.
+abbrev pub KeepsRoom : (f g : Followed) → Type 0
+KeepsRoom f g = f.room + length f.changes ≤ g.room + length g.changes
 
 -- Nothing happened to the cache, and the same changes weren't handed over; there is memory for no fewer.
 abbrev pub IsAsItWas : (f g : Followed) → Type 0

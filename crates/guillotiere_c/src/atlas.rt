@@ -1,8 +1,8 @@
 //! The exports of an atlas, but for those that take or write lists.
-ghost use Rattle.std.specs.Prelude.{◌≡◌, ◌≢◌, ◌↔◌, ℕ, ◌+◌, ◌<◌, [], option_map, IsFalse, IsTrue, IsSome, IsNone};
+ghost use Rattle.std.specs.Prelude.{◌≡◌, ◌≢◌, ◌↔◌, ◌⊎◌, ℕ, ◌+◌, ◌<◌, [], option_map, IsFalse, IsTrue, IsSome, IsNone};
 ghost use Rattle.std.specs.Prelude.{Some, None, sum_by};
 ghost use Rattle.guillotiere.specs.Boxes.{area, Fits};
-ghost use Rattle.guillotiere.specs.Choice.{HasRoom};
+ghost use Rattle.guillotiere.specs.Choice.{rounded, HasRoom};
 ghost use Rattle.guillotiere.specs.Pixels.{allocator_options_of, rectangle_of, size_of};
 ghost use Rattle.guillotiere.specs.Replies.{live_box, IsExact};
 ghost use Rattle.guillotiere.specs.States.{live_in, free_in, used_in, IsLive, IsSound};
@@ -21,7 +21,8 @@ use guillotiere::{AllocId, AtlasAllocator, size2};
 use std::alloc::Global;
 
 /// Asks for a box of this size, rounded up by the options. `DONE`: `granted` has its id and its rectangle, which overlaps no
-/// other live box. `NO_ROOM` if the size is empty or fits no free box; `SLOTS`; `MEMORY`; `EMPTY`.
+/// other live box. `NO_ROOM` if the size is empty, fits no free box, or passes 2147483647 once it is rounded up; `SLOTS`;
+/// `MEMORY`; `EMPTY`.
 #[unsafe(no_mangle)]
 pub extern "C" fn guillotiere_atlas_allocate(
     alloc: Global,
@@ -36,6 +37,8 @@ pub extern "C" fn guillotiere_atlas_allocate(
     ensures exact { result ≡ DONE → IsExact (corners_in granted.new.rectangle) }
     ensures reserve { (n : ℕ) → HoldsReserve (n + 4) atlas.old.kept
         → (result ≢ MEMORY) × HoldsReserve n atlas.new.kept }
+    ensures past { HoldsAtlas atlas.old.kept (λ s. (2147483647 < (rounded s.options (sides_in width height)).width)
+        ⊎ (2147483647 < (rounded s.options (sides_in width height)).height)) → result ≡ NO_ROOM }
     ensures refused { result ≢ DONE → (atlas.new.kept ≡ atlas.old.kept) × (granted.new ≡ granted.old) }
     ensures empty { IsNone atlas.old.kept → result ≡ EMPTY }
 {

@@ -3,7 +3,7 @@ ghost use Rattle.std.specs.Prelude.{◌≡◌, ◌≢◌, ◌⊎◌, ◌<◌, �
 ghost use Rattle.guillotiere.specs.Batches.{AreLiveOnce};
 ghost use Rattle.guillotiere.specs.Boxes.{IsPositive};
 ghost use Rattle.guillotiere.specs.Laws.StepLaws.{IsRearrangingStep};
-ghost use Rattle.guillotiere.specs.Rearranging.{rearrangement_of};
+ghost use Rattle.guillotiere.specs.Rearranging.{rearrangement_of, AreExactChanges};
 ghost use Rattle.guillotiere.specs.Refits.{Rearrangement};
 ghost use Rattle.guillotiere.specs.States.{State, used_in, IsSound};
 ghost use Rattle.guillotiere.specs.Steps.AtlasCall.{Rearrange, ResizeAndRearrange};
@@ -105,7 +105,7 @@ fn write_whole_list(
     failures: &mut [PlainAllocation],
 ) -> PlainChangeCount
     ensures { (old new : State) → IsRearrangingStep old (rearrangement_of list.now) new
-        → used_in old ≤ length changes.old → used_in old ≤ length failures.old
+        → used_in old ≤ length changes.old → used_in old ≤ length failures.old → AreExactChanges list.now
         → AreBothWritten (rearrangement_of list.now) (record { changes = changes.old; failures = failures.old })
         (record { changes = changes.new; failures = failures.new }) result }
 {

@@ -4,11 +4,11 @@ ghost use Rattle.std.specs.Prelude.{nat_eq};
 ghost use Rattle.atlas_cache.specs.Asking.{AreUsable, IsFaultIn};
 ghost use Rattle.atlas_cache.specs.Caches.{place_for};
 ghost use Rattle.atlas_cache.specs.Relocating.{held_on};
-ghost use Rattle.guillotiere_c.specs.CacheCalls.{BeginsFrame, IsClearing, IsGet, IsInsert, IsRemoval};
+ghost use Rattle.guillotiere_c.specs.CacheCalls.{AlwaysHolds, BeginsFrame, IsClearing, IsGet, IsInsert, IsRemoval};
 ghost use Rattle.guillotiere_c.specs.CacheCalls.{IsRepacking, IsShrinking, IsTrim};
 ghost use Rattle.guillotiere_c.specs.CacheNumbers.{cache_change_in, cache_options_in, found_answer, insert_answer};
 ghost use Rattle.guillotiere_c.specs.CacheNumbers.{options_fault};
-ghost use Rattle.guillotiere_c.specs.Following.{GoesOver, HoldsCache, KeepsChanges, StaysHeld, new_cache};
+ghost use Rattle.guillotiere_c.specs.Following.{GoesOver, HoldsCache, KeepsChanges, KeepsRoom, StaysHeld, new_cache};
 
 use crate::cache_handle::{CacheHandle, CacheReader};
 use crate::followed::FollowedCache;
@@ -77,6 +77,7 @@ pub extern "C" fn guillotiere_cache_begin_frame(alloc: Global, cache: &mut Cache
     ensures begins { IsSome cache.old.kept → GoesOver cache.old.kept cache.new.kept (λ f g.
         BeginsFrame f.cache g.cache × KeepsChanges f g) }
     ensures done { IsSome cache.old.kept → result ≡ DONE }
+    ensures kept { IsSome cache.old.kept → HoldsCache cache.new.kept (λ f. AlwaysHolds f.cache) }
     ensures empty { IsNone cache.old.kept → (result ≡ EMPTY) × (cache.new.kept ≡ None) }
 {
     if !cache.holds() {
@@ -113,6 +114,7 @@ pub extern "C" fn guillotiere_cache_get(
     ensures get { IsSome cache.old.kept → IsSomeAnd (found_answer result place.new) (λ found.
         GoesOver cache.old.kept cache.new.kept (λ f g. IsGet key found f.cache g.cache × KeepsChanges f g)) }
     ensures unwritten { result ≢ DONE → place.new ≡ place.old }
+    ensures kept { IsSome cache.old.kept → HoldsCache cache.new.kept (λ f. AlwaysHolds f.cache) }
     ensures empty { IsNone cache.old.kept → (result ≡ EMPTY) × (cache.new.kept ≡ None) }
 {
     if !cache.holds() {
@@ -195,6 +197,7 @@ pub extern "C" fn guillotiere_cache_insert(
     ensures insert { IsSome cache.old.kept → IsSomeAnd (insert_answer result place.new) (λ answer.
         GoesOver cache.old.kept cache.new.kept (IsInsert key (record { width = width; height = height }) answer)) }
     ensures unwritten { result ≢ DONE → result ≢ HELD → place.new ≡ place.old }
+    ensures kept { IsSome cache.old.kept → HoldsCache cache.new.kept (λ f. AlwaysHolds f.cache) }
     ensures empty { IsNone cache.old.kept → (result ≡ EMPTY) × (cache.new.kept ≡ None) }
 {
     if !cache.holds() {
@@ -219,6 +222,7 @@ pub extern "C" fn guillotiere_cache_remove(
         GoesOver cache.old.kept cache.new.kept
         (λ f g. IsRemoval key found f.cache g.cache × KeepsChanges f g)) }
     ensures unwritten { result ≢ DONE → removed.new ≡ removed.old }
+    ensures kept { IsSome cache.old.kept → HoldsCache cache.new.kept (λ f. AlwaysHolds f.cache) }
     ensures empty { IsNone cache.old.kept → (result ≡ EMPTY) × (cache.new.kept ≡ None) }
 {
     if !cache.holds() {
@@ -268,6 +272,7 @@ pub extern "C" fn guillotiere_cache_clear(alloc: Global, cache: &mut CacheHandle
     ensures clears { IsSome cache.old.kept → GoesOver cache.old.kept cache.new.kept (λ f g.
         IsClearing f.cache g.cache × KeepsChanges f g) }
     ensures done { IsSome cache.old.kept → result ≡ DONE }
+    ensures kept { IsSome cache.old.kept → HoldsCache cache.new.kept (λ f. AlwaysHolds f.cache) }
     ensures empty { IsNone cache.old.kept → (result ≡ EMPTY) × (cache.new.kept ≡ None) }
 {
     if !cache.holds() {
@@ -287,8 +292,10 @@ pub extern "C" fn guillotiere_cache_trim(alloc: Global, cache: &mut CacheHandle,
     ensures trims { result ≡ DONE → GoesOver cache.old.kept cache.new.kept (IsTrim frames) }
     ensures room { HoldsCache cache.old.kept (λ f. (0 < f.room) × (length f.cache.entries ≤ f.room))
         → result ≡ DONE }
+    ensures keeps_room { IsSome cache.old.kept → GoesOver cache.old.kept cache.new.kept KeepsRoom }
     ensures refused { result ≢ DONE → StaysHeld cache.old.kept cache.new.kept }
     ensures unless { IsSome cache.old.kept → result ≢ DONE → result ≡ MEMORY }
+    ensures kept { IsSome cache.old.kept → HoldsCache cache.new.kept (λ f. AlwaysHolds f.cache) }
     ensures empty { IsNone cache.old.kept → result ≡ EMPTY }
 {
     if !cache.holds() {
@@ -312,8 +319,10 @@ pub extern "C" fn guillotiere_cache_shrink(alloc: Global, cache: &mut CacheHandl
     ensures shrinks { result ≡ DONE → GoesOver cache.old.kept cache.new.kept IsShrinking }
     ensures room { HoldsCache cache.old.kept (λ f. (0 < f.room) × (length f.cache.pages ≤ f.room))
         → result ≡ DONE }
+    ensures keeps_room { IsSome cache.old.kept → GoesOver cache.old.kept cache.new.kept KeepsRoom }
     ensures refused { result ≢ DONE → StaysHeld cache.old.kept cache.new.kept }
     ensures unless { IsSome cache.old.kept → result ≢ DONE → result ≡ MEMORY }
+    ensures kept { IsSome cache.old.kept → HoldsCache cache.new.kept (λ f. AlwaysHolds f.cache) }
     ensures empty { IsNone cache.old.kept → result ≡ EMPTY }
 {
     if !cache.holds() {
@@ -339,10 +348,12 @@ pub extern "C" fn guillotiere_cache_repack(alloc: Global, cache: &mut CacheHandl
     ensures repacks { result ≡ DONE → GoesOver cache.old.kept cache.new.kept (IsRepacking page) }
     ensures there { result ≡ NO_PAGE → HoldsCache cache.old.kept (λ f. length f.cache.pages ≤ page) }
     ensures absent { HoldsCache cache.old.kept (λ f. length f.cache.pages ≤ page) → result ≡ NO_PAGE }
+    ensures keeps_room { IsSome cache.old.kept → GoesOver cache.old.kept cache.new.kept KeepsRoom }
     ensures refused { result ≢ DONE → StaysHeld cache.old.kept cache.new.kept }
     ensures short { result ≡ SLOTS → HoldsCache cache.old.kept (λ f.
         16777216 < 1 + 4 * length (held_on page f.cache.entries)) }
     ensures unless { IsSome cache.old.kept → result ≢ DONE → result ≢ NO_PAGE → result ≢ SLOTS → result ≡ MEMORY }
+    ensures kept { IsSome cache.old.kept → HoldsCache cache.new.kept (λ f. AlwaysHolds f.cache) }
     ensures empty { IsNone cache.old.kept → result ≡ EMPTY }
 {
     if !cache.holds() {

@@ -1,5 +1,6 @@
 //! What C holds of a cache.
 ghost use Rattle.std.specs.Prelude.{◌≡◌, is_some, Option, Some, None, IsSome};
+ghost use Rattle.guillotiere_c.specs.CacheCalls.{AlwaysHolds};
 ghost use Rattle.guillotiere_c.specs.Following.{Followed};
 
 use crate::followed::FollowedCache;
@@ -80,7 +81,9 @@ impl CacheHandle {
     pub fn put(&mut self, cache: Box<FollowedCache>)
         requires { self.old.kept ≡ None }
         ensures put { self.new.kept ≡ Some cache.value }
+        ensures kept { AlwaysHolds cache.value.cache }
     {
+        cache.prove_kept();
         let empty = replace(self, CacheHandle::close(hold(cache)));
         CacheHandle::forget(empty);
     }

@@ -7,9 +7,9 @@ ghost use Rattle.atlas_cache.specs.Caches.{with_reserve};
 ghost use Rattle.atlas_cache.specs.Relocating.{held_on};
 ghost use Rattle.atlas_cache.specs.Reserving.{AllowSlots, HaveSlots, IsShortFor, ReadiesInserts, StopsAtPage};
 ghost use Rattle.atlas_cache.specs.Rooms.{IsRefusal};
-ghost use Rattle.guillotiere_c.specs.CacheCalls.{BeginsFrame, IsClearing, IsGet, IsInsert, IsRemoval, IsRepacking};
+ghost use Rattle.guillotiere_c.specs.CacheCalls.{AlwaysHolds, BeginsFrame, IsClearing, IsGet, IsInsert, IsRemoval, IsRepacking};
 ghost use Rattle.guillotiere_c.specs.CacheCalls.{IsShrinking, IsTrim, KeepsStates};
-ghost use Rattle.guillotiere_c.specs.Following.{IsAsItWas, KeepsChanges, new_cache};
+ghost use Rattle.guillotiere_c.specs.Following.{IsAsItWas, KeepsChanges, KeepsRoom, new_cache};
 
 use atlas_cache::{
     CacheChange, CacheError, CacheOptions, Changes, Inserted, OptionsError, Place, TextureCache,
@@ -97,6 +97,13 @@ impl FollowedCache {
         &self.cache
     }
 
+    /// States what always holds of the cache, and does nothing.
+    pub fn prove_kept(&self)
+        ensures { AlwaysHolds self.now.cache }
+    {
+        self.cache.prove_kept();
+    }
+
     /// The first change that wasn't handed over yet, which is handed over now; None if there is none.
     pub fn next_change(&mut self) -> Option<CacheChange<u64>>
         ensures next { IfSome result (λ c. self.old.changes ≡ c ∷ self.new.changes) }
@@ -152,6 +159,7 @@ impl FollowedCache {
         ensures trim { OnOk result (IsTrim frames self.old self.new) }
         ensures room { 0 < self.old.room → length self.old.cache.entries ≤ self.old.room → IsOk result }
         ensures refused { OnErr result (IsAsItWas self.old self.new) }
+        ensures keeps_room { KeepsRoom self.old self.new }
         ensures unless { IsOkUnless result Memory }
     {
         drop_taken(&mut self.changes, &mut self.taken);
@@ -163,6 +171,7 @@ impl FollowedCache {
         ensures shrinks { OnOk result (IsShrinking self.old self.new) }
         ensures room { 0 < self.old.room → length self.old.cache.pages ≤ self.old.room → IsOk result }
         ensures refused { OnErr result (IsAsItWas self.old self.new) }
+        ensures keeps_room { KeepsRoom self.old self.new }
         ensures unless { IsOkUnless result Memory }
     {
         drop_taken(&mut self.changes, &mut self.taken);
@@ -176,6 +185,7 @@ impl FollowedCache {
         ensures absent { length self.old.cache.pages ≤ page → result ≡ Ok false }
         ensures none { result ≡ Ok false → IsAsItWas self.old self.new }
         ensures refused { OnErr result (IsAsItWas self.old self.new) }
+        ensures keeps_room { KeepsRoom self.old self.new }
         ensures errors { IfErr result IsRefusal }
         ensures short { result ≡ Err Slots → 16777216 < 1 + 4 * length (held_on page self.old.cache.entries) }
     {

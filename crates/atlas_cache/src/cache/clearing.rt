@@ -43,6 +43,7 @@ impl<K: Copy + Eq + Hash, S: BuildHasher, A: Allocator + Copy> TextureCache<K, S
         ensures unless { IsOkUnless result CacheError.Memory }
         ensures room { vec_len changes.old + length self.old.entries ≤ vec_capacity changes.old → IsOk result }
         ensures capacity { vec_capacity changes.old ≤ vec_capacity changes.new }
+        ensures stays_ready { KeepsReady self.old self.new }
     {
         changes.reserve(self.entries.len())?;
         self.drop_unused(frames, changes);

@@ -11,7 +11,8 @@ use wollemigo_core::guillotiere::{size2, AllocId, AtlasAllocator};
 use wollemigo_support::alloc::Global;
 
 /// Asks for a box of this size, rounded up by the options. `DONE`: `granted` has its id and its rectangle, which overlaps no
-/// other live box. `NO_ROOM` if the size is empty or fits no free box; `SLOTS`; `MEMORY`; `EMPTY`.
+/// other live box. `NO_ROOM` if the size is empty, fits no free box, or passes 2147483647 once it is rounded up; `SLOTS`;
+/// `MEMORY`; `EMPTY`.
 #[no_mangle]
 pub extern "C" fn guillotiere_atlas_allocate(
     atlas: Option<&mut AtlasHandle>,

@@ -9,5 +9,5 @@ returns-in-Ok-clause-done c done =
     let new = state_of c.resize_and_rearrange-answer.new.self in (
       rearrangement_of c.in-Ok.list,
       search rules,
-      c.write_whole_list.ensures old new (search rules) (search rules) (search rules),
+      c.write_whole_list.ensures old new (search rules) (search rules) (search rules) (search rules),
     )
