@@ -1,4 +1,5 @@
-"""atlas_tool over devices that are closed, a terminal, and a pipe: each case says whether the program does as its first line says."""
+"""atlas_tool over devices that are closed, a terminal, and a pipe, and over long sessions: each case says whether the program does as its
+first line says."""
 import os
 import pty
 import subprocess
@@ -71,6 +72,29 @@ def answer_before_next_line(program):
     return b''.join(heard) == REPLIES and rest == b'' and process.wait() == 0 and process.stderr.read() == b''
 
 
+def said(program, lines):
+    """What the program says to these lines, where it ends well."""
+    done = subprocess.run([program], input=''.join(lines).encode(), stdout=subprocess.PIPE, stderr=subprocess.PIPE)
+    return done.stdout.decode().splitlines() if done.returncode == 0 and done.stderr == b'' else None
+
+
+def generations_that_wrap(program):
+    """The generation of a slot that is used again and again begins anew after 256 grants."""
+    ids = [3 + turn % 256 * 16777216 for turn in range(600)]
+    lines = ['atlas 100 100\n', *(line for it in ids for line in ('alloc 20 60\n', 'free %d\n' % it))]
+    return said(program, lines) == ['ok', *(reply for it in ids for reply in ('id %d at 0 0 20 60' % it, 'ok'))]
+
+
+def many_boxes(program):
+    """400,000 boxes of one pixel, of which every second one is freed, and then the others: one free box is left."""
+    boxes = range(400000)
+    lines = ['atlas 1 400000\n', *['alloc 1 1\n'] * len(boxes), 'alloc 1 1\n',
+             *('free %d\n' % it for it in (*boxes[::2], *boxes[1::2])), 'holes\n', 'empty\n']
+    granted = ['id %d at 0 %d 1 %d' % (it, it, it + 1) for it in boxes]
+    wanted = ['ok', *granted, 'none', *['ok'] * len(boxes), 'hole 0 0 1 400000', 'holes 1', 'true']
+    return said(program, lines) == wanted
+
+
 def plain_closed_output(program):
     """Standard output is closed: Rust's runtime opens the null device in its place, which takes all that is written."""
     done = subprocess.run(['sh', '-c', '"$0" >&-', program], input=LINES, stderr=subprocess.PIPE)
@@ -83,6 +107,6 @@ def plain_no_input(program):
     return done.returncode == 0 and done.stdout == b'' and done.stderr == b''
 
 
-CASES = (closed_output, reader_that_leaves, no_input, terminal, answer_before_next_line)
+CASES = (closed_output, reader_that_leaves, no_input, terminal, answer_before_next_line, generations_that_wrap, many_boxes)
 # The cases that a plain program answers otherwise (docs/PLAIN.md), and what it does.
 OF_PLAIN = {closed_output: plain_closed_output, no_input: plain_no_input}

@@ -50,7 +50,7 @@ pub fn insert_again<A: Allocator + Copy>(
     prove!(!matches!(&two, Err(CacheError::Memory | CacheError::Slots)));
 }
 
-/// The glyphs of a text, of which none is refused for memory or for slots: each takes the place of one that goes.
+/// The glyphs of a text, of which none is refused for memory or for slots; a key may go after each.
 pub fn insert_all<A: Allocator + Copy>(
     cache: &mut TextureCache<u64, DefaultHasher, A>,
     keys: &[u64],
