@@ -1,7 +1,7 @@
 -- From the lines that are read to the text that is written.
 use Rattle.std.specs.Prelude.{◌≡◌, ℕ, ◌+◌, ◌<◌, ◌≤◌, ◌⊎◌, ⊤, Bool, true, false, if◌then◌else◌, Option, Some, None, List, [], ◌∷◌}
 use Rattle.std.specs.Prelude.{option_map}
-use Rattle.std.specs.Prelude.{map, flat_map, length, take, All}
+use Rattle.std.specs.Prelude.{map, flat_map, length, take, All, IsNone}
 use Rattle.std.specs.List.{zip}
 use Rattle.std.specs.Io.KnownBytes.{Appends}
 use Rattle.atlas_model.specs.declared.geometry.Size.{Size}
@@ -14,11 +14,12 @@ use Rattle.atlas_sheet.specs.declared.paging.OnPage.{OnPage}
 use Rattle.atlas_sheet.specs.declared.placed.Placed.{Placed}
 use Rattle.atlas_sheet.specs.declared.ways.TheConstants.{WAYS}
 use Rattle.atlas_sheet.specs.Allowances.{IsAllowed, IsGreatest}
-use Rattle.atlas_sheet.specs.Dense.{AreAllPlaced, ArePaddedApart, IsLeastDense, IsNoLargerThanWays, IsPackedOrDense, NoWayFinds}
+use Rattle.atlas_sheet.specs.Dense.{AreAllPlaced, ArePaddedApart, IsLeastDense, IsNoLargerThanWays, IsPackedOrDense}
+use Rattle.atlas_sheet.specs.Dense.{NoWayFinds, NoneIsDense}
 use Rattle.atlas_sheet.specs.Fillings.{IsBestFound, IsNoBetter, ways_tried}
-use Rattle.atlas_sheet.specs.Grouping.{AreGroupPages, LieTogether, members}
+use Rattle.atlas_sheet.specs.Grouping.{AreGroupPages, AreGroupSheets, LieTogether, members, padded_to}
 use Rattle.atlas_sheet.specs.Lying.{IsShown, areas_of}
-use Rattle.atlas_sheet.specs.Packings.{IsFirstFound, IsNoLarger, NoneIsFound}
+use Rattle.atlas_sheet.specs.Packings.{IsFirstFound, IsNoLarger}
 use Rattle.atlas_sheet.specs.Paging.{ArePages, OneIsTooLarge}
 use Rattle.atlas_sheet.specs.Settings.{IsSheetFault, spacing_of}
 use Rattle.atlas_sheet.specs.Sheets.{used_area}
@@ -148,10 +149,13 @@ abbrev pub groups_of : (group : Bool) → List Sprite → Option (List (Option �
 groups_of true sprites = Some (folder_groups sprites)
 groups_of false sprites = None
 
--- What `pack_groups` answers: one sheet after another, those of a group on one of them, unless no way packs them alone into one.
+-- What `pack_groups` answers: one sheet after another, those of a group on one of them, unless no way packs them alone into one; without
+-- groups the sheets are those of `pack_pages`.
 pub record AreGrouped (o : SheetOptions) (groups : List (Option ℕ)) (sizes sheets : List Size) (places : List OnPage) : Type 0 where
   pub are : AreGroupPages WAYS o sizes sheets (map Some places)
   pub together : (group : ℕ) → LieTogether group groups places ⊎ NoWayFinds o (members group groups sizes)
+  pub sheets_come : AreGroupSheets o sizes (padded_to (length sizes) groups) sheets (map Some places)
+  pub plain : All IsNone groups → ArePages WAYS o sizes sheets (map Some places)
 
 -- What the library answers where several sheets are to take all sprites, in groups or not.
 abbrev pub AreSheets : (groups : Option (List (Option ℕ))) → SheetOptions → (sizes sheets : List Size) → List OnPage
@@ -195,10 +199,11 @@ pub record Several : Type 0 where
 abbrev pub several_of : Settings → List Sprite → Option Several
 several_of settings sprites = option_map (λ most. record { most = most; groups = groups_of settings.group sprites }) settings.pages
 
--- No sheet that is allowed takes all sprites; of several, where not each sprite has room in the greatest.
-abbrev pub IsNoSheet : (fill : Bool) → Option Several → SheetOptions → List Size → Type 0
-IsNoSheet fill None o sizes = (fill ≡ false) × InEach o sizes (λ lying. NoneIsFound WAYS o.allowed (spacing_of o) lying)
-IsNoSheet fill (Some several) o sizes = OneIsTooLarge o sizes
+-- None of the ways finds a sheet, and with `dense` the greatest leaves a sprite without guillotine cuts too; of several, where not each
+-- sprite has room in the greatest.
+abbrev pub IsNoSheet : (fill dense : Bool) → Option Several → SheetOptions → List Size → Type 0
+IsNoSheet fill dense None o sizes = (fill ≡ false) × NoWayFinds o sizes × (dense ≡ true → NoneIsDense o sizes)
+IsNoSheet fill dense (Some several) o sizes = OneIsTooLarge o sizes
 
 -- The library answered with more sheets than these.
 abbrev pub AreMore : Option Several → SheetOptions → List Size → Type 0
@@ -207,19 +212,19 @@ AreMore (Some several) o sizes =
     (sheets : List Size) × (places : List OnPage) × AreSheets several.groups o sizes sheets places × (several.most < length sheets)
 
 -- What an error says of what the library was asked. The sprites' lines stand after `before` others.
-abbrev pub IsPackFault : (fill : Bool) → (several : Option Several) → (before : ℕ) → SheetOptions → List Size
+abbrev pub IsPackFault : (fill dense : Bool) → (several : Option Several) → (before : ℕ) → SheetOptions → List Size
     → PackError → Type 0
-IsPackFault fill several before o sizes error.EmptySheet = IsSheetFault o sizes sheet_error.EmptySheet
-IsPackFault fill several before o sizes error.EmptyRange = IsSheetFault o sizes sheet_error.EmptyRange
-IsPackFault fill several before o sizes error.EmptyAlignment = IsSheetFault o sizes sheet_error.EmptyAlignment
-IsPackFault fill several before o sizes (error.EmptySprite line) =
+IsPackFault fill dense several before o sizes error.EmptySheet = IsSheetFault o sizes sheet_error.EmptySheet
+IsPackFault fill dense several before o sizes error.EmptyRange = IsSheetFault o sizes sheet_error.EmptyRange
+IsPackFault fill dense several before o sizes error.EmptyAlignment = IsSheetFault o sizes sheet_error.EmptyAlignment
+IsPackFault fill dense several before o sizes (error.EmptySprite line) =
     (k : ℕ) × (line ≡ before + k + 1) × IsSheetFault o sizes (sheet_error.EmptySprite k)
-IsPackFault fill several before o sizes (error.GreatSprite line) =
+IsPackFault fill dense several before o sizes (error.GreatSprite line) =
     (k : ℕ) × (line ≡ before + k + 1) × IsSheetFault o sizes (sheet_error.GreatSprite k)
-IsPackFault fill several before o sizes error.NoSheet = IsNoSheet fill several o sizes
-IsPackFault fill several before o sizes error.MorePages = AreMore several o sizes
-IsPackFault fill several before o sizes error.Memory = ⊤
-IsPackFault fill several before o sizes e = ⊥
+IsPackFault fill dense several before o sizes error.NoSheet = IsNoSheet fill dense several o sizes
+IsPackFault fill dense several before o sizes error.MorePages = AreMore several o sizes
+IsPackFault fill dense several before o sizes error.Memory = ⊤
+IsPackFault fill dense several before o sizes e = ⊥
 
 -- The lines ask for a sheet, and the library has none.
 pub record HasPackFault (input : List ℕ) (e : PackError) : Type 0 where
@@ -227,7 +232,7 @@ pub record HasPackFault (input : List ℕ) (e : PackError) : Type 0 where
   pub settings : Settings
   pub sprites : List Sprite
   pub asked : AsksFor input before settings sprites
-  pub fault : IsPackFault settings.fill (several_of settings sprites) before (sheet_options settings)
+  pub fault : IsPackFault settings.fill settings.dense (several_of settings sprites) before (sheet_options settings)
       (map (λ sprite. sprite.size) sprites) e
 
 -- A device failed.

@@ -3,7 +3,7 @@ ghost use Rattle.std.specs.Prelude.{◌≡◌, ◌≤◌, false, length, map, tr
 ghost use Rattle.std.specs.List.{zip};
 ghost use Rattle.atlas_pack.specs.Runs.{AreSheets, IsFilled, IsPackFault, IsAllPacked, Several, allowed_of, frame_in};
 ghost use Rattle.atlas_pack.specs.Runs.{frame_of, groups_of, left_in, page_frame_of, sheet_options};
-ghost use Rattle.atlas_sheet.specs.Dense.{NoWayFinds};
+ghost use Rattle.atlas_sheet.specs.Dense.{NoWayFinds, NoneIsDense};
 ghost use Rattle.atlas_sheet.specs.Paging.{OneIsTooLarge};
 ghost use Rattle.atlas_sheet.specs.Settings.{IsSheetFault};
 
@@ -104,7 +104,8 @@ fn all_of(alloc: Global, places: &[Placed]) -> Result<Vec<Option<Placed>>, Alloc
 fn fault_of(error: SheetError, sizes: &[Size], options: &SheetOptions, before: usize) -> PackError
     requires few { before ≤ 1 }
     requires fault { IsSheetFault options.now sizes.now error }
-    ensures { (fill : Bool) (several : Option Several) → IsPackFault fill several before options.now sizes.now result }
+    ensures { (fill dense : Bool) (several : Option Several)
+        → IsPackFault fill dense several before options.now sizes.now result }
 {
     match error {
         SheetError::Memory => PackError::Memory,
@@ -134,6 +135,7 @@ fn packed<P: Write>(
     ensures whole { IfOk result (λ found. IfSome found (λ sheet.
         IsAllPacked dense options.now sizes.now sheet.size (map Some sheet.places.items))) }
     ensures none { IfOk result (λ found. IfNone found (NoWayFinds options.now sizes.now)) }
+    ensures full { dense ≡ true → IfOk result (λ found. IfNone found (NoneIsDense options.now sizes.now)) }
     ensures fault { IfErr result (λ e. IsSheetFault options.now sizes.now e) }
 {
     if dense {
@@ -160,7 +162,7 @@ pub fn pack_whole<P: Write>(
 ) -> Result<(Size, Vec<Option<Placed>>), PackError>
     requires { before ≤ 1 }
     ensures found { IfOk result (λ found. IsAllPacked dense options.now sizes.now found.0 found.1.items) }
-    ensures fault { IfErr result (λ e. IsPackFault false None before options.now sizes.now e) }
+    ensures fault { IfErr result (λ e. IsPackFault false dense None before options.now sizes.now e) }
 {
     match packed(alloc, sizes, options, dense, progress) {
         Ok(Some(sheet)) => {
@@ -244,7 +246,7 @@ pub fn pack_several(
     ensures pages { IfOk result (λ p.
         AreSheets (groups_of group sprites.now) options.now sizes.now p.sizes.items p.places.items) }
     ensures few { IfOk result (λ p. length p.sizes.items ≤ most) }
-    ensures fault { (fill : Bool) → IfErr result (λ e. IsPackFault fill
+    ensures fault { (fill dense : Bool) → IfErr result (λ e. IsPackFault fill dense
         (Some (record { most = most; groups = groups_of group sprites.now })) before options.now sizes.now e) }
 {
     match paged(alloc, sprites, sizes, options, group) {
@@ -268,7 +270,7 @@ pub fn fill_one(
 ) -> Result<(Size, Vec<Option<Placed>>), PackError>
     requires { before ≤ 1 }
     ensures filled { IfOk result (λ found. IsFilled options.now sizes.now found.0 found.1.items) }
-    ensures fault { IfErr result (λ e. IsPackFault true None before options.now sizes.now e) }
+    ensures fault { (dense : Bool) → IfErr result (λ e. IsPackFault true dense None before options.now sizes.now e) }
 {
     match fill(alloc, sizes, options) {
         Ok(filled) => Ok((filled.size, filled.places)),

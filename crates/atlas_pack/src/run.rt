@@ -26,7 +26,7 @@ fn found<P: Write>(
     requires { before ≤ 1 }
     ensures answers { IfOk result (λ found. Answers settings.fill settings.dense (sheet_options settings)
         (map (λ sprite. sprite.size) sprites.now) found.0 found.1.items) }
-    ensures fault { IfErr result (λ e. IsPackFault settings.fill None before (sheet_options settings)
+    ensures fault { IfErr result (λ e. IsPackFault settings.fill settings.dense None before (sheet_options settings)
         (map (λ sprite. sprite.size) sprites.now) e) }
 {
     let sizes = sizes_of(alloc, sprites)?;
@@ -63,7 +63,7 @@ fn one_sheet<P: Write>(
 ) -> Result<(Vec<u8>, Vec<Sprite>), PackError>
     requires { before ≤ 1 }
     ensures packs { IfOk result (λ f. IsOneSheet settings sprites.items (length f.1.items) f.0.items) }
-    ensures fault { IfErr result (λ e. IsPackFault settings.fill None before (sheet_options settings)
+    ensures fault { IfErr result (λ e. IsPackFault settings.fill settings.dense None before (sheet_options settings)
         (map (λ sprite. sprite.size) sprites.items) e) }
 {
     let (sheet, places) = found(alloc, settings, &sprites, before, progress)?;
@@ -90,7 +90,7 @@ fn several(
 ) -> Result<Vec<u8>, PackError>
     requires { before ≤ 1 }
     ensures packs { IfOk result (λ text. AreSeveral most settings sprites.items 0 text.items) }
-    ensures fault { IfErr result (λ e. IsPackFault settings.fill
+    ensures fault { IfErr result (λ e. IsPackFault settings.fill settings.dense
         (Some (record { most = most; groups = groups_of settings.group sprites.items })) before (sheet_options settings)
         (map (λ sprite. sprite.size) sprites.items) e) }
 {
@@ -113,7 +113,7 @@ fn answer<P: Write>(
 ) -> Result<(Vec<u8>, Vec<Sprite>), PackError>
     requires { before ≤ 1 }
     ensures packs { IfOk result (λ f. IsPackAnswer settings.pages settings sprites.items (length f.1.items) f.0.items) }
-    ensures fault { IfErr result (λ e. IsPackFault settings.fill (several_of settings sprites.items) before
+    ensures fault { IfErr result (λ e. IsPackFault settings.fill settings.dense (several_of settings sprites.items) before
         (sheet_options settings) (map (λ sprite. sprite.size) sprites.items) e) }
 {
     match settings.pages {

@@ -21,4 +21,4 @@ returns-in-Ok-clause-filled c =
     }
 
 pub returns-in-Err : goal.returns-in-Err
-returns-in-Err c = record { filled = tt; fault = c.fault_of.ensures true None }
+returns-in-Err c = record { filled = tt; fault = λ dense. c.fault_of.ensures true dense None }

@@ -6,5 +6,6 @@ pub returns-in-Err : goal.returns-in-Err
 returns-in-Err c = record {
   pages = tt;
   few = tt;
-  fault = λ fill. c.fault_of.ensures fill (Some (record { most = c.args.most; groups = groups_of c.args.group c.args.sprites.now }));
+  fault = λ fill dense. c.fault_of.ensures fill dense
+      (Some (record { most = c.args.most; groups = groups_of c.args.group c.args.sprites.now }));
 }

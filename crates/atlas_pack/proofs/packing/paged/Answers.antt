@@ -1,9 +1,7 @@
-use Rattle.std.proofs.Common.{◌≡◌, ◌⊎◌, ◌∙◌, ℕ, Bool, List, Option, IfOk, IfSome, subst, sym}
-use Rattle.atlas_sheet.specs.Dense.{NoWayFinds}
-use Rattle.atlas_sheet.specs.Grouping.{LieTogether, members}
+use Rattle.std.proofs.Common.{◌≡◌, ◌∙◌, ℕ, Bool, List, Option, IfOk, IfSome, subst, sym}
 use Rattle.pack_lines.specs.Folders.{folder_groups}
-use Rattle.atlas_pack.specs.Runs.{AreSheets, groups_of}
-use Rattle.atlas_pack.proofs.KnownResults.{both_known}
+use Rattle.atlas_pack.specs.Runs.{AreGrouped, AreSheets, groups_of}
+use Rattle.atlas_pack.proofs.KnownResults.{all_known}
 use Rattle.atlas_pack.proofs.packing.paged.Goals as goal
 
 pub returns-then-group-clause-pages : goal.returns-then-group-clause-pages
@@ -14,12 +12,12 @@ returns-then-group-clause-pages c =
     subst (λ (group : Bool). IfOk c.pack_groups.result (λ found. IfSome found (λ p.
     AreSheets (groups_of group c.args.sprites.now) o sizes p.sizes.items p.places.items)))
     (sym c.if-group.true)
-    (both_known _ _ _ c.pack_groups.result c.pack_groups.ensures.pages c.pack_groups.ensures.together
-    (λ p are together. record {
-      are = are;
-      together = subst (λ (groups : List (Option ℕ)). (n : ℕ) → LieTogether n groups p.places.items ⊎ NoWayFinds o (members n groups sizes))
-          numbers together;
-    }))
+    (subst (λ (groups : List (Option ℕ)). IfOk c.pack_groups.result (λ found. IfSome found (λ p.
+    AreGrouped o groups sizes p.sizes.items p.places.items)))
+    numbers
+    (all_known _ _ _ _ _ c.pack_groups.result c.pack_groups.ensures.pages c.pack_groups.ensures.together c.pack_groups.ensures.sheets
+    c.pack_groups.ensures.plain
+    (λ p are together come plain. record { are = are; together = together; sheets_come = come; plain = plain })))
 
 pub returns-clause-pages : goal.returns-clause-pages
 returns-clause-pages c =

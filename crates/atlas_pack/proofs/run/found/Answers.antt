@@ -20,12 +20,15 @@ pub returns-then-settings-clause-fault : goal.returns-then-settings-clause-fault
 returns-then-settings-clause-fault g c =
     let s = c.args.settings in
     let sizes = map (λ sprite. sprite.size) c.args.sprites.now in
-    let fact : IfErr c.fill_one.result (λ e. IsPackFault true None c.args.before (sheet_options s) sizes e) = search rules in
-    subst (λ (b : Bool). IfErr c.fill_one.result (λ e. IsPackFault b None c.args.before (sheet_options s) sizes e)) (sym c.if-settings.true) fact
+    let fact : IfErr c.fill_one.result (λ e. IsPackFault true s.dense None c.args.before (sheet_options s) sizes e) =
+    search (rules, c.fill_one.ensures.fault s.dense) in
+    subst (λ (b : Bool). IfErr c.fill_one.result (λ e. IsPackFault b s.dense None c.args.before (sheet_options s) sizes e))
+    (sym c.if-settings.true) fact
 
 pub returns-clause-fault : goal.returns-clause-fault
 returns-clause-fault g c =
     let s = c.args.settings in
     let sizes = map (λ sprite. sprite.size) c.args.sprites.now in
-    let fact : IfErr c.pack_whole.result (λ e. IsPackFault false None c.args.before (sheet_options s) sizes e) = search rules in
-    subst (λ (b : Bool). IfErr c.pack_whole.result (λ e. IsPackFault b None c.args.before (sheet_options s) sizes e)) (sym c.if-settings.false) fact
+    let fact : IfErr c.pack_whole.result (λ e. IsPackFault false s.dense None c.args.before (sheet_options s) sizes e) = search rules in
+    subst (λ (b : Bool). IfErr c.pack_whole.result (λ e. IsPackFault b s.dense None c.args.before (sheet_options s) sizes e))
+    (sym c.if-settings.false) fact

@@ -35,9 +35,12 @@ returns-in_err-pages-clause-fault c =
     let asked : List Sprite → Option Several = (λ all. Some (record { most = c.args.most; groups = groups_of s.group all })) in
     let sizes : c.deref-3.result.now ≡ map (λ sprite. sprite.size) c.args.sprites.items =
     c.deref-3.ensures.value ∙ c.in_ok-sizes.ensures ∙ ap (map (λ sprite. sprite.size)) c.deref.ensures.value in
-    let fault = subst (λ (o : SheetOptions). IsPackFault s.fill (asked c.args.sprites.items) c.args.before o (map (λ sprite. sprite.size) c.args.sprites.items) e)
+    let fault = subst (λ (o : SheetOptions). IsPackFault s.fill s.dense (asked c.args.sprites.items) c.args.before o
+    (map (λ sprite. sprite.size) c.args.sprites.items) e)
     c.sheet_options-options.ensures
-    (subst (λ (xs : List Size). IsPackFault s.fill (asked c.args.sprites.items) c.args.before c.sheet_options-options.result xs e) sizes
-    (subst (λ (all : List Sprite). IsPackFault s.fill (asked all) c.args.before c.sheet_options-options.result c.deref-3.result.now e) c.deref-2.ensures.value
-    (c.in_err-pages.ensures.fault s.fill))) in
+    (subst (λ (xs : List Size). IsPackFault s.fill s.dense (asked c.args.sprites.items) c.args.before c.sheet_options-options.result xs e)
+    sizes
+    (subst (λ (all : List Sprite). IsPackFault s.fill s.dense (asked all) c.args.before c.sheet_options-options.result
+    c.deref-3.result.now e) c.deref-2.ensures.value
+    (c.in_err-pages.ensures.fault s.fill s.dense))) in
     search (rules, fault)
