@@ -1,4 +1,5 @@
 """What the tests over sheets have in common; none of it needs Pillow."""
+import atexit
 import json
 import os
 import signal
@@ -18,6 +19,21 @@ test = SUITE.run
 # Programs begun here mind a closed terminal and Ctrl-C, even where the gate runs by nohup: a signal that this process handles is in them as
 # it is at first.
 signal.signal(signal.SIGHUP, lambda *_: None)
+
+
+BEGUN = []
+
+
+def begun(words, **more):
+    """A run that goes on; it ends with the script at the latest, since a test that fails leaves it."""
+    BEGUN.append(subprocess.Popen(words, **more))
+    return BEGUN[-1]
+
+
+@atexit.register
+def end_all():
+    for running in BEGUN:
+        running.kill()
 
 
 def ended(words, **more):

@@ -15,7 +15,7 @@ import time
 sys.dont_write_bytecode = True
 import icons  # noqa: E402
 import readers  # noqa: E402
-from common import PROGRAM, main, run, test  # noqa: E402
+from common import PROGRAM, begun, main, run, test  # noqa: E402
 from PIL import Image  # noqa: E402
 
 
@@ -46,7 +46,7 @@ def kept(folder, room):
     for number, (more, status) in enumerate(((['--keep-best'], 0), ([], 130))):
         out = os.path.join(room, 'kept %d' % number)
         words = [PROGRAM, folder, out, '--effort', '1000000000', *more]
-        running = subprocess.Popen(words, stdout=subprocess.DEVNULL, stderr=subprocess.PIPE)
+        running = begun(words, stdout=subprocess.DEVNULL, stderr=subprocess.PIPE)
         # The first sheet that is found is told.
         assert b'so far a sheet of ' in running.stderr.readline()
         time.sleep(0.3)
@@ -63,8 +63,8 @@ def shown(folder, room):
     out = os.path.join(room, 'shown')
     assert run(folder, out).stderr == ''
     ours, theirs = pty.openpty()
-    running = subprocess.Popen([PROGRAM, folder, out, '--time', '2'], stdout=subprocess.DEVNULL, stderr=theirs,
-                               env=dict(os.environ, TERM='xterm'))
+    running = begun([PROGRAM, folder, out, '--time', '2'], stdout=subprocess.DEVNULL, stderr=theirs,
+                    env=dict(os.environ, TERM='xterm'))
     os.close(theirs)
     text = b''
     while True:

@@ -15,7 +15,7 @@ import time
 sys.dont_write_bytecode = True
 import icons  # noqa: E402
 import readers  # noqa: E402
-from common import PROGRAM, ended, main, test  # noqa: E402
+from common import PROGRAM, begun, ended, main, test  # noqa: E402
 from PIL import Image  # noqa: E402
 
 HERE = os.path.dirname(os.path.abspath(__file__))
@@ -114,8 +114,8 @@ def two(library, room):
     waited = 0
     for turn in range(6):
         sides = [['--size', '128', '128'], ['--power-of-two']][::1 if turn % 2 else -1]
-        running = [subprocess.Popen([PROGRAM, folder, out, *more], env=settings, stdout=subprocess.DEVNULL, stderr=subprocess.PIPE,
-                                    text=True) for more in sides]
+        running = [begun([PROGRAM, folder, out, *more], env=settings, stdout=subprocess.DEVNULL, stderr=subprocess.PIPE, text=True)
+                   for more in sides]
         lines = [each.communicate(timeout=60)[1] for each in running]
         assert [each.returncode for each in running] == [0, 0], lines
         waited += sum(line == 'guillotiere-sheet: sheet: waiting for another run that writes it\n' for line in lines)
@@ -133,8 +133,8 @@ def stopped(library, room):
         inside = os.path.join(room, 'stopped %d' % number)
         os.mkdir(inside)
         out = os.path.join(inside, 'sheet')
-        running = subprocess.Popen([PROGRAM, folder, out, *more], env=dict(os.environ, **steps), stdout=subprocess.DEVNULL,
-                                   stderr=subprocess.DEVNULL)
+        running = begun([PROGRAM, folder, out, *more], env=dict(os.environ, **steps), stdout=subprocess.DEVNULL,
+                        stderr=subprocess.DEVNULL)
         time.sleep(seconds)
         running.send_signal(how)
         assert running.wait(timeout=20) in (0, 130), (number, running.returncode)
@@ -164,8 +164,8 @@ def hung_up(room):
     """A run that nohup began goes on where the terminal is closed."""
     folder, originals = pictures(room, 'hung up', 4, 20)
     out = os.path.join(room, 'hung')
-    running = subprocess.Popen([PROGRAM, folder, out, '--watch'], stdout=subprocess.DEVNULL, stderr=subprocess.DEVNULL,
-                               preexec_fn=lambda: signal.signal(signal.SIGHUP, signal.SIG_IGN))
+    running = begun([PROGRAM, folder, out, '--watch'], stdout=subprocess.DEVNULL, stderr=subprocess.DEVNULL,
+                    preexec_fn=lambda: signal.signal(signal.SIGHUP, signal.SIG_IGN))
     end = time.time() + 30
     while not os.path.exists(out + '.json') and time.time() < end:
         time.sleep(0.05)
