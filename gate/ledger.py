@@ -2,8 +2,10 @@
 
     CRATE/NAME TEXT SOURCES TOOLS how it was refused
 
-TEXT is the sum of its own text; SOURCES that of its crate and of all crates below it; TOOLS that of the kit's logic and of what judges
-here. So a line says nothing of an edit once one of the three has changed. They are the same on each machine, and in each folder.
+TEXT is the sum of its own text; SOURCES that of its crate and of what a proof of it may see of the crates below; TOOLS that of the kit's
+logic and of what judges here. So a line says nothing of an edit once one of the three has changed. They are the same on each machine, and
+in each folder. Of a crate below a proof sees the sources and the definitions, of its lemmas what they state, and nothing of how anything
+is proved: a theorem's proof is closed to other crates. So a shorter proof of a lemma leaves the lines of the crates above as they are.
 
 A line may be wrong, by hand or by mistake. So each day draws a tenth of them, which are tried none the less: the days are counted by tens,
 and each ten draw each edit once, not always on the same day of the ten. The date draws, and not the commit: whoever writes a wrong line
@@ -11,6 +13,7 @@ could change a commit's text until its sum spares that line, but no text changes
 The day is that of UTC; EDITS_DATE=YYYY-MM-DD in the environment draws as on that day.
 """
 import datetime
+import functools
 import hashlib
 import os
 import pathlib
@@ -25,18 +28,79 @@ SHARE = 10
 JUDGES = ("edit.py", "trial.py", "values.py")
 HEAD = "# Written by `gate/edits --ledger`, and read by gate/ledger.py, which says what stands in a line.\n"
 WELL = "refused, as it must be"
+# What a function's proof is, which no other crate can cite.
+CLOSED = ("Answers.antt", "Invariants.antt", "Proof.antt")
+# The first words of what stands in a file of lemmas with all that it says: what may be unfolded, and what isn't a theorem.
+OPEN = ("abbrev", "unfoldable", "record", "data", "ruleset", "mod", "module", "instance", "syntax")
+WORD = r"[^\s(){}◌]+"
 
 
 def sum_of(*words):
     return hashlib.sha256(repr(words).encode()).hexdigest()[:16]
 
 
+def items(lines):
+    """The items of a file, or of a module within one: a line, with those below it that are indented or close a bracket."""
+    found = []
+    for line in lines:
+        if line.strip() and not line.lstrip().startswith("--"):
+            if found and line.startswith((" ", "}", ")")):
+                found[-1].append(line)
+            else:
+                found.append([line])
+    return found
+
+
+def stated(lines):
+    """Of these lines of a file of lemmas what another crate may see: of a theorem what it states, of all else the whole."""
+    kept_lines, imports, opened = [], [], set()
+    for item in items(lines):
+        words = item[0].removeprefix("pub ").split()
+        if words[0] == "use":
+            imports.append(item[0])
+        elif words[0] == "module" and words[-1] == "where":
+            inside = [line.removeprefix("  ") for line in item[1:]]
+            kept_lines += [item[0], *(f"  {line}" for line in stated(inside))]
+        elif words[0] in OPEN:
+            opened |= {*words[1:4]}
+            kept_lines += item
+        elif re.match(r"[^=]*? : ", f"{item[0]} "):
+            kept_lines += item if item[0].startswith("pub ") else []
+        elif words[0] in opened:
+            kept_lines += item
+    said = "\n".join(kept_lines)
+    return [*(it for line in imports if (it := narrowed(line, said))), *kept_lines]
+
+
+def narrowed(line, said):
+    """An import without the names that aren't in what is said; empty where none is."""
+    module, brace, names = line.rstrip().rstrip("}").partition("{")
+    left = [it for it in names.split(", ") if all(word in said for word in re.findall(WORD, it))]
+    return f"{module}{{{', '.join(left)}}}" if left else "" if brace else line
+
+
+@functools.lru_cache(maxsize=None)
+def stated_in(text):
+    """What another crate may see of a file of lemmas with this text."""
+    return "\n".join(stated(text.decode().splitlines())).encode()
+
+
+def seen_of(crate):
+    """The files of a crate by their names, with what a proof in another one may see of them."""
+    for path in crate.sources():
+        name = path.relative_to(crate.folder).as_posix()
+        if not name.startswith("proofs/"):
+            yield name, path.read_bytes()
+        elif path.name not in CLOSED:
+            yield name, stated_in(path.read_bytes())
+
+
 def sources_sum(crate):
-    """The sum of all that the check of a crate reads in this repository."""
+    """The sum of all that the check of a crate reads in this repository, but for how theorems of the crates below are proved."""
     read = []
     for each in sorted([crate, *crate.below().values()], key=lambda it: it.name):
-        files = sorted((path.relative_to(each.folder).as_posix(), path.read_bytes()) for path in each.sources())
-        read.append((each.name, each.is_static, sorted(each.deps), files))
+        own = ((path.relative_to(each.folder).as_posix(), path.read_bytes()) for path in each.sources())
+        read.append((each.name, each.is_static, sorted(each.deps), sorted(own if each is crate else seen_of(each))))
     return sum_of(read)
 
 
