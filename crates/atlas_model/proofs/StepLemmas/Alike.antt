@@ -1,5 +1,5 @@
 -- States that are one but for their ids answer alike.
-use Rattle.std.proofs.Common.{◌≡◌, ℕ, ◌≤◌, ◌<◌, ◌⊎◌, inl, inr, Bool, true, false, cond, List, [], ◌∷◌, ◌++◌, map, max}
+use Rattle.std.proofs.Common.{◌≡◌, ℕ, ◌+◌, ◌-◌, ◌≤◌, ◌<◌, ◌⊎◌, inl, inr, Bool, true, false, cond, List, [], ◌∷◌, ◌++◌, map, max}
 use Rattle.std.proofs.Common.{refl, ap, ap₂, subst, subst₂, sym, ◌∙◌, arith, ◌↔◌}
 use Rattle.std.proofs.lemmas.Bool.{true≢false}
 use Rattle.std.proofs.lemmas.List.Elements.{Contains-append_left, Contains-append_right, Contains-append_cases}
@@ -135,7 +135,7 @@ one_to_one_placed f size b r id name t absent new one x y at_x at_y same =
 
 nodes_same : (f g : ℕ → ℕ) (v u : Tree) → renamed_tree g u ≡ renamed_tree f v
     → node_count u.members ≡ node_count v.members
-nodes_same f g v u same = grind (arith, nodes-renamed)
+nodes_same f g v u same = sym (nodes-renamed g u.members) ∙ ap (λ (k : Tree). node_count k.members) same ∙ nodes-renamed f v.members
 
 names_same : (f g : ℕ → ℕ) (v u : Tree) (name : ℕ) → renamed_tree g u ≡ renamed_tree f v → IsNewName f v name
     → IsNewName g u name
@@ -151,16 +151,23 @@ module _ (f g : ℕ → ℕ) (s t : State) (a : AreAlike f g s t) where
   used_same = nodes_same f g s.tree t.tree a.tree
 
   need_same : (b : Box) (r : Sides) → place_need t.size b r t.tree ≡ place_need s.size b r s.tree
-  need_same b r = grind (arith, need_renamed)
+  need_same b r =
+      ap (λ n. place_need n b r t.tree) a.size ∙ sym (need_renamed g s.size b r t.tree) ∙ ap (place_need s.size b r) a.tree
+      ∙ need_renamed f s.size b r s.tree
 
   nodes_with_same : (r : Sides) (b : Box) → nodes_with t r b ≡ nodes_with s r b
-  nodes_with_same r b = grind (arith, used_same, need_same)
+  nodes_with_same r b =
+      ap₂ (λ (j k : ℕ). j + k) used_same
+      (ap (λ o. place_need t.size b (rounded o r) t.tree) a.options ∙ need_same b (rounded s.options r))
 
   grown_same : (n : Sides) → renamed_tree g (grown t.size n t.tree) ≡ renamed_tree f (grown s.size n s.tree)
-  grown_same n = grind (arith, grown_renamed)
+  grown_same n =
+      grown_renamed g t.size n t.tree ∙ ap₂ (λ o u. grown o n u) a.size a.tree ∙ sym (grown_renamed f s.size n s.tree)
 
   nodes_grown_same : (n : Sides) → nodes_grown t n ≡ nodes_grown s n
-  nodes_grown_same n = grind (arith, used_same, nodes_same, grown_same)
+  nodes_grown_same n =
+      ap₂ (λ (j k : ℕ). j + (k - j)) used_same
+      (nodes_same f g (grown s.size n s.tree) (grown t.size n t.tree) (grown_same n))
 
   room_same : (r : Sides) → HasRoom (free_in t) t.options r ≡ HasRoom (free_in s) s.options r
   room_same r = ap₂ (λ free o. HasRoom free o r) free_same a.options
@@ -177,7 +184,15 @@ module _ (f g : ℕ → ℕ) (s t : State) (a : AreAlike f g s t) where
       → IsOneToOne j (ids u.members)
       → AreAlike i j (record s { tree = v; size = n; kept = max s.kept (node_count v.members) })
       (record t { tree = u; size = n; kept = max t.kept (node_count u.members) })
-  alike_after i j n v u same one two = grind (arith, nodes_same)
+  alike_after i j n v u same one two = record {
+    size = refl;
+    options = a.options;
+    limit = a.limit;
+    kept = ap₂ max a.kept (nodes_same i j v u same);
+    tree = same;
+    names = one;
+    twins = two;
+  }
 
   unchanged : (s' t' : State) → s' ≡ s → t' ≡ t → AreAlike f g s' t'
   unchanged s' t' is is' = subst₂ (AreAlike f g) (sym is) (sym is') a
@@ -261,11 +276,16 @@ grew s s' n reply h met = absurd h
 
 -- Each call from states that are alike.
 
+past_limit : (used others limit bound : ℕ) → others ≡ used → bound ≡ limit → used ≤ limit → bound < others → ⊥
+past_limit used others limit bound e e' few many = omega arith
+
 module _ (f g : ℕ → ℕ) (s t : State) (a : AreAlike f g s t) (sound : IsSound s) (s' t' : State) where
   -- Both replies are the same, and change nothing.
   both_unchanged : (reply answer is : AtlasReply) → AnswerAlike f g s s' t' is is ≡ ((is ≡ is) × AreAlike f g s' t')
       → reply ≡ is → answer ≡ is → s' ≡ s → t' ≡ t → AnswerAlike f g s s' t' reply answer
-  both_unchanged reply answer is plain e e' same same' = grind arith
+  both_unchanged reply answer is plain e e' same same' =
+      subst₂ (AnswerAlike f g s s' t') (sym e) (sym e')
+      (subst (λ (X : Type 0). X) (sym plain) (refl, unchanged f g s t a s' t' same same'))
 
   both_granted : (r : Sides) (h k : Grant) (b c : Box) → Grants s r b h s' → Grants t r c k t'
       → AnswerAlike f g s s' t' (Allocated h) (Allocated k)
@@ -287,11 +307,14 @@ module _ (f g : ℕ → ℕ) (s t : State) (a : AreAlike f g s t) (sound : IsSou
   -- One limit can't be both passed and not passed.
   passed : (r : Sides) (b c : Box) → Takes s r b → Takes t r c → nodes_with s r b ≤ s.limit → t.limit < nodes_with t r c
       → ⊥
-  passed r b c x y few many = grind (arith, taken_same, nodes_with_same)
+  passed r b c x y few many =
+      past_limit _ _ _ _ (ap (nodes_with t r) (taken_same f g s t a r b c sound x y) ∙ nodes_with_same f g s t a r b) a.limit few many
 
   unpassed : (r : Sides) (b c : Box) → Takes s r b → Takes t r c → s.limit < nodes_with s r b
       → nodes_with t r c ≤ t.limit → ⊥
-  unpassed r b c x y many few = grind (arith, taken_same, nodes_with_same)
+  unpassed r b c x y many few =
+      past_limit _ _ _ _ (sym (ap (nodes_with t r) (taken_same f g s t a r b c sound x y) ∙ nodes_with_same f g s t a r b))
+      (sym a.limit) few many
 
   allocated_alike : (r : Sides) (reply answer : AtlasReply) → Came s r reply s' → Came t r answer t'
       → AnswerAlike f g s s' t' reply answer
@@ -299,19 +322,22 @@ module _ (f g : ℕ → ℕ) (s t : State) (a : AreAlike f g s t) (sound : IsSou
   allocated_alike r reply answer (inl x) (inr (inl y)) = absurd (roomless r y.1 x.1 y.3.takes)
   allocated_alike r reply answer (inl x) (inr (inr y)) = absurd (roomless r y.0 x.1 y.2)
   allocated_alike r reply answer (inr (inl x)) (inl y) = absurd (no_room r x.1 y.1 x.3.takes)
-  allocated_alike r reply answer (inr (inl x)) (inr (inl y)) = grind (arith, both_granted)
+  allocated_alike r reply answer (inr (inl x)) (inr (inl y)) =
+      subst₂ (AnswerAlike f g s s' t') (sym x.2) (sym y.2) (both_granted r x.0 y.0 x.1 y.1 x.3 y.3)
   allocated_alike r reply answer (inr (inl x)) (inr (inr y)) = absurd (passed r x.1 y.0 x.3.takes y.2 x.3.room y.3)
   allocated_alike r reply answer (inr (inr x)) (inl y) = absurd (no_room r x.0 y.1 x.2)
   allocated_alike r reply answer (inr (inr x)) (inr (inl y)) = absurd (unpassed r x.0 y.1 x.2 y.3.takes x.3 y.3.room)
-  allocated_alike r reply answer (inr (inr x)) (inr (inr y)) = grind arith
+  allocated_alike r reply answer (inr (inr x)) (inr (inr y)) = both_unchanged reply answer (Refused Slots) refl x.1 y.1 x.4 y.4
 
   deallocated_alike : (id twin : ℕ) (reply answer : AtlasReply) → IsLive s id ↔ IsLive t twin
       → (IsLive s id → g twin ≡ f id)
       → Freed s id reply s' → Freed t twin answer t' → AnswerAlike f g s s' t' reply answer
-  deallocated_alike id twin reply answer both same (inl x) (inl y) = grind (arith, freed_alike)
+  deallocated_alike id twin reply answer both same (inl x) (inl y) =
+      subst₂ (AnswerAlike f g s s' t') (sym x.0) (sym y.0)
+      (refl, subst₂ (AreAlike f g) (sym x.2) (sym y.2) (freed_alike f g s t a id twin x.1 y.1 (same x.1)))
   deallocated_alike id twin reply answer both same (inl x) (inr y) = absurd (y.1 (both.0 x.1))
   deallocated_alike id twin reply answer both same (inr x) (inl y) = absurd (x.1 (both.1 y.1))
-  deallocated_alike id twin reply answer both same (inr x) (inr y) = grind arith
+  deallocated_alike id twin reply answer both same (inr x) (inr y) = both_unchanged reply answer (Refused NotLive) refl x.0 y.0 x.2 y.2
 
   growths_alike : (n : Sides) (reply answer : AtlasReply) → Grew s n reply s' → Grew t n answer t'
       → AnswerAlike f g s s' t' reply answer
@@ -319,11 +345,14 @@ module _ (f g : ℕ → ℕ) (s t : State) (a : AreAlike f g s t) (sound : IsSou
   growths_alike n reply answer (inl x) (inr (inl y)) = absurd (x.1 (subst (λ z. Fits z n) a.size y.1))
   growths_alike n reply answer (inl x) (inr (inr y)) = absurd (x.1 (subst (λ z. Fits z n) a.size y.1))
   growths_alike n reply answer (inr (inl x)) (inl y) = absurd (y.1 (subst (λ z. Fits z n) (sym a.size) x.1))
-  growths_alike n reply answer (inr (inl x)) (inr (inl y)) = grind (arith, grown_alike)
-  growths_alike n reply answer (inr (inl x)) (inr (inr y)) = grind (arith, nodes_grown_same)
+  growths_alike n reply answer (inr (inl x)) (inr (inl y)) =
+      subst₂ (AnswerAlike f g s s' t') (sym x.0) (sym y.0)
+      (refl, subst₂ (AreAlike f g) (sym x.3) (sym y.3) (grown_alike f g s t a n))
+  growths_alike n reply answer (inr (inl x)) (inr (inr y)) = absurd (past_limit _ _ _ _ (nodes_grown_same f g s t a n) a.limit x.2 y.2)
   growths_alike n reply answer (inr (inr x)) (inl y) = absurd (y.1 (subst (λ z. Fits z n) (sym a.size) x.1))
-  growths_alike n reply answer (inr (inr x)) (inr (inl y)) = grind (arith, nodes_grown_same)
-  growths_alike n reply answer (inr (inr x)) (inr (inr y)) = grind arith
+  growths_alike n reply answer (inr (inr x)) (inr (inl y)) =
+      absurd (past_limit _ _ _ _ (sym (nodes_grown_same f g s t a n)) (sym a.limit) y.2 x.2)
+  growths_alike n reply answer (inr (inr x)) (inr (inr y)) = both_unchanged reply answer (Refused Slots) refl x.0 y.0 x.3 y.3
 
 by_call : (f g : ℕ → ℕ) (s t s' t' : State) (call twin : AtlasCall) (reply answer : AtlasReply) → IsSound s
     → AreAlike f g s t
@@ -334,11 +363,13 @@ by_call f g s t s' t' (Allocate r) (Allocate q) reply answer sound a same h k me
     (subst (λ z. Came t z answer t') same (came t t' q answer k met'))
 by_call f g s t s' t' (Deallocate id) (Deallocate twin) reply answer sound a same h k met met' =
     deallocated_alike f g s t a sound s' t' id twin reply answer same.0 same.1 (freed s s' id reply h) (freed t t' twin answer k)
-by_call f g s t s' t' (Grow n) (Grow m) reply answer sound a same h k met met' = grind (arith, growths_alike, grew)
+by_call f g s t s' t' (Grow n) (Grow m) reply answer sound a same h k met met' =
+    growths_alike f g s t a sound s' t' n reply answer (grew s s' n reply h met)
+    (subst (λ z. Grew t z answer t') same (grew t t' m answer k met'))
 by_call f g s t s' t' call twin reply answer sound a same h k met met' = absurd same
 
 pub answers_without_ids : AnswersWithoutIds
-answers_without_ids f g s t s' t' call twin reply answer sound sound' a same h k met met' = grind (arith, by_call)
+answers_without_ids f g s t s' t' call twin reply answer sound sound' a same h k met met' = by_call f g s t s' t' call twin reply answer sound a same h k met met'
 
 -- The names of ids that aren't live don't count.
 
@@ -346,6 +377,14 @@ same_one_to_one : (f g : ℕ → ℕ) (xs : List ℕ) → AreNamedAlike f g xs �
 same_one_to_one f g xs same one a b at_a at_b e = one a b at_a at_b (sym (same a at_a) ∙ e ∙ same b at_b)
 
 pub live_names_count : LiveNamesCount
-live_names_count f g i j s t a same twins = grind (arith, agreeing_renamed, same_one_to_one)
+live_names_count f g i j s t a same twins = record {
+  size = a.size;
+  options = a.options;
+  limit = a.limit;
+  kept = a.kept;
+  tree = agreeing_renamed g j t.tree twins ∙ a.tree ∙ sym (agreeing_renamed f i s.tree same);
+  names = same_one_to_one f i (ids s.tree.members) same a.names;
+  twins = same_one_to_one g j (ids t.tree.members) twins a.twins;
+}
 
 pub ruleset alike_laws = (answers_without_ids, live_names_count)

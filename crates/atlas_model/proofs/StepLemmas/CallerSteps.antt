@@ -1,5 +1,5 @@
 -- What each call does to the boxes that callers hold.
-use Rattle.std.proofs.Common.{rules, arith, ◌≡◌, ℕ, ◌+◌, ◌==◌, true, false, not, List, length, refl, ap, subst, sym}
+use Rattle.std.proofs.Common.{arith, ◌≡◌, ℕ, ◌+◌, ◌==◌, true, false, not, List, length, refl, ap, subst, sym}
 use Rattle.std.proofs.Common.{◌∙◌, IsSome, option_map}
 use Rattle.std.proofs.lemmas.Bool.{false≢true, eqb-true}
 use Rattle.std.specs.List.{filter, find}
@@ -12,6 +12,7 @@ use Rattle.atlas_model.specs.Steps.{AtlasReply, Step}
 use Rattle.atlas_model.specs.Steps.AtlasCall.{Allocate, Deallocate, Grow}
 use Rattle.atlas_model.specs.Steps.AtlasReply.{Allocated, NoRoom, Done, Refused, BadCall}
 use Rattle.atlas_model.specs.Trees.{Grant}
+use Rattle.atlas_model.specs.declared.error.AtlasError.TheVariants.{NotLive}
 use Rattle.atlas_model.proofs.StepLemmas.StepEffects.{grants_lie_inside, freeings_remove_one, growths_keep_boxes, refusals_change_nothing}
 use Rattle.atlas_model.proofs.StepLemmas.SoundSteps.{steps_keep, freeing_sound}
 use Rattle.atlas_model.proofs.TreeLemmas.TreeLive.{live_release}
@@ -21,7 +22,7 @@ use Rattle.atlas_model.proofs.StepLemmas.GuardedBoxes.{guarded_grant, guarded_fr
 
 -- An unchanged state keeps what is live.
 same_keeps : (old new : State) → IsSound old → new ≡ old → KeepsLive old new
-same_keeps old new sound same = grind arith
+same_keeps old new sound same = subst (KeepsLive old) (sym same) (record { sound = sound; kept = λ id live. refl })
 
 -- A freeing of a list leaves its ids without a box.
 pub batch_leaves : (old new : State) (ids : List ℕ) → IsSound old → new ≡ after_freeing old (is_among ids)
@@ -48,7 +49,18 @@ batch_leaves old new ids sound is = record {
 
 -- An id that isn't live has no box, and stays so.
 pub unlive_leaves : (old new : State) (id : ℕ) → IsSound old → (IsLive old id → ⊥) → new ≡ old → LeavesNoBox old new id
-unlive_leaves old new id sound dead same = search (rules, unlive_box)
+unlive_leaves old new id sound dead same =
+    subst (λ s. LeavesNoBox old s id) (sym same) (record {
+      sound = sound;
+      gone = unlive_box old id dead;
+      others = λ k apart. refl;
+      guarded = λ box held is guarded. absurd (cc (unlive_box old id dead));
+    })
+
+-- An unchanged state keeps all.
+all_kept : (old new : State) → IsSound old → new ≡ old → KeepsAll old new
+all_kept old new sound same =
+    subst (KeepsAll old) (sym same) (record { sound = sound; live = refl; guarded = λ held guarded. guarded })
 
 module _ (old new : State) (sound : IsSound old) where
   module _ (r : Sides) (g : Grant) (step : Step old (Allocate r) (Allocated g) new) where
@@ -99,7 +111,7 @@ module _ (old new : State) (sound : IsSound old) where
         others = freed_others old new id its;
         guarded = λ box held is guarded. guarded_freeing old new sound sound_new (ap (λ s. s.size) step.1) id box its is held guarded;
       }
-  freeing_leaves id (Refused error) step = search (rules, unlive_leaves, refusals_change_nothing)
+  freeing_leaves id (Refused NotLive) step = unlive_leaves old new id sound step.0 step.1
   freeing_leaves id reply step = absurd step
 
   pub freeing_count : (id : ℕ) → Step old (Deallocate id) Done new → length (live_in new) + 1 ≡ length (live_in old)
@@ -115,6 +127,6 @@ module _ (old new : State) (sound : IsSound old) where
         live = its.live;
         guarded = λ held guarded. guarded_growth old new sound sound_new (subst (λ s. Fits old.size s.size) (sym step.2) step.0) its held guarded;
       }
-  growth_keeps n (Refused error) step = search rules
-  growth_keeps n BadCall step = search (rules)
+  growth_keeps n (Refused error) step = all_kept old new sound (refusals_change_nothing old new (Grow n) (Refused error) step refl)
+  growth_keeps n BadCall step = all_kept old new sound step.1
   growth_keeps n reply step = absurd step

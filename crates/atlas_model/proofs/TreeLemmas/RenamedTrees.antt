@@ -1,12 +1,15 @@
 -- Names in place of ids: what a tree shows is the same, and placing, freeing and growing are the same under them.
-use Rattle.std.proofs.Common.{rules, arith, ◌≡◌, ℕ, ◌+◌, Bool, cond, List, ◌∷◌, ◌++◌, map, refl, ap, ap₂, subst, sym}
+use Rattle.std.proofs.Common.{rules, ◌≡◌, ℕ, ◌+◌, ◌-◌, Bool, true, false, cond, List, ◌∷◌, ◌++◌, map, refl, ap, ap₂, subst, sym}
 use Rattle.std.proofs.Common.{◌∙◌}
+use Rattle.std.specs.Prelude.{nat_lt}
 use Rattle.std.proofs.lemmas.Bool.{eq-eqb, ne_eqb}
 use Rattle.std.proofs.lemmas.List.{map-append}
 use Rattle.std.proofs.lemmas.List.Elements.{Contains-append_left, Contains-append_right}
-use Rattle.atlas_model.specs.Boxes.{Axis, Position, Sides, Box, other, side, moved, origin}
-use Rattle.atlas_model.specs.Changes.{free_before, nf, mark, only, release, placed, place, needed, place_need}
+use Rattle.atlas_model.specs.Boxes.{Axis, Position, Sides, Box, other, side, moved, origin, same_axis, sized, box_at, box_sides, same_box}
+use Rattle.atlas_model.specs.Changes.{free_before, seq_before, put, nf, mark, only, release, placed, place, needed, place_need}
 use Rattle.atlas_model.specs.Changes.{lengthened, lengthened_to, widened, grown_members, grown}
+use Rattle.atlas_model.specs.Cuts.{Cut, cut}
+use Rattle.atlas_model.specs.Cuts.Cut.{Whole, Strip, Corner}
 use Rattle.atlas_model.specs.Renaming.{renamed, renamed_tree, renamed_grant, with_name, IsOneToOne, AreNamedAlike}
 use Rattle.atlas_model.specs.Renaming.{RenamingChangesNothing}
 use Rattle.atlas_model.specs.Trees.{Members, Tree, Grant, live, free_boxes, ids, node_count}
@@ -27,7 +30,8 @@ pub renamed-agreeing : (f g : ℕ → ℕ) (m : Members) → AreNamedAlike f g (
 renamed-agreeing f g End same = refl
 renamed-agreeing f g (Free e rest) same = ap (Free e) (renamed-agreeing f g rest same)
 renamed-agreeing f g (Alloc id e rest) same =
-    search (rules, renamed-agreeing f g rest (λ k at. same k (Contains-later id (ids rest) k at)))
+    ap₂ (λ k m. Alloc k e m) (same id (Contains-first id (ids rest)))
+    (renamed-agreeing f g rest (λ k at. same k (Contains-later id (ids rest) k at)))
 renamed-agreeing f g (Seq e inner rest) same =
     ap₂ (Seq e) (renamed-agreeing f g inner (λ k at. same k (Contains-append_left (ids inner) (ids rest) k at)))
     (renamed-agreeing f g rest (λ k at. same k (Contains-append_right (ids inner) (ids rest) k at)))
@@ -40,7 +44,8 @@ pub ids-renamed : (f : ℕ → ℕ) (m : Members) → ids (renamed f m) ≡ map 
 ids-renamed f End = refl
 ids-renamed f (Free e rest) = ids-renamed f rest
 ids-renamed f (Alloc id e rest) = ap (λ (k : List ℕ). f id ∷ k) (ids-renamed f rest)
-ids-renamed f (Seq e inner rest) = grind (arith, ids-renamed f inner, ids-renamed f rest, map-append)
+ids-renamed f (Seq e inner rest) =
+    ap₂ (λ (j k : List ℕ). j ++ k) (ids-renamed f inner) (ids-renamed f rest) ∙ sym (map-append f (ids inner) (ids rest))
 
 pub nodes-renamed : (f : ℕ → ℕ) (m : Members) → node_count (renamed f m) ≡ node_count m
 nodes-renamed f End = refl
@@ -52,7 +57,7 @@ live-renamed : (f : ℕ → ℕ) (axis : Axis) (o : Position) (across : ℕ) (m 
     → live_among axis o across (renamed f m) ≡ map (renamed_grant f) (live_among axis o across m)
 live-renamed f axis o across End = refl
 live-renamed f axis o across (Free e rest) = live-renamed f axis (moved axis o e) across rest
-live-renamed f axis o across (Alloc id e rest) = grind (arith, live-renamed f axis (moved axis o e) across rest)
+live-renamed f axis o across (Alloc id e rest) = ap₂ (λ (g : Grant) k. g ∷ k) refl (live-renamed f axis (moved axis o e) across rest)
 live-renamed f axis o across (Seq e inner rest) =
     live_among-seq axis o across e (renamed f inner) (renamed f rest)
     ∙ ap₂ (λ (j k : List Grant). j ++ k) (live-renamed f (other axis) o e inner)
@@ -63,7 +68,7 @@ live-renamed f axis o across (Seq e inner rest) =
 free-renamed : (f : ℕ → ℕ) (axis : Axis) (o : Position) (across : ℕ) (m : Members)
     → free_among axis o across (renamed f m) ≡ free_among axis o across m
 free-renamed f axis o across End = refl
-free-renamed f axis o across (Free e rest) = grind (arith, free-renamed f axis (moved axis o e) across rest)
+free-renamed f axis o across (Free e rest) = ap₂ (λ (b : Box) k. b ∷ k) refl (free-renamed f axis (moved axis o e) across rest)
 free-renamed f axis o across (Alloc id e rest) = free-renamed f axis (moved axis o e) across rest
 free-renamed f axis o across (Seq e inner rest) =
     free_among-seq axis o across e (renamed f inner) (renamed f rest)
@@ -84,7 +89,7 @@ needed-renamed : (f : ℕ → ℕ) (b : Box) (r : Sides) (axis : Axis) (o : Posi
     → needed b r axis o across (renamed f m) ≡ needed b r axis o across m
 needed-renamed f b r axis o across End = refl
 needed-renamed f b r axis o across (Free e rest) =
-    search (rules, needed-renamed f b r axis (moved axis o e) across rest)
+    ap₂ (λ j k. j + k) refl (needed-renamed f b r axis (moved axis o e) across rest)
 needed-renamed f b r axis o across (Alloc id e rest) = needed-renamed f b r axis (moved axis o e) across rest
 needed-renamed f b r axis o across (Seq e inner rest) =
     ap₂ (λ j k. j + k) (needed-renamed f b r (other axis) o e inner) (needed-renamed f b r axis (moved axis o e) across rest)
@@ -99,11 +104,21 @@ renamed-free_before : (f : ℕ → ℕ) (e : ℕ) (m : Members) → renamed f (f
 renamed-free_before f e End = refl
 renamed-free_before f e m = refl
 
+renamed-seq_before : (f : ℕ → ℕ) (e : ℕ) (inner m : Members)
+    → renamed f (seq_before e inner m) ≡ seq_before e (renamed f inner) (renamed f m)
+renamed-seq_before f e (Free k End) m = renamed-free_before f e m
+renamed-seq_before f e inner m = refl
+
 renamed-nf : (f : ℕ → ℕ) (m : Members) → renamed f (nf m) ≡ nf (renamed f m)
 renamed-nf f End = refl
 renamed-nf f (Free e rest) = renamed-free_before f e (nf rest) ∙ ap (free_before e) (renamed-nf f rest)
 renamed-nf f (Alloc id e rest) = ap (Alloc (f id) e) (renamed-nf f rest)
-renamed-nf f (Seq e inner rest) = grind (arith, renamed-nf f inner, renamed-nf f rest)
+renamed-nf f (Seq e inner rest) =
+    renamed-seq_before f e (nf inner) (nf rest) ∙ ap₂ (seq_before e) (renamed-nf f inner) (renamed-nf f rest)
+
+renamed-cond : (f : ℕ → ℕ) (b : Bool) (m n : Members) → renamed f (cond b m n) ≡ cond b (renamed f m) (renamed f n)
+renamed-cond f true m n = refl
+renamed-cond f false m n = refl
 
 -- Marking the ids of a set is marking their names.
 renamed-mark : (f : ℕ → ℕ) (s n : ℕ → Bool) (m : Members) → ((id : ℕ) → Contains (ids m) id → n (f id) ≡ s id)
@@ -111,7 +126,9 @@ renamed-mark : (f : ℕ → ℕ) (s n : ℕ → Bool) (m : Members) → ((id : �
 renamed-mark f s n End same = refl
 renamed-mark f s n (Free e rest) same = ap (Free e) (renamed-mark f s n rest same)
 renamed-mark f s n (Alloc id e rest) same =
-    search (rules, renamed-mark f s n rest (λ k at. same k (Contains-later id (ids rest) k at)))
+    renamed-cond f (s id) (Free e (mark s rest)) (Alloc id e (mark s rest))
+    ∙ ap₂ (λ b m. cond b (Free e m) (Alloc (f id) e m)) (sym (same id (Contains-first id (ids rest))))
+    (renamed-mark f s n rest (λ k at. same k (Contains-later id (ids rest) k at)))
 renamed-mark f s n (Seq e inner rest) same =
     ap₂ (Seq e) (renamed-mark f s n inner (λ k at. same k (Contains-append_left (ids inner) (ids rest) k at)))
     (renamed-mark f s n rest (λ k at. same k (Contains-append_right (ids inner) (ids rest) k at)))
@@ -123,7 +140,10 @@ told_by_name f xs id k one at_id at_k = search rules
 
 pub release_renamed : (f : ℕ → ℕ) (t : Tree) (id : ℕ) → IsOneToOne f (ids t.members) → Contains (ids t.members) id
     → renamed_tree f (release (only id) t) ≡ release (only (f id)) (renamed_tree f t)
-release_renamed f t id one at = search (rules, renamed-nf, renamed-mark, told_by_name)
+release_renamed f t id one at =
+    ap (λ m. record { axis = t.axis; members = m })
+    (renamed-nf f (mark (only id) t.members)
+    ∙ ap nf (renamed-mark f (only id) (only (f id)) t.members (λ k. told_by_name f (ids t.members) id k one at)))
 
 -- Growth
 
@@ -137,7 +157,9 @@ renamed-lengthened f d m = refl
 
 renamed-lengthened_to : (f : ℕ → ℕ) (a b : ℕ) (m : Members)
     → renamed f (lengthened_to a b m) ≡ lengthened_to a b (renamed f m)
-renamed-lengthened_to f a b m = search (rules, renamed-lengthened)
+renamed-lengthened_to f a b m =
+    renamed-cond f (nat_lt a b) (lengthened (b - a) m) m
+    ∙ ap (λ k. cond (nat_lt a b) k (renamed f m)) (renamed-lengthened f (b - a) m)
 
 renamed-widened : (f : ℕ → ℕ) (u n : ℕ) (axis : Axis) (m : Members)
     → renamed_tree f (widened u n axis m) ≡ widened u n axis (renamed f m)
@@ -146,7 +168,10 @@ renamed-widened f u n axis m = search (rules)
 longer_renamed : (f : ℕ → ℕ) (old new : Sides) (axis : Axis) (m : Members)
     → renamed_tree f (widened (side (other axis) old) (side (other axis) new) axis (lengthened_to (side axis old) (side axis new) m))
     ≡ widened (side (other axis) old) (side (other axis) new) axis (lengthened_to (side axis old) (side axis new) (renamed f m))
-longer_renamed f old new axis m = search (rules, renamed-widened, renamed-lengthened_to)
+longer_renamed f old new axis m =
+    renamed-widened f (side (other axis) old) (side (other axis) new) axis (lengthened_to (side axis old) (side axis new) m)
+    ∙ ap (widened (side (other axis) old) (side (other axis) new) axis)
+    (renamed-lengthened_to f (side axis old) (side axis new) m)
 
 renamed-grown : (f : ℕ → ℕ) (old new : Sides) (axis : Axis) (m : Members)
     → renamed_tree f (grown_members old new axis m) ≡ grown_members old new axis (renamed f m)
@@ -159,12 +184,22 @@ grown_renamed f old new t = renamed-grown f old new t.axis t.members
 
 -- Placing
 
+renamed-put : (g : ℕ → ℕ) (c : Cut) (axis : Axis) (e across p q id : ℕ) (m : Members)
+    → renamed g (put c axis e across p q id m) ≡ put c axis e across p q (g id) (renamed g m)
+renamed-put g Whole axis e across p q id m = refl
+renamed-put g (Strip a) axis e across p q id m = renamed-cond g (same_axis a axis) _ _
+renamed-put g (Corner a) axis e across p q id m = renamed-cond g (same_axis a axis) _ _
+
 renamed-placed : (f g : ℕ → ℕ) (b : Box) (r : Sides) (id : ℕ) (axis : Axis) (o : Position) (across : ℕ) (m : Members)
     → ((k : ℕ) → Contains (ids m) k → g k ≡ f k)
     → renamed g (placed b r id axis o across m) ≡ placed b r (g id) axis o across (renamed f m)
 renamed-placed f g b r id axis o across End same = refl
 renamed-placed f g b r id axis o across (Free e rest) same =
-    search (rules, renamed-placed f g b r id axis (moved axis o e) across rest same)
+    let later = renamed-placed f g b r id axis (moved axis o e) across rest same in
+    renamed-cond g (same_box (box_at o (sized axis e across)) b) _ _
+    ∙ ap₂ (cond (same_box (box_at o (sized axis e across)) b))
+    (renamed-put g (cut (box_sides b) r) axis e across (side axis r) (side (other axis) r) id _
+    ∙ ap (put (cut (box_sides b) r) axis e across (side axis r) (side (other axis) r) (g id)) later) (ap (Free e) later)
 renamed-placed f g b r id axis o across (Alloc i e rest) same =
     ap₂ (λ k m. Alloc k e m) (same i (Contains-first i (ids rest)))
     (renamed-placed f g b r id axis (moved axis o e) across rest (λ k at. same k (Contains-later i (ids rest) k at)))

@@ -1,5 +1,5 @@
 -- What is live after normalising, freeing and growing.
-use Rattle.std.proofs.Common.{rules, ◌≡◌, ℕ, ◌-◌, ◌≤◌, Bool, true, false, cond, not, ltb, ◌++◌, refl, ap, ap₂, sym, ◌∙◌}
+use Rattle.std.proofs.Common.{◌≡◌, ℕ, ◌-◌, ◌≤◌, Bool, true, false, cond, not, ltb, ◌∷◌, ◌++◌, refl, ap, ap₂, sym, ◌∙◌}
 use Rattle.std.proofs.Common.{arith}
 use Rattle.std.proofs.lemmas.List.{append-nil}
 use Rattle.std.proofs.lemmas.List.Elements.{filter-append}
@@ -26,7 +26,7 @@ pub live-nf : (axis : Axis) (o : Position) (across : ℕ) (m : Members)
     → live_among axis o across (nf m) ≡ live_among axis o across m
 live-nf axis o across End = refl
 live-nf axis o across (Free e rest) = live-free_before axis o across e (nf rest) ∙ live-nf axis (moved axis o e) across rest
-live-nf axis o across (Alloc id e rest) = grind (arith, live-nf axis (moved axis o e) across rest)
+live-nf axis o across (Alloc id e rest) = ap₂ (λ (g : Grant) k. g ∷ k) refl (live-nf axis (moved axis o e) across rest)
 live-nf axis o across (Seq e inner rest) =
     live-seq_before axis o across e (nf inner) (nf rest)
     ∙ ap₂ ◌++◌ (live-nf (other axis) o e inner) (live-nf axis (moved axis o e) across rest)
@@ -47,7 +47,9 @@ live-mark s axis o across (Seq e inner rest) =
 -- A freeing takes away the boxes of its ids.
 pub live_release : (size : Sides) (s : ℕ → Bool) (t : Tree)
     → live size (release s t) ≡ filter (λ p. not (s p.id)) (live size t)
-live_release size s t = grind (arith, live-nf, live-mark)
+live_release size s t =
+    live-nf t.axis origin (side (other t.axis) size) (mark s t.members)
+    ∙ live-mark s t.axis origin (side (other t.axis) size) t.members
 
 -- Growth
 
@@ -56,14 +58,20 @@ live-lengthened : (d : ℕ) (axis : Axis) (o : Position) (across : ℕ) (m : Mem
 live-lengthened d axis o across (Free e (Free k rest)) = live-lengthened d axis (moved axis o e) across (Free k rest)
 live-lengthened d axis o across (Free e (Alloc id k rest)) = live-lengthened d axis (moved axis o e) across (Alloc id k rest)
 live-lengthened d axis o across (Free e (Seq k inner rest)) = live-lengthened d axis (moved axis o e) across (Seq k inner rest)
-live-lengthened d axis o across (Alloc id e rest) = grind (arith, live-lengthened d axis (moved axis o e) across rest)
+live-lengthened d axis o across (Alloc id e rest) = ap₂ (λ (g : Grant) k. g ∷ k) refl (live-lengthened d axis (moved axis o e) across rest)
 live-lengthened d axis o across (Seq e inner rest) =
-    grind (arith, live_among-seq, live_among, live-lengthened d axis (moved axis o e) across rest)
+    live_among-seq axis o across e inner (lengthened d rest)
+    ∙ ap (λ k. live_among (other axis) o e inner ++ k) (live-lengthened d axis (moved axis o e) across rest)
+    ∙ sym (live_among-seq axis o across e inner rest)
 live-lengthened d axis o across m = refl
 
 live-lengthened_to : (a b : ℕ) (axis : Axis) (o : Position) (across : ℕ) (m : Members)
     → live_among axis o across (lengthened_to a b m) ≡ live_among axis o across m
-live-lengthened_to a b axis o across m = grind (arith, live_among, live-lengthened)
+live-lengthened_to a b axis o across m = by_test (ltb a b)
+  where
+    by_test : (x : Bool) → live_among axis o across (cond x (lengthened (b - a) m) m) ≡ live_among axis o across m
+    by_test true = live-lengthened (b - a) axis o across m
+    by_test false = refl
 
 live-widened : (old new : Sides) (axis : Axis) (m : Members) → side (other axis) old ≤ side (other axis) new
     → live new (widened (side (other axis) old) (side (other axis) new) axis m) ≡ live_among axis origin (side (other axis) old) m
@@ -87,7 +95,9 @@ live-widened old new axis m wide = by_test (ltb u n) refl
 live-grown_members : (old new : Sides) (axis : Axis) (m : Members) → Fits old new
     → live new (grown_members old new axis m) ≡ live_among axis origin (side (other axis) old) m
 live-grown_members old new axis (Free e End) fit = refl
-live-grown_members old new axis m fit = search (rules, live-widened, longer_side, live-lengthened_to)
+live-grown_members old new axis m fit =
+    live-widened old new axis (lengthened_to (side axis old) (side axis new) m) (longer_side (other axis) old new fit)
+    ∙ live-lengthened_to (side axis old) (side axis new) axis origin (side (other axis) old) m
 
 -- A growth keeps what is live.
 pub live_grown : (old new : Sides) (t : Tree) → Fits old new → live new (grown old new t) ≡ live old t

@@ -1,5 +1,5 @@
 -- Freeing ids one after another.
-use Rattle.std.proofs.Common.{rules, arith, ◌≡◌, ℕ, Bool, true, false, ◌||◌, List, [], ◌∷◌, refl, ap, sym, ◌∙◌}
+use Rattle.std.proofs.Common.{◌≡◌, ℕ, Bool, true, false, ◌||◌, List, [], ◌∷◌, refl, ap, sym, ◌∙◌}
 use Rattle.std.proofs.lemmas.Bool.{eq-eqb, false≢true}
 use Rattle.atlas_model.specs.Changes.{only, release}
 use Rattle.atlas_model.specs.Laws.TreeLaws.{is_among, release_each}
@@ -30,8 +30,15 @@ pub release_any_order : (xs ys : List ℕ) (t : Tree) → ((id : ℕ) → is_amo
 release_any_order [] [] t same = refl
 release_any_order [] (y ∷ ys) t same = absurd (false≢true (same y ∙ first_is_among y ys))
 release_any_order (x ∷ xs) [] t same = absurd (false≢true (sym (same x) ∙ first_is_among x xs))
-release_any_order (x ∷ xs) (y ∷ ys) t same = grind (arith, release_one_by_one, release-like)
+release_any_order (x ∷ xs) (y ∷ ys) t same =
+    release_one_by_one x xs t ∙ release-like (is_among (x ∷ xs)) (is_among (y ∷ ys)) t same
+    ∙ sym (release_one_by_one y ys t)
 
 pub releases_in_any_order : ReleasesInAnyOrder
-releases_in_any_order =
-    search (rules, nf_mark_nf, release-release, release_one_by_one, release_in_normal, release_any_order)
+releases_in_any_order = record {
+  normalised_before = nf_mark_nf;
+  two_sets = λ s s' t. release-release s' s t;
+  one_by_one = release_one_by_one;
+  normal_tree = release_in_normal;
+  any_order = release_any_order;
+}

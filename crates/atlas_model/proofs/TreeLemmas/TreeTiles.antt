@@ -1,5 +1,6 @@
 -- The leaves of members tile the box of the members.
-use Rattle.std.proofs.Common.{rules, ◌≡◌, ℕ, ◌+◌, ◌-◌, ◌*◌, ◌<◌, Bool, ◌&&◌, ltb, leb, ap, ap₂, subst, sym, ◌∙◌, arith}
+use Rattle.std.proofs.Common.{rules, ◌≡◌, ℕ, ◌+◌, ◌-◌, ◌*◌, ◌<◌, Bool, ◌&&◌, ltb, leb, Option, None, Some, List, ◌∷◌, ap, ap₂, subst, sym}
+use Rattle.std.proofs.Common.{◌∙◌, arith}
 use Rattle.std.proofs.Math.Nat.{mul_comm}
 use Rattle.std.proofs.lemmas.List.Elements.{All-nil, All-cons, All-append}
 use Rattle.std.proofs.lemmas.List.Sums.{sum_by-cons, sum_by-append}
@@ -7,7 +8,7 @@ use Rattle.std.specs.List.{sum_by, count_by}
 use Rattle.atlas_model.specs.Boxes.{Axis, Position, Sides, other, side, sized, moved, box_at, origin, area, covers}
 use Rattle.atlas_model.specs.Boxes.{IsNonempty, IsWithin}
 use Rattle.atlas_model.specs.Boxes.Axis.{Horizontal, Vertical}
-use Rattle.atlas_model.specs.Trees.{Members, Tree, Leaf, leaves, tree_leaves, total, IsCut, IsWellFormed}
+use Rattle.atlas_model.specs.Trees.{Members, Tree, Leaf, leaf, leaves, tree_leaves, total, IsCut, IsWellFormed}
 use Rattle.atlas_model.specs.Trees.Members.{End, Free, Alloc, Seq}
 use Rattle.std.specs.List.{All}
 use Rattle.atlas_model.proofs.TreeLemmas.TreeBasics.{one_if, side_positive, turned, whole_box-sized}
@@ -65,14 +66,24 @@ nothing : (axis : Axis) (o : Position) (across x y : ℕ) → one_if (covers x y
 nothing Horizontal o across x y = grind arith
 nothing Vertical o across x y = grind arith
 
+squares_before : (x y : ℕ) (axis : Axis) (o : Position) (across e t : ℕ) (owner : Option ℕ) (rest : List Leaf)
+    → count_by (λ (l : Leaf). covers x y l.box) rest ≡ one_if (covers x y (box_at (moved axis o e) (sized axis t across)))
+    → count_by (λ (l : Leaf). covers x y l.box) (leaf owner (box_at o (sized axis e across)) ∷ rest)
+    ≡ one_if (covers x y (box_at o (sized axis (e + t) across)))
+squares_before x y axis o across e t owner rest same =
+    sum_by-cons (λ (l : Leaf). one_if (covers x y l.box)) (leaf owner (box_at o (sized axis e across))) rest
+    ∙ ap (λ k. one_if (covers x y (box_at o (sized axis e across))) + k) same ∙ split axis o e t across x y
+
 pub squares_of_leaves : (x y : ℕ) (axis : Axis) (o : Position) (across : ℕ) (m : Members) → IsCut across m
     → count_by (λ (l : Leaf). covers x y l.box) (leaves axis o across m)
     ≡ one_if (covers x y (box_at o (sized axis (total m) across)))
 squares_of_leaves x y axis o across End cut = sym (nothing axis o across x y)
 squares_of_leaves x y axis o across (Free e rest) cut =
-    search (rules, sum_by-cons, one_if, squares_of_leaves x y axis (moved axis o e) across rest cut.1, split)
+    squares_before x y axis o across e (total rest) None (leaves axis (moved axis o e) across rest)
+    (squares_of_leaves x y axis (moved axis o e) across rest cut.1)
 squares_of_leaves x y axis o across (Alloc id e rest) cut =
-    search (rules, sum_by-cons, one_if, squares_of_leaves x y axis (moved axis o e) across rest cut.1, split)
+    squares_before x y axis o across e (total rest) (Some id) (leaves axis (moved axis o e) across rest)
+    (squares_of_leaves x y axis (moved axis o e) across rest cut.1)
 squares_of_leaves x y axis o across (Seq e inner rest) cut =
     sum_by-append (λ (l : Leaf). one_if (covers x y l.box)) (leaves (other axis) o e inner)
     (leaves axis (moved axis o e) across rest)
