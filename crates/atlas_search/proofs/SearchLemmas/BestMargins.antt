@@ -1,5 +1,5 @@
 -- The search for the box that a request takes, and that what it finds is the pick.
-use Rattle.std.proofs.Common.{◌≡◌, ℕ, ◌-◌, ◌≤◌, ◌↔◌, ◌⊎◌, min, Bool, List, [], ◌∷◌, ◌++◌, ℤ, pos, ◌-ℤ◌, ◌≤ℤ◌, ◌<ℤ◌, refl, ◌∙◌, subst, inl, inr, arith}
+use Rattle.std.proofs.Common.{◌≡◌, ℕ, ◌-◌, ◌<◌, ◌≤◌, ◌↔◌, ◌⊎◌, min, Bool, List, [], ◌∷◌, ◌++◌, ℤ, pos, ◌-ℤ◌, ◌≤ℤ◌, ◌<ℤ◌, refl, ◌∙◌, subst, inl, inr, arith}
 use Rattle.std.specs.List.{Contains}
 use Rattle.std.proofs.lemmas.Int.{ints}
 use Rattle.std.proofs.lemmas.List.Elements.{Contains-push, Contains-push_cases, Contains-append_left}
@@ -20,6 +20,13 @@ pub spare_value : (from to side : ℤ) → pos 0 ≤ℤ from → from <ℤ to �
     → (to -ℤ from) -ℤ side ≡ pos (natural to - natural from - natural side)
 spare_value (pos a) (pos b) (pos s) p q r h = omega (arith, ints)
 spare_value from to side p q r h = absurd (omega (arith, ints))
+
+pub stretch_given : (from to : ℤ) (a b : ℕ) → from ≡ pos a → to ≡ pos b → a < b → (pos 0 ≤ℤ from) × (from <ℤ to)
+stretch_given from to a b p q r = (omega (arith, ints), omega (arith, ints))
+
+pub positive_given : (side : ℤ) → 0 < natural side → pos 0 <ℤ side
+positive_given (pos n) h = omega (arith, ints)
+positive_given side h = absurd (omega arith)
 
 -- The smaller of the two differences.
 
