@@ -1,1 +1,2 @@
 pub mod AtlasLemmas
+pub mod Callers

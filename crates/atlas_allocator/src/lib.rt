@@ -2,5 +2,6 @@
 #![tactic(auto)]
 
 mod atlas;
+pub mod pages;
 
 pub use atlas::{AtlasAllocator, store_of};

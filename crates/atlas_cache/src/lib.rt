@@ -1,4 +1,4 @@
-//! The parts of a cache of rectangles in a texture array, over `guillotiere`.
+//! The parts of a cache of rectangles in a texture array, over `atlas_allocator`.
 #![tactic(auto)]
 
 mod cache;

@@ -2,5 +2,6 @@
 //! The atlas allocator, which `guillotiere` re-exports, over the tree of slots of `atlas_tree`.
 
 mod atlas;
+pub mod pages;
 
 pub use atlas::{store_of, AtlasAllocator};
