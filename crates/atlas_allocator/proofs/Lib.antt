@@ -1,2 +1,1 @@
 pub mod AtlasLemmas
-pub mod Callers

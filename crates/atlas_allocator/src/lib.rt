@@ -2,6 +2,5 @@
 #![tactic(auto)]
 
 mod atlas;
-pub mod pages;
 
 pub use atlas::{AtlasAllocator, store_of};

@@ -2,9 +2,9 @@
 use Rattle.std.proofs.Common.{ℕ, ◌≤◌, ◌≡◌, ◌≢◌, ◌⊎◌, inl, inr, true, false, List, [], ◌∷◌, None, Some, refl, sym, arith}
 use Rattle.std.proofs.lemmas.Option.{slice_get_cases}
 use Rattle.std.specs.List.{AllByRecursion}
-use Rattle.atlas_model.specs.Callers.{RectanglesLieApart}
-use Rattle.atlas_allocator.specs.Pages.{AllLieApartOn, AllLieWithinOn}
-use Rattle.atlas_store.specs.Stored.{AtlasValue}
+use Rattle.guillotiere.specs.Callers.{RectanglesLieApart}
+use Rattle.guillotiere.specs.Pages.{AllLieApartOn, AllLieWithinOn}
+use Rattle.guillotiere.specs.Stored.{AtlasValue}
 use Rattle.atlas_cache.specs.declared.entries.Entry.{Entry}
 use Rattle.atlas_cache.specs.Caches.{has_id, holders, EntriesLieApart, EntriesLieWithin}
 use Rattle.atlas_cache.proofs.HoldingLemmas.{id_cases, IsLiveOn}

@@ -3,10 +3,10 @@ use Rattle.std.proofs.Common.{ℕ, ℤ, ◌≡◌, inl, inr, false, ◌≤◌, L
 use Rattle.std.proofs.lemmas.{Bool.{cases_Bool}}
 use Rattle.std.proofs.lemmas.Bool.{false≢true}
 use Rattle.std.proofs.lemmas.Option.{slice_get_past}
-use Rattle.atlas_model.specs.declared.geometry.Size.{Size}
-use Rattle.atlas_allocator.specs.Pages.{rectangle_on, LeavesNoBoxOn}
-use Rattle.atlas_model.specs.Pixels.{size_of}
-use Rattle.atlas_store.specs.Stored.{AtlasValue}
+use Rattle.guillotiere.specs.declared.Size.{Size}
+use Rattle.guillotiere.specs.Pages.{rectangle_on, LeavesNoBoxOn}
+use Rattle.guillotiere.specs.Pixels.{size_of}
+use Rattle.guillotiere.specs.Stored.{AtlasValue}
 use Rattle.atlas_cache.specs.declared.entries.Entry.{Entry}
 use Rattle.atlas_cache.specs.declared.options.CacheOptions.{CacheOptions}
 use Rattle.atlas_cache.specs.Asking.{bordered, AreUsable, CanStand}

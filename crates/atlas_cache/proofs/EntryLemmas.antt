@@ -5,7 +5,7 @@ use Rattle.std.specs.List.{AllByRecursion, IsDistinct}
 use Rattle.std.proofs.lemmas.Bool.{cases_eq, cases_lt, cond_both, cases_Bool, eqb-true, eqb-false, eq-eqb, ne_eqb, cond-true, cond-false, false≢true}
 use Rattle.std.proofs.lemmas.Map.Keys.{IsDistinct-cons}
 use Rattle.std.proofs.lemmas.Option.{same_Some, none-some, slice_get-get_or, slice_get_past}
-use Rattle.atlas_model.specs.declared.geometry.Rectangle.{Rectangle}
+use Rattle.guillotiere.specs.declared.Rectangle.{Rectangle}
 use Rattle.atlas_cache.specs.declared.entries.Entry.{Entry}
 use Rattle.atlas_cache.specs.Entries.{IsNumber, entry_at, moved, number_of, numbers, without_number}
 use Rattle.atlas_search.specs.Numbers.{occurs, same, without}

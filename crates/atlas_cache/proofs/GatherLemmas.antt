@@ -5,13 +5,13 @@ use Rattle.std.proofs.lemmas.{Bool.Decides.{eqb_tells}}
 use Rattle.std.proofs.lemmas.Bool.{cases_Bool, eq-eqb, eqb-true, ne_eqb}
 use Rattle.std.proofs.lemmas.List.Elements.{All-cons, All-nil}
 use Rattle.std.proofs.lemmas.Option.{same_Some}
-use Rattle.atlas_model.specs.declared.allocation.Allocation.{Allocation}
-use Rattle.atlas_model.specs.declared.geometry.Rectangle.{Rectangle}
-use Rattle.atlas_allocator.specs.Pages.{rectangle_on}
-use Rattle.atlas_model.specs.Refits.Refitted.{HasExactRectangle}
-use Rattle.atlas_store.specs.Stored.{AtlasValue}
-use Rattle.atlas_model.proofs.ListLemmas.CallerLemmas.{uncounted-find}
-use Rattle.atlas_model.proofs.ListLemmas.ListCounts.{count_by-cons}
+use Rattle.guillotiere.specs.declared.Allocation.{Allocation}
+use Rattle.guillotiere.specs.declared.Rectangle.{Rectangle}
+use Rattle.guillotiere.specs.Pages.{rectangle_on}
+use Rattle.guillotiere.specs.Refits.Refitted.{HasExactRectangle}
+use Rattle.guillotiere.specs.Stored.{AtlasValue}
+use Rattle.guillotiere.proofs.ListLemmas.CallerLemmas.{uncounted-find}
+use Rattle.guillotiere.proofs.ListLemmas.ListCounts.{count_by-cons}
 use Rattle.atlas_cache.specs.declared.entries.Entry.{Entry}
 use Rattle.atlas_cache.specs.Caches.{entries_of, holders, AreBordered, HoldsEntries}
 use Rattle.atlas_cache.specs.Entries.{entry_at, is_blank, lying, no_page, numbers, IsNumber}

@@ -10,8 +10,8 @@ use Rattle.std.proofs.lemmas.List.Sorted.{IsNonDecreasingBy-from_all_adjacent}
 use Rattle.std.proofs.lemmas.List.Elements.{Contains-get_or}
 use Rattle.std.proofs.lemmas.Map.Keys.{ge_from_not_lt}
 use borrow.Author.Tests.{tests}
-use Rattle.atlas_model.specs.declared.change.Change.{Change}
-use Rattle.atlas_model.proofs.ListLemmas.CallerLemmas.{count_by-permutation, find-counted_once, find-permutation}
+use Rattle.guillotiere.specs.declared.Change.{Change}
+use Rattle.guillotiere.proofs.ListLemmas.CallerLemmas.{count_by-permutation, find-counted_once, find-permutation}
 use Rattle.atlas_cache.specs.declared.entries.Entry.{Entry}
 use Rattle.atlas_cache.specs.Relocating.{become, former_id, renewed_by, told_as, told_of, AreInIdOrder}
 

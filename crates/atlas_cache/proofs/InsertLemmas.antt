@@ -1,7 +1,7 @@
 -- What an insert of a new key answers, and what it leaves as it is.
 use Rattle.std.proofs.Common.{ℕ, ◌≡◌, ◌+◌, ◌<◌, ◌≤◌, arith, List, [], ◌∷◌, Result, Ok, Err, sym, ap, subst, ◌∙◌}
 use Rattle.std.specs.List.{AllByRecursion}
-use Rattle.atlas_model.specs.declared.geometry.Size.{Size}
+use Rattle.guillotiere.specs.declared.Size.{Size}
 use Rattle.atlas_cache.specs.declared.changes.CacheChange.{CacheChange}
 use Rattle.atlas_cache.specs.declared.changes.CacheChange.TheVariants.{PageAdded, PageGrown, Evicted, Moved, PageRemoved}
 use Rattle.atlas_cache.specs.declared.entries.Entry.{Entry}

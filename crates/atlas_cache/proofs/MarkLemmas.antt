@@ -6,7 +6,7 @@ use Rattle.std.proofs.lemmas.{Bool.Decides.{eqb_tells}}
 use Rattle.std.proofs.lemmas.Map.Keys.{IsDistinct-head, IsDistinct-tail}
 use Rattle.std.specs.HashMap.{HashMap}
 use Rattle.std.specs.List.{AllByRecursion, IsDistinct}
-use Rattle.atlas_model.specs.declared.geometry.Rectangle.{Rectangle}
+use Rattle.guillotiere.specs.declared.Rectangle.{Rectangle}
 use Rattle.atlas_search.specs.Numbers.{front, no_slot, without}
 use Rattle.atlas_cache.specs.declared.entries.Entry.{Entry}
 use Rattle.atlas_cache.specs.Entries.{entry_at, is_blank, moved, numbers, touched, without_number, AreBlank, EndsBlank, IsBeforeBlanks, IsNumber}

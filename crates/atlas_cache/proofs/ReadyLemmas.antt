@@ -1,14 +1,14 @@
 -- What an insert leaves in reserve.
 use Rattle.std.proofs.Common.{ℕ, ◌≡◌, ◌≢◌, ◌+◌, ◌-◌, ◌*◌, ◌<◌, ◌≤◌, ◌∙◌, List, length, length-append, Result, Ok, Err, OnOk, sym, ap, arith, inl, inr}
 use Rattle.std.proofs.lemmas.Bool.{cases_lt}
-use Rattle.atlas_model.specs.declared.geometry.Size.{Size}
+use Rattle.guillotiere.specs.declared.Size.{Size}
 use Rattle.atlas_cache.specs.declared.changes.CacheChange.{CacheChange}
 use Rattle.atlas_cache.specs.declared.error.CacheError.{CacheError}
 use Rattle.atlas_cache.specs.declared.error.CacheError.TheVariants.{Memory, Slots}
 use Rattle.atlas_cache.specs.declared.inserted.Inserted.{Inserted}
 use Rattle.atlas_cache.specs.declared.inserted.Inserted.TheVariants.{Placed, Held, FrameFull, NeverFits}
 use Rattle.atlas_cache.specs.declared.options.CacheOptions.{CacheOptions}
-use Rattle.atlas_store.specs.Stored.{AtlasValue}
+use Rattle.guillotiere.specs.Stored.{AtlasValue}
 use Rattle.atlas_cache.specs.Caches.{CacheState, IsFull}
 use Rattle.atlas_cache.specs.Changes.{InsertsBlank}
 use Rattle.atlas_cache.specs.Clearing.{Trims}

@@ -4,8 +4,8 @@ use Rattle.std.proofs.lemmas.{Bool.Decides.{eqb_tells}}
 use Rattle.std.proofs.lemmas.Bool.{eq-eqb, ne_eqb}
 use Rattle.std.proofs.lemmas.Map.Keys.{IsDistinct-head, IsDistinct-tail}
 use Rattle.std.specs.List.{cons_option, filter_map, AllByRecursion, IsDistinct}
-use Rattle.atlas_model.specs.declared.change.Change.{Change}
-use Rattle.atlas_model.specs.declared.geometry.Rectangle.{Rectangle}
+use Rattle.guillotiere.specs.declared.Change.{Change}
+use Rattle.guillotiere.specs.declared.Rectangle.{Rectangle}
 use Rattle.atlas_cache.specs.declared.changes.CacheChange.{CacheChange}
 use Rattle.atlas_cache.specs.declared.entries.Entry.{Entry}
 use Rattle.atlas_cache.specs.Caches.{entries_of, AreBordered, IsBordered}

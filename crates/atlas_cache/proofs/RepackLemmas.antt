@@ -6,17 +6,17 @@ use Rattle.std.proofs.lemmas.Bool.{cases_Bool, eq-eqb, ne_eqb, eqb-true}
 use Rattle.std.proofs.lemmas.List.Elements.{All-contains}
 use Rattle.std.proofs.lemmas.Option.{same_Some}
 use Rattle.std.specs.Option.{option_and_then}
-use Rattle.atlas_model.specs.declared.allocation.Allocation.{Allocation}
-use Rattle.atlas_model.specs.declared.change.Change.{Change}
-use Rattle.atlas_model.specs.declared.change.ChangeList.{ChangeList}
-use Rattle.atlas_model.specs.declared.geometry.Rectangle.{Rectangle}
-use Rattle.atlas_model.specs.Boxes.{Sides}
-use Rattle.atlas_model.specs.Callers.{rectangle_in}
-use Rattle.atlas_allocator.specs.Pages.{rectangle_on}
-use Rattle.atlas_model.specs.Rearranging.{IsExactChange, KeepsSides}
-use Rattle.atlas_store.specs.Stored.{AtlasValue, state_of}
-use Rattle.atlas_model.proofs.ListLemmas.CallerLemmas.{count_by-map, find-counted_once, Contains-find}
-use Rattle.atlas_model.proofs.ListLemmas.ListCounts.{count_by-append, counted_once}
+use Rattle.guillotiere.specs.declared.Allocation.{Allocation}
+use Rattle.guillotiere.specs.declared.Change.{Change}
+use Rattle.guillotiere.specs.declared.ChangeList.{ChangeList}
+use Rattle.guillotiere.specs.declared.Rectangle.{Rectangle}
+use Rattle.guillotiere.specs.Boxes.{Sides}
+use Rattle.guillotiere.specs.Callers.{rectangle_in}
+use Rattle.guillotiere.specs.Pages.{rectangle_on}
+use Rattle.guillotiere.specs.Rearranging.{IsExactChange, KeepsSides}
+use Rattle.guillotiere.specs.Stored.{AtlasValue, state_of}
+use Rattle.guillotiere.proofs.ListLemmas.CallerLemmas.{count_by-map, find-counted_once, Contains-find}
+use Rattle.guillotiere.proofs.ListLemmas.ListCounts.{count_by-append, counted_once}
 use Rattle.atlas_cache.specs.declared.entries.Entry.{Entry}
 use Rattle.atlas_cache.specs.Asking.{IsBorderedBy}
 use Rattle.atlas_cache.specs.Caches.{entries_of, holders, AreBordered, FramesFall, HoldsEntries}

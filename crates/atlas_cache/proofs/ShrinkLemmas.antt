@@ -6,12 +6,12 @@ use Rattle.std.specs.List.{AllByRecursion}
 use Rattle.std.proofs.lemmas.List.{take_more, take-map}
 use Rattle.std.proofs.lemmas.Option.{slice_get_cases}
 use Rattle.std.proofs.Math.Seq.{get_or-append_seam, take-append_seam, take-length}
-use Rattle.atlas_allocator.specs.Pages.{rectangle_on, HasSameRectangles}
-use Rattle.atlas_model.specs.Pixels.{rectangle_of}
-use Rattle.atlas_model.specs.States.{live_in}
-use Rattle.atlas_store.specs.Stored.{AtlasValue, state_of}
-use Rattle.atlas_model.specs.Trees.{Grant}
-use Rattle.atlas_allocator.proofs.Callers.{page_added}
+use Rattle.guillotiere.specs.Pages.{rectangle_on, HasSameRectangles}
+use Rattle.guillotiere.specs.Pixels.{rectangle_of}
+use Rattle.guillotiere.specs.States.{live_in}
+use Rattle.guillotiere.specs.Stored.{AtlasValue, state_of}
+use Rattle.guillotiere.specs.Trees.{Grant}
+use Rattle.guillotiere.proofs.Callers.{page_added}
 use Rattle.atlas_cache.specs.declared.changes.CacheChange.{CacheChange}
 use Rattle.atlas_cache.specs.declared.changes.CacheChange.TheVariants.{PageRemoved}
 use Rattle.atlas_cache.specs.declared.entries.Entry.{Entry}

@@ -5,11 +5,11 @@ use Rattle.std.proofs.lemmas.List.Sums.{sum_by-cons, sum_by_more_le_part}
 use Rattle.std.proofs.lemmas.Bool.{cases_Bool}
 use Rattle.std.proofs.lemmas.Bool.Decides.{leb_tells}
 use Rattle.std.proofs.Math.Dec.{leb}
-use Rattle.atlas_model.specs.declared.geometry.Rectangle.{Rectangle}
-use Rattle.atlas_model.specs.Boxes.{area, Box, Sides}
-use Rattle.atlas_model.specs.Pixels.{box_of}
-use Rattle.atlas_model.proofs.ListLemmas.ListCounts.{count_by-cons}
-use Rattle.atlas_model.proofs.TreeLemmas.TreeBasics.{one_if}
+use Rattle.guillotiere.specs.declared.Rectangle.{Rectangle}
+use Rattle.guillotiere.specs.Boxes.{area, Box, Sides}
+use Rattle.guillotiere.specs.Pixels.{box_of}
+use Rattle.guillotiere.proofs.ListLemmas.ListCounts.{count_by-cons}
+use Rattle.guillotiere.proofs.TreeLemmas.TreeBasics.{one_if}
 use Rattle.atlas_cache.specs.Usable.{fits_box, unusable}
 
 module _ {X : Type 0} (f : X → ℕ) where

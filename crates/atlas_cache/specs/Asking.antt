@@ -1,11 +1,11 @@
 -- What a cache is made with, what an entry asks a page for, and where it lies in what it is given.
 use Rattle.std.specs.Prelude.{ℤ, pos, ◌≡◌, ◌+◌, ◌*◌, ◌<◌, ◌≤◌, ◌≤ℤ◌, ◌<ℤ◌}
-use Rattle.atlas_model.specs.declared.geometry.Size.{Size}
-use Rattle.atlas_model.specs.declared.geometry.Rectangle.{Rectangle}
-use Rattle.atlas_model.specs.Boxes.{Sides, box_at, Fits, IsPositive}
-use Rattle.atlas_model.specs.Choice.{AreValid, rounded}
-use Rattle.atlas_model.specs.Pixels.{box_of, natural, options_of, rectangle_of, sides_of}
-use Rattle.atlas_model.specs.Replies.{IsExact}
+use Rattle.guillotiere.specs.declared.Size.{Size}
+use Rattle.guillotiere.specs.declared.Rectangle.{Rectangle}
+use Rattle.guillotiere.specs.Boxes.{Sides, box_at, Fits, IsPositive}
+use Rattle.guillotiere.specs.Choice.{AreValid, rounded}
+use Rattle.guillotiere.specs.Pixels.{box_of, natural, options_of, rectangle_of, sides_of}
+use Rattle.guillotiere.specs.Replies.{IsExact}
 use Rattle.atlas_cache.specs.declared.options.CacheOptions.{CacheOptions}
 use Rattle.atlas_cache.specs.declared.error.OptionsError.{OptionsError}
 use Rattle.atlas_cache.specs.declared.error.OptionsError.TheVariants.{EmptyPage, LargestPage, NoPages, Padding, Atlas, NothingFits}

@@ -3,13 +3,13 @@ use Rattle.std.specs.Prelude.{◌≡◌, ◌≢◌, ◌+◌, ◌<◌, ◌≤◌,
 use Rattle.std.specs.Prelude.{if◌then◌else◌}
 use Rattle.std.specs.Prelude.{Option, Some, option_map, slice_get}
 use Rattle.std.specs.List.{AllByRecursion}
-use Rattle.atlas_model.specs.declared.geometry.Rectangle.{Rectangle}
-use Rattle.atlas_model.specs.declared.geometry.Size.{Size}
-use Rattle.atlas_model.specs.Boxes.{IsPositive, IsWithin}
-use Rattle.atlas_model.specs.Callers.{RectanglesLieApart}
-use Rattle.atlas_allocator.specs.Pages.{rectangle_on, NoneHasRoomBelow}
-use Rattle.atlas_model.specs.Pixels.{box_of, sides_of}
-use Rattle.atlas_store.specs.Stored.{AtlasValue, state_of}
+use Rattle.guillotiere.specs.declared.Rectangle.{Rectangle}
+use Rattle.guillotiere.specs.declared.Size.{Size}
+use Rattle.guillotiere.specs.Boxes.{IsPositive, IsWithin}
+use Rattle.guillotiere.specs.Callers.{RectanglesLieApart}
+use Rattle.guillotiere.specs.Pages.{rectangle_on, NoneHasRoomBelow}
+use Rattle.guillotiere.specs.Pixels.{box_of, sides_of}
+use Rattle.guillotiere.specs.Stored.{AtlasValue, state_of}
 use Rattle.atlas_cache.specs.declared.counts.Counts.{Counts}
 use Rattle.atlas_cache.specs.declared.entries.Entry.{Entry}
 use Rattle.atlas_cache.specs.declared.options.CacheOptions.{CacheOptions}

@@ -1,11 +1,11 @@
 -- What a cache does, change by change, and what a caller learns of it.
 use Rattle.std.specs.Prelude.{◌≡◌, ◌≢◌, ◌+◌, ◌-◌, ◌<◌, ◌≤◌, max, ℕ, Bool, true, false, List, [], ◌∷◌, ◌++◌, length, Option, Some, None}
 use Rattle.std.specs.Prelude.{if◌then◌else◌, slice_set, take, Result, Ok, Err}
-use Rattle.atlas_model.specs.declared.geometry.Size.{Size}
-use Rattle.atlas_model.specs.Boxes.{IsPositive}
-use Rattle.atlas_model.specs.Pixels.{sides_of}
-use Rattle.atlas_store.specs.Stored.{AtlasValue}
-use Rattle.atlas_allocator.specs.Pages.{AddsBoxOn, HasSameRectangles, KeepsPages, LeavesNoBoxOn, NoneHasRoomBelow}
+use Rattle.guillotiere.specs.declared.Size.{Size}
+use Rattle.guillotiere.specs.Boxes.{IsPositive}
+use Rattle.guillotiere.specs.Pixels.{sides_of}
+use Rattle.guillotiere.specs.Stored.{AtlasValue}
+use Rattle.guillotiere.specs.Pages.{AddsBoxOn, HasSameRectangles, KeepsPages, LeavesNoBoxOn, NoneHasRoomBelow}
 use Rattle.atlas_cache.specs.declared.changes.CacheChange.{CacheChange}
 use Rattle.atlas_cache.specs.declared.changes.CacheChange.TheVariants.{PageAdded, PageGrown, Evicted, Moved, PageRemoved}
 use Rattle.atlas_cache.specs.declared.entries.Entry.{Entry}

@@ -6,7 +6,7 @@ use Rattle.std.specs.Option.{option_map_or}
 use Rattle.std.specs.Map.{keys_of, lookup, remove_entry}
 use Rattle.atlas_search.specs.Numbers.{front}
 use Rattle.atlas_cache.specs.Orders.{oldest_of}
-use Rattle.atlas_model.specs.declared.geometry.Rectangle.{Rectangle}
+use Rattle.guillotiere.specs.declared.Rectangle.{Rectangle}
 use Rattle.atlas_cache.specs.declared.entries.Entry.{Entry}
 
 -- What a blank entry has for its page. No page has this number, since a cache has at most so many pages.

@@ -1,15 +1,15 @@
 -- What a placing on the pages of a cache does.
 use Rattle.std.specs.Prelude.{◌≡◌, ◌≢◌, ◌<◌, ℕ, List, length, slice_get, Option, None, Some, Result, Ok, Err, IfErr, IfOk, IfSome, OnErr}
-use Rattle.atlas_model.specs.declared.allocation.Allocation.{Allocation}
-use Rattle.atlas_model.specs.declared.geometry.Size.{Size}
-use Rattle.atlas_allocator.specs.Pages.{AddsBoxOn, NoneHasRoomBelow}
-use Rattle.atlas_model.specs.Pixels.{options_of, sides_of}
-use Rattle.atlas_model.specs.Replies.{grant_of}
-use Rattle.atlas_model.specs.States.{started}
-use Rattle.atlas_model.specs.Steps.{Step}
-use Rattle.atlas_model.specs.Steps.AtlasCall.{Allocate, Grow}
-use Rattle.atlas_model.specs.Steps.AtlasReply.{Allocated, Done}
-use Rattle.atlas_store.specs.Stored.{state_of, AtlasValue}
+use Rattle.guillotiere.specs.declared.Allocation.{Allocation}
+use Rattle.guillotiere.specs.declared.Size.{Size}
+use Rattle.guillotiere.specs.Pages.{AddsBoxOn, NoneHasRoomBelow}
+use Rattle.guillotiere.specs.Pixels.{options_of, sides_of}
+use Rattle.guillotiere.specs.Replies.{grant_of}
+use Rattle.guillotiere.specs.States.{started}
+use Rattle.guillotiere.specs.Steps.{Step}
+use Rattle.guillotiere.specs.Steps.AtlasCall.{Allocate, Grow}
+use Rattle.guillotiere.specs.Steps.AtlasReply.{Allocated, Done}
+use Rattle.guillotiere.specs.Stored.{state_of, AtlasValue}
 use Rattle.atlas_cache.specs.declared.error.CacheError.{CacheError}
 use Rattle.atlas_cache.specs.declared.error.CacheError.TheVariants.{Memory, Slots}
 use Rattle.atlas_cache.specs.declared.options.CacheOptions.{CacheOptions}

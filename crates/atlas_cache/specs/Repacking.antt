@@ -2,20 +2,20 @@
 use Rattle.std.specs.Prelude.{◌≡◌, ◌==◌, ◌≤◌, ◌++◌, ℕ, All, IsPermutation, List, length, map, filter, Option, Some, find, option_map}
 use Rattle.std.specs.Prelude.{count_by, slice_get, sum_by}
 use Rattle.std.specs.List.{AllAdjacentBelow}
-use Rattle.atlas_model.specs.declared.allocation.Allocation.{Allocation}
-use Rattle.atlas_model.specs.declared.change.Change.{Change}
-use Rattle.atlas_model.specs.declared.change.ChangeList.{ChangeList}
-use Rattle.atlas_model.specs.declared.geometry.Rectangle.{Rectangle}
-use Rattle.atlas_model.specs.Boxes.{area}
-use Rattle.atlas_allocator.specs.Pages.{rectangle_on, KeepsPages}
-use Rattle.atlas_model.specs.Pixels.{box_of}
-use Rattle.atlas_model.specs.Rearranging.{transfer_of, IsExactChange, KeepsSides}
-use Rattle.atlas_model.specs.Replies.{grant_of}
-use Rattle.atlas_model.specs.Changes.{fresh}
-use Rattle.atlas_model.specs.Refits.{Refits}
-use Rattle.atlas_model.specs.States.{after_refit, free_in, live_in}
-use Rattle.atlas_store.specs.Stored.{AtlasValue, state_of}
-use Rattle.atlas_model.specs.Trees.{Tree}
+use Rattle.guillotiere.specs.declared.Allocation.{Allocation}
+use Rattle.guillotiere.specs.declared.Change.{Change}
+use Rattle.guillotiere.specs.declared.ChangeList.{ChangeList}
+use Rattle.guillotiere.specs.declared.Rectangle.{Rectangle}
+use Rattle.guillotiere.specs.Boxes.{area}
+use Rattle.guillotiere.specs.Pages.{rectangle_on, KeepsPages}
+use Rattle.guillotiere.specs.Pixels.{box_of}
+use Rattle.guillotiere.specs.Rearranging.{transfer_of, IsExactChange, KeepsSides}
+use Rattle.guillotiere.specs.Replies.{grant_of}
+use Rattle.guillotiere.specs.Changes.{fresh}
+use Rattle.guillotiere.specs.Refits.{Refits}
+use Rattle.guillotiere.specs.States.{after_refit, free_in, live_in}
+use Rattle.guillotiere.specs.Stored.{AtlasValue, state_of}
+use Rattle.guillotiere.specs.Trees.{Tree}
 
 -- The rectangle of an id among allocations.
 abbrev pub rectangle_among : List Allocation → ℕ → Option Rectangle

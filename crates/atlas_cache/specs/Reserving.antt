@@ -1,11 +1,11 @@
 -- What is in reserve on the pages of a cache, and for inserts that are still to come.
 use Rattle.std.specs.Prelude.{◌≡◌, ◌+◌, ◌-◌, ◌*◌, ◌/◌, ◌<◌, ◌≤◌, ℕ, min, List, [], ◌∷◌, length, Some, slice_get, Vec, vec_capacity, vec_len}
-use Rattle.atlas_model.specs.declared.geometry.Size.{Size}
-use Rattle.atlas_model.specs.Boxes.{IsPositive}
-use Rattle.atlas_model.specs.Pixels.{sides_of, size_of}
-use Rattle.atlas_store.specs.Reserves.{HasReserve, UsesAtMost}
-use Rattle.atlas_model.specs.States.{used_in}
-use Rattle.atlas_store.specs.Stored.{state_of, AtlasValue}
+use Rattle.guillotiere.specs.declared.Size.{Size}
+use Rattle.guillotiere.specs.Boxes.{IsPositive}
+use Rattle.guillotiere.specs.Pixels.{sides_of, size_of}
+use Rattle.guillotiere.specs.Reserves.{HasReserve, UsesAtMost}
+use Rattle.guillotiere.specs.States.{used_in}
+use Rattle.guillotiere.specs.Stored.{state_of, AtlasValue}
 use Rattle.atlas_cache.specs.declared.error.CacheError.{CacheError}
 use Rattle.atlas_cache.specs.declared.error.CacheError.TheVariants.{Memory, Slots}
 use Rattle.atlas_cache.specs.Asking.{bordered}

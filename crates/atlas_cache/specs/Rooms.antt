@@ -1,15 +1,15 @@
 -- The pages of a cache, each an atlas.
 use Rattle.std.specs.Prelude.{◌≡◌, ◌≢◌, ◌⊎◌, ◌<◌, ◌≤◌, ◌+◌, ◌-◌, ◌*◌, ℕ, Bool, ◌&&◌, ◌||◌, min, nat_le, nat_lt}
 use Rattle.std.specs.Prelude.{if◌then◌else◌, List, length, map, sum_by, Some, None, slice_get}
-use Rattle.atlas_model.specs.declared.geometry.Rectangle.{Rectangle}
-use Rattle.atlas_model.specs.declared.geometry.Size.{Size}
-use Rattle.atlas_model.specs.Boxes.{box_sides, Fits, Sides}
-use Rattle.atlas_model.specs.Choice.{rounded}
-use Rattle.atlas_allocator.specs.Pages.{rectangle_on, HasRoomFor, NoneHasRoomBelow}
-use Rattle.atlas_model.specs.Pixels.{box_of, natural, options_of, sides_of, size_of}
-use Rattle.atlas_model.specs.Replies.{IsExact}
-use Rattle.atlas_model.specs.States.{IsSound}
-use Rattle.atlas_store.specs.Stored.{AtlasValue, Stored, state_of}
+use Rattle.guillotiere.specs.declared.Rectangle.{Rectangle}
+use Rattle.guillotiere.specs.declared.Size.{Size}
+use Rattle.guillotiere.specs.Boxes.{box_sides, Fits, Sides}
+use Rattle.guillotiere.specs.Choice.{rounded}
+use Rattle.guillotiere.specs.Pages.{rectangle_on, HasRoomFor, NoneHasRoomBelow}
+use Rattle.guillotiere.specs.Pixels.{box_of, natural, options_of, sides_of, size_of}
+use Rattle.guillotiere.specs.Replies.{IsExact}
+use Rattle.guillotiere.specs.States.{IsSound}
+use Rattle.guillotiere.specs.Stored.{AtlasValue, Stored, state_of}
 use Rattle.atlas_cache.specs.declared.error.CacheError.{CacheError}
 use Rattle.atlas_cache.specs.declared.error.CacheError.TheVariants.{Memory, Slots}
 use Rattle.atlas_cache.specs.declared.options.CacheOptions.{CacheOptions}

@@ -1,7 +1,7 @@
 -- Pages at the end with nothing on them go.
 use Rattle.std.specs.Prelude.{◌≡◌, ◌+◌, max, ℕ, List, [], ◌∷◌, ◌++◌, length}
-use Rattle.atlas_model.specs.States.{live_in}
-use Rattle.atlas_store.specs.Stored.{AtlasValue, state_of}
+use Rattle.guillotiere.specs.States.{live_in}
+use Rattle.guillotiere.specs.Stored.{AtlasValue, state_of}
 use Rattle.atlas_cache.specs.declared.changes.CacheChange.{CacheChange}
 use Rattle.atlas_cache.specs.declared.changes.CacheChange.TheVariants.{PageRemoved}
 use Rattle.atlas_cache.specs.declared.entries.Entry.{Entry}

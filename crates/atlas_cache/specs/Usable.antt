@@ -1,11 +1,11 @@
 -- How much of what is free on a page is of no use for entries of a size.
 use Rattle.std.specs.Prelude.{ℕ, Bool, ◌&&◌, nat_le, if◌then◌else◌, List, map, sum_by}
-use Rattle.atlas_model.specs.declared.geometry.Size.{Size}
-use Rattle.atlas_model.specs.Boxes.{area, box_sides, Box, Sides}
-use Rattle.atlas_model.specs.Choice.{rounded}
-use Rattle.atlas_model.specs.Pixels.{options_of}
-use Rattle.atlas_model.specs.States.{free_in}
-use Rattle.atlas_store.specs.Stored.{AtlasValue, state_of}
+use Rattle.guillotiere.specs.declared.Size.{Size}
+use Rattle.guillotiere.specs.Boxes.{area, box_sides, Box, Sides}
+use Rattle.guillotiere.specs.Choice.{rounded}
+use Rattle.guillotiere.specs.Pixels.{options_of}
+use Rattle.guillotiere.specs.States.{free_in}
+use Rattle.guillotiere.specs.Stored.{AtlasValue, state_of}
 use Rattle.atlas_cache.specs.declared.options.CacheOptions.{CacheOptions}
 use Rattle.atlas_cache.specs.Asking.{bordered}
 

@@ -1,6 +1,6 @@
 //! What a cache did that its caller has to follow.
 use crate::places::Place;
-use atlas_model::Size;
+use guillotiere::Size;
 use std::alloc::Global;
 
 /// What a call did. Pages are counted from 0, and sizes are in pixels.

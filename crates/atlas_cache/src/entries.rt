@@ -16,7 +16,7 @@ mod copying;
 use crate::error::CacheError;
 use crate::recency::Recency;
 use crate::recency::links::NO_ENTRY;
-use atlas_model::{AllocId, Rectangle, Size};
+use guillotiere::{AllocId, Rectangle, Size};
 use std::alloc::{Allocator, Global};
 use std::collections::HashMap;
 use std::hash::{BuildHasher, BuildHasherDefault, FoldHasher, Hash};

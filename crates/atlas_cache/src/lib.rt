@@ -1,4 +1,4 @@
-//! The parts of a cache of rectangles in a texture array, over `atlas_allocator`.
+//! The parts of a cache of rectangles in a texture array, over `guillotiere`.
 #![tactic(auto)]
 
 mod cache;

@@ -1,12 +1,12 @@
 //! How a cache is made.
 ghost use Rattle.std.specs.Prelude.{◌≡◌, ◌↔◌, ◌+◌, ◌*◌, ◌<◌, ◌≤◌, pos, ◌<ℤ◌, ◌≤ℤ◌, IfErr, IsTrue, Ok, SomeIff};
 ghost use Rattle.atlas_cache.specs.Asking.{AreUsable, CanStand, IsFaultIn, bordered};
-ghost use Rattle.atlas_model.specs.Boxes.{Fits, IsPositive};
-ghost use Rattle.atlas_model.specs.Choice.{up, AreValid};
-ghost use Rattle.atlas_model.specs.Pixels.{natural, options_of, sides_of, size_of};
+ghost use Rattle.guillotiere.specs.Boxes.{Fits, IsPositive};
+ghost use Rattle.guillotiere.specs.Choice.{up, AreValid};
+ghost use Rattle.guillotiere.specs.Pixels.{natural, options_of, sides_of, size_of};
 
 use crate::error::OptionsError;
-use atlas_model::{AllocatorOptions, Size};
+use guillotiere::{AllocatorOptions, Size};
 
 /// How a cache is made.
 #[derive(Clone, Copy, Debug, PartialEq, Eq)]

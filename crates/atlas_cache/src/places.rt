@@ -1,9 +1,9 @@
 //! Places of entries.
 ghost use Rattle.std.specs.Prelude.{◌≡◌, ◌+◌, ◌<◌, ◌^◌, ◌≤ℤ◌, pos};
-ghost use Rattle.atlas_model.specs.Pixels.{natural};
+ghost use Rattle.guillotiere.specs.Pixels.{natural};
 ghost use Rattle.atlas_cache.specs.Asking.{IsBorderedBy, inner_of, no_pixels};
 
-use atlas_model::{Point, Rectangle, Size, point2};
+use guillotiere::{Point, Rectangle, Size, point2};
 
 /// A rectangle with no pixel.
 pub const NO_PIXELS: Rectangle = Rectangle {

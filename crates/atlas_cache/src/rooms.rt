@@ -2,11 +2,11 @@
 ghost use Rattle.std.specs.Prelude.{◌≡◌, ◌≢◌, ◌↔◌, ◌*◌, ◌<◌, ◌≤◌, ℕ, min, pos, [], ◌∷◌, ◌++◌, length};
 ghost use Rattle.std.specs.Prelude.{slice_get, slice_set, IfErr, IfNone, IfOk, IfSome, IsOkUnless, IsSome, IsTrue};
 ghost use Rattle.std.specs.Prelude.{Err, None, Ok, OnErr, Some};
-ghost use Rattle.atlas_model.specs.Boxes.{Fits, IsPositive};
-ghost use Rattle.atlas_model.specs.Callers.{IsShortage};
-ghost use Rattle.atlas_allocator.specs.Pages.{rectangle_on, AllLieApartOn, AllLieWithinOn, HasSameRectangles, KeepsPages};
-ghost use Rattle.atlas_allocator.specs.Pages.{LeavesNoBoxOn};
-ghost use Rattle.atlas_model.specs.Pixels.{natural, sides_of, size_of};
+ghost use Rattle.guillotiere.specs.Boxes.{Fits, IsPositive};
+ghost use Rattle.guillotiere.specs.Callers.{IsShortage};
+ghost use Rattle.guillotiere.specs.Pages.{rectangle_on, AllLieApartOn, AllLieWithinOn, HasSameRectangles, KeepsPages};
+ghost use Rattle.guillotiere.specs.Pages.{LeavesNoBoxOn};
+ghost use Rattle.guillotiere.specs.Pixels.{natural, sides_of, size_of};
 ghost use Rattle.atlas_cache.specs.declared.options.CacheOptions.{CacheOptions};
 ghost use Rattle.atlas_cache.specs.Asking.{AreUsable};
 ghost use Rattle.atlas_cache.specs.Entries.{no_page};
@@ -27,9 +27,8 @@ mod usable;
 use crate::error::CacheError;
 use crate::options::CacheOptions;
 use crate::rooms::asking::{NO_SIZE, ask};
-use atlas_allocator::AtlasAllocator;
-use atlas_allocator::pages::prove_page;
-use atlas_model::{AllocId, Allocation, AtlasError, Size};
+use guillotiere::pages::prove_page;
+use guillotiere::{AllocId, Allocation, AtlasAllocator, AtlasError, Size};
 use std::alloc::{Allocator, Global};
 use std::marker::Model;
 

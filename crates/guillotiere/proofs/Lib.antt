@@ -1,6 +1,6 @@
 pub mod SimpleLemmas
 pub mod Sessions
-pub use Rattle.atlas_allocator.proofs.Callers
+pub mod Callers
 pub use Rattle.atlas_model.proofs.TreeLemmas
 pub use Rattle.atlas_model.proofs.StepLemmas
 pub use Rattle.atlas_model.proofs.ChoiceLemmas

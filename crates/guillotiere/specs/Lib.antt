@@ -2,7 +2,7 @@ pub mod Sessions
 pub mod SimpleSessions
 pub mod SimpleStored
 pub mod FreeBoxes
-pub use Rattle.atlas_allocator.specs.Pages
+pub mod Pages
 pub use Rattle.atlas_store.specs.Stored
 pub use Rattle.atlas_search.specs.Rectangles
 pub use Rattle.atlas_store.specs.Visits

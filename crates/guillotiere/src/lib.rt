@@ -4,10 +4,11 @@
 //! across containers. And grids of equal cells are served better by other packers.
 #![tactic(auto)]
 
+pub mod pages;
 pub mod session;
 mod simple;
 
-pub use atlas_allocator::{AtlasAllocator, pages};
+pub use atlas_allocator::AtlasAllocator;
 pub use atlas_model::{
     AllocId, Allocation, AllocatorOptions, AtlasError, Change, ChangeList, DEFAULT_OPTIONS,
     MOST_SLOTS, Point, Rectangle, Size, SlotCount, laws, point2, size2,

@@ -5,7 +5,7 @@ use Rattle.std.specs.List.Sorted.{ties, IsSortedByKey, IsStableByKey}
 use Rattle.std.specs.Ordering.{is_lt, nat_cmp}
 use Rattle.std.specs.declared.cmp.Reverse.{Reverse}
 use Rattle.std.proofs.lemmas.Map.Keys.{ge_from_not_lt}
-use Rattle.atlas_model.specs.declared.allocation.Allocation.{Allocation}
+use Rattle.guillotiere.specs.declared.Allocation.{Allocation}
 use Rattle.atlas_cache.specs.Repacking.{area_held}
 
 -- The key by which allocations are sorted, and its order.

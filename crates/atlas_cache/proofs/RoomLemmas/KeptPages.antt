@@ -6,19 +6,19 @@ use Rattle.std.proofs.lemmas.Bool.Decides.{eqb_tells}
 use Rattle.std.proofs.lemmas.List.{length-map, length-set, map-set}
 use Rattle.std.proofs.lemmas.Option.{slice_get-get_or, slice_get-map, slice_get_cases, slice_get_within}
 use Rattle.std.proofs.Math.Seq.{map-set_same}
-use Rattle.atlas_model.specs.declared.allocation.Allocation.{Allocation}
-use Rattle.atlas_model.specs.declared.geometry.Rectangle.{Rectangle}
-use Rattle.atlas_model.specs.declared.geometry.Size.{Size}
-use Rattle.atlas_model.specs.Boxes.{Fits, Sides}
-use Rattle.atlas_model.specs.Callers.{AddsBox, HasFrame, HasSameBoxes, IsAnswer, KeepsFrame, LeavesNoBox}
-use Rattle.atlas_model.specs.Choice.{rounded, Options}
-use Rattle.atlas_allocator.specs.Pages.{rectangle_on, AddsBoxOn, HasRoomFor, HasRoomOn, HasSameRectangles, KeepsPages, LeavesNoBoxOn, NoneHasRoomBelow}
-use Rattle.atlas_model.specs.Pixels.{box_of, options_of, sides_of, size_of}
-use Rattle.atlas_model.specs.Replies.{IsExact}
-use Rattle.atlas_model.specs.States.{IsSound, live_in, started, State}
-use Rattle.atlas_store.specs.Stored.{AtlasValue, state_of}
-use Rattle.atlas_allocator.proofs.Callers.{page_adds, page_keeps, page_leaves, page_stays}
-use Rattle.atlas_model.proofs.ListLemmas.CallerLemmas.{slice_get-set_here, slice_get-set_other}
+use Rattle.guillotiere.specs.declared.Allocation.{Allocation}
+use Rattle.guillotiere.specs.declared.Rectangle.{Rectangle}
+use Rattle.guillotiere.specs.declared.Size.{Size}
+use Rattle.guillotiere.specs.Boxes.{Fits, Sides}
+use Rattle.guillotiere.specs.Callers.{AddsBox, HasFrame, HasSameBoxes, IsAnswer, KeepsFrame, LeavesNoBox}
+use Rattle.guillotiere.specs.Choice.{rounded, Options}
+use Rattle.guillotiere.specs.Pages.{rectangle_on, AddsBoxOn, HasRoomFor, HasRoomOn, HasSameRectangles, KeepsPages, LeavesNoBoxOn, NoneHasRoomBelow}
+use Rattle.guillotiere.specs.Pixels.{box_of, options_of, sides_of, size_of}
+use Rattle.guillotiere.specs.Replies.{IsExact}
+use Rattle.guillotiere.specs.States.{IsSound, live_in, started, State}
+use Rattle.guillotiere.specs.Stored.{AtlasValue, state_of}
+use Rattle.guillotiere.proofs.Callers.{page_adds, page_keeps, page_leaves, page_stays}
+use Rattle.guillotiere.proofs.ListLemmas.CallerLemmas.{slice_get-set_here, slice_get-set_other}
 use Rattle.atlas_cache.specs.declared.options.CacheOptions.{CacheOptions}
 use Rattle.atlas_cache.specs.Asking.{AreUsable}
 use Rattle.atlas_cache.specs.Rooms.{ArePagesOf, HasRoomOnlyAmong, IsPageOf, IsRounded, KeepsRooms, page_sizes, rooms_of, size_of_page}

@@ -7,11 +7,11 @@ use Rattle.std.proofs.lemmas.List.{length-set, map-append}
 use Rattle.std.proofs.lemmas.List.Sums.{sum_by-set, sum_by_push}
 use Rattle.std.proofs.Math.Nat.{suc-mul}
 use Rattle.std.proofs.lemmas.Option.{get_or_from_slice_get, slice_get_within}
-use Rattle.atlas_model.specs.declared.geometry.Size.{Size}
-use Rattle.atlas_model.specs.Boxes.{Fits, IsPositive, Sides}
-use Rattle.atlas_model.specs.Pixels.{natural, options_of, sides_of, size_of}
-use Rattle.atlas_model.specs.States.{started, State}
-use Rattle.atlas_store.specs.Stored.{AtlasValue, state_of}
+use Rattle.guillotiere.specs.declared.Size.{Size}
+use Rattle.guillotiere.specs.Boxes.{Fits, IsPositive, Sides}
+use Rattle.guillotiere.specs.Pixels.{natural, options_of, sides_of, size_of}
+use Rattle.guillotiere.specs.States.{started, State}
+use Rattle.guillotiere.specs.Stored.{AtlasValue, state_of}
 use Rattle.atlas_cache.specs.declared.options.CacheOptions.{CacheOptions}
 use Rattle.atlas_cache.specs.Asking.{AreUsable}
 use Rattle.atlas_cache.specs.Rooms.{both_sides, grown_sides, growth_left, grows_in_width, page_sizes, size_of_page, AreAllLargest, KeepsRooms, RoomsState}

@@ -6,25 +6,25 @@ use Rattle.std.proofs.lemmas.Bool.Decides.{eqb_tells}
 use Rattle.std.proofs.lemmas.List.{length-map}
 use Rattle.std.proofs.lemmas.Option.{slice_get-get_or, slice_get-map, slice_get_cases}
 use Rattle.std.proofs.Math.Seq.{map-set_same}
-use Rattle.atlas_model.specs.declared.allocation.Allocation.{Allocation}
-use Rattle.atlas_model.specs.declared.error.AtlasError.{AtlasError}
-use Rattle.atlas_model.specs.declared.error.AtlasError.TheVariants.{Slots}
-use Rattle.atlas_model.specs.declared.geometry.Size.{Size}
-use Rattle.atlas_model.specs.Boxes.{Fits, Sides}
-use Rattle.atlas_model.specs.Callers.{rectangle_in}
-use Rattle.atlas_model.specs.Choice.{rounded}
-use Rattle.atlas_allocator.specs.Pages.{HasSameRectangles, KeepsPages}
-use Rattle.atlas_model.specs.Pixels.{options_of, sides_of, size_of}
-use Rattle.atlas_model.specs.Replies.{allocate_reply, grant_of}
-use Rattle.atlas_store.specs.Reserves.{HasReserve, UsesAtMost}
-use Rattle.atlas_model.specs.States.{started, used_in, IsSound, State}
-use Rattle.atlas_model.specs.Steps.{Step}
-use Rattle.atlas_model.specs.Steps.AtlasCall.{Allocate, Grow}
-use Rattle.atlas_model.specs.Steps.AtlasReply.{Allocated, Done, Refused}
-use Rattle.atlas_store.specs.Stored.{AtlasValue, state_of}
-use Rattle.atlas_model.proofs.ChoiceLemmas.RoundedSides.{rounded_positive}
-use Rattle.atlas_model.proofs.TreeLemmas.TreeCounts.{grow_most, place_most}
-use Rattle.atlas_model.proofs.ListLemmas.CallerLemmas.{slice_get-set_here, slice_get-set_other}
+use Rattle.guillotiere.specs.declared.Allocation.{Allocation}
+use Rattle.guillotiere.specs.declared.AtlasError.{AtlasError}
+use Rattle.guillotiere.specs.declared.AtlasError.TheVariants.{Slots}
+use Rattle.guillotiere.specs.declared.Size.{Size}
+use Rattle.guillotiere.specs.Boxes.{Fits, Sides}
+use Rattle.guillotiere.specs.Callers.{rectangle_in}
+use Rattle.guillotiere.specs.Choice.{rounded}
+use Rattle.guillotiere.specs.Pages.{HasSameRectangles, KeepsPages}
+use Rattle.guillotiere.specs.Pixels.{options_of, sides_of, size_of}
+use Rattle.guillotiere.specs.Replies.{allocate_reply, grant_of}
+use Rattle.guillotiere.specs.Reserves.{HasReserve, UsesAtMost}
+use Rattle.guillotiere.specs.States.{started, used_in, IsSound, State}
+use Rattle.guillotiere.specs.Steps.{Step}
+use Rattle.guillotiere.specs.Steps.AtlasCall.{Allocate, Grow}
+use Rattle.guillotiere.specs.Steps.AtlasReply.{Allocated, Done, Refused}
+use Rattle.guillotiere.specs.Stored.{AtlasValue, state_of}
+use Rattle.guillotiere.proofs.ChoiceLemmas.RoundedSides.{rounded_positive}
+use Rattle.guillotiere.proofs.TreeLemmas.TreeCounts.{grow_most, place_most}
+use Rattle.guillotiere.proofs.ListLemmas.CallerLemmas.{slice_get-set_here, slice_get-set_other}
 use Rattle.atlas_cache.specs.declared.options.CacheOptions.{CacheOptions}
 use Rattle.atlas_cache.specs.Placing.{GrantsOn, GrowsOn, StartsOn}
 use Rattle.atlas_cache.specs.Reserving.{AllowSlots, HaveSlots, IsShortFor, IsShortOfSlots, UseAtMost}

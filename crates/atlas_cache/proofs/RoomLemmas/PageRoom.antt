@@ -4,19 +4,19 @@ use Rattle.std.proofs.Common.{slice_get, slice_set, refl, ap, subst, sym, inl, i
 use Rattle.std.specs.Prelude.{ℤ, pos, negsuc, ◌≤ℤ◌, ◌<ℤ◌, ◌+ℤ◌, find}
 use Rattle.std.proofs.lemmas.Bool.Decides.{eqb_tells}
 use Rattle.std.proofs.lemmas.Int.{ints}
-use Rattle.atlas_model.specs.declared.geometry.Rectangle.{Rectangle}
-use Rattle.atlas_model.specs.declared.geometry.Size.{Size}
-use Rattle.atlas_model.specs.Boxes.{Fits}
-use Rattle.atlas_model.specs.Callers.{IsGranted}
-use Rattle.atlas_model.specs.Choice.{Options, rounded}
-use Rattle.atlas_allocator.specs.Pages.{rectangle_on}
-use Rattle.atlas_model.specs.Pixels.{box_of, natural, options_of, rectangle_of, sides_of}
-use Rattle.atlas_model.specs.Replies.{IsExact}
-use Rattle.atlas_model.specs.States.{live_in, State}
-use Rattle.atlas_store.specs.Stored.{AtlasValue, state_of}
-use Rattle.atlas_model.specs.Trees.{Grant}
-use Rattle.atlas_model.proofs.ListLemmas.CallerLemmas.{slice_get-set_here, slice_get-set_other}
-use Rattle.atlas_model.proofs.StepLemmas.CallerGrants.{idle_has_room}
+use Rattle.guillotiere.specs.declared.Rectangle.{Rectangle}
+use Rattle.guillotiere.specs.declared.Size.{Size}
+use Rattle.guillotiere.specs.Boxes.{Fits}
+use Rattle.guillotiere.specs.Callers.{IsGranted}
+use Rattle.guillotiere.specs.Choice.{Options, rounded}
+use Rattle.guillotiere.specs.Pages.{rectangle_on}
+use Rattle.guillotiere.specs.Pixels.{box_of, natural, options_of, rectangle_of, sides_of}
+use Rattle.guillotiere.specs.Replies.{IsExact}
+use Rattle.guillotiere.specs.States.{live_in, State}
+use Rattle.guillotiere.specs.Stored.{AtlasValue, state_of}
+use Rattle.guillotiere.specs.Trees.{Grant}
+use Rattle.guillotiere.proofs.ListLemmas.CallerLemmas.{slice_get-set_here, slice_get-set_other}
+use Rattle.guillotiere.proofs.StepLemmas.CallerGrants.{idle_has_room}
 use Rattle.atlas_cache.specs.Asking.{bordered}
 use Rattle.atlas_cache.specs.Rooms.{IsAtLeast, KeepsRooms, LargestHasRoom, RoomsState}
 use Rattle.atlas_cache.proofs.RoomLemmas.KeptPages.{page_at}

@@ -1,6 +1,6 @@
 -- How many slots the pages are ready to use: as one number, and page by page.
 use Rattle.std.proofs.Common.{◌≡◌, ◌+◌, ◌-◌, ◌<◌, ◌≤◌, ◌∷◌, [], ℕ, zero, suc, List, Some, slice_get, arith, refl}
-use Rattle.atlas_store.specs.Stored.{AtlasValue}
+use Rattle.guillotiere.specs.Stored.{AtlasValue}
 use Rattle.atlas_cache.specs.Reserving.{ready_slots, ready_slots_of, AllowSlots, HaveSlots, UseAtMost}
 
 -- No page is ready for fewer than all of them.

@@ -3,15 +3,15 @@ use Rattle.std.proofs.Common.{◌≡◌, ◌<◌, ◌∙◌, ◌++◌, ◌∷◌
 use Rattle.std.proofs.Common.{sym, subst, inl, inr, arith, length-append}
 use Rattle.std.proofs.lemmas.Bool.Decides.{eqb_tells}
 use Rattle.std.proofs.lemmas.List.{length-set}
-use Rattle.atlas_model.specs.declared.geometry.Size.{Size}
-use Rattle.atlas_model.specs.Boxes.{Fits, IsPositive}
-use Rattle.atlas_model.specs.Choice.{HasRoom}
-use Rattle.atlas_allocator.specs.Pages.{HasRoomFor}
-use Rattle.atlas_model.specs.Pixels.{sides_of}
-use Rattle.atlas_model.specs.States.{free_in, State}
-use Rattle.atlas_store.specs.Stored.{AtlasValue, state_of}
-use Rattle.atlas_model.proofs.ChoiceLemmas.RoundedSides.{rounded_monotone}
-use Rattle.atlas_model.proofs.ListLemmas.CallerLemmas.{slice_get-set_here, slice_get-set_other}
+use Rattle.guillotiere.specs.declared.Size.{Size}
+use Rattle.guillotiere.specs.Boxes.{Fits, IsPositive}
+use Rattle.guillotiere.specs.Choice.{HasRoom}
+use Rattle.guillotiere.specs.Pages.{HasRoomFor}
+use Rattle.guillotiere.specs.Pixels.{sides_of}
+use Rattle.guillotiere.specs.States.{free_in, State}
+use Rattle.guillotiere.specs.Stored.{AtlasValue, state_of}
+use Rattle.guillotiere.proofs.ChoiceLemmas.RoundedSides.{rounded_monotone}
+use Rattle.guillotiere.proofs.ListLemmas.CallerLemmas.{slice_get-set_here, slice_get-set_other}
 use Rattle.atlas_cache.specs.Rooms.{AreRefused}
 use Rattle.atlas_cache.proofs.RoomLemmas.PageReserves.{as_long, was_there}
 

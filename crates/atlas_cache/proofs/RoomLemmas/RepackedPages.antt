@@ -7,27 +7,27 @@ use Rattle.std.proofs.lemmas.List.{append-nil}
 use Rattle.std.proofs.lemmas.List.Elements.{All-append, All-cons, All-contains, All-head, All-map, All-nil, All-tail, All-weaker}
 use Rattle.std.proofs.lemmas.List.Sorted.{IsPermutation-sym}
 use Rattle.std.proofs.lemmas.Option.{same_Some, slice_get-get_or}
-use Rattle.atlas_model.specs.declared.allocation.Allocation.{Allocation}
-use Rattle.atlas_model.specs.declared.change.Change.{Change}
-use Rattle.atlas_model.specs.declared.change.ChangeList.{ChangeList}
-use Rattle.atlas_model.specs.declared.geometry.Rectangle.{Rectangle}
-use Rattle.atlas_model.specs.declared.geometry.Size.{Size}
-use Rattle.atlas_model.specs.Boxes.{box_sides, Box}
-use Rattle.atlas_model.specs.Callers.{rectangle_in, KeepsFrame}
-use Rattle.atlas_model.specs.Changes.{fresh}
-use Rattle.atlas_model.specs.Pixels.{box_of, options_of, rectangle_of, sides_of, size_of}
-use Rattle.atlas_model.specs.Rearranging.{rearrangement_of, transfer_of, AreExactChanges, IsExactChange}
-use Rattle.atlas_model.specs.Refits.{Refits, Transfer}
-use Rattle.atlas_model.specs.Refits.Refitted.{IsRefitOf}
-use Rattle.atlas_model.specs.Replies.{grant_of, IsExact}
-use Rattle.atlas_model.specs.States.{State, after_refit, live_in, started, IsSound}
-use Rattle.atlas_store.specs.Stored.{AtlasValue, state_of}
-use Rattle.atlas_model.specs.Trees.{Grant, live}
-use Rattle.atlas_model.proofs.ListLemmas.CallerLemmas.{count_by-permutation, find-counted_once, find-permutation, slice_get-set_here, slice_get-set_other, Contains-find}
-use Rattle.atlas_model.proofs.ListLemmas.ListCounts.{count_by-cons}
-use Rattle.atlas_model.proofs.StepLemmas.LiveBoxes.{few_live}
-use Rattle.atlas_model.proofs.StepLemmas.RefittedTrees.{refitted, HasAlignedBox, IsMovable, IsRefitted}
-use Rattle.atlas_model.proofs.StepLemmas.SoundSteps.{fresh_normal, fresh_well_formed, limit_positive, live_movable}
+use Rattle.guillotiere.specs.declared.Allocation.{Allocation}
+use Rattle.guillotiere.specs.declared.Change.{Change}
+use Rattle.guillotiere.specs.declared.ChangeList.{ChangeList}
+use Rattle.guillotiere.specs.declared.Rectangle.{Rectangle}
+use Rattle.guillotiere.specs.declared.Size.{Size}
+use Rattle.guillotiere.specs.Boxes.{box_sides, Box}
+use Rattle.guillotiere.specs.Callers.{rectangle_in, KeepsFrame}
+use Rattle.guillotiere.specs.Changes.{fresh}
+use Rattle.guillotiere.specs.Pixels.{box_of, options_of, rectangle_of, sides_of, size_of}
+use Rattle.guillotiere.specs.Rearranging.{rearrangement_of, transfer_of, AreExactChanges, IsExactChange}
+use Rattle.guillotiere.specs.Refits.{Refits, Transfer}
+use Rattle.guillotiere.specs.Refits.Refitted.{IsRefitOf}
+use Rattle.guillotiere.specs.Replies.{grant_of, IsExact}
+use Rattle.guillotiere.specs.States.{State, after_refit, live_in, started, IsSound}
+use Rattle.guillotiere.specs.Stored.{AtlasValue, state_of}
+use Rattle.guillotiere.specs.Trees.{Grant, live}
+use Rattle.guillotiere.proofs.ListLemmas.CallerLemmas.{count_by-permutation, find-counted_once, find-permutation, slice_get-set_here, slice_get-set_other, Contains-find}
+use Rattle.guillotiere.proofs.ListLemmas.ListCounts.{count_by-cons}
+use Rattle.guillotiere.proofs.StepLemmas.LiveBoxes.{few_live}
+use Rattle.guillotiere.proofs.StepLemmas.RefittedTrees.{refitted, HasAlignedBox, IsMovable, IsRefitted}
+use Rattle.guillotiere.proofs.StepLemmas.SoundSteps.{fresh_normal, fresh_well_formed, limit_positive, live_movable}
 use Rattle.atlas_cache.specs.declared.options.CacheOptions.{CacheOptions}
 use Rattle.atlas_cache.specs.Repacking.{rectangle_among, AreOfOwnIds, NamesPage, PlacesInOrder, RepacksPage, TellsMoves}
 use Rattle.atlas_cache.specs.Rooms.{rooms_of, KeepsRooms}

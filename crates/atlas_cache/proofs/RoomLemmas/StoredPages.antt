@@ -1,8 +1,8 @@
 -- Pages that store the same stand for the same.
 use Rattle.std.proofs.Common.{◌≡◌, ◌∙◌, ◌+◌, ◌<◌, ◌++◌, ◌∷◌, [], ℕ, List, get_or, length, map, take, refl, sym, ap}
 use Rattle.std.proofs.lemmas.List.{map_more, map_push}
-use Rattle.atlas_model.specs.States.{State}
-use Rattle.atlas_store.specs.Stored.{AtlasValue, Stored, state_of}
+use Rattle.guillotiere.specs.States.{State}
+use Rattle.guillotiere.specs.Stored.{AtlasValue, Stored, state_of}
 use Rattle.atlas_cache.specs.Rooms.{stored_on}
 
 abbrev state_stored : Stored → State

@@ -8,7 +8,7 @@ use crate::cache::TextureCache;
 use crate::counts::Counts;
 use crate::error::CacheError;
 use crate::options::CacheOptions;
-use atlas_model::Size;
+use guillotiere::Size;
 use std::alloc::Allocator;
 use std::hash::{BuildHasher, Hash};
 

@@ -1,7 +1,7 @@
 //! Steps over the pages and the entries of a cache: what is live on the pages stays what the entries hold, each once.
 ghost use Rattle.std.specs.Prelude.{◌≡◌, ◌≢◌, ◌+◌, ◌-◌, ◌<◌, ◌≤◌, max, [], ◌∷◌, ◌++◌, length, false, true, IfErr, IfNone, IfOk, IfSome, IsNone, None, Ok};
 ghost use Rattle.std.specs.Prelude.{Err, OnErr, Some};
-ghost use Rattle.atlas_allocator.specs.Pages.{HasSameRectangles, LeavesNoBoxOn, NoneHasRoomBelow};
+ghost use Rattle.guillotiere.specs.Pages.{HasSameRectangles, LeavesNoBoxOn, NoneHasRoomBelow};
 ghost use Rattle.atlas_cache.specs.Caches.{entries_of, entry_for, shown, HoldsEntries, IsBordered, IsFound, IsOldestLying};
 ghost use Rattle.atlas_cache.specs.Changes.{GetsPlace};
 ghost use Rattle.atlas_cache.specs.Entries.{entry_at, is_blank, lying, number_of, without_number, IsNextNumber};
@@ -15,7 +15,7 @@ use crate::error::CacheError;
 use crate::options::CacheOptions;
 use crate::places::{NO_PIXELS, Place};
 use crate::rooms::Rooms;
-use atlas_model::{AllocId, Size};
+use guillotiere::{AllocId, Size};
 use std::alloc::Allocator;
 use std::hash::{BuildHasher, Hash};
 

@@ -19,7 +19,7 @@ use crate::changes::{CacheChange, Changes};
 use crate::entries::{Entries, Entry};
 use crate::error::CacheError;
 use crate::options::CacheOptions;
-use atlas_model::{AllocId, Allocation, Change};
+use guillotiere::{AllocId, Allocation, Change};
 use std::alloc::Allocator;
 use std::hash::{BuildHasher, Hash};
 

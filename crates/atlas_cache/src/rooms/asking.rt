@@ -1,19 +1,18 @@
 //! A request to a page, which isn't searched again where that can't help.
 ghost use Rattle.std.specs.Prelude.{◌≡◌, ◌≢◌, Err, IfErr, IfOk, IfSome, IsTrue, None, Ok, OnErr};
-ghost use Rattle.atlas_model.specs.Boxes.{Fits, IsPositive};
-ghost use Rattle.atlas_model.specs.Callers.{AddsBox, IsAnswer, KeepsFrame};
-ghost use Rattle.atlas_allocator.specs.Pages.{HasRoomFor};
-ghost use Rattle.atlas_model.specs.Pixels.{box_of, sides_of};
-ghost use Rattle.atlas_model.specs.Replies.{grant_of, IsExact};
-ghost use Rattle.atlas_store.specs.Reserves.{HasReserve, UsesAtMost};
-ghost use Rattle.atlas_model.specs.States.{IsSound};
-ghost use Rattle.atlas_model.specs.Steps.{Step};
-ghost use Rattle.atlas_model.specs.Steps.AtlasCall.{Allocate};
-ghost use Rattle.atlas_model.specs.Steps.AtlasReply.{Allocated, Refused};
-ghost use Rattle.atlas_store.specs.Stored.{state_of};
+ghost use Rattle.guillotiere.specs.Boxes.{Fits, IsPositive};
+ghost use Rattle.guillotiere.specs.Callers.{AddsBox, IsAnswer, KeepsFrame};
+ghost use Rattle.guillotiere.specs.Pages.{HasRoomFor};
+ghost use Rattle.guillotiere.specs.Pixels.{box_of, sides_of};
+ghost use Rattle.guillotiere.specs.Replies.{grant_of, IsExact};
+ghost use Rattle.guillotiere.specs.Reserves.{HasReserve, UsesAtMost};
+ghost use Rattle.guillotiere.specs.States.{IsSound};
+ghost use Rattle.guillotiere.specs.Steps.{Step};
+ghost use Rattle.guillotiere.specs.Steps.AtlasCall.{Allocate};
+ghost use Rattle.guillotiere.specs.Steps.AtlasReply.{Allocated, Refused};
+ghost use Rattle.guillotiere.specs.Stored.{state_of};
 
-use atlas_allocator::AtlasAllocator;
-use atlas_model::{Allocation, AtlasError, Size};
+use guillotiere::{Allocation, AtlasAllocator, AtlasError, Size};
 use std::alloc::Allocator;
 
 /// A size that no page has room for.

@@ -3,7 +3,7 @@ ghost use Rattle.std.specs.Prelude.{◌≡◌, IfOk};
 ghost use Rattle.atlas_cache.specs.Rooms.{stored_on};
 
 use crate::rooms::Rooms;
-use atlas_allocator::AtlasAllocator;
+use guillotiere::AtlasAllocator;
 use std::alloc::{AllocError, Allocator};
 
 // A copy of each atlas.

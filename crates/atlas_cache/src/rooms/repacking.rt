@@ -1,16 +1,16 @@
 //! A page's rectangles placed anew, and the areas of a page.
 ghost use Rattle.std.specs.Prelude.{◌≡◌, ◌+◌, ◌-◌, ◌*◌, ◌<◌, All, Err, IsPermutation, length, map, slice_get, IfErr, IfOk, IfSome};
 ghost use Rattle.std.specs.Prelude.{IsOkUnless, Ok, OnErr, OnOk, Some};
-ghost use Rattle.atlas_model.specs.Boxes.{area, box_sides};
-ghost use Rattle.atlas_model.specs.Pixels.{box_of, sides_of};
-ghost use Rattle.atlas_model.specs.Rearranging.{rearrangement_of, AreExactChanges};
-ghost use Rattle.atlas_model.specs.Refits.Refitted.{HasExactRectangle, IsRefitOf};
-ghost use Rattle.atlas_model.specs.Replies.{allocate_reply, grant_of, IsExact};
-ghost use Rattle.atlas_store.specs.Reserves.{UsesAtMost};
-ghost use Rattle.atlas_model.specs.States.{used_in};
-ghost use Rattle.atlas_model.specs.Steps.{Step};
-ghost use Rattle.atlas_model.specs.Steps.AtlasCall.{Allocate};
-ghost use Rattle.atlas_store.specs.Stored.{state_of};
+ghost use Rattle.guillotiere.specs.Boxes.{area, box_sides};
+ghost use Rattle.guillotiere.specs.Pixels.{box_of, sides_of};
+ghost use Rattle.guillotiere.specs.Rearranging.{rearrangement_of, AreExactChanges};
+ghost use Rattle.guillotiere.specs.Refits.Refitted.{HasExactRectangle, IsRefitOf};
+ghost use Rattle.guillotiere.specs.Replies.{allocate_reply, grant_of, IsExact};
+ghost use Rattle.guillotiere.specs.Reserves.{UsesAtMost};
+ghost use Rattle.guillotiere.specs.States.{used_in};
+ghost use Rattle.guillotiere.specs.Steps.{Step};
+ghost use Rattle.guillotiere.specs.Steps.AtlasCall.{Allocate};
+ghost use Rattle.guillotiere.specs.Stored.{state_of};
 ghost use Rattle.atlas_cache.specs.Repacking.{free_by_page, live_by_page, IsLargestFirst, NamesPage, PlacesAnew};
 ghost use Rattle.atlas_cache.specs.Repacking.{RepacksPage};
 ghost use Rattle.atlas_cache.specs.Rooms.{page_sizes, IsRefusal};
@@ -20,8 +20,7 @@ use crate::error::CacheError;
 use crate::rooms::asking::NO_SIZE;
 use crate::rooms::usable::extent;
 use crate::rooms::{Rooms, refusal};
-use atlas_allocator::AtlasAllocator;
-use atlas_model::{Allocation, Change, ChangeList, Rectangle, Size};
+use guillotiere::{Allocation, AtlasAllocator, Change, ChangeList, Rectangle, Size};
 use std::alloc::Allocator;
 use std::cmp::Reverse;
 

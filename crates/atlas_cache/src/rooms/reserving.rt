@@ -1,6 +1,6 @@
 //! Memory for slots of the pages before they are used.
 ghost use Rattle.std.specs.Prelude.{◌≡◌, ◌≢◌, map, Err, IfErr, OnOk};
-ghost use Rattle.atlas_store.specs.Stored.{state_of};
+ghost use Rattle.guillotiere.specs.Stored.{state_of};
 ghost use Rattle.atlas_cache.specs.Reserving.{AllowSlots, HaveSlots, IsShortFor, StopsAtPage, UseAtMost};
 ghost use Rattle.atlas_cache.specs.Rooms.{IsRefusal};
 ghost use Rattle.atlas_cache.specs.declared.error.CacheError.TheVariants.{Memory, Slots};

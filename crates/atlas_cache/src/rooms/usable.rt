@@ -1,17 +1,16 @@
 //! How much of a page's free area is of use for entries of a size.
 ghost use Rattle.std.specs.Prelude.{◌≡◌, ◌+◌, ◌*◌, ◌-◌, ◌<◌, ◌≤◌, ◌≤ℤ◌, ◌<ℤ◌, pos, length, slice_get, sum_by, IfOk, IsOkUnless, Some};
-ghost use Rattle.atlas_model.specs.Boxes.{area};
-ghost use Rattle.atlas_model.specs.Choice.{rounded, up};
-ghost use Rattle.atlas_model.specs.Pixels.{box_of, natural, options_of};
-ghost use Rattle.atlas_model.specs.States.{free_in};
-ghost use Rattle.atlas_store.specs.Stored.{state_of};
+ghost use Rattle.guillotiere.specs.Boxes.{area};
+ghost use Rattle.guillotiere.specs.Choice.{rounded, up};
+ghost use Rattle.guillotiere.specs.Pixels.{box_of, natural, options_of};
+ghost use Rattle.guillotiere.specs.States.{free_in};
+ghost use Rattle.guillotiere.specs.Stored.{state_of};
 ghost use Rattle.atlas_cache.specs.Asking.{bordered};
 ghost use Rattle.atlas_cache.specs.Usable.{unusable, unusable_by_page};
 
 use crate::error::CacheError;
 use crate::rooms::Rooms;
-use atlas_allocator::AtlasAllocator;
-use atlas_model::{Rectangle, Size};
+use guillotiere::{AtlasAllocator, Rectangle, Size};
 use std::alloc::Allocator;
 
 // A side with the padding at both ends, rounded up to a multiple of the alignment. A side below 0 counts as 0.

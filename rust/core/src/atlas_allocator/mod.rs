@@ -2,6 +2,5 @@
 //! The atlas allocator, which `guillotiere` re-exports, over the tree of slots of `atlas_tree`.
 
 mod atlas;
-pub mod pages;
 
 pub use atlas::{store_of, AtlasAllocator};

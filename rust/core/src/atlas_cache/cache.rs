@@ -21,7 +21,7 @@ use crate::atlas_cache::inserted::Inserted;
 use crate::atlas_cache::options::CacheOptions;
 use crate::atlas_cache::places::Place;
 use crate::atlas_cache::rooms::Rooms;
-use crate::atlas_model::Size;
+use crate::guillotiere::Size;
 pub use iter::Iter;
 use wollemigo_support::alloc::{Allocator, Global};
 use wollemigo_support::hash::{BuildHasher, BuildHasherDefault, Hash};

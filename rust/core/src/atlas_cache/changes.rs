@@ -1,7 +1,7 @@
 // Erased from crates/atlas_cache/src/changes.rt by rust/erase: don't edit.
 //! What a cache did that its caller has to follow.
 use crate::atlas_cache::places::Place;
-use crate::atlas_model::Size;
+use crate::guillotiere::Size;
 use wollemigo_support::alloc::Global;
 use wollemigo_support::prelude::Vec;
 

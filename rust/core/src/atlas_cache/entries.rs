@@ -7,7 +7,7 @@ mod copying;
 use crate::atlas_cache::error::CacheError;
 use crate::atlas_cache::recency::links::NO_ENTRY;
 use crate::atlas_cache::recency::Recency;
-use crate::atlas_model::{AllocId, Rectangle, Size};
+use crate::guillotiere::{AllocId, Rectangle, Size};
 use wollemigo_support::alloc::{Allocator, Global};
 use wollemigo_support::collections::HashMap;
 use wollemigo_support::hash::{BuildHasher, BuildHasherDefault, FoldHasher, Hash};

@@ -1,5 +1,5 @@
 // Erased from crates/atlas_cache/src/lib.rt by rust/erase: don't edit.
-//! The parts of a cache of rectangles in a texture array, over `atlas_allocator`.
+//! The parts of a cache of rectangles in a texture array, over `guillotiere`.
 
 mod cache;
 mod changes;

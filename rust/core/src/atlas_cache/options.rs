@@ -2,7 +2,7 @@
 //! How a cache is made.
 
 use crate::atlas_cache::error::OptionsError;
-use crate::atlas_model::{AllocatorOptions, Size};
+use crate::guillotiere::{AllocatorOptions, Size};
 
 /// How a cache is made.
 #[derive(Clone, Copy, Debug, PartialEq, Eq)]

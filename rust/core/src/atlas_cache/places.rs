@@ -1,7 +1,7 @@
 // Erased from crates/atlas_cache/src/places.rt by rust/erase: don't edit.
 //! Places of entries.
 
-use crate::atlas_model::{point2, Point, Rectangle, Size};
+use crate::guillotiere::{point2, Point, Rectangle, Size};
 
 /// A rectangle with no pixel.
 pub const NO_PIXELS: Rectangle = Rectangle {

@@ -7,13 +7,12 @@ mod repacking;
 mod reserving;
 mod usable;
 
-use crate::atlas_allocator::AtlasAllocator;
 use crate::atlas_cache::error::CacheError;
 use crate::atlas_cache::options::CacheOptions;
 use crate::atlas_cache::rooms::asking::{ask, NO_SIZE};
 use wollemigo_support::prelude::Vec;
 
-use crate::atlas_model::{AllocId, Allocation, AtlasError, Size};
+use crate::guillotiere::{AllocId, Allocation, AtlasAllocator, AtlasError, Size};
 use wollemigo_support::alloc::{Allocator, Global};
 
 /// The atlases of the pages of a cache. Contracts see a `RoomsState`: the options, and what each atlas stores.

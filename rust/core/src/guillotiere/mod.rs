@@ -4,10 +4,11 @@
 //! Two limits, which the Rust crate has too. Free boxes are joined within one container of the tree of cuts, and not
 //! across containers. And grids of equal cells are served better by other packers.
 
+pub mod pages;
 pub mod session;
 mod simple;
 
-pub use crate::atlas_allocator::{pages, AtlasAllocator};
+pub use crate::atlas_allocator::AtlasAllocator;
 pub use crate::atlas_model::{
     point2, size2, AllocId, Allocation, AllocatorOptions, AtlasError, Change, ChangeList, Point,
     Rectangle, Size, SlotCount, DEFAULT_OPTIONS, MOST_SLOTS,

@@ -6,7 +6,7 @@ use crate::atlas_cache::error::CacheError;
 use crate::atlas_cache::options::CacheOptions;
 use crate::atlas_cache::places::{Place, NO_PIXELS};
 use crate::atlas_cache::rooms::Rooms;
-use crate::atlas_model::{AllocId, Size};
+use crate::guillotiere::{AllocId, Size};
 use wollemigo_support::alloc::Allocator;
 use wollemigo_support::hash::{BuildHasher, Hash};
 

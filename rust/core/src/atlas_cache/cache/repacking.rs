@@ -7,7 +7,7 @@ use crate::atlas_cache::changes::{CacheChange, Changes};
 use crate::atlas_cache::entries::{Entries, Entry};
 use crate::atlas_cache::error::CacheError;
 use crate::atlas_cache::options::CacheOptions;
-use crate::atlas_model::{AllocId, Allocation, Change};
+use crate::guillotiere::{AllocId, Allocation, Change};
 use wollemigo_support::alloc::Allocator;
 use wollemigo_support::hash::{BuildHasher, Hash};
 use wollemigo_support::prelude::Vec;

@@ -1,8 +1,7 @@
 // Erased from crates/atlas_cache/src/rooms/asking.rt by rust/erase: don't edit.
 //! A request to a page, which isn't searched again where that can't help.
 
-use crate::atlas_allocator::AtlasAllocator;
-use crate::atlas_model::{Allocation, AtlasError, Size};
+use crate::guillotiere::{Allocation, AtlasAllocator, AtlasError, Size};
 use wollemigo_support::alloc::Allocator;
 
 /// A size that no page has room for.

@@ -1,8 +1,8 @@
 // Erased from crates/atlas_cache/src/rooms/copying.rt by rust/erase: don't edit.
 //! Copies of the pages.
 
-use crate::atlas_allocator::AtlasAllocator;
 use crate::atlas_cache::rooms::Rooms;
+use crate::guillotiere::AtlasAllocator;
 use wollemigo_support::alloc::{AllocError, Allocator};
 use wollemigo_support::prelude::Vec;
 

@@ -1,12 +1,11 @@
 // Erased from crates/atlas_cache/src/rooms/repacking.rt by rust/erase: don't edit.
 //! A page's rectangles placed anew, and the areas of a page.
 
-use crate::atlas_allocator::AtlasAllocator;
 use crate::atlas_cache::error::CacheError;
 use crate::atlas_cache::rooms::asking::NO_SIZE;
 use crate::atlas_cache::rooms::usable::extent;
 use crate::atlas_cache::rooms::{refusal, Rooms};
-use crate::atlas_model::{Allocation, Change, ChangeList, Rectangle, Size};
+use crate::guillotiere::{Allocation, AtlasAllocator, Change, ChangeList, Rectangle, Size};
 use core::cmp::Reverse;
 use wollemigo_support::alloc::Allocator;
 use wollemigo_support::prelude::Vec;

@@ -1,10 +1,9 @@
 // Erased from crates/atlas_cache/src/rooms/usable.rt by rust/erase: don't edit.
 //! How much of a page's free area is of use for entries of a size.
 
-use crate::atlas_allocator::AtlasAllocator;
 use crate::atlas_cache::error::CacheError;
 use crate::atlas_cache::rooms::Rooms;
-use crate::atlas_model::{Rectangle, Size};
+use crate::guillotiere::{AtlasAllocator, Rectangle, Size};
 use wollemigo_support::alloc::Allocator;
 
 // A side with the padding at both ends, rounded up to a multiple of the alignment. A side below 0 counts as 0.

@@ -9,8 +9,8 @@ use Rattle.atlas_cache.proofs.InsertLemmas.{blank_takes, inserts_stay, inserts_t
 use Rattle.atlas_cache.proofs.KeyLemmas.{found_named, own_keys}
 use Rattle.atlas_cache.proofs.ListLemmas.{append-none, parts}
 use Rattle.atlas_cache.proofs.PictureLemmas.{blanks_tell, inserts_tell, same_shown, uses_tell}
-use Rattle.atlas_model.specs.declared.geometry.Size.{Size}
-use Rattle.atlas_model.specs.Pixels.{size_of}
+use Rattle.guillotiere.specs.declared.Size.{Size}
+use Rattle.guillotiere.specs.Pixels.{size_of}
 use Rattle.atlas_cache.specs.Asking.{bordered}
 use Rattle.atlas_cache.specs.Caches.{HasNoPageFor}
 use Rattle.atlas_cache.proofs.BlankLemmas.{length-less}

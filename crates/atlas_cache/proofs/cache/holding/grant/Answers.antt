@@ -1,6 +1,6 @@
 use Rattle.std.proofs.Common.{◌≡◌, false, ap, arith, rules, Err}
 use Rattle.std.proofs.lemmas.Bool.{ne_eqb}
-use Rattle.atlas_allocator.proofs.Callers.{pages_given_back}
+use Rattle.guillotiere.proofs.Callers.{pages_given_back}
 use Rattle.atlas_cache.specs.Caches.{entries_of}
 use Rattle.atlas_cache.specs.Entries.{is_blank, lying, no_page}
 use Rattle.atlas_cache.specs.declared.entries.Entry.{Entry}

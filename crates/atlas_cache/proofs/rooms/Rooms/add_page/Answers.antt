@@ -1,7 +1,7 @@
 use Rattle.std.proofs.Common.{◌<◌, ap, length, arith}
 use Rattle.std.proofs.lemmas.List.{length-map}
-use Rattle.atlas_model.specs.States.{live_in}
-use Rattle.atlas_allocator.proofs.Callers.{page_added}
+use Rattle.guillotiere.specs.States.{live_in}
+use Rattle.guillotiere.proofs.Callers.{page_added}
 use Rattle.atlas_cache.specs.Rooms.{page_sizes, size_of_page}
 use Rattle.atlas_cache.proofs.RoomLemmas.PageGrowth.{joined_less, sizes_joined}
 use Rattle.atlas_cache.proofs.RoomLemmas.KeptPages.{new_is_page, others_stay, rooms_joined}

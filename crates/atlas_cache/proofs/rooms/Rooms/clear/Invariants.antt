@@ -1,5 +1,5 @@
 use Rattle.std.proofs.Common.{◌≡◌, ◌<◌, ℕ, None, length}
-use Rattle.atlas_allocator.specs.Pages.{rectangle_on}
+use Rattle.guillotiere.specs.Pages.{rectangle_on}
 use Rattle.atlas_cache.specs.Reserving.{UseAtMost}
 use Rattle.atlas_cache.specs.Rooms.{page_sizes, rooms_of, AreRefused, KeepsRooms}
 use Rattle.atlas_cache.proofs.rooms.Rooms.clear.Given as goal

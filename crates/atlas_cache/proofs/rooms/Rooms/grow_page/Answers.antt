@@ -1,10 +1,10 @@
 use Rattle.std.proofs.Common.{◌≡◌, ◌∙◌, Some, ap, arith, refl, subst, sym}
 use Rattle.std.proofs.lemmas.Option.{slice_get-get_or}
-use Rattle.atlas_model.specs.Pixels.{sides_of, size_of}
-use Rattle.atlas_model.specs.Steps.{Step}
-use Rattle.atlas_model.specs.Steps.AtlasCall.{Grow}
-use Rattle.atlas_model.specs.Steps.AtlasReply.{Refused}
-use Rattle.atlas_store.specs.Stored.{state_of}
+use Rattle.guillotiere.specs.Pixels.{sides_of, size_of}
+use Rattle.guillotiere.specs.Steps.{Step}
+use Rattle.guillotiere.specs.Steps.AtlasCall.{Grow}
+use Rattle.guillotiere.specs.Steps.AtlasReply.{Refused}
+use Rattle.guillotiere.specs.Stored.{state_of}
 use Rattle.atlas_cache.specs.declared.error.CacheError.TheVariants.{Slots}
 use Rattle.atlas_cache.specs.Rooms.{page_sizes, rooms_of, AreRefused, KeepsRooms}
 use Rattle.atlas_cache.proofs.RoomLemmas.PageGrowth.{grown_less, growth_of, not_all_largest}

@@ -1,10 +1,10 @@
 use Rattle.std.proofs.Common.{◌≡◌, ◌∙◌, ◌<◌, ap, arith, length, refl, rules, subst, sym, Err, None, Ok, Some}
 use Rattle.std.proofs.lemmas.Option.{slice_get-get_or}
-use Rattle.atlas_model.specs.Pixels.{sides_of}
-use Rattle.atlas_model.specs.Steps.{Step}
-use Rattle.atlas_model.specs.Steps.AtlasCall.{Allocate}
-use Rattle.atlas_model.specs.Steps.AtlasReply.{Refused}
-use Rattle.atlas_store.specs.Stored.{state_of}
+use Rattle.guillotiere.specs.Pixels.{sides_of}
+use Rattle.guillotiere.specs.Steps.{Step}
+use Rattle.guillotiere.specs.Steps.AtlasCall.{Allocate}
+use Rattle.guillotiere.specs.Steps.AtlasReply.{Refused}
+use Rattle.guillotiere.specs.Stored.{state_of}
 use Rattle.atlas_cache.specs.declared.error.CacheError.TheVariants.{Memory, Slots}
 use Rattle.atlas_cache.specs.Placing.{PlacesFirst}
 use Rattle.atlas_cache.specs.Rooms.{rooms_of, KeepsRooms, RoomsState}

@@ -1,5 +1,5 @@
 use Rattle.std.proofs.Common.{◌≡◌}
-use Rattle.atlas_allocator.specs.Pages.{NoneHasRoomBelow}
+use Rattle.guillotiere.specs.Pages.{NoneHasRoomBelow}
 use Rattle.atlas_cache.specs.Rooms.{rooms_of, AreRefused}
 use Rattle.atlas_cache.proofs.rooms.Rooms.place_among.Given as goal
 

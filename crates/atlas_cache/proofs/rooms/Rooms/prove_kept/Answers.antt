@@ -1,6 +1,6 @@
 use Rattle.std.proofs.Common.{arith}
 use Rattle.std.proofs.lemmas.Option.{slice_get_within}
-use Rattle.atlas_allocator.specs.Pages.{AllLieApartOn, AllLieWithinOn}
+use Rattle.guillotiere.specs.Pages.{AllLieApartOn, AllLieWithinOn}
 use Rattle.atlas_cache.proofs.RoomLemmas.KeptPages.{on_page}
 use Rattle.atlas_cache.proofs.RoomLemmas.PageRoom.{largest_has_room}
 use Rattle.atlas_cache.proofs.rooms.Rooms.prove_kept.Goals as goal

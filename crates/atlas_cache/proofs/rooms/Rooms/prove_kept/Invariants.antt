@@ -1,5 +1,5 @@
 use Rattle.std.proofs.Common.{◌<◌, ℕ}
-use Rattle.atlas_allocator.specs.Pages.{AllLieApartOn, AllLieWithinOn}
+use Rattle.guillotiere.specs.Pages.{AllLieApartOn, AllLieWithinOn}
 use Rattle.atlas_cache.proofs.rooms.Rooms.prove_kept.Given as goal
 
 abbrev pub invariant-loop-at : goal.invariant-loop-at

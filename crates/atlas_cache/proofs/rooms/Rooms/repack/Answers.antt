@@ -1,8 +1,8 @@
 use Rattle.std.proofs.Common.{◌<◌, ◌≡◌, ap, arith, rules, length, Err}
 use Rattle.std.proofs.lemmas.List.Sorted.{All-permutation, length_permutation}
-use Rattle.atlas_model.specs.Refits.Refitted.{HasExactRectangle}
-use Rattle.atlas_model.specs.States.{used_in, State}
-use Rattle.atlas_store.specs.Stored.{state_of}
+use Rattle.guillotiere.specs.Refits.Refitted.{HasExactRectangle}
+use Rattle.guillotiere.specs.States.{used_in, State}
+use Rattle.guillotiere.specs.Stored.{state_of}
 use Rattle.atlas_cache.proofs.ReadyLemmas.{error_is}
 use Rattle.atlas_cache.proofs.RoomLemmas.KeptPages.{rooms_stay, sizes_stay}
 use Rattle.atlas_cache.proofs.RoomLemmas.RepackedPages.{frame_here, named_permuted, named_there, page_placed, page_repacks, placing_tells, refits_here, starts_alike, state_here}

@@ -1,8 +1,8 @@
 use Rattle.std.proofs.Common.{◌∙◌, ◌≡◌, ◌+◌, ◌<◌, ◌≤◌, Err, Some, ap, arith, inl, inr, sym, length, map, slice_get, slice_set}
 use Rattle.std.proofs.lemmas.{Bool.{cases_lt}, List.{length-set}, Option.{slice_get-get_or, slice_get_within}}
-use Rattle.atlas_store.specs.Reserves.{HasReserve}
-use Rattle.atlas_model.specs.States.{used_in, State}
-use Rattle.atlas_store.specs.Stored.{state_of}
+use Rattle.guillotiere.specs.Reserves.{HasReserve}
+use Rattle.guillotiere.specs.States.{used_in, State}
+use Rattle.guillotiere.specs.Stored.{state_of}
 use Rattle.atlas_cache.specs.declared.error.CacheError.TheVariants.{Memory, Slots}
 use Rattle.atlas_cache.specs.Rooms.{RoomsState}
 use Rattle.atlas_cache.proofs.RoomLemmas.KeptPages.{nothing_changes, others_kept}

@@ -1,7 +1,7 @@
 use Rattle.std.proofs.Common.{◌≡◌, ◌+◌, ◌<◌, ◌≤◌, ℕ, Some, length, map, slice_get}
-use Rattle.atlas_store.specs.Reserves.{HasReserve}
-use Rattle.atlas_model.specs.States.{used_in}
-use Rattle.atlas_store.specs.Stored.{AtlasValue, state_of}
+use Rattle.guillotiere.specs.Reserves.{HasReserve}
+use Rattle.guillotiere.specs.States.{used_in}
+use Rattle.guillotiere.specs.Stored.{AtlasValue, state_of}
 use Rattle.atlas_cache.specs.Reserving.{UseAtMost}
 use Rattle.atlas_cache.specs.Rooms.{rooms_of, AreRefused, KeepsRooms}
 use Rattle.atlas_cache.proofs.rooms.Rooms.reserve_slots.Given as goal

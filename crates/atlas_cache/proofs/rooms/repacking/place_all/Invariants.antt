@@ -1,7 +1,7 @@
 use Rattle.std.proofs.Common.{◌≡◌, ◌≤◌, ◌+◌, ◌*◌}
-use Rattle.atlas_model.specs.Refits.Refitted.{IsRefitting}
-use Rattle.atlas_model.specs.States.{used_in}
-use Rattle.atlas_store.specs.Stored.{state_of}
+use Rattle.guillotiere.specs.Refits.Refitted.{IsRefitting}
+use Rattle.guillotiere.specs.States.{used_in}
+use Rattle.guillotiere.specs.Stored.{state_of}
 use Rattle.atlas_cache.proofs.rooms.repacking.place_all.Given as goal
 
 abbrev pub invariant-loop-at : goal.invariant-loop-at

@@ -1,10 +1,10 @@
 use Rattle.std.proofs.Common.{◌≡◌, subst}
-use Rattle.atlas_model.specs.Pixels.{sides_of}
-use Rattle.atlas_model.specs.States.{IsSound}
-use Rattle.atlas_model.specs.Steps.{Step}
-use Rattle.atlas_model.specs.Steps.AtlasCall.{Allocate}
-use Rattle.atlas_model.specs.Steps.AtlasReply.{Refused}
-use Rattle.atlas_store.specs.Stored.{AtlasValue, state_of}
+use Rattle.guillotiere.specs.Pixels.{sides_of}
+use Rattle.guillotiere.specs.States.{IsSound}
+use Rattle.guillotiere.specs.Steps.{Step}
+use Rattle.guillotiere.specs.Steps.AtlasCall.{Allocate}
+use Rattle.guillotiere.specs.Steps.AtlasReply.{Refused}
+use Rattle.guillotiere.specs.Stored.{AtlasValue, state_of}
 use Rattle.atlas_cache.specs.declared.error.CacheError.TheVariants.{Slots}
 use Rattle.atlas_cache.proofs.RoomLemmas.PageReserves.{request_needs}
 use Rattle.atlas_cache.proofs.rooms.repacking.request.Goals as goal

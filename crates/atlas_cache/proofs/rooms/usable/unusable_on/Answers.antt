@@ -1,7 +1,7 @@
 use Rattle.std.proofs.Common.{◌∙◌, arith}
-use Rattle.atlas_model.specs.Boxes.{area}
-use Rattle.atlas_model.specs.States.{free_in}
-use Rattle.atlas_store.specs.Stored.{state_of}
+use Rattle.guillotiere.specs.Boxes.{area}
+use Rattle.guillotiere.specs.States.{free_in}
+use Rattle.guillotiere.specs.Stored.{state_of}
 use Rattle.atlas_cache.specs.Usable.{unusable}
 use Rattle.atlas_cache.proofs.UsableLemmas.{sum-shown}
 use Rattle.atlas_cache.proofs.rooms.usable.unusable_on.Goals as goal

@@ -1,6 +1,6 @@
 use Rattle.std.proofs.Common.{◌≡◌}
 use Rattle.std.specs.Prelude.{sum_by, take}
-use Rattle.atlas_model.specs.Pixels.{box_of}
+use Rattle.guillotiere.specs.Pixels.{box_of}
 use Rattle.atlas_cache.specs.Usable.{unusable}
 use Rattle.atlas_cache.proofs.rooms.usable.unusable_sum.Given as goal
 

@@ -1,8 +1,8 @@
-// Erased from crates/atlas_allocator/src/pages.rt by rust/erase: don't edit.
+// Erased from crates/guillotiere/src/pages.rt by rust/erase: don't edit.
 //! Pages of a texture array: several atlases in a list, each with ids of its own.
 
-use crate::atlas_allocator::AtlasAllocator;
 use crate::atlas_model::{AllocId, Allocation, AtlasError, Size};
+use crate::guillotiere::AtlasAllocator;
 use wollemigo_support::alloc::Allocator;
 
 /// Asks a page for a box, as `allocate` does: with 4 slots of the page in reserve never `Memory`. Requires that there is such a page.

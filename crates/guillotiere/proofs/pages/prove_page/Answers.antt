@@ -1,6 +1,6 @@
 use Rattle.std.proofs.Common.{arith}
 use Rattle.std.proofs.lemmas.Option.{slice_get_within}
-use Rattle.atlas_allocator.proofs.pages.prove_page.Goals as goal
+use Rattle.guillotiere.proofs.pages.prove_page.Goals as goal
 
 pub returns-else-page-pages-clause-within : goal.returns-else-page-pages-clause-within
 returns-else-page-pages-clause-within g c = λ i r s on here.

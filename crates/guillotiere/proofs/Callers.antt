@@ -17,7 +17,7 @@ use Rattle.atlas_model.proofs.ListLemmas.CallerLemmas.{slice_get-set_here, slice
 use Rattle.atlas_model.proofs.StepLemmas.LiveBoxes.{live_have_boxes}
 use Rattle.atlas_model.proofs.StepLemmas.GivenBack.{grants_are_given_back, many_are_given_back}
 use Rattle.atlas_store.specs.Stored.{AtlasValue, state_of}
-use Rattle.atlas_allocator.specs.Pages.{rectangle_on, AddsBoxOn, HasRoomFor, NoneHasRoomBelow, HasSameRectangles, LeavesNoBoxOn, OthersHaveSame, PagesAreGivenBack}
+use Rattle.guillotiere.specs.Pages.{rectangle_on, AddsBoxOn, HasRoomFor, NoneHasRoomBelow, HasSameRectangles, LeavesNoBoxOn, OthersHaveSame, PagesAreGivenBack}
 
 -- What a look-up on one page reads.
 abbrev on : Option AtlasValue → ℕ → Option Rectangle

@@ -1,7 +1,7 @@
 use Rattle.std.proofs.Common.{arith, subst, sym}
-use Rattle.atlas_allocator.specs.Pages.{HasRoomFor}
-use Rattle.atlas_allocator.proofs.Callers.{one_more, page_is}
-use Rattle.atlas_allocator.proofs.pages.page_with_room.Goals as goal
+use Rattle.guillotiere.specs.Pages.{HasRoomFor}
+use Rattle.guillotiere.proofs.Callers.{one_more, page_is}
+use Rattle.guillotiere.proofs.pages.page_with_room.Goals as goal
 
 pub returns-then-has_room-clause-room : goal.returns-then-has_room-clause-room
 returns-then-has_room-clause-room g c =

@@ -1,8 +1,8 @@
-use Rattle.atlas_model.specs.Callers.{IsAnswer}
-use Rattle.atlas_store.specs.Reserves.{HasReserve, UsesAtMost}
-use Rattle.atlas_store.specs.Stored.{state_of}
-use Rattle.atlas_allocator.proofs.Callers.{page_answers, page_goes, page_is, page_reads, page_stays, page_stays_if_refused}
-use Rattle.atlas_allocator.proofs.pages.allocate_on.Goals as goal
+use Rattle.guillotiere.specs.Callers.{IsAnswer}
+use Rattle.guillotiere.specs.Reserves.{HasReserve, UsesAtMost}
+use Rattle.guillotiere.specs.Stored.{state_of}
+use Rattle.guillotiere.proofs.Callers.{page_answers, page_goes, page_is, page_reads, page_stays, page_stays_if_refused}
+use Rattle.guillotiere.proofs.pages.allocate_on.Goals as goal
 
 pub returns-clause-adds : goal.returns-clause-adds
 returns-clause-adds g c =

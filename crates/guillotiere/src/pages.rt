@@ -1,9 +1,9 @@
 //! Pages of a texture array: several atlases in a list, each with ids of its own.
 ghost use Rattle.std.specs.Prelude.{◌≡◌, ◌<◌, ◌↔◌, None, Ok, length, IfNone, IfOk, IfSome, IsOkUnless, IsSome};
 ghost use Rattle.std.specs.Prelude.{◌≢◌, Err, IsTrue, OnErr};
-ghost use Rattle.atlas_allocator.specs.Pages.{rectangle_on, AddsBoxOn, AllLieApartOn, AllLieWithinOn, HasRoomFor};
-ghost use Rattle.atlas_allocator.specs.Pages.{HasReserveOn, HasRoomOn, UsesAtMostOn};
-ghost use Rattle.atlas_allocator.specs.Pages.{IsAnswerOn, LeavesNoBoxOn, NoneHasRoomBelow, PagesAreGivenBack};
+ghost use Rattle.guillotiere.specs.Pages.{rectangle_on, AddsBoxOn, AllLieApartOn, AllLieWithinOn, HasRoomFor};
+ghost use Rattle.guillotiere.specs.Pages.{HasReserveOn, HasRoomOn, UsesAtMostOn};
+ghost use Rattle.guillotiere.specs.Pages.{IsAnswerOn, LeavesNoBoxOn, NoneHasRoomBelow, PagesAreGivenBack};
 
 use crate::AtlasAllocator;
 use atlas_model::{AllocId, Allocation, AtlasError, Size};

@@ -1,5 +1,5 @@
-use Rattle.atlas_allocator.proofs.Callers.{page_leaves, page_lives, page_stays_if_refused}
-use Rattle.atlas_allocator.proofs.pages.deallocate_on.Goals as goal
+use Rattle.guillotiere.proofs.Callers.{page_leaves, page_lives, page_stays_if_refused}
+use Rattle.guillotiere.proofs.pages.deallocate_on.Goals as goal
 
 pub returns-clause-ok : goal.returns-clause-ok
 returns-clause-ok g c =
