@@ -1,6 +1,6 @@
 -- The axis of a cut, and that the parts of a cut rectangle tile it.
 use Rattle.std.proofs.Common.{◌≡◌, ℕ, ◌+◌, ◌*◌, ◌<◌, ◌≤◌, Bool, true, false, cond, ◌&&◌, ◌⊎◌, [], ◌∷◌, ℤ, pos, ◌+ℤ◌}
-use Rattle.std.proofs.Common.{◌-ℤ◌, ◌≤ℤ◌, arith}
+use Rattle.std.proofs.Common.{◌-ℤ◌, ◌≤ℤ◌, FitsSigned, w32, arith}
 use Rattle.std.proofs.lemmas.Int.{ints}
 use Rattle.std.specs.Prelude.{int_le, int_lt}
 use Rattle.atlas_model.specs.Boxes.Axis.{Horizontal, Vertical}
@@ -12,6 +12,14 @@ use Rattle.atlas_search.specs.declared.cut.Rest.{Rest}
 use Rattle.atlas_model.specs.declared.geometry.Rectangle.{Rectangle}
 use Rattle.atlas_model.specs.declared.geometry.Size.{Size}
 use Rattle.atlas_search.specs.declared.cut.Orientation.TheVariants as orientation
+
+-- Differences and sums of coordinates.
+
+pub difference_fits : (a b : ℤ) → FitsSigned w32 a → pos 0 ≤ℤ b → b ≤ℤ a → FitsSigned w32 (a -ℤ b)
+difference_fits a b f p q = omega (arith, ints)
+
+pub sum_fits : (a b c : ℤ) → FitsSigned w32 a → FitsSigned w32 c → pos 0 ≤ℤ b → b ≤ℤ (c -ℤ a) → FitsSigned w32 (a +ℤ b)
+sum_fits a b c f g p q = omega (arith, ints)
 
 -- The axis.
 
