@@ -7,7 +7,7 @@ use Rattle.atlas_store.specs.Slots.{node_at}
 use Rattle.atlas_search.specs.Numbers.{no_slot, same}
 use Rattle.atlas_store.specs.Slots.Numbered.{Numbered, tally, first_slot, lifted, is_seq_at, End, Free, Alloc, Seq}
 use Rattle.atlas_store.specs.Slots.Standing.{Sequence, Standing, Stands, inside}
-use Rattle.atlas_store.proofs.SlotLemmas.Frames.{same-self, same-ne, Standing-same, used-le, split_pos, ne-from_same}
+use Rattle.atlas_store.proofs.SlotLemmas.Frames.{same-self, same-ne, Standing-same, used-le, split_pos, ne-from_count, ne-from_same}
 use Rattle.atlas_store.proofs.SlotLemmas.MemberLinks.{begins-none}
 use Rattle.atlas_store.proofs.SlotLemmas.Edits.{lifting, seq_here, first-edited, edited-keeps}
 
@@ -130,6 +130,14 @@ module _ (ns ms : List Node) (c k : ℕ) (w : IsLiftOf ns ms c k) where
       → node_at ms j ≡ node_at ns j
   beside j m once lc lk = w.others j (ne-from_same c j (omega (arith, once c))) (ne-from_same k j (omega (arith, once k)))
 
+  -- k is no member of a sequence that c doesn't hold.
+  outside : (s : Sequence) (j : ℕ) → (s.parent ≡ c → ⊥) → (node_at ns j).parent.number ≡ s.parent → k ≡ j → ⊥
+  outside s j np held e = np (sym held ∙ ap (λ v. (node_at ns v).parent.number) (sym e) ∙ w.parent)
+
+  stays_outside : (s : Sequence) (b q : ℕ) (n : Numbered) → tally c n ≡ 0 → tally k n ≡ 0 → Standing ns s b q n
+      → Standing ms s b q n
+  stays_outside s b q n zc zk = Standing-same ns ms s b q n (λ v l. w.others v (ne-from_count c v n zc l) (ne-from_count k v n zk l))
+
   -- Where c isn't, nothing changes; where k is, the tree stands, and the slot k alone leaves it.
   abbrev IsLift : (across : ℕ) → (old new : Numbered) → Type 0
   IsLift a m u =
@@ -142,17 +150,45 @@ module _ (ns ms : List Node) (c k : ℕ) (w : IsLiftOf ns ms c k) where
   lifts n =
       edited-keeps (is_seq_at c) lifting IsLift (record {
         ends = grind arith;
-        free = grind (arith, same-ne, container_in, beside);
-        alloc = grind (arith, same-ne, container_in, beside);
+        free = λ a j e m u no f. (
+          λ z. ap (Free j e) (f.0 (omega arith)),
+          refl,
+          λ s b p once none np l h.
+              let lk : 0 < tally k m = omega (arith, same-ne k j (outside s j np h.0.parent)) in
+              let same_at = beside j m once (container_in s j (p + e) m np h.2 lk) lk in
+              let after = f.2 s j (p + e) (λ x. omega (arith, once x)) (omega arith) np lk h.2 in
+              ((rw (same_at, f.1) h.0, rw same_at h.1, after.0), λ x. omega (arith, after.1 x)),
+        );
+        alloc = λ a j g e m u no f. (
+          λ z. ap (Alloc j g e) (f.0 (omega arith)),
+          refl,
+          λ s b p once none np l h.
+              let lk : 0 < tally k m = omega (arith, same-ne k j (outside s j np h.0.parent)) in
+              let same_at = beside j m once (container_in s j (p + e) m np h.3 lk) lk in
+              let after = f.2 s j (p + e) (λ x. omega (arith, once x)) (omega arith) np lk h.3 in
+              ((rw (same_at, f.1) h.0, rw same_at h.1, rw same_at h.2, after.0), λ x. omega (arith, after.1 x)),
+        );
         seq = λ a j e x y m u no f g. (
-          grind arith,
+          λ z. ap (λ v. Seq j e v u) (f.0 (omega arith)) ∙ ap (Seq j e x) (g.0 (omega arith)),
           refl,
           λ s b p once none np l h.
               let nj : c ≡ j → ⊥ = eqb-false c j no in
               let t = inside s j p e in
-              elim (split_pos (tally k x) (tally k m) (omega (arith, same-ne k j (λ q. grind arith)))) [
-                | inl lk ↦ grind (arith, container_in t no_slot s.start x, beside j x, Standing-same ns ms)
-                | inr lk ↦ grind (arith, container_in s j (p + e) m, beside j m, Standing-same ns ms)
+              elim (split_pos (tally k x) (tally k m) (omega (arith, same-ne k j (outside s j np h.0.parent)))) [
+                | inl lk ↦
+                    let lc = container_in t no_slot s.start x (λ q. nj (sym q)) h.2 lk in
+                    let same_at = beside j x (λ v. omega (arith, once v)) lc lk in
+                    let within = f.2 t no_slot s.start (λ v. omega (arith, once v)) (omega arith) (λ q. nj (sym q)) lk h.2 in
+                    let same_rest : u ≡ m = g.0 (omega (arith, once c, lc)) in
+                    let stays = stays_outside s j (p + e) m (omega (arith, once c, lc)) (omega (arith, once k, lk)) h.3 in
+                    ((rw (same_at, g.1) h.0, rw same_at h.1, within.0, rw same_rest stays), λ v. omega (arith, within.1 v, ap (tally v) same_rest))
+                | inr lk ↦
+                    let lc = container_in s j (p + e) m np h.3 lk in
+                    let same_at = beside j m (λ v. omega (arith, once v)) lc lk in
+                    let after = g.2 s j (p + e) (λ v. omega (arith, once v)) (omega arith) np lk h.3 in
+                    let same_inner : y ≡ x = f.0 (omega (arith, once c, lc)) in
+                    let stays = stays_outside t no_slot s.start x (omega (arith, once c, lc)) (omega (arith, once k, lk)) h.2 in
+                    ((rw (same_at, g.1) h.0, rw same_at h.1, rw same_inner stays, after.0), λ v. omega (arith, after.1 v, ap (tally v) same_inner))
               ],
         );
       }) (λ a. seq_here c (λ m. IsLift a m (lifting a m)) (λ e inner rest. (
