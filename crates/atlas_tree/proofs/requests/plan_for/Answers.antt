@@ -18,3 +18,24 @@ returns-then-whole-size-3-clause-line c =
     let narrower : r.width < whole.width = search rules in
     c.strip-then-whole-size-3.ensures.line r
     (subst (λ (s : Sides). cut s r ≡ Strip Horizontal) c.exact_size-whole.ensures.sides (cut-beside whole r as_high narrower c.requires.positive.1)) (search rules)
+
+pub corner-requires-clause-narrower : goal.corner-requires-clause-narrower
+corner-requires-clause-narrower c = search rules
+
+pub corner-requires-clause-lower : goal.corner-requires-clause-lower
+corner-requires-clause-lower c = search rules
+
+pub returns-then-whole-size-2-clause-line : goal.returns-then-whole-size-2-clause-line
+returns-then-whole-size-2-clause-line c = search rules
+
+pub returns-else-whole-size-2-clause-line : goal.returns-else-whole-size-2-clause-line
+returns-else-whole-size-2-clause-line c = search rules
+
+pub returns-else-whole-size-2-clause-feasible : goal.returns-else-whole-size-2-clause-feasible
+returns-else-whole-size-2-clause-feasible c = search rules
+
+pub returns-then-whole-size-3-clause-feasible : goal.returns-then-whole-size-3-clause-feasible
+returns-then-whole-size-3-clause-feasible c = search rules
+
+pub returns-else-whole-size-3-clause-line : goal.returns-else-whole-size-3-clause-line
+returns-else-whole-size-3-clause-line c = search rules
