@@ -1,15 +1,15 @@
 -- The free slots of slots that stand for a tree: their boxes are the tree's free boxes, and their rectangles are exact.
-use Rattle.std.proofs.Common.{ℕ, ◌+◌, ◌<◌, ◌≤◌, ◌≡◌, ◌⊎◌, inl, inr, List, ◌∷◌, ◌++◌, refl, sym, ap, ◌∙◌, arith, length, zero, suc, subst, false, rules}
+use Rattle.std.proofs.Common.{ℕ, ◌+◌, ◌<◌, ◌≤◌, ◌≡◌, ◌⊎◌, inl, inr, List, ◌∷◌, ◌++◌, refl, sym, ap, ◌∙◌, arith, length, zero, suc, subst, false}
 use Rattle.std.specs.Prelude.{Contains, slice_index_or}
-use Rattle.std.proofs.lemmas.Bool.{cases_lt}
-use Rattle.std.proofs.lemmas.List.Elements.{filter_map-append, Contains-append_left, Contains-append_right, Contains-append_cases}
+use Rattle.std.proofs.lemmas.Bool.{cases_eq, cases_lt}
+use Rattle.std.proofs.lemmas.List.Elements.{Contains-append_left, Contains-append_right, Contains-append_cases}
 use Rattle.atlas_store.specs.declared.slots.Slot.{Slot}
 use Rattle.atlas_search.specs.declared.link.Link.{Link}
 use Rattle.atlas_store.specs.declared.slots.Node.{Node}
 use Rattle.atlas_search.specs.declared.table.ListHead.{ListHead}
 use Rattle.atlas_store.specs.declared.slots.NodeKind.{NodeKind}
 use Rattle.atlas_store.specs.declared.slots.NodeKind.TheVariants as kind
-use Rattle.atlas_model.specs.Boxes.{Box, moved, origin}
+use Rattle.atlas_model.specs.Boxes.{Box, moved, origin, other}
 use Rattle.atlas_model.specs.Pixels.{box_of, rectangle_of}
 use Rattle.atlas_model.specs.Trees.{leaves, ungranted, IsCut}
 use Rattle.atlas_store.specs.Slots.{nodes, rings, node_at, use_count}
@@ -21,6 +21,7 @@ use Rattle.atlas_store.specs.Slots.Lists.{AreFiled, Places}
 use Rattle.atlas_search.specs.Rectangles.{IsSolid}
 use Rattle.atlas_store.specs.Slots.Picks.{node_box, IsFreeSlot, AreFreeBoxes, IsSearchable}
 use Rattle.atlas_search.proofs.Occurrences.{same-ne}
+use Rattle.atlas_model.proofs.TreeLemmas.TreeBasics.{free_among, free_among-seq}
 use Rattle.atlas_store.proofs.SlotLemmas.SlotBoxes.{slot-exact}
 use Rattle.atlas_store.proofs.SlotLemmas.Spots.{moved-spot, spot-other, spot-origin}
 
@@ -38,7 +39,10 @@ free_from-free s p i e rest = ap (λ bs. member_box s p e ∷ bs) (free_from-res
 
 free_from-seq : (s : Sequence) (p i e : ℕ) (inner rest : Numbered)
     → free_from s p (Seq i e inner rest) ≡ free_from (inside s i p e) s.start inner ++ free_from s (p + e) rest
-free_from-seq s p i e inner rest = grind (arith, filter_map-append, free_from-rest, spot-other)
+free_from-seq s p i e inner rest =
+    free_among-seq s.axis (spot s.axis p s.start) s.width e (erase inner) (erase rest)
+    ∙ ap (λ o. free_among (other s.axis) o e (erase inner) ++ free_among s.axis (moved s.axis (spot s.axis p s.start) e) s.width (erase rest)) (sym (spot-other s.axis p s.start))
+    ∙ ap (λ bs. free_from (inside s i p e) s.start inner ++ bs) (free_from-rest s p e rest)
 
 box-exact : (n : Node) (b : Box) → n.area ≡ rectangle_of b → node_box n ≡ b
 box-exact n b e = ap box_of e
@@ -59,13 +63,11 @@ slot-of_box : (ns : List Node) (s : Sequence) (before p : ℕ) (n : Numbered) �
     → Contains (free_from s p n) b → (i : ℕ) × IsFreeSlot ns i × (node_box (node_at ns i) ≡ b)
 slot-of_box ns s before p End h b c = absurd (omega (arith, c.1))
 slot-of_box ns s before p (Free i e rest) h b c =
-    grind (
-      arith,
-      free_from-free s p i e rest,
-      in_cases (member_box s p e) b (free_from s (p + e) rest),
-      box-exact (node_at ns i) (member_box s p e) h.1,
-      slot-of_box ns s i (p + e) rest h.2 b,
-    )
+    let at : Contains (member_box s p e ∷ free_from s (p + e) rest) b = subst (λ bs. Contains bs b) (free_from-free s p i e rest) c in
+    elim (in_cases (member_box s p e) b (free_from s (p + e) rest) at.0 at.1 at.2) [
+      | inl x ↦ (i, h.0.kind, box-exact (node_at ns i) (member_box s p e) h.1 ∙ x)
+      | inr y ↦ slot-of_box ns s i (p + e) rest h.2 b y
+    ]
 slot-of_box ns s before p (Alloc i g e rest) h b c =
     slot-of_box ns s i (p + e) rest h.3 b (subst (λ bs. Contains bs b) (free_from-rest s p e rest) c)
 slot-of_box ns s before p (Seq i e inner rest) h b c =
@@ -86,9 +88,14 @@ box-of_slot : (ns : List Node) (s : Sequence) (before p : ℕ) (n : Numbered) �
     → IsFreeSlot ns i → 0 < tally i n → Contains (free_from s p n) (node_box (node_at ns i))
 box-of_slot ns s before p End h i free l = absurd (omega arith)
 box-of_slot ns s before p (Free j e rest) h i free l =
-    search (rules, free_from-free, box-exact, at_head, in_rest, box-of_slot ns s j (p + e) rest h.2 i free, same-ne)
+    let b = node_box (node_at ns i) in
+    subst (λ bs. Contains bs b) (sym (free_from-free s p j e rest)) (elim (cases_eq i j) [
+      | inl x ↦ subst (Contains (member_box s p e ∷ free_from s (p + e) rest)) (sym (ap (λ k. node_box (node_at ns k)) x ∙ box-exact (node_at ns j) (member_box s p e) h.1)) (at_head (member_box s p e) (free_from s (p + e) rest))
+      | inr ne ↦ in_rest (member_box s p e) b (free_from s (p + e) rest) (box-of_slot ns s j (p + e) rest h.2 i free (omega (arith, same-ne i j ne)))
+    ])
 box-of_slot ns s before p (Alloc j g e rest) h i free l =
-    search (rules, free≢, free_from-rest, box-of_slot ns s j (p + e) rest h.3 i free, same-ne)
+    let ne : i ≡ j → ⊥ = (λ x. free≢ _ h.0.kind (ap (λ k. (node_at ns k).kind) (sym x) ∙ free)) in
+    subst (λ bs. Contains bs (node_box (node_at ns i))) (sym (free_from-rest s p e rest)) (box-of_slot ns s j (p + e) rest h.3 i free (omega (arith, same-ne i j ne)))
 box-of_slot ns s before p (Seq j e inner rest) h i free l =
     let ne : i ≡ j → ⊥ = (λ q. sequence≢ _ h.0.kind (ap (λ k. (node_at ns k).kind) (sym q) ∙ free)) in
     let b = node_box (node_at ns i) in
@@ -101,12 +108,11 @@ box-of_slot ns s before p (Seq j e inner rest) h i free l =
 pub AreFreeBoxes-stands : (ns : List Node) (s : Sequence) (n : Numbered) → Stands ns s n → s.start ≡ 0
     → AreFreeBoxes ns (ungranted (leaves s.axis origin s.width (erase n)))
 AreFreeBoxes-stands ns s n h zero_start =
-    grind (
-      arith,
-      spot-origin s.axis,
-      slot-of_box ns s no_slot 0 n h.standing,
-      box-of_slot ns s no_slot 0 n h.standing,
-    )
+    let at : spot s.axis 0 s.start ≡ origin = ap (spot s.axis 0) zero_start ∙ spot-origin s.axis in
+    subst (λ o. AreFreeBoxes ns (ungranted (leaves s.axis o s.width (erase n)))) at (record {
+      of_slot = slot-of_box ns s no_slot 0 n h.standing;
+      of_box = λ i free. box-of_slot ns s no_slot 0 n h.standing i free (omega (arith, h.numbered i, ap use_count free));
+    })
 
 pub exact-free : (ns : List Node) (s : Sequence) (n : Numbered) → Stands ns s n → 0 < s.width → IsCut s.width (erase n)
     → (i : ℕ) → IsFreeSlot ns i → IsSolid (node_at ns i).area
@@ -118,4 +124,12 @@ pub searchable : (o : Options) (slots : List Slot) (heads : List ListHead) (unus
     → AreFiled o (nodes slots) (rings slots) heads unused p → ((i : ℕ) → p.detached i ≡ false)
     → Stands (nodes slots) s n → 0 < s.width → IsCut s.width (erase n) → length slots ≤ 16777216 → AreValid o
     → IsSearchable o slots heads
-searchable o slots heads unused p s n f listed h w cut short valid = grind (arith, exact-free)
+searchable o slots heads unused p s n f listed h w cut short valid = record {
+  unused = unused;
+  places = p;
+  filed = f;
+  all_listed = listed;
+  exact = exact-free (nodes slots) s n h w cut;
+  short = short;
+  valid = valid;
+}

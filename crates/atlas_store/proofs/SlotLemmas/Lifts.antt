@@ -1,24 +1,87 @@
 -- A lone free child takes the place of its container.
-use Rattle.std.proofs.Common.{ℕ, ◌+◌, ◌<◌, ◌≤◌, ◌≡◌, List, refl, sym, ◌∙◌, ◌⊎◌, inl, inr, arith, rules}
-use Rattle.std.proofs.lemmas.Bool.{eqb-false}
+use Rattle.std.proofs.Common.{ℕ, ◌+◌, ◌<◌, ◌≤◌, ◌≡◌, List, refl, sym, ap, ◌∙◌, ◌⊎◌, inl, inr, arith}
+use Rattle.std.proofs.lemmas.Bool.{cases_eq, eqb-false}
 use Rattle.atlas_store.specs.declared.slots.Node.{Node}
 use Rattle.atlas_store.specs.declared.slots.NodeKind.TheVariants as kind
 use Rattle.atlas_store.specs.Slots.{node_at}
 use Rattle.atlas_search.specs.Numbers.{no_slot, same}
 use Rattle.atlas_store.specs.Slots.Numbered.{Numbered, tally, first_slot, lifted, is_seq_at, End, Free, Alloc, Seq}
 use Rattle.atlas_store.specs.Slots.Standing.{Sequence, Standing, Stands, inside}
-use Rattle.atlas_store.proofs.SlotLemmas.Frames.{same-self, same-ne, Standing-same, used-le, split_pos, ne-from_same}
+use Rattle.atlas_store.proofs.SlotLemmas.Frames.{same-self, same-ne, Standing-same, used-le, split_pos, ne-from_count, ne-from_same}
 use Rattle.atlas_store.proofs.SlotLemmas.MemberLinks.{begins-none}
 use Rattle.atlas_store.proofs.SlotLemmas.Edits.{lifting, seq_here, first-edited, edited-keeps}
+
+wider : (x p : ℕ) (m n : Numbered) → tally x m ≤ tally x n → (x ≡ p) ⊎ (0 < tally x m) → (x ≡ p) ⊎ (0 < tally x n)
+wider x p m n l (inl e) = inl e
+wider x p m n l (inr h) = inr (omega arith)
 
 -- A member's parent holds the sequence, or is a member itself.
 pub parent-in : (ns : List Node) (k : ℕ) (s : Sequence) (b p : ℕ) (n : Numbered) → Standing ns s b p n → 0 < tally k n
     → ((node_at ns k).parent.number ≡ s.parent) ⊎ (0 < tally (node_at ns k).parent.number n)
 parent-in ns k s b p End h l = absurd (omega arith)
-parent-in ns k s b p (Free j e rest) h l = grind (arith, parent-in ns k s j (p + e) rest h.2, same-ne)
-parent-in ns k s b p (Alloc j g e rest) h l = grind (arith, parent-in ns k s j (p + e) rest h.3, same-ne)
+parent-in ns k s b p (Free j e rest) h l =
+    elim (cases_eq k j) [
+      | inl x ↦ inl (rw x h.0.parent)
+      | inr ne ↦ wider (node_at ns k).parent.number s.parent rest (Free j e rest) (omega arith) (parent-in ns k s j (p + e) rest h.2 (omega (arith, same-ne k j ne)))
+    ]
+parent-in ns k s b p (Alloc j g e rest) h l =
+    elim (cases_eq k j) [
+      | inl x ↦ inl (rw x h.0.parent)
+      | inr ne ↦ wider (node_at ns k).parent.number s.parent rest (Alloc j g e rest) (omega arith) (parent-in ns k s j (p + e) rest h.3 (omega (arith, same-ne k j ne)))
+    ]
 parent-in ns k s b p (Seq j e inner rest) h l =
-    search (rules, split_pos, same-ne, parent-in ns k (inside s j p e) no_slot s.start inner h.2, same-self, parent-in ns k s j (p + e) rest h.3)
+    elim (cases_eq k j) [
+      | inl x ↦ inl (rw x h.0.parent)
+      | inr ne ↦ elim (split_pos (tally k inner) (tally k rest) (omega (arith, same-ne k j ne))) [
+        | inl y ↦ elim (parent-in ns k (inside s j p e) no_slot s.start inner h.2 y) [
+          | inl x ↦ inr (omega (arith, same-self j, ap (λ v. same v j) x))
+          | inr z ↦ inr (omega arith)
+        ]
+        | inr y ↦ wider (node_at ns k).parent.number s.parent rest (Seq j e inner rest) (omega arith) (parent-in ns k s j (p + e) rest h.3 y)
+      ]
+    ]
+
+first-previous : (ns : List Node) (k : ℕ) (s : Sequence) (b q : ℕ) (n : Numbered) → Standing ns s b q n → 0 < tally k n
+    → (node_at ns (first_slot n)).previous.number ≡ b
+first-previous ns k s b q End h l = absurd (omega arith)
+first-previous ns k s b q n h l = h.0.previous
+
+-- A member of c that follows none comes first in the sequence of c, in which c is not.
+module _ (ns : List Node) (c k : ℕ) (parent : (node_at ns k).parent.number ≡ c) (previous : (node_at ns k).previous.number ≡ no_slot) where
+  not_after : (s : Sequence) (j q : ℕ) (rest : Numbered) → same no_slot j ≡ 0 → k ≡ first_slot rest → 0 < tally k rest
+      → Standing ns s j q rest → ⊥
+  not_after s j q rest z e l h =
+      ne-from_same no_slot j z (sym (first-previous ns k s j q rest h l) ∙ ap (λ v. (node_at ns v).previous.number) (sym e) ∙ previous)
+
+  not_inside : (s : Sequence) (j q : ℕ) (inner : Numbered) → s.parent ≡ j → same c j ≡ 0 → tally c inner ≡ 0
+      → 0 < tally k inner → Standing ns s no_slot q inner → ⊥
+  not_inside s j q inner held z none l h = elim (parent-in ns k s no_slot q inner h l) [
+    | inl x ↦ ne-from_same c j z (sym held ∙ sym x ∙ parent)
+    | inr y ↦ absurd (omega (arith, none, rw parent at y))
+  ]
+
+  pub head-is_first : (s : Sequence) (b q : ℕ) (n : Numbered) → tally no_slot n ≡ 0 → tally c n ≡ 0 → 0 < tally k n
+      → Standing ns s b q n → k ≡ first_slot n
+  head-is_first s b q End none zc l h = absurd (omega arith)
+  head-is_first s b q (Free j e rest) none zc l h = elim (cases_eq k j) [
+    | inl x ↦ x
+    | inr ne ↦
+        let y : 0 < tally k rest = omega (arith, same-ne k j ne) in
+        absurd (not_after s j (q + e) rest (omega arith) (head-is_first s j (q + e) rest (omega arith) (omega arith) y h.2) y h.2)
+  ]
+  head-is_first s b q (Alloc j g e rest) none zc l h = elim (cases_eq k j) [
+    | inl x ↦ x
+    | inr ne ↦
+        let y : 0 < tally k rest = omega (arith, same-ne k j ne) in
+        absurd (not_after s j (q + e) rest (omega arith) (head-is_first s j (q + e) rest (omega arith) (omega arith) y h.3) y h.3)
+  ]
+  head-is_first s b q (Seq j e inner rest) none zc l h = elim (cases_eq k j) [
+    | inl x ↦ x
+    | inr ne ↦ elim (split_pos (tally k inner) (tally k rest) (omega (arith, same-ne k j ne))) [
+      | inl y ↦ absurd (not_inside (inside s j q e) j s.start inner refl (omega arith) (omega arith) y h.2)
+      | inr y ↦ absurd (not_after s j (q + e) rest (omega arith) (head-is_first s j (q + e) rest (omega arith) (omega arith) y h.3) y h.3)
+    ]
+  ]
 
 pub first-lifted : (i : ℕ) (n : Numbered) → first_slot (lifted i n) ≡ first_slot n
 first-lifted i = first-edited (is_seq_at i) lifting (grind arith) 0
@@ -39,25 +102,24 @@ pub record IsLiftOf (ns ms : List Node) (c k : ℕ) : Type 0 where
   pub others : (x : ℕ) → (x ≡ c → ⊥) → (x ≡ k → ⊥) → node_at ms x ≡ node_at ns x
 
 module _ (ns ms : List Node) (c k : ℕ) (w : IsLiftOf ns ms c k) where
-  -- The child comes after no member.
-  not_later : (s : Sequence) (b q : ℕ) (n : Numbered) → (b ≡ no_slot → ⊥) → tally no_slot n ≡ 0 → tally c n ≡ 0
-      → 0 < tally k n → Standing ns s b q n → ⊥
-  not_later s b q End nb none zc l h = absurd (omega arith)
-  not_later s b q (Free j e rest) nb none zc l h =
-      grind (arith, same-ne k j, ne-from_same, not_later s j (q + e) rest)
-  not_later s b q (Alloc j g e rest) nb none zc l h =
-      grind (arith, same-ne k j, ne-from_same, not_later s j (q + e) rest)
-  not_later s b q (Seq j e inner rest) nb none zc l h =
-      grind (arith, split_pos, same-ne k j, parent-in, ne-from_same, not_later s j (q + e) rest)
-
   -- In c there is the child alone.
+  first_here : (s : Sequence) (b q : ℕ) (n : Numbered) → tally no_slot n ≡ 0 → tally c n ≡ 0 → 0 < tally k n
+      → Standing ns s b q n → k ≡ first_slot n
+  first_here = head-is_first ns c k w.parent w.alone_before
+
   lone : (s : Sequence) (b q : ℕ) (n : Numbered) → tally no_slot n ≡ 0 → tally c n ≡ 0 → 0 < tally k n
       → Standing ns s b q n → (d : ℕ) × (n ≡ Free k d End)
   lone s b q End none zc l h = absurd (omega arith)
-  lone s b q (Free j d rest) none zc l h = (d, grind (arith, same-ne k j, ne-from_same, not_later s j (q + d) rest, begins-none))
-  lone s b q (Alloc j g d rest) none zc l h = grind (arith, same-ne k j, ne-from_same, not_later s j (q + d) rest)
+  lone s b q (Free j d rest) none zc l h =
+      let at : k ≡ j = first_here s b q (Free j d rest) none zc l h in
+      let ends = sym h.0.next ∙ ap (λ v. (node_at ns v).next.number) (sym at) ∙ w.alone_after in
+      (d, ap (Free j d) (begins-none rest ends (omega arith)) ∙ ap (λ v. Free v d End) (sym at))
+  lone s b q (Alloc j g d rest) none zc l h =
+      let e = ap (λ v. (node_at ns v).kind) (first_here s b q (Alloc j g d rest) none zc l h) in
+      absurd (let z : kind.Free ≡ kind.Alloc = sym w.free ∙ e ∙ h.0.kind in cc)
   lone s b q (Seq j d inner rest) none zc l h =
-      grind (arith, split_pos, same-ne k j, parent-in, ne-from_same, not_later s j (q + d) rest)
+      let e = ap (λ v. (node_at ns v).kind) (first_here s b q (Seq j d inner rest) none zc l h) in
+      absurd (let z : kind.Free ≡ kind.Container = sym w.free ∙ e ∙ h.0.kind in cc)
 
   -- Where k is, c is, but for the sequence of c itself.
   container_in : (s : Sequence) (b q : ℕ) (n : Numbered) → (s.parent ≡ c → ⊥) → Standing ns s b q n → 0 < tally k n
@@ -67,6 +129,14 @@ module _ (ns ms : List Node) (c k : ℕ) (w : IsLiftOf ns ms c k) where
   beside : (j : ℕ) (m : Numbered) → ((x : ℕ) → same x j + tally x m ≤ 1) → 0 < tally c m → 0 < tally k m
       → node_at ms j ≡ node_at ns j
   beside j m once lc lk = w.others j (ne-from_same c j (omega (arith, once c))) (ne-from_same k j (omega (arith, once k)))
+
+  -- k is no member of a sequence that c doesn't hold.
+  outside : (s : Sequence) (j : ℕ) → (s.parent ≡ c → ⊥) → (node_at ns j).parent.number ≡ s.parent → k ≡ j → ⊥
+  outside s j np held e = np (sym held ∙ ap (λ v. (node_at ns v).parent.number) (sym e) ∙ w.parent)
+
+  stays_outside : (s : Sequence) (b q : ℕ) (n : Numbered) → tally c n ≡ 0 → tally k n ≡ 0 → Standing ns s b q n
+      → Standing ms s b q n
+  stays_outside s b q n zc zk = Standing-same ns ms s b q n (λ v l. w.others v (ne-from_count c v n zc l) (ne-from_count k v n zk l))
 
   -- Where c isn't, nothing changes; where k is, the tree stands, and the slot k alone leaves it.
   abbrev IsLift : (across : ℕ) → (old new : Numbered) → Type 0
@@ -80,17 +150,45 @@ module _ (ns ms : List Node) (c k : ℕ) (w : IsLiftOf ns ms c k) where
   lifts n =
       edited-keeps (is_seq_at c) lifting IsLift (record {
         ends = grind arith;
-        free = grind (arith, same-ne, container_in, beside);
-        alloc = grind (arith, same-ne, container_in, beside);
+        free = λ a j e m u no f. (
+          λ z. ap (Free j e) (f.0 (omega arith)),
+          refl,
+          λ s b p once none np l h.
+              let lk : 0 < tally k m = omega (arith, same-ne k j (outside s j np h.0.parent)) in
+              let same_at = beside j m once (container_in s j (p + e) m np h.2 lk) lk in
+              let after = f.2 s j (p + e) (λ x. omega (arith, once x)) (omega arith) np lk h.2 in
+              ((rw (same_at, f.1) h.0, rw same_at h.1, after.0), λ x. omega (arith, after.1 x)),
+        );
+        alloc = λ a j g e m u no f. (
+          λ z. ap (Alloc j g e) (f.0 (omega arith)),
+          refl,
+          λ s b p once none np l h.
+              let lk : 0 < tally k m = omega (arith, same-ne k j (outside s j np h.0.parent)) in
+              let same_at = beside j m once (container_in s j (p + e) m np h.3 lk) lk in
+              let after = f.2 s j (p + e) (λ x. omega (arith, once x)) (omega arith) np lk h.3 in
+              ((rw (same_at, f.1) h.0, rw same_at h.1, rw same_at h.2, after.0), λ x. omega (arith, after.1 x)),
+        );
         seq = λ a j e x y m u no f g. (
-          grind arith,
+          λ z. ap (λ v. Seq j e v u) (f.0 (omega arith)) ∙ ap (Seq j e x) (g.0 (omega arith)),
           refl,
           λ s b p once none np l h.
               let nj : c ≡ j → ⊥ = eqb-false c j no in
               let t = inside s j p e in
-              elim (split_pos (tally k x) (tally k m) (omega (arith, same-ne k j (λ q. grind arith)))) [
-                | inl lk ↦ grind (arith, container_in t no_slot s.start x, beside j x, Standing-same ns ms)
-                | inr lk ↦ grind (arith, container_in s j (p + e) m, beside j m, Standing-same ns ms)
+              elim (split_pos (tally k x) (tally k m) (omega (arith, same-ne k j (outside s j np h.0.parent)))) [
+                | inl lk ↦
+                    let lc = container_in t no_slot s.start x (λ q. nj (sym q)) h.2 lk in
+                    let same_at = beside j x (λ v. omega (arith, once v)) lc lk in
+                    let within = f.2 t no_slot s.start (λ v. omega (arith, once v)) (omega arith) (λ q. nj (sym q)) lk h.2 in
+                    let same_rest : u ≡ m = g.0 (omega (arith, once c, lc)) in
+                    let stays = stays_outside s j (p + e) m (omega (arith, once c, lc)) (omega (arith, once k, lk)) h.3 in
+                    ((rw (same_at, g.1) h.0, rw same_at h.1, within.0, rw same_rest stays), λ v. omega (arith, within.1 v, ap (tally v) same_rest))
+                | inr lk ↦
+                    let lc = container_in s j (p + e) m np h.3 lk in
+                    let same_at = beside j m (λ v. omega (arith, once v)) lc lk in
+                    let after = g.2 s j (p + e) (λ v. omega (arith, once v)) (omega arith) np lk h.3 in
+                    let same_inner : y ≡ x = f.0 (omega (arith, once c, lc)) in
+                    let stays = stays_outside t no_slot s.start x (omega (arith, once c, lc)) (omega (arith, once k, lk)) h.2 in
+                    ((rw (same_at, g.1) h.0, rw same_at h.1, rw same_inner stays, after.0), λ v. omega (arith, after.1 v, ap (tally v) same_inner))
               ],
         );
       }) (λ a. seq_here c (λ m. IsLift a m (lifting a m)) (λ e inner rest. (

@@ -1,5 +1,5 @@
 -- The slots determine the tree.
-use Rattle.std.proofs.Common.{rules, ℕ, ◌+◌, ◌<◌, ◌≤◌, ◌≡◌, List, refl, sym, ap, ◌∙◌, ◌⊎◌, inl, inr, arith, length, zero, suc, true}
+use Rattle.std.proofs.Common.{ℕ, ◌+◌, ◌<◌, ◌≤◌, ◌≡◌, List, refl, sym, ap, ◌∙◌, ◌⊎◌, inl, inr, arith, length, zero, suc, true, subst}
 use Rattle.std.proofs.lemmas.Bool.{cases_eq, cases_lt, and_parts, and_from, eqb-true, eq-eqb, ltb-true, lt-ltb, true≢false}
 use Rattle.std.proofs.lemmas.List.{get_or_past}
 use Rattle.std.proofs.lemmas.List.Sums.{passes_at_first, fails_before_first}
@@ -15,7 +15,7 @@ use Rattle.atlas_store.specs.Slots.Standing.{Sequence, Standing, Stands, inside,
 use Rattle.atlas_store.specs.Slots.Reading.{extent_of, begins_in, first_member_of, read, numbered_of, tree_of}
 use Rattle.atlas_store.proofs.SlotLemmas.Frames.{same-self, same-ne, used-le, split_pos, ne-from_same}
 use Rattle.atlas_store.proofs.SlotLemmas.JoinWrites.{none-unused, used-inside}
-use Rattle.atlas_store.proofs.SlotLemmas.Lifts.{parent-in}
+use Rattle.atlas_store.proofs.SlotLemmas.Lifts.{head-is_first, parent-in}
 
 pub side-box : (s : Sequence) (p e : ℕ) → side s.axis (box_sides (box_of (rectangle_of (member_box s p e)))) ≡ e
 side-box s p e = grind arith
@@ -37,24 +37,10 @@ IsHead-true c n h = grind (arith, and_parts, ltb-true, eqb-true)
 true-IsHead : (c : ℕ) (n : Node) → IsHead c n → begins_in c n ≡ true
 true-IsHead c n h = grind (arith, and_from, lt-ltb, eq-eqb)
 
--- In a sequence held by c, which is not in it, a later member of c has something before it.
-not_first : (ns : List Node) (c k : ℕ) (s : Sequence) (b q : ℕ) (n : Numbered) → IsHead c (node_at ns k)
-    → (b ≡ no_slot → ⊥) → tally no_slot n ≡ 0 → tally c n ≡ 0 → 0 < tally k n → Standing ns s b q n → ⊥
-not_first ns c k s b q End hd nb none zc l h = absurd (omega arith)
-not_first ns c k s b q (Free j e rest) hd nb none zc l h =
-    grind (arith, not_first ns c k s j (q + e) rest hd, ne-from_same, same-ne)
-not_first ns c k s b q (Alloc j g e rest) hd nb none zc l h =
-    grind (arith, not_first ns c k s j (q + e) rest hd, ne-from_same, same-ne)
-not_first ns c k s b q (Seq j e inner rest) hd nb none zc l h =
-    search (rules, split_pos, same-ne, parent-in ns k (inside s j q e) no_slot s.start inner h.2, ne-from_same, not_first ns c k s j (q + e) rest hd)
-
 -- The head of the sequence of c is its first_slot member.
-pub head-first : (ns : List Node) (c k : ℕ) (s : Sequence) (b q : ℕ) (n : Numbered) → IsHead c (node_at ns k)
+head-first : (ns : List Node) (c k : ℕ) (s : Sequence) (b q : ℕ) (n : Numbered) → IsHead c (node_at ns k)
     → tally no_slot n ≡ 0 → tally c n ≡ 0 → 0 < tally k n → Standing ns s b q n → k ≡ first_slot n
-head-first ns c k s b q End hd none zc l h = absurd (omega arith)
-head-first ns c k s b q (Seq j e inner rest) hd none zc l h =
-    search (rules, split_pos, same-ne, parent-in ns k (inside s j q e) no_slot s.start inner h.2, ne-from_same, not_first ns c k s j (q + e) rest hd)
-head-first ns c k s b q n hd none zc l h = grind (arith, not_first, ne-from_same, same-ne)
+head-first ns c k s b q n hd = head-is_first ns c k hd.parent hd.previous s b q n
 
 -- A node in use that has the parent c is in n, for each c in n.
 abbrev pub IsClosed : List Node → Numbered → Type 0
@@ -97,13 +83,23 @@ Starts-head ns s q n h only =
           let hd = IsHead-true c (node_at ns p) (passes_at_first (begins_in c) ns blank_node l) in
           let o = only p hd in
           Starts-at ns p n (omega (arith, ap (λ v. tally v n) o.0, o.1)) o.0
-      | inr g ↦
-          grind (arith, get_or_past, empty-or, first-head, used-inside, true≢false, true-IsHead, fails_before_first)
+      | inr g ↦ elim (empty-or n) [
+        | inl e ↦ subst (Starts ns p) (sym e) (ap (λ (x : Node). x.kind) (get_or_past ns p blank_node g))
+        | inr l ↦
+            let hd = first-head ns s q n h l in
+            let fails = fails_before_first (begins_in c) ns (first_slot n) blank_node (omega (arith, used-inside ns (first_slot n) hd.is_used)) in
+            absurd (true≢false (sym (true-IsHead c (node_at ns (first_slot n)) hd) ∙ fails))
+      ]
     ]
 
 closed_rest : (ns : List Node) (s : Sequence) (j : ℕ) (n rest : Numbered) → (node_at ns j).parent.number ≡ s.parent
     → tally s.parent rest ≡ 0 → ((k : ℕ) → tally k n ≡ same k j + tally k rest) → IsClosed ns n → IsClosed ns rest
-closed_rest ns s j n rest pj z is closed k u l = grind (arith, same-ne)
+closed_rest ns s j n rest pj z is closed k u l =
+    let y : 0 < tally k n = closed k u (omega (arith, is (node_at ns k).parent.number)) in
+    elim (cases_eq k j) [
+      | inl x ↦ absurd (omega (arith, z, l, ap (λ v. tally (node_at ns v).parent.number rest) x, ap (λ v. tally v rest) pj))
+      | inr ne ↦ omega (arith, is k, same-ne k j ne)
+    ]
 
 pub read-is : (fuel : ℕ) (ns : List Node) (s : Sequence) (b q : ℕ) (n : Numbered) (i : ℕ)
     → (node_at ns no_slot).kind ≡ kind.Unused → Standing ns s b q n → numbers n ≤ fuel → IsClosed ns n
@@ -131,8 +127,14 @@ read-is (suc fuel) ns s b q (Seq j e inner rest) i u h f closed z once none st =
       | inl x ↦ absurd (at_j k uk x l)
       | inr ne ↦ let y = closed k uk (omega arith) in split_pos (tally k inner) (tally k rest) (omega (arith, same-ne k j ne))
     ]) in
-    let closed_in : IsClosed ns inner = grind (arith, parent-in) in
-    let closed_after : IsClosed ns rest = grind (arith, parent-in) in
+    let closed_in : IsClosed ns inner = (λ k u l. elim (which k u (omega arith)) [
+      | inl y ↦ y
+      | inr y ↦ absurd (elim (parent-in ns k s j (q + e) rest h.3 y) [ inl x ↦ omega (arith, z, l, ap (λ v. tally v inner) x) | inr v ↦ omega (arith, l, v, once (node_at ns k).parent.number) ])
+    ]) in
+    let closed_after : IsClosed ns rest = (λ k u l. elim (which k u (omega arith)) [
+      | inl y ↦ absurd (elim (parent-in ns k t no_slot s.start inner h.2 y) [ inl x ↦ omega (arith, zj, l, ap (λ v. tally v rest) x) | inr v ↦ omega (arith, l, v, once (node_at ns k).parent.number) ])
+      | inr y ↦ y
+    ]) in
     let only : (k : ℕ) → IsHead j (node_at ns k) → k ≡ first_slot inner × (0 < tally k inner) = (λ k hd.
     let y = closed k hd.is_used (omega (arith, ap (λ v. tally v (Seq j e inner rest)) hd.parent, self)) in
     elim (cases_eq k j) [

@@ -1,14 +1,17 @@
 -- The rectangle that a used slot stores is that of a member.
-use Rattle.std.proofs.Common.{ℕ, ◌<◌, ◌≡◌, List, refl, arith}
+use Rattle.std.proofs.Common.{ℕ, ◌<◌, ◌≡◌, List, length, refl, arith}
+use Rattle.std.proofs.lemmas.List.{length-map}
+use Rattle.atlas_store.specs.declared.slots.Slot.{Slot}
 use Rattle.atlas_store.specs.declared.slots.Node.{Node}
 use Rattle.atlas_store.specs.declared.slots.NodeKind.TheVariants as kind
 use Rattle.atlas_model.specs.declared.geometry.Rectangle.{Rectangle}
 use Rattle.atlas_model.specs.Boxes.{Box}
 use Rattle.atlas_model.specs.Pixels.{rectangle_of, box_of}
-use Rattle.atlas_store.specs.Slots.{node_at, use_count}
+use Rattle.atlas_store.specs.Slots.{nodes, node_at, use_count}
 use Rattle.atlas_search.specs.Numbers.{no_slot}
 use Rattle.atlas_store.specs.Slots.Numbered.{Numbered, tally, first_slot, End}
 use Rattle.atlas_store.specs.Slots.Standing.{Sequence, Standing, Stands, IsTree}
+use Rattle.atlas_store.proofs.SlotLemmas.Frames.{used-inside}
 use Rattle.atlas_store.proofs.SlotLemmas.Suffixes.{suffix-at}
 use Rattle.atlas_search.specs.Rectangles.{IsUnsigned}
 
@@ -28,3 +31,12 @@ Stands-exact ns i s n h l =
 
 pub free-exact : (ns : List Node) (i : ℕ) → IsTree ns → (node_at ns i).kind ≡ kind.Free → IsUnsigned (node_at ns i).area
 free-exact ns i t f = Stands-exact ns i t.0 t.1 t.2 (rw f (omega arith))
+
+pub read-exact : (ns : List Node) (i : ℕ) (n : Node) → n ≡ node_at ns i → IsTree ns → (node_at ns i).kind ≡ kind.Free
+    → IsUnsigned n.area
+read-exact ns i n e t f = rw e (free-exact ns i t f)
+
+-- A free slot is one of the slots.
+pub free-inside : (slots : List Slot) (i : ℕ) → (node_at (nodes slots) i).kind ≡ kind.Free → i < length slots
+free-inside slots i free =
+    omega (arith, used-inside (nodes slots) i (rw free (omega arith)), length-map slots (λ (s : Slot). s.node))

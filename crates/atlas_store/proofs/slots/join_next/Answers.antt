@@ -1,4 +1,4 @@
-use Rattle.std.proofs.Common.{◌<◌, ◌≡◌, ℕ, length, sym, ap, ◌∙◌, subst}
+use Rattle.std.proofs.Common.{◌<◌, ◌≡◌, ℕ, length, sym, ap, ◌∙◌, subst, arith}
 use Rattle.std.proofs.lemmas.List.{length-map}
 use Rattle.atlas_store.specs.declared.slots.Node.{Node}
 use Rattle.atlas_store.specs.Slots.{nodes, node_at}
@@ -7,7 +7,22 @@ use Rattle.atlas_store.specs.Slots.SlotCalls.{IsNextJoined}
 use Rattle.atlas_store.proofs.SlotLemmas.Joins.{Stands-joined, joined-use}
 use Rattle.atlas_store.proofs.SlotLemmas.JoinWrites.{join_next_is, IsSlot-after}
 use Rattle.atlas_store.proofs.SlotLemmas.Calm.{calm-joined}
+use Rattle.atlas_store.proofs.SlotLemmas.SlotAreas.{free-inside}
 use Rattle.atlas_store.proofs.slots.join_next.Goals as goal
+
+pub read_node-this-requires : goal.read_node-this-requires
+read_node-this-requires c = free-inside c.args.slots.now c.args.slot.number c.requires.free.free
+
+pub read_node-next-requires : goal.read_node-next-requires
+read_node-next-requires c = rw c.read_node-this.ensures (free-inside c.args.slots.now _ c.requires.free.next_free)
+
+pub write_node-requires : goal.write_node-requires
+write_node-requires c = free-inside c.args.slots.now c.args.slot.number c.requires.free.free
+
+pub set_kind-requires : goal.set_kind-requires
+set_kind-requires c =
+    let next = ap (λ (n : Node). n.next.number) c.read_node-this.ensures in
+    omega (arith, next, c.set_previous.auto.slots, c.write_node.auto.slots, free-inside c.args.slots.now _ c.requires.free.next_free)
 
 pub set_previous-requires-clause-inside : goal.set_previous-requires-clause-inside
 set_previous-requires-clause-inside c =

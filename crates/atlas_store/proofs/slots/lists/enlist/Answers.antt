@@ -10,9 +10,19 @@ use Rattle.atlas_search.specs.declared.link.Link.{Link}
 use Rattle.atlas_store.specs.Slots.Links.{IsUnlisted}
 use Rattle.atlas_store.specs.Slots.Lists.{AreFiled, IsLinked, IsList, node_top, tag_of}
 use Rattle.atlas_model.specs.Pixels.{options_of}
+use Rattle.atlas_store.proofs.SlotLemmas.SlotAreas.{free-inside}
 use Rattle.atlas_store.proofs.StoreLemmas.FiledSlots.{IsPutIn, is-unlisted, list_for, number-is, listed-by, length-rings}
 use Rattle.atlas_store.proofs.StoreLemmas.LinkedLists.{chain-linked, untagged-chain}
 use Rattle.atlas_store.proofs.slots.lists.enlist.Goals as goal
+
+pub read_node-node-requires : goal.read_node-node-requires
+read_node-node-requires g c = free-inside c.args.slots.now c.args.at.number c.requires.free
+
+pub push-requires-clause-slot : goal.push-requires-clause-slot
+push-requires-clause-slot g c = omega (arith, c.requires.short, free-inside c.args.slots.now c.args.at.number c.requires.free)
+
+pub push_front-requires-clause-inside : goal.push_front-requires-clause-inside
+push_front-requires-clause-inside g c = free-inside c.args.slots.now c.args.at.number c.requires.free
 
 pub returns-then-not-push-clause-filed : goal.returns-then-not-push-clause-filed
 returns-then-not-push-clause-filed g c = λ unused p filed kept.

@@ -5,8 +5,12 @@ use Rattle.atlas_search.specs.Bands.{number_of}
 use Rattle.atlas_search.specs.Tables.{low_of}
 use Rattle.atlas_store.specs.Slots.{node_at, nodes}
 use Rattle.atlas_store.specs.Slots.Lists.{node_top}
+use Rattle.atlas_store.proofs.SlotLemmas.SlotAreas.{free-inside}
 use Rattle.atlas_store.proofs.StoreLemmas.PiledLists.{inserted-tag, joined-pile, joins-pile, tag-used}
 use Rattle.atlas_store.proofs.slots.piling.join_pile.Goals as goal
+
+pub read_node-requires : goal.read_node-requires
+read_node-requires g c = free-inside c.args.slots.now c.args.at.number c.requires.free
 
 pub insert-tag-requires : goal.insert-tag-requires
 insert-tag-requires g c =

@@ -3,7 +3,7 @@ use Rattle.std.proofs.lemmas.List.{length-map}
 use Rattle.atlas_store.specs.Slots.{nodes}
 use Rattle.atlas_search.specs.Numbers.{no_slot, same}
 use Rattle.atlas_store.proofs.SlotLemmas.Frames.{same-self}
-use Rattle.atlas_store.proofs.SlotLemmas.SlotAreas.{free-exact}
+use Rattle.atlas_store.proofs.SlotLemmas.SlotAreas.{free-inside, read-exact}
 use Rattle.atlas_store.proofs.SlotLemmas.PlaceWrites.{
   can-place,
   placed-as,
@@ -18,9 +18,27 @@ use Rattle.atlas_store.proofs.SlotLemmas.PlaceWrites.{
 }
 use Rattle.atlas_store.proofs.slots.placing.place_leaf.Goals as goal
 
+pub read_node-leaf-requires : goal.read_node-leaf-requires
+read_node-leaf-requires c = free-inside c.args.slots.now c.args.at.number c.requires.ready.free
+
+pub set_kind-requires : goal.set_kind-requires
+set_kind-requires c = free-inside c.args.slots.now c.args.at.number c.requires.ready.free
+
+pub cut_leaf-requires-clause-front : goal.cut_leaf-requires-clause-front
+cut_leaf-requires-clause-front c = free-inside c.args.slots.now c.args.at.number c.requires.ready.free
+
+pub cut_leaf-front-requires-clause-front : goal.cut_leaf-front-requires-clause-front
+cut_leaf-front-requires-clause-front c = free-inside c.args.slots.now c.args.at.number c.requires.ready.free
+
+pub set_kind-requires-in-StripAcross : goal.set_kind-requires-in-StripAcross
+set_kind-requires-in-StripAcross c = free-inside c.args.slots.now c.args.at.number c.requires.ready.free
+
+pub set_kind-requires-in-CornerAcross : goal.set_kind-requires-in-CornerAcross
+set_kind-requires-in-CornerAcross c = free-inside c.args.slots.now c.args.at.number c.requires.ready.free
+
 pub cut_leaf-requires-clause-exact : goal.cut_leaf-requires-clause-exact
 cut_leaf-requires-clause-exact c =
-    grind (arith, free-exact)
+    read-exact (nodes c.args.slots.now) c.args.at.number _ c.read_node-leaf.ensures c.requires.stands c.requires.ready.free
 
 pub cut_leaf-requires-clause-back : goal.cut_leaf-requires-clause-back
 cut_leaf-requires-clause-back c =
@@ -34,7 +52,7 @@ set_previous-requires-clause-inside c =
 
 pub cut_leaf-front-requires-clause-exact : goal.cut_leaf-front-requires-clause-exact
 cut_leaf-front-requires-clause-exact c =
-    grind (arith, free-exact)
+    read-exact (nodes c.args.slots.now) c.args.at.number _ c.read_node-leaf.ensures c.requires.stands c.requires.ready.free
 
 pub cut_leaf-front-requires-clause-back : goal.cut_leaf-front-requires-clause-back
 cut_leaf-front-requires-clause-back c =
@@ -60,11 +78,16 @@ cut_inside-requires-clause-back c =
 
 pub cut_inside-requires-clause-apart : goal.cut_inside-requires-clause-apart
 cut_inside-requires-clause-apart c =
-    grind (arith, same-self, placed-once (nodes c.args.slots.now) _ _ _ c.args.parts c.args.parts.granted.number c.requires.ready c.in-CornerAlong.is)
+    λ e. omega (
+      arith,
+      placed-once (nodes c.args.slots.now) _ _ _ c.args.parts c.args.parts.granted.number c.requires.ready c.in-CornerAlong.is,
+      same-self c.args.parts.granted.number,
+      ap (same c.args.parts.granted.number) e,
+    )
 
 pub cut_inside-requires-in-StripAcross-clause-exact : goal.cut_inside-requires-in-StripAcross-clause-exact
 cut_inside-requires-in-StripAcross-clause-exact c =
-    grind (arith, free-exact)
+    read-exact (nodes c.args.slots.now) c.args.at.number _ c.read_node-leaf.ensures c.requires.stands c.requires.ready.free
 
 pub cut_inside-requires-in-StripAcross-clause-front : goal.cut_inside-requires-in-StripAcross-clause-front
 cut_inside-requires-in-StripAcross-clause-front c =
@@ -78,11 +101,16 @@ cut_inside-requires-in-StripAcross-clause-back c =
 
 pub cut_inside-requires-in-StripAcross-clause-apart : goal.cut_inside-requires-in-StripAcross-clause-apart
 cut_inside-requires-in-StripAcross-clause-apart c =
-    grind (arith, same-self, placed-once (nodes c.args.slots.now) _ _ _ c.args.parts c.args.parts.granted.number c.requires.ready c.in-StripAcross.is)
+    λ e. omega (
+      arith,
+      placed-once (nodes c.args.slots.now) _ _ _ c.args.parts c.args.parts.granted.number c.requires.ready c.in-StripAcross.is,
+      same-self c.args.parts.granted.number,
+      ap (same c.args.parts.granted.number) e,
+    )
 
 pub cut_inside-front-requires-clause-exact : goal.cut_inside-front-requires-clause-exact
 cut_inside-front-requires-clause-exact c =
-    grind (arith, free-exact)
+    read-exact (nodes c.args.slots.now) c.args.at.number _ c.read_node-leaf.ensures c.requires.stands c.requires.ready.free
 
 pub cut_inside-front-requires-clause-front : goal.cut_inside-front-requires-clause-front
 cut_inside-front-requires-clause-front c =
@@ -96,7 +124,12 @@ cut_inside-front-requires-clause-back c =
 
 pub cut_inside-front-requires-clause-apart : goal.cut_inside-front-requires-clause-apart
 cut_inside-front-requires-clause-apart c =
-    grind (arith, same-self, placed-once (nodes c.args.slots.now) _ _ _ c.args.parts c.args.parts.container.number c.requires.ready c.in-CornerAcross.is)
+    λ e. omega (
+      arith,
+      placed-once (nodes c.args.slots.now) _ _ _ c.args.parts c.args.parts.container.number c.requires.ready c.in-CornerAcross.is,
+      same-self c.args.parts.container.number,
+      ap (same c.args.parts.container.number) e,
+    )
 
 pub cut_inside-requires-in-CornerAcross-clause-front : goal.cut_inside-requires-in-CornerAcross-clause-front
 cut_inside-requires-in-CornerAcross-clause-front c =
@@ -112,7 +145,12 @@ cut_inside-requires-in-CornerAcross-clause-back c =
 
 pub cut_inside-requires-in-CornerAcross-clause-apart : goal.cut_inside-requires-in-CornerAcross-clause-apart
 cut_inside-requires-in-CornerAcross-clause-apart c =
-    grind (arith, same-self, placed-once (nodes c.args.slots.now) _ _ _ c.args.parts c.args.parts.granted.number c.requires.ready c.in-CornerAcross.is)
+    λ e. omega (
+      arith,
+      placed-once (nodes c.args.slots.now) _ _ _ c.args.parts c.args.parts.granted.number c.requires.ready c.in-CornerAcross.is,
+      same-self c.args.parts.granted.number,
+      ap (same c.args.parts.granted.number) e,
+    )
 
 pub returns-in-Whole-clause-placed : goal.returns-in-Whole-clause-placed
 returns-in-Whole-clause-placed c =

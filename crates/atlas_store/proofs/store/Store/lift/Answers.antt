@@ -8,6 +8,7 @@ use Rattle.atlas_store.specs.Slots.{nodes, node_at}
 use Rattle.atlas_store.specs.Slots.SlotCalls.{IsChildLifted}
 use Rattle.atlas_store.specs.Slots.Calm.{IsCalmBut}
 use Rattle.atlas_store.specs.Store.Holdings.{shelf_of}
+use Rattle.atlas_store.proofs.SlotLemmas.SlotAreas.{free-inside}
 use Rattle.atlas_store.proofs.StoreLemmas.StoreSteps.{AreSlots, GivesBack, lifted-holds, over-shelf, long-over}
 use Rattle.atlas_store.proofs.store.Store.lift.Given as given
 use Rattle.atlas_store.proofs.store.Store.lift.Goals as goal
@@ -42,6 +43,9 @@ module _ (g : given.Over) (c : goal.After-tick g) where
 
   abbrev IsFreeIn : List Node → Type 0
   IsFreeIn ns = (node_at ns c.lift-container.result.number).kind ≡ Free
+
+pub give_back-requires : goal.give_back-requires
+give_back-requires g c = omega (arith, free-inside c.args.self.now.slots.items c.args.child.number c.requires.ready.1.kind)
 
 pub returns : goal.returns
 returns g c = record {
