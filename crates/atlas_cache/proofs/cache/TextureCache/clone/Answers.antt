@@ -1,3 +1,4 @@
+use Rattle.std.proofs.Common.{refl}
 use Rattle.atlas_cache.specs.Caches.{entries_of}
 use Rattle.atlas_cache.specs.Entries.{lying}
 use Rattle.atlas_cache.proofs.HoldingLemmas.{stays}
@@ -22,3 +23,24 @@ returns-clause-sizes g c =
     let old = c.self.inside.rooms.pages in
     let new = c.in_ok-rooms.rooms.pages in
     rw (← c.self.view_is) (same_sizes old new (states_same old new c.in_ok-rooms.ensures.stored))
+
+pub returns-clause-options : goal.returns-clause-options
+returns-clause-options g c = rw (← c.self.view_is) c.in_ok-rooms.ensures.options
+
+pub returns-clause-stored : goal.returns-clause-stored
+returns-clause-stored g c = rw (← c.self.view_is) c.in_ok-rooms.ensures.stored
+
+pub returns-clause-entries : goal.returns-clause-entries
+returns-clause-entries g c = rw (← c.self.view_is, c.in_ok-entries.ensures) refl
+
+pub returns-clause-numbers : goal.returns-clause-numbers
+returns-clause-numbers g c = rw (← c.self.view_is, c.in_ok-entries.ensures) refl
+
+pub returns-clause-reserved : goal.returns-clause-reserved
+returns-clause-reserved g c = rw c.in_ok-entries.ensures refl
+
+pub returns-clause-frame : goal.returns-clause-frame
+returns-clause-frame g c = rw (← c.self.view_is) refl
+
+pub returns-clause-counts : goal.returns-clause-counts
+returns-clause-counts g c = rw (← c.self.view_is) refl
