@@ -1,6 +1,16 @@
 use Rattle.std.proofs.Common.{◌∙◌, refl}
+use Rattle.std.proofs.lemmas.Bool.{false≢true}
 use Rattle.atlas_maxrects.proofs.TopmostPlaces.{places_none, places_some, stored_taken}
 use Rattle.atlas_maxrects.proofs.packer.TopmostPacker.place.Goals as goal
+
+pub returns-then-not-is_positive-clause-placed : goal.returns-then-not-is_positive-clause-placed
+returns-then-not-is_positive-clause-placed g c = (λ positive. absurd (false≢true (c.if-not-is_positive.ensures.1 positive)), refl)
+
+pub sides_in-width-requires : goal.sides_in-width-requires
+sides_in-width-requires g c = c.if-not-is_positive.ensures.0 refl
+
+pub invariant_of-self : goal.invariant_of-self
+invariant_of-self g c = rw c.in_err-push-in-Some.ensures.items c.self.invariant
 
 pub returns-in-None-clause-placed : goal.returns-in-None-clause-placed
 returns-in-None-clause-placed g c =
