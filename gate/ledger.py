@@ -4,8 +4,8 @@
 
 TEXT is the sum of its own text; SOURCES that of its crate and of what a proof of it may see of the crates below; TOOLS that of the kit's
 logic and of what judges here. So a line says nothing of an edit once one of the three has changed. They are the same on each machine, and
-in each folder. Of a crate below a proof sees the sources and the definitions, of its lemmas what they state, and nothing of how anything
-is proved: a theorem's proof is closed to other crates. So a shorter proof of a lemma leaves the lines of the crates above as they are.
+in each folder. Of a crate below a proof sees the sources, the definitions, and what those theorems state that it names: how a theorem is
+proved is closed to other crates. So another proof of a lemma, or one more lemma, leaves the lines of the crates above as they are.
 
 A line may be wrong, by hand or by mistake. So each day draws a tenth of them, which are tried none the less: the days are counted by tens,
 and each ten draw each edit once, not always on the same day of the ten. The date draws, and not the commit: whoever writes a wrong line
@@ -31,12 +31,17 @@ WELL = "refused, as it must be"
 # What a function's proof is, which no other crate can cite.
 CLOSED = ("Answers.antt", "Invariants.antt", "Proof.antt")
 # The first words of what stands in a file of lemmas with all that it says: what may be unfolded, and what isn't a theorem.
-OPEN = ("abbrev", "unfoldable", "record", "data", "ruleset", "mod", "module", "instance", "syntax")
+OPEN = ("abbrev", "unfoldable", "record", "data", "ruleset", "mod", "use", "module", "instance", "syntax")
 WORD = r"[^\s(){}◌]+"
 
 
 def sum_of(*words):
     return hashlib.sha256(repr(words).encode()).hexdigest()[:16]
+
+
+def words_of(text):
+    """The names and operators of a text."""
+    return {*re.split(r"[\s(){}\[\],.;]+", text)}
 
 
 def items(lines):
@@ -51,57 +56,78 @@ def items(lines):
     return found
 
 
-def stated(lines):
-    """Of these lines of a file of lemmas what another crate may see: of a theorem what it states, of all else the whole."""
-    kept_lines, imports, opened = [], [], set()
+def parts_of(lines):
+    """What these lines of a file of lemmas say, in order, as triples of a name, a text and parts: a theorem's name and what it states; of
+    what may be unfolded no name, and the whole; of a module within the file its head, and its parts. A theorem of the file's own and proofs
+    are left out."""
+    found, opened = [], set()
     for item in items(lines):
         words = item[0].removeprefix("pub ").split()
-        if words[0] == "use":
-            imports.append(item[0])
-        elif words[0] == "module" and words[-1] == "where":
-            inside = [line.removeprefix("  ") for line in item[1:]]
-            kept_lines += [item[0], *(f"  {line}" for line in stated(inside))]
-        elif words[0] in OPEN:
-            opened |= {*words[1:4]}
-            kept_lines += item
-        elif re.match(r"[^=]*? : ", f"{item[0]} "):
-            kept_lines += item if item[0].startswith("pub ") else []
-        elif words[0] in opened:
-            kept_lines += item
-    said = "\n".join(kept_lines)
-    return [*(it for line in imports if (it := narrowed(line, said))), *kept_lines]
+        if words[0] == "module" and any(line.endswith(" where") for line in item):
+            inside = 1 + next(at for at, line in enumerate(item) if line.endswith(" where"))
+            margin = min((len(line) - len(line.lstrip()) for line in item[inside:]), default=0)
+            found.append((None, "\n".join(item[:inside]), parts_of([line[margin:] for line in item[inside:]])))
+        elif words[0] in OPEN or words[0] in opened:
+            opened |= {*words[1:4]} if words[0] in ("abbrev", "unfoldable") else set()
+            found.append((None, "\n".join(item), None))
+        elif item[0].startswith("pub ") and re.match(r"[^=]*? : ", f"{item[0]} "):
+            found.append((words[0], "\n".join(item), None))
+    return found
 
 
-def narrowed(line, said):
-    """An import without the names that aren't in what is said; empty where none is."""
-    module, brace, names = line.rstrip().rstrip("}").partition("{")
-    left = [it for it in names.split(", ") if all(word in said for word in re.findall(WORD, it))]
-    return f"{module}{{{', '.join(left)}}}" if left else "" if brace else line
+def seen_in(parts, cited):
+    """The texts of these parts, but for theorems with other names and modules with no other part."""
+    found = []
+    for name, text, inner in parts:
+        within = [] if inner is None else seen_in(inner, cited)
+        if within or inner is None and (name is None or name in cited):
+            found += [text, *within]
+    return found
 
 
 @functools.lru_cache(maxsize=None)
-def stated_in(text):
-    """What another crate may see of a file of lemmas with this text."""
-    return "\n".join(stated(text.decode().splitlines())).encode()
+def read_lemmas(text):
+    """The imports of a file of lemmas with this text, and its parts."""
+    lines = text.decode().splitlines()
+    uses = [it for it in items(lines) if it[0].startswith("use ")]
+    return [it[0] for it in uses], parts_of([line for it in items(lines) if it not in uses for line in it])
 
 
-def seen_of(crate):
-    """The files of a crate by their names, with what a proof in another one may see of them."""
+def narrowed(line, said):
+    """An import without the names that aren't among what is said; empty where none is."""
+    module, brace, names = line.rstrip().rstrip("}").partition("{")
+    left = [it for it in names.split(", ") if {*re.findall(WORD, it)} <= said]
+    return f"{module}{{{', '.join(left)}}}" if left else "" if brace else line
+
+
+def lemmas_of(crate):
+    """The files of a crate with lemmas, by their names."""
+    paths = [it for it in crate.sources() if it.name not in CLOSED and it.relative_to(crate.folder).parts[0] == "proofs"]
+    return {it.relative_to(crate.folder).as_posix(): read_lemmas(it.read_bytes()) for it in paths}
+
+
+def seen_of(crate, cited):
+    """The files of a crate, with what a proof in another one may see of them that names no theorems but these."""
     for path in crate.sources():
         name = path.relative_to(crate.folder).as_posix()
         if not name.startswith("proofs/"):
             yield name, path.read_bytes()
-        elif path.name not in CLOSED:
-            yield name, stated_in(path.read_bytes())
+    for name, (imports, parts) in lemmas_of(crate).items():
+        said = "\n".join(seen_in(parts, cited))
+        words = words_of(said)
+        yield name, "\n".join([*(it for line in imports if (it := narrowed(line, words))), said]).encode()
 
 
 def sources_sum(crate):
-    """The sum of all that the check of a crate reads in this repository, but for how theorems of the crates below are proved."""
-    read = []
-    for each in sorted([crate, *crate.below().values()], key=lambda it: it.name):
-        own = ((path.relative_to(each.folder).as_posix(), path.read_bytes()) for path in each.sources())
-        read.append((each.name, each.is_static, sorted(each.deps), sorted(own if each is crate else seen_of(each))))
-    return sum_of(read)
+    """The sum of all that the check of a crate reads in this repository, but for theorems of the crates below that it doesn't name, and for
+    how the others are proved."""
+    own = sorted((path.relative_to(crate.folder).as_posix(), path.read_bytes()) for path in crate.sources())
+    below = sorted(crate.below().values(), key=lambda it: it.name)
+    cited = {word for _, text in own for word in words_of(text.decode())}
+    for each in below:
+        cited |= {word for _, parts in lemmas_of(each).values() for text in seen_in(parts, ()) for word in words_of(text)}
+    read = [(it.name, it.is_static, sorted(it.deps), sorted(seen_of(it, cited))) for it in below]
+    return sum_of((crate.name, crate.is_static, sorted(crate.deps), own), read)
 
 
 def tools_sum(kit):
