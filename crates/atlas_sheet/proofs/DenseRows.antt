@@ -1,5 +1,5 @@
 -- Smaller and smaller sheets that are tried without guillotine cuts: the last one that was found, and the next smaller.
-use Rattle.std.proofs.Common.{◌≡◌, ◌+◌, ◌-◌, ◌*◌, ◌<◌, ◌≤◌, ℕ, true, false, List, Option, Some, None, IfNone, IfSome, IsSome, MatchOption, is_some, ap, inl, inr, refl, sym, subst, ◌∙◌, arith}
+use Rattle.std.proofs.Common.{◌≡◌, ◌+◌, ◌-◌, ◌*◌, ◌<◌, ◌≤◌, ℕ, true, List, Option, Some, None, IfNone, IfSome, IsSome, MatchOption, is_some, ap, inl, inr, sym, subst, arith}
 use Rattle.std.proofs.lemmas.Bool.{cases_lt, false≢true}
 use Rattle.guillotiere.specs.declared.Size.{Size}
 use Rattle.guillotiere.specs.Boxes.{IsPositive, Sides}

@@ -1,5 +1,5 @@
 -- Sheets with no guillotine cuts, beside the best one so far.
-use Rattle.std.proofs.Common.{◌≡◌, ◌<◌, ◌≤◌, ◌⊎◌, List, length, map, All, Option, Some, None, IfNone, IfSome, MatchOption, false, ap, inl, inr, sym, subst, ◌∙◌, ℕ, arith}
+use Rattle.std.proofs.Common.{◌≡◌, ◌<◌, List, length, map, All, Option, Some, None, IfNone, IfSome, MatchOption, false, ap, inl, inr, sym, subst, ◌∙◌, ℕ, arith}
 use Rattle.std.specs.List.{AllZip}
 use Rattle.std.proofs.lemmas.List.{length-map}
 use Rattle.std.proofs.lemmas.List.Elements.{All-weaker}
@@ -13,8 +13,8 @@ use Rattle.atlas_sheet.specs.declared.placed.Placed.{Placed}
 use Rattle.atlas_sheet.specs.declared.sheets.Sheet.{Sheet}
 use Rattle.atlas_sheet.specs.declared.ways.TheConstants.{WAYS}
 use Rattle.atlas_sheet.specs.Allowances.{IsAllowed, pixels}
-use Rattle.atlas_sheet.specs.Dense.{AreAllPlaced, ArePaddedApart, FindAllTopmost, IsByHeight, IsLeastDense, IsNoLargerThanWays, IsSmallerThanWays}
-use Rattle.atlas_sheet.specs.Dense.{IsUpright, IsWholeSheet, LeavesDense, NoWayFinds, NoneIsDense, empty_grid}
+use Rattle.atlas_sheet.specs.Dense.{AreAllPlaced, ArePaddedApart, FindAllTopmost, IsByHeight, IsNoLargerThanWays, IsSmallerThanWays}
+use Rattle.atlas_sheet.specs.Dense.{IsUpright, IsWholeSheet, NoWayFinds, empty_grid}
 use Rattle.atlas_sheet.specs.Turnings.{AreLaid, InEach, InFirst, InOne, turnings}
 use Rattle.atlas_sheet.specs.Lying.{IsPlacedFor, IsShown, areas_of}
 use Rattle.atlas_sheet.specs.Orders.{IsOrder}

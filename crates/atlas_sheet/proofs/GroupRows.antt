@@ -81,52 +81,11 @@ pub record IsSpreadTo (row : List Bool) (found : List (Option Placed)) (k next :
   pub put : spread row found ≡ all ++ spread (drop k row) (drop next found)
   pub missing : next + length (picked (drop k row) (drop k row)) ≡ length found
 
-pub spread_begin : (row : List Bool) (found : List (Option Placed)) → length found ≡ length (picked row row)
-    → IsSpreadTo row found 0 0 []
-spread_begin row found long = record { put = refl; missing = omega (arith, long) }
-
 pub spread_end : (row : List Bool) (found : List (Option Placed)) (k next : ℕ) (all : List (Option Placed))
     → length row ≤ k
     → IsSpreadTo row found k next all → all ≡ spread row found
 spread_end row found k next all end so =
     sym (so.put ∙ ap (λ r. all ++ spread r (drop next found)) (drop_of_length-le row end) ∙ append-nil all)
-
-module _ (row : List Bool) (found : List (Option Placed)) (k next : ℕ) (all more : List (Option Placed)) (b : Bool) (inside : k < length row)
-    (b_at : b ≡ get_or row k b) (so : IsSpreadTo row found k next all) where
-  here : drop k row ≡ b ∷ drop (k + 1) row
-  here = drop-cons row k b inside ∙ (λ i. sym b_at i ∷ (ap (λ m. drop m row) (sym (add-one k))) i)
-
-  pub spread_none : b ≡ false → more ≡ all ++ None ∷ [] → IsSpreadTo row found (k + 1) next more
-  spread_none off added =
-      let at : drop k row ≡ false ∷ drop (k + 1) row = here ∙ ap (λ c. c ∷ drop (k + 1) row) off in
-      record {
-        put = so.put ∙ ap (λ r. all ++ spread r (drop next found)) at
-            ∙ sym (append_assoc all (None ∷ []) (spread (drop (k + 1) row) (drop next found)))
-            ∙ ap (λ ys. ys ++ spread (drop (k + 1) row) (drop next found)) (sym added);
-        missing = ap (λ r. next + length (picked r r)) (sym at) ∙ so.missing;
-      }
-
-  module _ (on : b ≡ true) where
-    at_true : drop k row ≡ true ∷ drop (k + 1) row
-    at_true = here ∙ ap (λ c. c ∷ drop (k + 1) row) on
-
-    now : next + length (picked (true ∷ drop (k + 1) row) (true ∷ drop (k + 1) row)) ≡ length found
-    now = ap (λ r. next + length (picked r r)) (sym at_true) ∙ so.missing
-
-    pub next_inside : next < length found
-    next_inside = omega (arith, now)
-
-    pub spread_found : (f : Option Placed) → f ≡ get_or found next f → more ≡ all ++ f ∷ []
-        → IsSpreadTo row found (k + 1) (next + 1) more
-    spread_found f f_at added =
-        let there : drop next found ≡ f ∷ drop (next + 1) found =
-        drop-cons found next f next_inside ∙ (λ i. sym f_at i ∷ (ap (λ m. drop m found) (sym (add-one next))) i) in
-        record {
-          put = so.put ∙ ap (λ r. all ++ spread r (drop next found)) at_true ∙ ap (λ fs. all ++ spread (true ∷ drop (k + 1) row) fs) there
-              ∙ sym (append_assoc all (f ∷ []) (spread (drop (k + 1) row) (drop (next + 1) found)))
-              ∙ ap (λ ys. ys ++ spread (drop (k + 1) row) (drop (next + 1) found)) (sym added);
-          missing = omega (arith, now);
-        }
 
 -- How many are picked doesn't hang on what stands there.
 pub picked_long : {X : Type 0} (row : List Bool) (xs : List X) → length row ≡ length xs

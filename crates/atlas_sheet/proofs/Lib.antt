@@ -5,6 +5,7 @@ pub mod BestWays
 pub mod DenseRows
 pub mod DenseSheets
 pub mod FallingSizes
+pub mod Failures
 pub mod FirstOnes
 pub mod FoundPlaces
 pub mod GreatestFirst

@@ -10,7 +10,7 @@ use Rattle.guillotiere.specs.Boxes.{Sides}
 use Rattle.guillotiere.specs.Pixels.{sides_of}
 use Rattle.atlas_sheet.specs.declared.paging.OnPage.{OnPage}
 use Rattle.atlas_sheet.specs.declared.placed.Placed.{Placed}
-use Rattle.atlas_sheet.specs.Paging.{ArePagesBy, found_on, holes, page_sides, place_on, places_on, put_on, sprites_from, sprites_left}
+use Rattle.atlas_sheet.specs.Paging.{ArePagesBy, holes, page_sides, place_on, places_on, put_on, sprites_from, sprites_left}
 
 -- A place on a sheet before this one.
 abbrev pub LiesEarlier : (page : ℕ) → Option OnPage → Type 0
@@ -207,54 +207,12 @@ pub record IsPutTo (page : ℕ) (places : List (Option OnPage)) (found : List (O
   pub put : put_on page places found ≡ all ++ put_on page (drop k places) (drop next found)
   pub missing : next + holes (drop k places) ≡ length found
 
-pub put_begin : (page : ℕ) (places : List (Option OnPage)) (found : List (Option Placed)) → length found ≡ holes places
-    → IsPutTo page places found 0 0 []
-put_begin page places found long = record { put = refl; missing = omega (arith, long) }
-
 pub put_end : (page : ℕ) (places : List (Option OnPage)) (found : List (Option Placed)) (k next : ℕ)
     (all : List (Option OnPage))
     → length places ≤ k
     → IsPutTo page places found k next all → all ≡ put_on page places found
 put_end page places found k next all end so =
     sym (so.put ∙ ap (λ ps. all ++ put_on page ps (drop next found)) (drop_of_length-le places end) ∙ append-nil all)
-
-module _ (page : ℕ) (places : List (Option OnPage)) (found : List (Option Placed)) (k next : ℕ) (all more : List (Option OnPage))
-    (inside : k < length places) (so : IsPutTo page places found k next all) where
-  -- The next one had a place.
-  pub put_kept : (p : OnPage) (q : Option OnPage) → q ≡ get_or places k q → q ≡ Some p → more ≡ all ++ Some p ∷ []
-      → IsPutTo page places found (k + 1) next more
-  put_kept p q at is added =
-      let here : drop k places ≡ Some p ∷ drop (k + 1) places = drop-cons places k q inside ∙ (λ i. (sym at ∙ is) i ∷ (ap (λ m. drop m places) (sym (add-one k))) i) in
-      record {
-        put = so.put ∙ ap (λ ps. all ++ put_on page ps (drop next found)) here
-            ∙ sym (append_assoc all (Some p ∷ []) (put_on page (drop (k + 1) places) (drop next found)))
-            ∙ ap (λ xs. xs ++ put_on page (drop (k + 1) places) (drop next found)) (sym added);
-        missing = ap (λ ps. next + holes ps) (sym here) ∙ so.missing;
-      }
-
-  module _ (q : Option OnPage) (at : q ≡ get_or places k q) (is : q ≡ None) where
-    none_here : drop k places ≡ None ∷ drop (k + 1) places
-    none_here = drop-cons places k q inside ∙ (λ i. (sym at ∙ is) i ∷ (ap (λ m. drop m places) (sym (add-one k))) i)
-
-    counted : next + suc (holes (drop (k + 1) places)) ≡ length found
-    counted = ap (λ ps. next + holes ps) (sym none_here) ∙ so.missing
-
-    pub next_inside : next < length found
-    next_inside = omega (arith, counted)
-
-    -- The next one had none, and has what was found.
-    pub put_found : (f : Option Placed) → f ≡ get_or found next f → more ≡ all ++ found_on page f ∷ []
-        → IsPutTo page places found (k + 1) (next + 1) more
-    put_found f found_at added =
-        let there : drop next found ≡ f ∷ drop (next + 1) found =
-        drop-cons found next f next_inside ∙ (λ i. sym found_at i ∷ (ap (λ m. drop m found) (sym (add-one next))) i) in
-        record {
-          put = so.put ∙ ap (λ ps. all ++ put_on page ps (drop next found)) none_here
-              ∙ ap (λ fs. all ++ put_on page (None ∷ drop (k + 1) places) fs) there
-              ∙ sym (append_assoc all (found_on page f ∷ []) (put_on page (drop (k + 1) places) (drop (next + 1) found)))
-              ∙ ap (λ xs. xs ++ put_on page (drop (k + 1) places) (drop (next + 1) found)) (sym added);
-          missing = omega (arith, counted);
-        }
 
 -- The sprites that are left of the first k, and those of the others.
 abbrev pub IsLeftTo : List Size → List (Option OnPage) → (k : ℕ) → List Size → Type 0

@@ -1,5 +1,5 @@
 -- Sprites that find topmost places one after another.
-use Rattle.std.proofs.Common.{◌≡◌, ◌+◌, ◌-◌, ◌*◌, ◌/◌, ◌++◌, ◌<◌, ◌≤◌, max, ℕ, zero, suc, List, [], ◌∷◌, length, map, take, set, get_or, take_all, append-nil, All, Option, Some, None, IsSome, refl, ap, sym, subst, ◌∙◌, arith}
+use Rattle.std.proofs.Common.{◌≡◌, ◌+◌, ◌-◌, ◌*◌, ◌/◌, ◌++◌, ◌<◌, ◌≤◌, ℕ, zero, suc, List, [], ◌∷◌, length, map, take, set, get_or, take_all, append-nil, All, Option, Some, None, IsSome, refl, ap, sym, subst, ◌∙◌, arith}
 use Rattle.std.specs.Prelude.{Contains}
 use Rattle.std.proofs.Math.Seq.{take-suc}
 use Rattle.std.proofs.lemmas.List.{append_assoc, length-map, map-append, map-set, get_or-set_same}
@@ -7,15 +7,15 @@ use Rattle.std.proofs.lemmas.List.Elements.{All-nil, All-cons, All-from_get_or, 
 use Rattle.std.proofs.lemmas.Nat.{div_below, le-div}
 use Rattle.guillotiere.specs.declared.Size.{Size}
 use Rattle.guillotiere.specs.declared.Rectangle.{Rectangle}
-use Rattle.guillotiere.specs.Boxes.{IsPositive, Sides, box_at}
+use Rattle.guillotiere.specs.Boxes.{Sides, box_at}
 use Rattle.guillotiere.specs.Pixels.{box_of, sides_of}
 use Rattle.atlas_maxrects.specs.Placing.{HasNoPlace, PlacesTopmost, Placing}
 use Rattle.atlas_sheet.specs.declared.options.Spacing.{Spacing}
 use Rattle.atlas_sheet.specs.declared.placed.Placed.{Placed}
-use Rattle.atlas_sheet.specs.Dense.{FindAllTopmost, FindsTopmost, LeavesTopmost, cell_sides, cells_over, empty_grid, grid_of, sprite_cells}
+use Rattle.atlas_sheet.specs.Dense.{FindAllTopmost, FindsTopmost, LeavesTopmost, cell_sides, cells_over, empty_grid, sprite_cells}
 use Rattle.atlas_sheet.specs.Lying.{areas_of, placed_area}
 use Rattle.atlas_sheet.specs.Orders.{AreNumberedOnce, IsOrderOf}
-use Rattle.atlas_sheet.specs.Sheets.{IsPackable, asked_sides, inner_sides, padded, place_of_sprite, with_places}
+use Rattle.atlas_sheet.specs.Sheets.{IsPackable, asked_sides, padded, place_of_sprite, with_places}
 use Rattle.atlas_sheet.proofs.Arrangements.{shown_whole}
 use Rattle.atlas_sheet.proofs.FoundPlaces.{no_sprite, written}
 use Rattle.atlas_sheet.proofs.NumberedSprites.{order_at}

@@ -8,6 +8,7 @@ use Rattle.atlas_sheet.proofs.FoundPlaces.{no_sprite}
 use Rattle.atlas_sheet.proofs.GridCells.{counted_apart, going_first, going_more, length_zip}
 use Rattle.atlas_sheet.proofs.NumberedSprites.{order_all, order_below, order_once, order_sizes}
 use Rattle.atlas_sheet.proofs.Topmost.{placing_all, placing_first, placing_left, placing_more, placing_whole}
+use Rattle.atlas_sheet.proofs.Failures.{its_error, no_value, same_error}
 use Rattle.atlas_sheet.proofs.cells.topmost_places.Goals as goal
 
 pub loop-sprite-init : goal.loop-sprite-init
@@ -93,3 +94,42 @@ returns-clause-whole g c =
 
 pub returns-clause-upright : goal.returns-clause-upright
 returns-clause-upright g c = c.loop-sprite.invariant.going.unturned
+
+pub returns-in_err-area : goal.returns-in_err-area
+returns-in_err-area g c =
+    let r = c.from_residual-in_err-area in
+    record {
+      each = no_value r.result _ _ r.ensures.1;
+      apart = no_value r.result _ _ r.ensures.1;
+      whole = no_value r.result _ _ r.ensures.1;
+      upright = no_value r.result _ _ r.ensures.1;
+      found = no_value r.result _ _ r.ensures.1;
+      left = no_value r.result _ _ r.ensures.1;
+      unless = same_error r.result _ _ r.ensures.1 c.in_err-area.ensures.unless;
+    }
+
+pub returns-in_err-packer : goal.returns-in_err-packer
+returns-in_err-packer g c =
+    let r = c.from_residual in
+    record {
+      each = no_value r.result _ _ r.ensures.1;
+      apart = no_value r.result _ _ r.ensures.1;
+      whole = no_value r.result _ _ r.ensures.1;
+      upright = no_value r.result _ _ r.ensures.1;
+      found = no_value r.result _ _ r.ensures.1;
+      left = no_value r.result _ _ r.ensures.1;
+      unless = its_error r.result _ r.ensures.1;
+    }
+
+pub returns-in_err-placed : goal.returns-in_err-placed
+returns-in_err-placed g c =
+    let r = c.from_residual-in_err-placed in
+    record {
+      each = no_value r.result _ _ r.ensures.1;
+      apart = no_value r.result _ _ r.ensures.1;
+      whole = no_value r.result _ _ r.ensures.1;
+      upright = no_value r.result _ _ r.ensures.1;
+      found = no_value r.result _ _ r.ensures.1;
+      left = no_value r.result _ _ r.ensures.1;
+      unless = same_error r.result _ _ r.ensures.1 c.in_err-placed.ensures.unless;
+    }

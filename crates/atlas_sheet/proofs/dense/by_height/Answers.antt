@@ -1,6 +1,5 @@
 use Rattle.std.proofs.Common.{rules}
 use Rattle.std.proofs.lemmas.Fn.{always_returns_same}
-use Rattle.std.proofs.lemmas.Result.{IfOk-weaker}
 use Rattle.atlas_sheet.proofs.GreatestFirst.{highest_first, reversed_rank}
 use Rattle.atlas_sheet.proofs.dense.by_height.Goals as goal
 

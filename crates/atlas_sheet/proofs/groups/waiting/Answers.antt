@@ -1,6 +1,8 @@
 use Rattle.std.proofs.Common.{◌≡◌, ◌<◌, length, get_or, is_none, true, false, None, arith, rules}
+use Rattle.std.proofs.lemmas.Grind.{common_steps}
 use Rattle.std.proofs.lemmas.List.{get_or_default}
 use Rattle.atlas_sheet.proofs.GroupRows.{waiting_less, waiting_more}
+use Rattle.atlas_sheet.proofs.Failures.{its_error, no_value}
 use Rattle.atlas_sheet.proofs.groups.waiting.Goals as goal
 use Rattle.atlas_sheet.proofs.groups.waiting.Goals.{then-is_none+in_ok-push, else-is_none}
 
@@ -26,3 +28,11 @@ loop-number-preserved g c =
           (get_or_default places k None q c.loop-number-test.true) (get_or_default groups k None n inside)
           c.loop-number.invariant some)
     ]
+
+pub returns-in_err-push : goal.returns-in_err-push
+returns-in_err-push g c =
+    let r = c.from_residual in
+    record { waiting = no_value r.result _ _ r.ensures.1; unless = its_error r.result _ r.ensures.1 }
+
+pub returns-clause-waiting : goal.returns-clause-waiting
+returns-clause-waiting g c = grind (arith, common_steps)

@@ -5,6 +5,7 @@ use Rattle.atlas_sheet.specs.declared.ways.Way.{Way}
 use Rattle.atlas_sheet.specs.Packings.{IsLeastFound, NoneIsFound}
 use Rattle.atlas_sheet.specs.Settings.{spacing_of}
 use Rattle.atlas_sheet.proofs.Arrangements.{rebased}
+use Rattle.atlas_sheet.proofs.Failures.{no_value, same_error}
 use Rattle.atlas_sheet.proofs.packing.first_so.Goals as goal
 
 pub returns-in-None-clause-none : goal.returns-in-None-clause-none
@@ -29,3 +30,55 @@ arrangement_of-requires g c =
 pub returns-in_ok-first-in-Some-clause-arranged : goal.returns-in_ok-first-in-Some-clause-arranged
 returns-in_ok-first-in-Some-clause-arranged g c =
     rebased c.args.sprites.now c.in_ok-lying.lying.items c.in_ok-lying.ensures.lies c.in_ok-first-in-Some.ensures.arranged
+
+pub returns-in_err-first-in-Some : goal.returns-in_err-first-in-Some
+returns-in_err-first-in-Some g c =
+    let r = c.from_residual-in_err-first-in-Some in
+    record {
+      arranged = no_value r.result _ _ r.ensures.1;
+      allowed = no_value r.result _ _ r.ensures.1;
+      whole = no_value r.result _ _ r.ensures.1;
+      laid = no_value r.result _ _ r.ensures.1;
+      first = no_value r.result _ _ r.ensures.1;
+      none = no_value r.result _ _ r.ensures.1;
+      unless = same_error r.result _ _ r.ensures.1 c.in_err-first-in-Some.ensures.unless;
+    }
+
+pub returns-in_err-found : goal.returns-in_err-found
+returns-in_err-found g c =
+    let r = c.from_residual-in_err-found in
+    record {
+      arranged = no_value r.result _ _ r.ensures.1;
+      allowed = no_value r.result _ _ r.ensures.1;
+      whole = no_value r.result _ _ r.ensures.1;
+      laid = no_value r.result _ _ r.ensures.1;
+      first = no_value r.result _ _ r.ensures.1;
+      none = no_value r.result _ _ r.ensures.1;
+      unless = same_error r.result _ _ r.ensures.1 c.in_err-found.ensures.unless;
+    }
+
+pub returns-in_err-lying : goal.returns-in_err-lying
+returns-in_err-lying g c =
+    let r = c.from_residual in
+    record {
+      arranged = no_value r.result _ _ r.ensures.1;
+      allowed = no_value r.result _ _ r.ensures.1;
+      whole = no_value r.result _ _ r.ensures.1;
+      laid = no_value r.result _ _ r.ensures.1;
+      first = no_value r.result _ _ r.ensures.1;
+      none = no_value r.result _ _ r.ensures.1;
+      unless = same_error r.result _ _ r.ensures.1 c.in_err-lying.ensures.unless;
+    }
+
+pub returns-in_err-trials : goal.returns-in_err-trials
+returns-in_err-trials g c =
+    let r = c.from_residual-in_err-trials in
+    record {
+      arranged = no_value r.result _ _ r.ensures.1;
+      allowed = no_value r.result _ _ r.ensures.1;
+      whole = no_value r.result _ _ r.ensures.1;
+      laid = no_value r.result _ _ r.ensures.1;
+      first = no_value r.result _ _ r.ensures.1;
+      none = no_value r.result _ _ r.ensures.1;
+      unless = same_error r.result _ _ r.ensures.1 c.in_err-trials.ensures.unless;
+    }

@@ -5,6 +5,7 @@ use Rattle.atlas_sheet.specs.Allowances.{row_length}
 use Rattle.atlas_sheet.specs.Packings.{ArePacked, NoWayPacks}
 use Rattle.atlas_sheet.proofs.Maybes.{at_none, both}
 use Rattle.atlas_sheet.proofs.Rows.{ended_found, ended_none, went_down, went_up}
+use Rattle.atlas_sheet.proofs.Failures.{no_value, same_error}
 use Rattle.atlas_sheet.proofs.search.bisect.Goals as goal
 use Rattle.atlas_sheet.proofs.search.bisect.Goals.{then-is_some, else-is_some}
 
@@ -53,3 +54,12 @@ pub returns-clause-least : goal.returns-clause-least
 returns-clause-least g c =
     ended_found (λ s. sides_of s.size) (λ s. record { way = s.way; order = s.order.items; places = s.places.items }) (map (λ t. t.way) c.args.trials.now) c.args.allowed c.args.spacing c.args.sprites.now
     c.loop-low.low c.loop-low.high c.requires.row c.requires.usable (omega (arith, c.count-count.ensures.count, c.count-count.ensures.some)) c.loop-low-test.false c.loop-low.best c.loop-low.invariant
+
+pub returns-in_err-found : goal.returns-in_err-found
+returns-in_err-found g c =
+    let r = c.from_residual in
+    record {
+      least = no_value r.result _ _ r.ensures.1;
+      none = no_value r.result _ _ r.ensures.1;
+      unless = same_error r.result _ _ r.ensures.1 c.in_err-found.ensures.unless;
+    }

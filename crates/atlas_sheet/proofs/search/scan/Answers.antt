@@ -4,6 +4,7 @@ use Rattle.std.proofs.lemmas.Option.{IfSome_then}
 use Rattle.guillotiere.specs.Pixels.{natural, sides_of}
 use Rattle.atlas_sheet.proofs.Maybes.{at_none}
 use Rattle.atlas_sheet.proofs.Powers.{scan_found, scan_none, up_to_more}
+use Rattle.atlas_sheet.proofs.Failures.{no_value, same_error}
 use Rattle.atlas_sheet.proofs.search.scan.Goals as goal
 
 pub loop-sum-init : goal.loop-sum-init
@@ -27,3 +28,12 @@ returns-clause-none g c =
     scan_none (map (λ t. t.way) c.args.trials.now) c.exponent_in-most.result c.args.spacing c.args.sprites.now c.args.greatest
     (subst (λ (z : ℤ). 2 ^ c.exponent_in-most.result ≤ natural z) (to_z-of_z w32 c.args.greatest c.ranges.greatest) c.exponent_in-most.ensures.power)
     (subst (λ (z : ℤ). natural z < 2 * 2 ^ c.exponent_in-most.result) (to_z-of_z w32 c.args.greatest c.ranges.greatest) c.exponent_in-most.ensures.next) c.loop-sum.sum (omega arith) c.loop-sum.invariant
+
+pub returns-in_err-found : goal.returns-in_err-found
+returns-in_err-found g c =
+    let r = c.from_residual in
+    record {
+      least = no_value r.result _ _ r.ensures.1;
+      none = no_value r.result _ _ r.ensures.1;
+      unless = same_error r.result _ _ r.ensures.1 c.in_err-found.ensures.unless;
+    }

@@ -1,5 +1,6 @@
 use Rattle.std.proofs.Common.{◌-◌, ◌/◌, ◌∙◌, refl, sym, map, arith}
 use Rattle.atlas_sheet.proofs.Powers.{before_high, before_wide, outside_all, outside_long, outside_more, shape_fails, shape_packed}
+use Rattle.atlas_sheet.proofs.Failures.{no_value, same_error}
 use Rattle.atlas_sheet.proofs.search.try_shapes.Goals as goal
 
 pub loop-flat-init : goal.loop-flat-init
@@ -52,3 +53,21 @@ returns-then-is_some-clause-packed g c =
     c.in_ok-wide.ensures.size c.in_ok-wide.ensures.packed
     (λ x y together w h. before_wide (map (λ t. t.way) c.args.trials.now) c.args.most c.args.spacing c.args.sprites.now c.args.sum half
     c.loop-flat.flat less more (omega arith) refl refl (omega arith) c.loop-flat.invariant x y together w h)
+
+pub returns-in_err-high : goal.returns-in_err-high
+returns-in_err-high g c =
+    let r = c.from_residual-in_err-high in
+    record {
+      packed = no_value r.result _ _ r.ensures.1;
+      none = no_value r.result _ _ r.ensures.1;
+      unless = same_error r.result _ _ r.ensures.1 c.in_err-high.ensures.unless;
+    }
+
+pub returns-in_err-wide : goal.returns-in_err-wide
+returns-in_err-wide g c =
+    let r = c.from_residual in
+    record {
+      packed = no_value r.result _ _ r.ensures.1;
+      none = no_value r.result _ _ r.ensures.1;
+      unless = same_error r.result _ _ r.ensures.1 c.in_err-wide.ensures.unless;
+    }

@@ -6,6 +6,7 @@ use Rattle.atlas_sheet.specs.Packings.{IsOrderBy, LeavesSprite, NoWayPacks}
 use Rattle.atlas_sheet.proofs.Maybes.{at_none}
 use Rattle.atlas_sheet.proofs.FirstOnes.{stands_at}
 use Rattle.atlas_sheet.proofs.Packings.{way_more}
+use Rattle.atlas_sheet.proofs.Failures.{no_value, same_error}
 use Rattle.atlas_sheet.proofs.trials.try_size.Goals as goal
 
 pub try_trial-requires-clause-order : goal.try_trial-requires-clause-order
@@ -31,3 +32,13 @@ pub returns-clause-none : goal.returns-clause-none
 returns-clause-none g c =
     subst (λ ts. NoWayPacks (map (λ t. t.way) ts) (sides_of c.args.size) c.args.spacing c.args.sprites.now)
     (take_all c.loop-trial.trial-index c.args.trials.now c.loop-trial-test.false) c.loop-trial.invariant
+
+pub returns-in_err-found : goal.returns-in_err-found
+returns-in_err-found g c =
+    let r = c.from_residual in
+    record {
+      size = no_value r.result _ _ r.ensures.1;
+      packed = no_value r.result _ _ r.ensures.1;
+      none = no_value r.result _ _ r.ensures.1;
+      unless = same_error r.result _ _ r.ensures.1 c.in_err-found.ensures.unless;
+    }
