@@ -31,7 +31,7 @@ WELL = "refused, as it must be"
 # What a function's proof is, which no other crate can cite.
 CLOSED = ("Answers.antt", "Invariants.antt", "Proof.antt")
 # The first words of what stands in a file of lemmas with all that it says: what may be unfolded, and what isn't a theorem.
-OPEN = ("abbrev", "unfoldable", "record", "data", "ruleset", "mod", "use", "module", "instance", "syntax")
+OPEN = ("abbrev", "unfoldable", "record", "data", "ruleset", "use", "module", "instance", "syntax")
 WORD = r"[^\s(){}◌]+"
 
 
@@ -41,7 +41,7 @@ def sum_of(*words):
 
 def words_of(text):
     """The names and operators of a text."""
-    return {*re.split(r"[\s(){}\[\],.;]+", text)}
+    return {*re.split(r"[\s(){}\[\],.;:]+", text)}
 
 
 def items(lines):
@@ -115,7 +115,14 @@ def seen_of(crate, cited):
     for name, (imports, parts) in lemmas_of(crate).items():
         said = "\n".join(seen_in(parts, cited))
         words = words_of(said)
-        yield name, "\n".join([*(it for line in imports if (it := narrowed(line, words))), said]).encode()
+        if said:
+            yield name, "\n".join([*(it for line in imports if (it := narrowed(line, words))), said]).encode()
+
+
+def named_in(crate):
+    """The words of all lines of a crate's files that name proofs of another one."""
+    lines = (line for path in crate.sources() for line in path.read_text(encoding="utf-8").splitlines() if "proofs" in line)
+    return {word for line in lines if f"Rattle.{crate.name}.proofs" not in line and "crate::proofs" not in line for word in words_of(line)}
 
 
 def sources_sum(crate):
@@ -123,7 +130,7 @@ def sources_sum(crate):
     how the others are proved."""
     own = sorted((path.relative_to(crate.folder).as_posix(), path.read_bytes()) for path in crate.sources())
     below = sorted(crate.below().values(), key=lambda it: it.name)
-    cited = {word for _, text in own for word in words_of(text.decode())}
+    cited = named_in(crate)
     for each in below:
         cited |= {word for _, parts in lemmas_of(each).values() for text in seen_in(parts, ()) for word in words_of(text)}
     read = [(it.name, it.is_static, sorted(it.deps), sorted(seen_of(it, cited))) for it in below]
