@@ -206,9 +206,10 @@ class Choice:
 
     def keep(self, said):
         """Keeps what a trial said of those that were refused, if nothing that it read has changed meanwhile."""
-        now = self.sums_now()
-        for edit, (well, told) in said.items():
-            if well and now[edit] == self.sums[edit]:
+        refused = {edit: told for edit, (well, told) in said.items() if well}
+        now = self.sums_now() if refused else {}
+        for edit, told in refused.items():
+            if now[edit] == self.sums[edit]:
                 kept.keep_text(self.kept_name(edit), told)
 
     def judged(self, edit, well, told):
