@@ -8,10 +8,9 @@ import subprocess
 import tempfile
 from concurrent.futures import ThreadPoolExecutor
 
-from edit import BadEdit, functions_of
+from edit import CLOSED, BadEdit, Holes
 from values import states_another_value
 
-PROOFS = ("Invariants.antt", "Answers.antt", "Proof.antt")
 # What a check says of a proof file that names what an edit took away. What follows from it is open as well, so it shows nothing of the
 # contract: of a right body that calls a local otherwise the same is said.
 NAMES = re.compile(
@@ -70,14 +69,10 @@ class Trial:
 
     def leave_out(self, proofs, only):
         """Puts a hole in place of the proof of each function that isn't asked for: its contract stands, and nothing of it is proved."""
-        written = {"::".join(path.parent.relative_to(proofs).parts) for path in proofs.rglob("*.antt") if path.name in PROOFS}
-        for path in sorted({*written, *functions_of(self.crate)}):
+        files = [path.relative_to(proofs.parent).as_posix() for path in proofs.rglob("*") if path.is_file()]
+        for path in Holes(self.crate, files).beside(only):
             folder = proofs.joinpath(*path.split("::"))
-            # The proof of functions that call themselves stands in a folder with a plus, and stays.
-            recursive = folder.name.startswith("+") or folder.with_name(f"+{folder.name}").is_dir()
-            if recursive or any(path == it or path.endswith(f"::{it}") for it in only):
-                continue
-            for name in PROOFS:
+            for name in CLOSED:
                 (folder / name).unlink(missing_ok=True)
             folder.mkdir(parents=True, exist_ok=True)
             module = f"Rattle.{self.crate.name}.proofs.{path.replace('::', '.')}.Statement"
