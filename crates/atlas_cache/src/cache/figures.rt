@@ -6,7 +6,7 @@ ghost use Rattle.atlas_cache.specs.Usable.{unusable_by_page};
 
 use crate::cache::TextureCache;
 use crate::counts::Counts;
-use crate::error::CacheError;
+use atlas_entries::error::CacheError;
 use crate::options::CacheOptions;
 use guillotiere::Size;
 use std::alloc::Allocator;
