@@ -1,5 +1,5 @@
 -- The mark of an order: the entry from which on all are blank.
-use Rattle.std.proofs.Common.{ℕ, ◌≡◌, ◌<◌, inl, inr, Bool, true, false, eqb, length, set, slice_get, List, [], ◌∷◌, ◌++◌, Option, None, Some, refl, sym, ap, ◌∙◌, subst}
+use Rattle.std.proofs.Common.{ℕ, ◌≡◌, ◌<◌, inl, inr, Bool, false, eqb, length, set, slice_get, List, [], ◌∷◌, ◌++◌, Option, Some, refl, sym, ap, ◌∙◌, subst}
 use Rattle.std.specs.Option.{option_map_or}
 use Rattle.std.specs.Prelude.{unwrap_or}
 use Rattle.std.proofs.lemmas.{Bool.Decides.{eqb_tells}}
@@ -9,7 +9,7 @@ use Rattle.std.specs.List.{AllByRecursion, IsDistinct}
 use Rattle.atlas_model.specs.declared.geometry.Rectangle.{Rectangle}
 use Rattle.atlas_search.specs.Numbers.{front, no_slot, without}
 use Rattle.atlas_entries.specs.declared.entries.Entry.{Entry}
-use Rattle.atlas_entries.specs.Entries.{entry_at, is_blank, moved, numbers, touched, without_number, AreBlank, EndsBlank, IsBeforeBlanks, IsNumber}
+use Rattle.atlas_entries.specs.Entries.{entry_at, moved, numbers, touched, without_number, AreBlank, EndsBlank, IsBeforeBlanks, IsNumber}
 use Rattle.atlas_entries.specs.Orders.{newest_of, oldest_of, IsEntry, IsFreshNumber, Order}
 use Rattle.atlas_entries.specs.Tables.{numbered, AreKept}
 use Rattle.atlas_entries.proofs.KeptEntries.{joined-is, moved-is, touched-is}
