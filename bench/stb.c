@@ -166,7 +166,7 @@ static void fill_stb(const struct sheet *sheet, int heuristic, bool is_at_once, 
 }
 
 /* How sheets are packed. Of stb_rect_pack `is_at_once` says whether it is given all boxes, which it sorts by height, or
- * one after another; of ours `sorted` is the order, if any, into which the caller puts them. */
+ * one after another; of this library `sorted` is the order, if any, into which the caller puts them. */
 static const struct way {
     const char *name;
     enum { STB, ATLAS, SIMPLE } by;

@@ -54,13 +54,13 @@
 //! | call | its time grows by |
 //! |---|---|
 //! | [`AtlasAllocator::new`] | nothing; it takes 21,672 bytes |
-//! | [`allocate`](AtlasAllocator::allocate), [`can_fit`](AtlasAllocator::can_fit) | the lists of free boxes with a side as it is asked for, at most 103, since boxes are listed by 52 bands of their widths and 52 of their heights; in a list of more than 96 the logarithm of their number |
+//! | [`allocate`](AtlasAllocator::allocate), [`can_fit`](AtlasAllocator::can_fit) | the lists of free boxes that are as wide or as high, at most 103, since boxes are listed by 52 bands of their widths and 52 of their heights; in a list of more than 96 the logarithm of their number; where none has just that side, the free boxes that are larger in both, one by one |
 //! | [`deallocate`](AtlasAllocator::deallocate) | the slots that go where free space is joined, each of which goes once |
 //! | `atlas[id]`, [`get`](AtlasAllocator::get), [`size`](AtlasAllocator::size), [`is_empty`](AtlasAllocator::is_empty) | nothing |
 //! | [`allocations`](AtlasAllocator::allocations), [`free_rectangles`](AtlasAllocator::free_rectangles), the `for_each` calls, [`areas`](AtlasAllocator::areas), `clone` | the most slots that were used at once |
 //! | [`grow`](AtlasAllocator::grow) | the boxes and groups along the first cut |
 //! | [`rearrange`](AtlasAllocator::rearrange), [`resize_and_rearrange`](AtlasAllocator::resize_and_rearrange) | sorting all live boxes, and a request for each |
-//! | [`clear`](AtlasAllocator::clear), [`reset`](AtlasAllocator::reset) | nothing |
+//! | [`clear`](AtlasAllocator::clear), [`reset`](AtlasAllocator::reset) | the lists that had free boxes, at most 2,704 |
 //! | `get`, `peek`, `contains_key` of a cache, `insert` of a key that is held | one look-up |
 //! | `insert` of a new key | a request to each page, until one has room, but for pages that refused a size no larger and haven't changed since; if none has room, an eviction and one more request, again and again |
 //! | an eviction | a freeing; it passes each blank key that is older than the key that goes (see `insert`) once, and not again until it is used |
