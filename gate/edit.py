@@ -1,8 +1,11 @@
-"""The edits of crates/NAME/must-fail-together.edits, and the functions of a crate as the check prints their paths."""
+"""The edits of crates/NAME/must-fail-together.edits, the functions of a crate as the check prints their paths, and which of these have a
+hole in place of their proofs while others are checked."""
 import pathlib
 import re
 
 FILE = "must-fail-together.edits"
+# The files of a function's proof, in the folder of its path below proofs/, which no other crate can cite.
+CLOSED = ("Answers.antt", "Invariants.antt", "Proof.antt")
 FUNCTION = re.compile(r'\s*(?:pub(?:\(crate\))? )?(?:const )?(?:unsafe )?(?:extern "C" )?fn (\w+)|(?:pub )?(?:const|struct) (\w+)')
 
 
@@ -99,6 +102,31 @@ def functions_of(crate):
                 of_type = name.split("::")[0] if line.startswith(" ") else None
                 found += ["::".join([*modules.get(of_type, []), name])] if not of_type or of_type in modules else []
     return found
+
+
+def function_of(file):
+    """The path of the function whose proof this file of a crate is, by its name below the crate's folder; '' where it is another file."""
+    parts = file.split("/")
+    return "::".join(parts[1:-1]) if parts[0] == "proofs" and parts[-1] in CLOSED else ""
+
+
+class Holes:
+    """The functions of a crate that have a hole in place of their proofs while others are checked, so that these proofs aren't read: all
+    that are written there, or have a proof; but for those that call themselves: their proof stands in a folder with a plus, and stays."""
+
+    def __init__(self, crate, files):
+        """`files` are the names of the crate's, below its folder."""
+        folders = {"::".join(it[1:end]) for it in (file.split("/") for file in files) if it[0] == "proofs" for end in range(2, len(it))}
+
+        def stays(path):
+            above, colons, name = path.rpartition("::")
+            return name.startswith("+") or f"{above}{colons}+{name}" in folders
+
+        self.paths = sorted(it for it in {*map(function_of, files), *functions_of(crate)} if it and not stays(it))
+
+    def beside(self, only):
+        """Those that have one while these functions are checked; none where that is the whole crate."""
+        return [path for path in self.paths if only and not any(path == it or path.endswith(f"::{it}") for it in only)]
 
 
 def split_at_top(text):

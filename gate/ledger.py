@@ -2,9 +2,15 @@
 
     CRATE/NAME TEXT SOURCES TOOLS how it was refused
 
-TEXT is the sum of its own text; SOURCES that of its crate and of what a proof of it may see of the crates below; TOOLS that of the kit's
-logic and of what judges here. So a line says nothing of an edit once one of the three has changed. They are the same on each machine, and
-in each folder. Of a crate below a proof sees the sources, the definitions, and what those theorems state that it names: how a theorem is
+TEXT is the sum of its own text; SOURCES that of what its trial reads of its crate, and of what a proof of that may see of the crates below;
+TOOLS that of the kit's logic and of what judges here. So a line says nothing of an edit once one of the three has changed. They are the
+same on each machine, and in each folder.
+
+A trial checks the functions that are to refuse the edit, with a hole in place of the proof of each other one (edit.Holes), of which it
+reads the contract alone. So another answer for one function leaves the lines of edits that others refuse as they are. All else of the crate
+counts, its lemmas with their proofs too, and where the holes are. An edit that is tried over the whole crate reads all of it.
+
+Of a crate below a proof sees the sources, the definitions, and what those theorems state that the crate's files name: how a theorem is
 proved is closed to other crates. So another proof of a lemma, or one more lemma, leaves the lines of the crates above as they are.
 
 A line may be wrong, by hand or by mistake. So each day draws a tenth of them, which are tried none the less: the days are counted by tens,
@@ -20,6 +26,7 @@ import pathlib
 import re
 
 import kept
+from edit import Holes, function_of
 
 HERE = pathlib.Path(__file__).resolve().parent
 PLACE = HERE / "ledger"
@@ -28,8 +35,6 @@ SHARE = 10
 JUDGES = ("edit.py", "trial.py", "values.py")
 HEAD = "# Written by `gate/edits --ledger`, and read by gate/ledger.py, which says what stands in a line.\n"
 WELL = "refused, as it must be"
-# What a function's proof is, which no other crate can cite.
-CLOSED = ("Answers.antt", "Invariants.antt", "Proof.antt")
 # The first words of what stands in a file of lemmas with all that it says: what may be unfolded, and what isn't a theorem.
 OPEN = ("abbrev", "unfoldable", "record", "data", "ruleset", "use", "module", "instance", "syntax")
 WORD = r"[^\s(){}◌]+"
@@ -100,41 +105,58 @@ def narrowed(line, said):
     return f"{module}{{{', '.join(left)}}}" if left else "" if brace else line
 
 
-def lemmas_of(crate):
-    """The files of a crate with lemmas, by their names."""
-    paths = [it for it in crate.sources() if it.name not in CLOSED and it.relative_to(crate.folder).parts[0] == "proofs"]
-    return {it.relative_to(crate.folder).as_posix(): read_lemmas(it.read_bytes()) for it in paths}
+def files_of(crate):
+    """The files of a crate as they stand now, by their names below its folder."""
+    return {path.relative_to(crate.folder).as_posix(): path.read_bytes() for path in crate.sources()}
 
 
-def seen_of(crate, cited):
-    """The files of a crate, with what a proof in another one may see of them that names no theorems but these."""
-    for path in crate.sources():
-        name = path.relative_to(crate.folder).as_posix()
-        if not name.startswith("proofs/"):
-            yield name, path.read_bytes()
-    for name, (imports, parts) in lemmas_of(crate).items():
+def lemmas_of(files):
+    """Those with lemmas among a crate's files."""
+    return {name: read_lemmas(text) for name, text in files.items() if name.startswith("proofs/") and not function_of(name)}
+
+
+def seen_of(files, cited):
+    """A crate's files, with what a proof in another crate may see of them that names no theorems but these."""
+    yield from (it for it in files.items() if not it[0].startswith("proofs/"))
+    for name, (imports, parts) in lemmas_of(files).items():
         said = "\n".join(seen_in(parts, cited))
         words = words_of(said)
         if said:
             yield name, "\n".join([*(it for line in imports if (it := narrowed(line, words))), said]).encode()
 
 
-def named_in(crate):
+def named_in(crate, files):
     """The words of all lines of a crate's files that name proofs of another one."""
-    lines = (line for path in crate.sources() for line in path.read_text(encoding="utf-8").splitlines() if "proofs" in line)
+    lines = (line for text in files.values() for line in text.decode().splitlines() if "proofs" in line)
     return {word for line in lines if f"Rattle.{crate.name}.proofs" not in line and "crate::proofs" not in line for word in words_of(line)}
 
 
-def sources_sum(crate):
-    """The sum of all that the check of a crate reads in this repository, but for theorems of the crates below that it doesn't name, and for
-    how the others are proved."""
-    own = sorted((path.relative_to(crate.folder).as_posix(), path.read_bytes()) for path in crate.sources())
-    below = sorted(crate.below().values(), key=lambda it: it.name)
-    cited = named_in(crate)
-    for each in below:
+def below_sum(crate, files):
+    """The sum of the crates below one with these files, but for theorems that it doesn't name, and for how the others are proved."""
+    below = {it: files_of(it) for it in sorted(crate.below().values(), key=lambda it: it.name)}
+    cited = named_in(crate, files)
+    for each in below.values():
         cited |= {word for _, parts in lemmas_of(each).values() for text in seen_in(parts, ()) for word in words_of(text)}
-    read = [(it.name, it.is_static, sorted(it.deps), sorted(seen_of(it, cited))) for it in below]
-    return sum_of((crate.name, crate.is_static, sorted(crate.deps), own), read)
+    return sum_of([(it.name, it.is_static, sorted(it.deps), sorted(seen_of(each, cited))) for it, each in below.items()])
+
+
+class Sources:
+    """What the trials of a crate's edits read in this repository, as it stands now."""
+
+    def __init__(self, crate):
+        files = files_of(crate)
+        self.others = crate.name, crate.is_static, sorted(crate.deps), below_sum(crate, files)
+        self.own = sorted((name, function_of(name), sum_of(text)) for name, text in files.items())
+        self.holes = Holes(crate, files)
+
+    def read(self, only):
+        """The crate's files that the check of these functions alone reads, or with none of them that of the whole crate, with their sums;
+        and the functions that have a hole in place of their proofs."""
+        holes = {*self.holes.beside(only)}
+        return [(name, text) for name, function, text in self.own if function not in holes], sorted(holes)
+
+    def sum(self, only):
+        return sum_of(self.others, *self.read(only))
 
 
 def tools_sum(kit):
@@ -196,9 +218,11 @@ class Choice:
         return f"{self.crate.name}/{edit.name}"
 
     def sums_now(self):
-        """The three sums of each edit."""
-        sources, tools = sources_sum(self.crate), tools_sum(self.kit)
-        return {edit: (sum_of(edit.text), sources, tools) for edit in self.edits}
+        """The three sums of each edit, of the files as they stand now."""
+        sources, tools = Sources(self.crate), tools_sum(self.kit)
+        asked = {edit: frozenset(edit.checked()) for edit in self.edits}
+        sums = {only: sources.sum(only) for only in {*asked.values()}}
+        return {edit: (sum_of(edit.text), sums[asked[edit]], tools) for edit in self.edits}
 
     def kept_name(self, edit):
         """The name under which this machine keeps what a trial of the edit said."""
@@ -206,9 +230,10 @@ class Choice:
 
     def keep(self, said):
         """Keeps what a trial said of those that were refused, if nothing that it read has changed meanwhile."""
-        now = self.sums_now()
-        for edit, (well, told) in said.items():
-            if well and now[edit] == self.sums[edit]:
+        refused = {edit: told for edit, (well, told) in said.items() if well}
+        now = self.sums_now() if refused else {}
+        for edit, told in refused.items():
+            if now[edit] == self.sums[edit]:
                 kept.keep_text(self.kept_name(edit), told)
 
     def judged(self, edit, well, told):

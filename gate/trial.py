@@ -8,10 +8,9 @@ import subprocess
 import tempfile
 from concurrent.futures import ThreadPoolExecutor
 
-from edit import BadEdit, functions_of
+from edit import CLOSED, BadEdit, Holes
 from values import states_another_value
 
-PROOFS = ("Invariants.antt", "Answers.antt", "Proof.antt")
 # What a check says of a proof file that names what an edit took away. What follows from it is open as well, so it shows nothing of the
 # contract: of a right body that calls a local otherwise the same is said.
 NAMES = re.compile(
@@ -35,9 +34,10 @@ ALONE = "REFUSED BY NAMES ALONE: its proof names what the edit took away: change
 class Trial:
     """The trial of some of a crate's edits, over work that is kept from one round to the next."""
 
-    def __init__(self, crate, kit, is_proved, edits, work=None):
-        """`work` is a folder with what an earlier check of the crate kept; without it that is out/incremental, where it is there."""
-        self.crate, self.kit, self.is_proved, self.said = crate, kit, is_proved, {}
+    def __init__(self, crate, kit, is_proved, edits, work=None, keep=lambda said: None):
+        """`work` is a folder with what an earlier check of the crate kept; without it that is out/incremental, where it is there. `keep` is
+        handed what was said of edits as soon as it counts, after each check."""
+        self.crate, self.kit, self.is_proved, self.said, self.keep = crate, kit, is_proved, {}, keep
         self.work = work or crate.folder / "out/incremental"
         self.edits = edits
         # The crates with the most edits would end long after the others.
@@ -69,14 +69,10 @@ class Trial:
 
     def leave_out(self, proofs, only):
         """Puts a hole in place of the proof of each function that isn't asked for: its contract stands, and nothing of it is proved."""
-        written = {"::".join(path.parent.relative_to(proofs).parts) for path in proofs.rglob("*.antt") if path.name in PROOFS}
-        for path in sorted({*written, *functions_of(self.crate)}):
+        files = [path.relative_to(proofs.parent).as_posix() for path in proofs.rglob("*") if path.is_file()]
+        for path in Holes(self.crate, files).beside(only):
             folder = proofs.joinpath(*path.split("::"))
-            # The proof of functions that call themselves stands in a folder with a plus, and stays.
-            recursive = folder.name.startswith("+") or folder.with_name(f"+{folder.name}").is_dir()
-            if recursive or any(path == it or path.endswith(f"::{it}") for it in only):
-                continue
-            for name in PROOFS:
+            for name in CLOSED:
                 (folder / name).unlink(missing_ok=True)
             folder.mkdir(parents=True, exist_ok=True)
             module = f"Rattle.{self.crate.name}.proofs.{path.replace('::', '.')}.Statement"
@@ -115,11 +111,20 @@ class Trial:
                 self.try_together(chosen, kept)
                 left = [edit for edit in left if edit not in chosen]
             for edit in left:
-                self.said[edit] = self.try_alone(edit, kept)
+                self.say({edit: self.try_alone(edit, kept)})
             for edit in self.said:
                 if told_of(edit.checked(), without.result()):
                     self.said[edit] = (False, "its function isn't proved even without the edit, so this shows nothing")
+        if not self.is_proved:
+            self.keep(self.said)
         return self
+
+    def say(self, said):
+        """Takes what a check said of these edits. Where it isn't known yet that their functions are proved without them, that doesn't count
+        before the end."""
+        self.said.update(said)
+        if self.is_proved:
+            self.keep(said)
 
     @contextlib.contextmanager
     def kept(self):
@@ -146,12 +151,10 @@ class Trial:
             self.try_together(chosen[: len(chosen) // 2], kept)
             self.try_together(chosen[len(chosen) // 2 :], kept)
             return
-        for edit in chosen:
-            told = told_of(edit.checked(), said)
-            if told:
-                self.said[edit] = told.verdict()
-            else:
-                self.said[edit] = self.judged(edit, said) if len(chosen) == 1 else self.try_alone(edit, kept)
+        told = {edit: told_of(edit.checked(), said) for edit in chosen}
+        self.say({edit: it.verdict() for edit, it in told.items() if it})
+        for edit in [it for it in chosen if not told[it]]:
+            self.say({edit: self.judged(edit, said) if len(chosen) == 1 else self.try_alone(edit, kept)})
 
     def try_alone(self, edit, kept):
         """Tries one edit by itself, over the functions that it is to be refused by, or over the whole crate where it names none."""
