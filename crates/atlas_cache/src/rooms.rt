@@ -24,9 +24,9 @@ mod repacking;
 mod reserving;
 mod usable;
 
-use atlas_entries::error::CacheError;
 use crate::options::CacheOptions;
 use crate::rooms::asking::{NO_SIZE, ask};
+use atlas_entries::error::CacheError;
 use guillotiere::pages::prove_page;
 use guillotiere::{AllocId, Allocation, AtlasAllocator, AtlasError, Size};
 use std::alloc::{Allocator, Global};

@@ -146,7 +146,7 @@ pub extern "C" fn guillotiere_simple_allocate(
         (request_answer result granted.new) simple.new.kept }
     ensures kept { IsSome simple.old.kept → HoldsSimple simple.new.kept IsSimple }
     ensures exact { result ≡ DONE → IsExact (corners_in granted.new) }
-    ensures entries { IsSome simple.old.kept → UseOldEntries simple.old.kept simple.new.kept }
+    ensures entries { result ≡ DONE → UseOldEntries simple.old.kept simple.new.kept }
     ensures memory { result ≡ MEMORY → IfSome simple.old.kept (λ v. MayAskMemory v (Allocate (sides_in width height))) }
     ensures past { HoldsSimple simple.old.kept (λ s. (2147483647 < (rounded s.options (sides_in width height)).width)
         ⊎ (2147483647 < (rounded s.options (sides_in width height)).height)) → result ≡ NO_ROOM }
@@ -182,7 +182,7 @@ pub extern "C" fn guillotiere_simple_grow(
     ensures kept { IsSome simple.old.kept → HoldsSimple simple.new.kept IsSimple }
     ensures equal { result ≢ BAD_CALL → HoldsSimple simple.old.kept (λ s. s.size ≡ sides_in width height)
         → (result ≡ DONE) × (simple.new.kept ≡ simple.old.kept) }
-    ensures entries { IsSome simple.old.kept → UseOldEntries simple.old.kept simple.new.kept }
+    ensures entries { result ≡ DONE → UseOldEntries simple.old.kept simple.new.kept }
     ensures memory { result ≡ MEMORY → IfSome simple.old.kept (λ v. MayAskMemory v (Grow (sides_in width height))) }
     ensures refused { result ≢ DONE → simple.new.kept ≡ simple.old.kept }
     ensures empty { IsNone simple.old.kept → result ≡ EMPTY }

@@ -11,11 +11,11 @@ ghost use Rattle.atlas_cache.specs.Reserving.{HaveSlots, IsShortOfSlots, UseAtMo
 ghost use Rattle.atlas_cache.specs.Rooms.{page_sizes, HasRoomOnlyAmong, IsRounded};
 ghost use Rattle.atlas_entries.specs.declared.error.CacheError.TheVariants.{Memory, Slots};
 
-use atlas_entries::entries::{Entries, Entry, NO_PAGE};
-use atlas_entries::error::CacheError;
 use crate::options::CacheOptions;
 use crate::places::{NO_PIXELS, Place};
 use crate::rooms::Rooms;
+use atlas_entries::entries::{Entries, Entry, NO_PAGE};
+use atlas_entries::error::CacheError;
 use guillotiere::{AllocId, Size};
 use std::alloc::Allocator;
 use std::hash::{BuildHasher, Hash};

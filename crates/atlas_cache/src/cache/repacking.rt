@@ -16,9 +16,9 @@ ghost use Rattle.atlas_entries.specs.declared.error.CacheError.TheVariants.{Slot
 use crate::cache::TextureCache;
 use crate::cache::holding::place_of;
 use crate::changes::{CacheChange, Changes};
+use crate::options::CacheOptions;
 use atlas_entries::entries::{Entries, Entry};
 use atlas_entries::error::CacheError;
-use crate::options::CacheOptions;
 use guillotiere::{AllocId, Allocation, Change};
 use std::alloc::Allocator;
 use std::hash::{BuildHasher, Hash};

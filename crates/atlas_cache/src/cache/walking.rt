@@ -7,8 +7,8 @@ ghost use Rattle.atlas_cache.specs.Walking.{first_entry, keyed, last_entry, IsNe
 
 use crate::cache::TextureCache;
 use crate::cache::holding::{look_up, oldest, place_of};
-use atlas_entries::entries::{Entries, Entry};
 use crate::places::Place;
+use atlas_entries::entries::{Entries, Entry};
 use std::alloc::Allocator;
 use std::hash::{BuildHasher, Hash};
 

@@ -16,10 +16,10 @@ ghost use Rattle.atlas_cache.specs.Repacking.{RepacksPage};
 ghost use Rattle.atlas_cache.specs.Rooms.{page_sizes, IsRefusal};
 ghost use Rattle.atlas_entries.specs.declared.error.CacheError.TheVariants.{Slots};
 
-use atlas_entries::error::CacheError;
 use crate::rooms::asking::NO_SIZE;
 use crate::rooms::usable::extent;
 use crate::rooms::{Rooms, refusal};
+use atlas_entries::error::CacheError;
 use guillotiere::{Allocation, AtlasAllocator, Change, ChangeList, Rectangle, Size};
 use std::alloc::Allocator;
 use std::cmp::Reverse;

@@ -5,8 +5,8 @@ ghost use Rattle.atlas_cache.specs.Reserving.{AllowSlots, HaveSlots, IsShortFor,
 ghost use Rattle.atlas_cache.specs.Rooms.{IsRefusal};
 ghost use Rattle.atlas_entries.specs.declared.error.CacheError.TheVariants.{Memory, Slots};
 
-use atlas_entries::error::CacheError;
 use crate::rooms::{Rooms, refusal};
+use atlas_entries::error::CacheError;
 use std::alloc::Allocator;
 
 impl<A: Allocator + Copy> Rooms<A> {
