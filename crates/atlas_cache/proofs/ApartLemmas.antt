@@ -5,7 +5,7 @@ use Rattle.std.specs.List.{AllByRecursion}
 use Rattle.guillotiere.specs.Callers.{RectanglesLieApart}
 use Rattle.guillotiere.specs.Pages.{AllLieApartOn, AllLieWithinOn}
 use Rattle.guillotiere.specs.Stored.{AtlasValue}
-use Rattle.atlas_cache.specs.declared.entries.Entry.{Entry}
+use Rattle.atlas_entries.specs.declared.entries.Entry.{Entry}
 use Rattle.atlas_cache.specs.Caches.{has_id, holders, EntriesLieApart, EntriesLieWithin}
 use Rattle.atlas_cache.proofs.HoldingLemmas.{id_cases, IsLiveOn}
 

@@ -3,9 +3,9 @@ use Rattle.std.proofs.Common.{ℕ, ◌+◌, ◌≤◌, ◌≡◌, inl, inr, true
 use Rattle.std.proofs.lemmas.{Bool.{cases_Bool}}
 use Rattle.std.proofs.lemmas.Bool.{false≢true}
 use Rattle.std.specs.List.{AllByRecursion}
-use Rattle.atlas_cache.specs.declared.entries.Entry.{Entry}
+use Rattle.atlas_entries.specs.declared.entries.Entry.{Entry}
 use Rattle.atlas_cache.specs.Caches.{FramesFall}
-use Rattle.atlas_cache.specs.Entries.{is_blank, lying}
+use Rattle.atlas_entries.specs.Entries.{is_blank, lying}
 use Rattle.atlas_cache.proofs.ListLemmas.{falls-all, falls-later, Parts}
 
 module _ {K : Type 0} where

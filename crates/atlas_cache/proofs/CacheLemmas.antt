@@ -7,15 +7,16 @@ use Rattle.guillotiere.specs.declared.Size.{Size}
 use Rattle.guillotiere.specs.Pages.{rectangle_on, LeavesNoBoxOn}
 use Rattle.guillotiere.specs.Pixels.{size_of}
 use Rattle.guillotiere.specs.Stored.{AtlasValue}
-use Rattle.atlas_cache.specs.declared.entries.Entry.{Entry}
+use Rattle.atlas_entries.specs.declared.entries.Entry.{Entry}
 use Rattle.atlas_cache.specs.declared.options.CacheOptions.{CacheOptions}
 use Rattle.atlas_cache.specs.Asking.{bordered, AreUsable, CanStand}
 use Rattle.atlas_cache.specs.Caches.{entries_of, AreBordered, FramesFall, HoldsEntries, IsBordered}
-use Rattle.atlas_cache.specs.Entries.{entry_at, is_blank, lying, touched, without_number, IsNumber}
+use Rattle.atlas_entries.specs.Entries.{entry_at, is_blank, lying, touched, without_number, IsNumber}
 use Rattle.atlas_cache.specs.Rooms.{IsAtLeast}
 use Rattle.atlas_cache.proofs.BlankLemmas.{parts-blank, parts-lying}
 use Rattle.atlas_cache.proofs.HoldingLemmas.{left, to_front, used_at}
-use Rattle.atlas_cache.proofs.ListLemmas.{each-here, each-without, falls-without, parts, Parts}
+use Rattle.atlas_entries.proofs.AppendedLists.{each-here, each-without}
+use Rattle.atlas_cache.proofs.ListLemmas.{falls-without, parts, Parts}
 
 -- Behind the last page nothing is live, and nothing has to be freed there.
 pub off_pages : (pages : List AtlasValue) (page id : ℕ) → length pages ≤ page → rectangle_on pages page id ≡ None

@@ -12,14 +12,14 @@ use Rattle.guillotiere.specs.Refits.Refitted.{HasExactRectangle}
 use Rattle.guillotiere.specs.Stored.{AtlasValue}
 use Rattle.guillotiere.proofs.ListLemmas.CallerLemmas.{uncounted-find}
 use Rattle.guillotiere.proofs.ListLemmas.ListCounts.{count_by-cons}
-use Rattle.atlas_cache.specs.declared.entries.Entry.{Entry}
+use Rattle.atlas_entries.specs.declared.entries.Entry.{Entry}
 use Rattle.atlas_cache.specs.Caches.{entries_of, holders, AreBordered, HoldsEntries}
-use Rattle.atlas_cache.specs.Entries.{entry_at, is_blank, lying, no_page, numbers, IsNumber}
-use Rattle.atlas_cache.specs.Orders.{newest_of}
+use Rattle.atlas_entries.specs.Entries.{entry_at, is_blank, lying, no_page, numbers, IsNumber}
+use Rattle.atlas_entries.specs.Orders.{newest_of}
 use Rattle.atlas_cache.specs.Relocating.{held_of, held_on}
 use Rattle.atlas_cache.specs.Repacking.{NamesPage}
 use Rattle.atlas_cache.proofs.HoldingLemmas.{IsLiveOn}
-use Rattle.atlas_cache.proofs.ListLemmas.{append-none}
+use Rattle.atlas_entries.proofs.AppendedLists.{append-none}
 use Rattle.atlas_cache.proofs.RelocateLemmas.{filter_map-last}
 use Rattle.atlas_cache.proofs.WalkLemmas.{at-number, entries-append}
 

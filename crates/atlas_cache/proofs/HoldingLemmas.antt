@@ -4,9 +4,9 @@ use Rattle.std.proofs.lemmas.{Bool.Decides.{eqb_tells}}
 use Rattle.std.specs.List.{AllByRecursion}
 use Rattle.guillotiere.specs.Pages.{rectangle_on, AddsBoxOn, HasSameRectangles, LeavesNoBoxOn}
 use Rattle.guillotiere.specs.Stored.{AtlasValue}
-use Rattle.atlas_cache.specs.declared.entries.Entry.{Entry}
+use Rattle.atlas_entries.specs.declared.entries.Entry.{Entry}
 use Rattle.atlas_cache.specs.Caches.{has_id, holders, HoldsEntries}
-use Rattle.atlas_cache.proofs.ListLemmas.{each-here, each-without}
+use Rattle.atlas_entries.proofs.AppendedLists.{each-here, each-without}
 
 module _ {K : Type 0} where
   abbrev pub IsLiveOn : List AtlasValue → Entry K → Type 0

@@ -12,7 +12,7 @@ use Rattle.std.proofs.lemmas.Map.Keys.{ge_from_not_lt}
 use borrow.Author.Tests.{tests}
 use Rattle.guillotiere.specs.declared.Change.{Change}
 use Rattle.guillotiere.proofs.ListLemmas.CallerLemmas.{count_by-permutation, find-counted_once, find-permutation}
-use Rattle.atlas_cache.specs.declared.entries.Entry.{Entry}
+use Rattle.atlas_entries.specs.declared.entries.Entry.{Entry}
 use Rattle.atlas_cache.specs.Relocating.{become, former_id, renewed_by, told_as, told_of, AreInIdOrder}
 
 module _ {X : Type 0} (p : X → Bool) where

@@ -3,10 +3,10 @@ use Rattle.std.proofs.Common.{ℕ, ℤ, ◌+◌, ◌-◌, ◌≡◌, eqb, List, 
 use Rattle.std.proofs.lemmas.List.{drop_at, length-drop, take-append-drop}
 use Rattle.std.proofs.lemmas.Option.{none-some, same_Some}
 use Rattle.std.specs.List.{IsDistinct}
-use Rattle.atlas_cache.specs.declared.entries.Entry.{Entry}
+use Rattle.atlas_entries.specs.declared.entries.Entry.{Entry}
 use Rattle.atlas_cache.specs.Caches.{entries_of}
-use Rattle.atlas_cache.specs.Entries.{entry_at, numbers, IsNumber}
-use Rattle.atlas_cache.specs.Orders.{newest_of}
+use Rattle.atlas_entries.specs.Entries.{entry_at, numbers, IsNumber}
+use Rattle.atlas_entries.specs.Orders.{newest_of}
 use Rattle.atlas_cache.specs.Walking.{keyed, oldest_entries, AreToCome}
 use Rattle.atlas_cache.proofs.WalkLemmas.{at-number, numbers-split, Split}
 

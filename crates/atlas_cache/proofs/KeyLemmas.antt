@@ -4,10 +4,10 @@ use Rattle.std.proofs.lemmas.{Bool.{cases_Bool}}
 use Rattle.std.proofs.lemmas.Map.Keys.{IsDistinct-head, IsDistinct-tail}
 use Rattle.std.specs.List.{AllByRecursion, IsDistinct}
 use Rattle.std.specs.Cmp.{IsEquivalence}
-use Rattle.atlas_cache.specs.declared.entries.Entry.{Entry}
+use Rattle.atlas_entries.specs.declared.entries.Entry.{Entry}
 use Rattle.atlas_cache.specs.Caches.{entries_of, entry_for, HaveOwnKeys}
-use Rattle.atlas_cache.specs.Entries.{keys}
-use Rattle.atlas_cache.proofs.ListLemmas.{each-here, each-without}
+use Rattle.atlas_entries.specs.Entries.{keys}
+use Rattle.atlas_entries.proofs.AppendedLists.{each-here, each-without}
 
 module _ {K : Type 0} (eq : K → K → Bool) where
   differ : (k : K) (es : List (ℕ × Entry K)) → AllByRecursion (λ y. eq k y ≡ false) (keys es)

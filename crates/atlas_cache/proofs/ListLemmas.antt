@@ -3,33 +3,10 @@ use Rattle.std.proofs.Common.{ℕ, ◌≤◌, ◌≡◌, inl, inr, Bool, false, 
 use Rattle.std.proofs.lemmas.{Bool.{cases_Bool}, Bool.Decides.{eqb_tells}}
 use Rattle.std.proofs.lemmas.Map.Keys.{IsDistinct-head, IsDistinct-tail}
 use Rattle.std.specs.List.{AllByRecursion, IsDistinct}
-use Rattle.atlas_cache.specs.declared.entries.Entry.{Entry}
+use Rattle.atlas_entries.specs.declared.entries.Entry.{Entry}
 use Rattle.atlas_cache.specs.Caches.{entries_of, entry_for, FramesFall}
-use Rattle.atlas_cache.specs.Entries.{entry_at, number_of, numbers, without_number}
-use Rattle.atlas_cache.specs.Orders.{oldest_of}
-
-module _ {X : Type 0} (P : X → Type 0) where
-  pub each-append : (xs ys : List X) → AllByRecursion P xs → AllByRecursion P ys → AllByRecursion P (xs ++ ys)
-  each-append [] ys h k = k
-  each-append (x ∷ xs) ys h k = (h.0, each-append xs ys h.1 k)
-
-  pub each-left : (xs ys : List X) → AllByRecursion P (xs ++ ys) → AllByRecursion P xs
-  each-left [] ys h = tt
-  each-left (x ∷ xs) ys h = (h.0, each-left xs ys h.1)
-
-  pub each-right : (xs ys : List X) → AllByRecursion P (xs ++ ys) → AllByRecursion P ys
-  each-right [] ys h = h
-  each-right (x ∷ xs) ys h = each-right xs ys h.1
-
-  pub each-without : (xs : List X) (e : X) (ys : List X) → AllByRecursion P (xs ++ e ∷ ys) → AllByRecursion P (xs ++ ys)
-  each-without xs e ys h = each-append xs ys (each-left xs (e ∷ ys) h) (each-right xs (e ∷ ys) h).1
-
-  pub each-here : (xs : List X) (e : X) (ys : List X) → AllByRecursion P (xs ++ e ∷ ys) → P e
-  each-here xs e ys h = (each-right xs (e ∷ ys) h).0
-
-pub append-none : {X : Type 0} (xs : List X) → xs ++ [] ≡ xs
-append-none [] = refl
-append-none (x ∷ xs) = ap (λ ys. x ∷ ys) (append-none xs)
+use Rattle.atlas_entries.specs.Entries.{entry_at, number_of, numbers, without_number}
+use Rattle.atlas_entries.specs.Orders.{oldest_of}
 
 last-among : (m n : ℕ) (ns : List ℕ) → oldest_of ns ≡ Some n → AllByRecursion (λ y. eqb m y ≡ false) ns
     → eqb m n ≡ false

@@ -4,8 +4,8 @@ use Rattle.std.proofs.lemmas.{Bool.{cases_Bool}}
 use Rattle.guillotiere.specs.declared.Size.{Size}
 use Rattle.atlas_cache.specs.declared.changes.CacheChange.{CacheChange}
 use Rattle.atlas_cache.specs.declared.changes.CacheChange.TheVariants.{PageAdded, PageGrown, Evicted, Moved, PageRemoved}
-use Rattle.atlas_cache.specs.declared.entries.Entry.{Entry}
-use Rattle.atlas_cache.specs.declared.error.CacheError.{CacheError}
+use Rattle.atlas_entries.specs.declared.entries.Entry.{Entry}
+use Rattle.atlas_entries.specs.declared.error.CacheError.{CacheError}
 use Rattle.atlas_cache.specs.declared.inserted.Inserted.{Inserted}
 use Rattle.atlas_cache.specs.Caches.{CacheState, entry_for, HasNoPageFor}
 use Rattle.atlas_cache.specs.Changes.{Does, DoesOne, Ends, Inserts, Leads}

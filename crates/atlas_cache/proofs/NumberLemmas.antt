@@ -3,9 +3,9 @@ use Rattle.std.proofs.Common.{ℕ, ◌≡◌, ◌≢◌, ◌<◌, eqb, eq-eqb, f
 use Rattle.std.proofs.lemmas.Bool.{false≢true}
 use Rattle.std.proofs.lemmas.Map.Keys.{IsDistinct-head, IsDistinct-tail}
 use Rattle.std.specs.List.{AllByRecursion, IsDistinct}
-use Rattle.atlas_cache.specs.declared.entries.Entry.{Entry}
+use Rattle.atlas_entries.specs.declared.entries.Entry.{Entry}
 use Rattle.atlas_cache.specs.Caches.{entries_of, HaveNumbersBelow, HaveOwnNumbers}
-use Rattle.atlas_cache.specs.Entries.{numbers, AreNumbered}
+use Rattle.atlas_entries.specs.Entries.{numbers, AreNumbered}
 
 module _ {K : Type 0} where
   differ : (n m : ℕ) (es : List (ℕ × Entry K)) → m ≡ n → AllByRecursion (λ y. eqb n y ≡ false) (numbers es)

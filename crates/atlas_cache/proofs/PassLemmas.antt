@@ -1,10 +1,10 @@
 -- A walk from the oldest entry over blank ones.
 use Rattle.std.proofs.Common.{ℕ, ◌+◌, ◌≤◌, ◌≡◌, true, false, eqb, List, [], ◌∷◌, ◌++◌, length, Option, None, Some, refl, sym, ap, ◌∙◌, arith, append_assoc}
 use Rattle.std.specs.List.{IsDistinct}
-use Rattle.atlas_cache.specs.declared.entries.Entry.{Entry}
+use Rattle.atlas_entries.specs.declared.entries.Entry.{Entry}
 use Rattle.atlas_cache.specs.Caches.{entries_of, IsOldestLying}
-use Rattle.atlas_cache.specs.Entries.{entry_at, is_blank, lying, numbers, without_number, AreBlank, EndsBlank, IsBeforeBlanks, IsNumber}
-use Rattle.atlas_cache.specs.Orders.{oldest_of}
+use Rattle.atlas_entries.specs.Entries.{entry_at, is_blank, lying, numbers, without_number, AreBlank, EndsBlank, IsBeforeBlanks, IsNumber}
+use Rattle.atlas_entries.specs.Orders.{oldest_of}
 use Rattle.atlas_cache.proofs.BlankLemmas.{lying-past}
 use Rattle.atlas_cache.proofs.RelocateLemmas.{without-at}
 use Rattle.atlas_cache.proofs.WalkLemmas.{at-number, entries-append, numbers-append}

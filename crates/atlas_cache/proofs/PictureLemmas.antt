@@ -6,8 +6,8 @@ use Rattle.std.specs.Cmp.{IsEquivalence}
 use Rattle.guillotiere.specs.declared.Size.{Size}
 use Rattle.atlas_cache.specs.declared.changes.CacheChange.{CacheChange}
 use Rattle.atlas_cache.specs.declared.changes.CacheChange.TheVariants.{PageAdded, PageGrown, Evicted, Moved, PageRemoved}
-use Rattle.atlas_cache.specs.declared.entries.Entry.{Entry}
-use Rattle.atlas_cache.specs.declared.error.CacheError.{CacheError}
+use Rattle.atlas_entries.specs.declared.entries.Entry.{Entry}
+use Rattle.atlas_entries.specs.declared.error.CacheError.{CacheError}
 use Rattle.atlas_cache.specs.declared.inserted.Inserted.{Inserted}
 use Rattle.atlas_cache.specs.declared.inserted.Inserted.TheVariants.{Placed, Held, FrameFull, NeverFits}
 use Rattle.atlas_cache.specs.declared.places.Place.{Place}
@@ -16,7 +16,7 @@ use Rattle.atlas_cache.specs.Changes.{Picture, all_changed, changed, picture_of,
 use Rattle.atlas_cache.specs.Telling.{Tells}
 use Rattle.atlas_cache.specs.Rooms.{page_sizes}
 use Rattle.atlas_cache.proofs.KeyLemmas.{first, fronted, gone, here, own_without}
-use Rattle.atlas_cache.proofs.ListLemmas.{append-none}
+use Rattle.atlas_entries.proofs.AppendedLists.{append-none}
 
 map-cond : {X Y : Type 0} (f : X → Y) (b : Bool) (o p : Option X)
     → option_map f (cond b o p) ≡ cond b (option_map f o) (option_map f p)

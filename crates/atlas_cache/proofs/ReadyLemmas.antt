@@ -3,8 +3,8 @@ use Rattle.std.proofs.Common.{ℕ, ◌≡◌, ◌≢◌, ◌+◌, ◌-◌, ◌*�
 use Rattle.std.proofs.lemmas.Bool.{cases_lt}
 use Rattle.guillotiere.specs.declared.Size.{Size}
 use Rattle.atlas_cache.specs.declared.changes.CacheChange.{CacheChange}
-use Rattle.atlas_cache.specs.declared.error.CacheError.{CacheError}
-use Rattle.atlas_cache.specs.declared.error.CacheError.TheVariants.{Memory, Slots}
+use Rattle.atlas_entries.specs.declared.error.CacheError.{CacheError}
+use Rattle.atlas_entries.specs.declared.error.CacheError.TheVariants.{Memory, Slots}
 use Rattle.atlas_cache.specs.declared.inserted.Inserted.{Inserted}
 use Rattle.atlas_cache.specs.declared.inserted.Inserted.TheVariants.{Placed, Held, FrameFull, NeverFits}
 use Rattle.atlas_cache.specs.declared.options.CacheOptions.{CacheOptions}
@@ -12,7 +12,7 @@ use Rattle.guillotiere.specs.Stored.{AtlasValue}
 use Rattle.atlas_cache.specs.Caches.{CacheState, IsFull}
 use Rattle.atlas_cache.specs.Changes.{InsertsBlank}
 use Rattle.atlas_cache.specs.Clearing.{Trims}
-use Rattle.atlas_cache.specs.Refusals.{IsWithoutNumber}
+use Rattle.atlas_entries.specs.Limits.{IsWithoutNumber}
 use Rattle.atlas_cache.specs.Reserving.{ready_inserts, AllowSlots, HasReserves, HaveSlots, IsReadyFor, IsShortOfSlots, KeepsPageSizes}
 use Rattle.atlas_cache.specs.Reserving.{KeepsReady, KeepsReadyButOne, UseAtMost}
 use Rattle.atlas_cache.specs.Rooms.{page_sizes}

@@ -7,12 +7,12 @@ use Rattle.std.specs.List.{cons_option, filter_map, AllByRecursion, IsDistinct}
 use Rattle.guillotiere.specs.declared.Change.{Change}
 use Rattle.guillotiere.specs.declared.Rectangle.{Rectangle}
 use Rattle.atlas_cache.specs.declared.changes.CacheChange.{CacheChange}
-use Rattle.atlas_cache.specs.declared.entries.Entry.{Entry}
+use Rattle.atlas_entries.specs.declared.entries.Entry.{Entry}
 use Rattle.atlas_cache.specs.Caches.{entries_of, AreBordered, IsBordered}
-use Rattle.atlas_cache.specs.Entries.{entry_at, moved, numbers, without_number, IsNumber}
-use Rattle.atlas_cache.specs.Orders.{newest_of}
+use Rattle.atlas_entries.specs.Entries.{entry_at, moved, numbers, without_number, IsNumber}
+use Rattle.atlas_entries.specs.Orders.{newest_of}
 use Rattle.atlas_cache.specs.Relocating.{become, numbered_as, renewed_by, told_as, told_of}
-use Rattle.atlas_cache.proofs.ListLemmas.{append-none, each-here}
+use Rattle.atlas_entries.proofs.AppendedLists.{append-none, each-here}
 use Rattle.atlas_cache.proofs.WalkLemmas.{at-number, entries-append, numbers-append}
 
 module _ {X Y : Type 0} (f : X → Option Y) where

@@ -17,13 +17,13 @@ use Rattle.guillotiere.specs.Rearranging.{IsExactChange, KeepsSides}
 use Rattle.guillotiere.specs.Stored.{AtlasValue, state_of}
 use Rattle.guillotiere.proofs.ListLemmas.CallerLemmas.{count_by-map, find-counted_once, Contains-find}
 use Rattle.guillotiere.proofs.ListLemmas.ListCounts.{count_by-append, counted_once}
-use Rattle.atlas_cache.specs.declared.entries.Entry.{Entry}
+use Rattle.atlas_entries.specs.declared.entries.Entry.{Entry}
 use Rattle.atlas_cache.specs.Asking.{IsBorderedBy}
 use Rattle.atlas_cache.specs.Caches.{entries_of, holders, AreBordered, FramesFall, HoldsEntries}
-use Rattle.atlas_cache.specs.Entries.{is_blank, lying, no_page}
+use Rattle.atlas_entries.specs.Entries.{is_blank, lying, no_page}
 use Rattle.atlas_cache.specs.Relocating.{become, renewed_by}
 use Rattle.atlas_cache.specs.Repacking.{RepacksPage}
-use Rattle.atlas_cache.proofs.EntryLemmas.{option_is}
+use Rattle.atlas_entries.proofs.EntryLemmas.{option_is}
 use Rattle.atlas_cache.proofs.HoldingLemmas.{id_cases, IsLiveOn}
 use Rattle.atlas_cache.proofs.ListLemmas.{falls-later, length-listed}
 

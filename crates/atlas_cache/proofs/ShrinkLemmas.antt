@@ -14,16 +14,16 @@ use Rattle.guillotiere.specs.Trees.{Grant}
 use Rattle.guillotiere.proofs.Callers.{page_added}
 use Rattle.atlas_cache.specs.declared.changes.CacheChange.{CacheChange}
 use Rattle.atlas_cache.specs.declared.changes.CacheChange.TheVariants.{PageRemoved}
-use Rattle.atlas_cache.specs.declared.entries.Entry.{Entry}
+use Rattle.atlas_entries.specs.declared.entries.Entry.{Entry}
 use Rattle.atlas_cache.specs.declared.options.CacheOptions.{CacheOptions}
 use Rattle.atlas_cache.specs.Caches.{CacheState, holders, HoldsEntries}
 use Rattle.atlas_cache.specs.Changes.{all_changed, changed, picture_of, KeepsEntries, ShowsSame}
 use Rattle.atlas_cache.specs.Clearing.{TellsChanges}
-use Rattle.atlas_cache.specs.Entries.{lying}
+use Rattle.atlas_entries.specs.Entries.{lying}
 use Rattle.atlas_cache.specs.Rooms.{page_sizes, rooms_of, size_of_page, IsNothingLive, KeepsRooms}
 use Rattle.atlas_cache.specs.Shrinking.{all_removed, pages_in_use, DropsIdle, DropsPage, IsLastInUse, Shrinks}
 use Rattle.atlas_cache.proofs.HoldingLemmas.{id_cases}
-use Rattle.atlas_cache.proofs.ListLemmas.{append-none}
+use Rattle.atlas_entries.proofs.AppendedLists.{append-none}
 use Rattle.atlas_cache.proofs.PictureLemmas.{places_stay, same_both, same_shown}
 use Rattle.atlas_cache.proofs.RoomLemmas.KeptPages.{on_page}
 use Rattle.atlas_cache.proofs.TrimLemmas.{changed-last}

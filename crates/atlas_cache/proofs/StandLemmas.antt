@@ -9,15 +9,15 @@ use Rattle.guillotiere.specs.Pixels.{size_of}
 use Rattle.guillotiere.specs.Stored.{AtlasValue}
 use Rattle.atlas_cache.specs.declared.changes.CacheChange.{CacheChange}
 use Rattle.atlas_cache.specs.declared.changes.CacheChange.TheVariants.{PageAdded, PageGrown, Evicted, Moved, PageRemoved}
-use Rattle.atlas_cache.specs.declared.entries.Entry.{Entry}
+use Rattle.atlas_entries.specs.declared.entries.Entry.{Entry}
 use Rattle.atlas_cache.specs.declared.options.CacheOptions.{CacheOptions}
 use Rattle.atlas_cache.specs.Asking.{bordered, AreUsable, CanStand}
 use Rattle.atlas_cache.specs.Caches.{CacheState, HoldsEntries, IsNoneInUse}
 use Rattle.atlas_cache.specs.Changes.{Does, IsExhausted, Leads}
-use Rattle.atlas_cache.specs.Entries.{lying}
+use Rattle.atlas_entries.specs.Entries.{lying}
 use Rattle.atlas_cache.specs.Rooms.{rooms_of, size_of_page, LargestHasRoom}
 use Rattle.atlas_cache.proofs.BlankLemmas.{each-lying}
-use Rattle.atlas_cache.proofs.ListLemmas.{each-without}
+use Rattle.atlas_entries.proofs.AppendedLists.{each-without}
 
 module _ {K : Type 0} where
   does-unused : (c : CacheChange K) (s t : CacheState K) → Does c s t → IsNoneInUse s → IsNoneInUse t

@@ -6,7 +6,7 @@ use Rattle.std.specs.Cmp.{IsEquivalence}
 use Rattle.std.specs.List.{cons_option, filter_map, AllByRecursion}
 use Rattle.atlas_cache.specs.declared.changes.CacheChange.{CacheChange}
 use Rattle.atlas_cache.specs.declared.changes.CacheChange.TheVariants.{Evicted, Moved}
-use Rattle.atlas_cache.specs.declared.entries.Entry.{Entry}
+use Rattle.atlas_entries.specs.declared.entries.Entry.{Entry}
 use Rattle.atlas_cache.specs.Caches.{CacheState, entry_for, shown, HaveOwnKeys}
 use Rattle.atlas_cache.specs.Changes.{Picture, all_changed, changed, picture_of}
 use Rattle.atlas_cache.specs.Clearing.{TellsChanges}

@@ -4,7 +4,7 @@ use Rattle.std.specs.List.{AllByRecursion}
 use Rattle.std.specs.Cmp.{IsEquivalence}
 use Rattle.atlas_cache.specs.declared.changes.CacheChange.{CacheChange}
 use Rattle.atlas_cache.specs.declared.changes.CacheChange.TheVariants.{Evicted}
-use Rattle.atlas_cache.specs.declared.entries.Entry.{Entry}
+use Rattle.atlas_entries.specs.declared.entries.Entry.{Entry}
 use Rattle.atlas_cache.specs.declared.options.CacheOptions.{CacheOptions}
 use Rattle.atlas_cache.specs.Caches.{CacheState, shown, FramesFall, HaveOwnKeys}
 use Rattle.atlas_cache.specs.Changes.{Picture, all_changed, changed, picture_of, ShowsSame}
@@ -12,7 +12,8 @@ use Rattle.atlas_cache.specs.Clearing.{all_evicted, DropsLast, IsUnusedFor, IsUs
 use Rattle.atlas_cache.specs.Reserving.{UseAtMost}
 use Rattle.atlas_cache.specs.Rooms.{page_sizes}
 use Rattle.atlas_cache.proofs.KeyLemmas.{own_without}
-use Rattle.atlas_cache.proofs.ListLemmas.{append-none, falls-last}
+use Rattle.atlas_entries.proofs.AppendedLists.{append-none}
+use Rattle.atlas_cache.proofs.ListLemmas.{falls-last}
 use Rattle.atlas_cache.proofs.PictureLemmas.{same_both, same_shown, taken}
 use Rattle.atlas_cache.proofs.RoomLemmas.PageReserves.{both_used, none_used}
 

@@ -3,12 +3,12 @@ use Rattle.std.proofs.Common.{ℕ, ◌≡◌, inl, inr, false, eqb, List, [], �
 use Rattle.std.proofs.lemmas.{Bool.Decides.{eqb_tells}}
 use Rattle.std.proofs.lemmas.Map.Keys.{IsDistinct-head, IsDistinct-tail}
 use Rattle.std.specs.List.{IsDistinct}
-use Rattle.atlas_cache.specs.declared.entries.Entry.{Entry}
+use Rattle.atlas_entries.specs.declared.entries.Entry.{Entry}
 use Rattle.atlas_cache.specs.Caches.{entries_of}
-use Rattle.atlas_cache.specs.Entries.{entry_at, numbers}
-use Rattle.atlas_cache.specs.Orders.{newest_of}
+use Rattle.atlas_entries.specs.Entries.{entry_at, numbers}
+use Rattle.atlas_entries.specs.Orders.{newest_of}
 use Rattle.atlas_cache.specs.Walking.{first_entry, last_entry, IsNext}
-use Rattle.atlas_cache.proofs.ListLemmas.{each-here}
+use Rattle.atlas_entries.proofs.AppendedLists.{each-here}
 
 module _ {K : Type 0} where
   pub first-none : (es : List (ℕ × Entry K)) → newest_of (numbers es) ≡ None → first_entry (entries_of es) ≡ None

@@ -8,18 +8,18 @@ use Rattle.guillotiere.specs.Stored.{AtlasValue}
 use Rattle.guillotiere.specs.Pages.{AddsBoxOn, HasSameRectangles, KeepsPages, LeavesNoBoxOn, NoneHasRoomBelow}
 use Rattle.atlas_cache.specs.declared.changes.CacheChange.{CacheChange}
 use Rattle.atlas_cache.specs.declared.changes.CacheChange.TheVariants.{PageAdded, PageGrown, Evicted, Moved, PageRemoved}
-use Rattle.atlas_cache.specs.declared.entries.Entry.{Entry}
-use Rattle.atlas_cache.specs.declared.error.CacheError.{CacheError}
-use Rattle.atlas_cache.specs.declared.error.CacheError.TheVariants.{OtherSize}
+use Rattle.atlas_entries.specs.declared.entries.Entry.{Entry}
+use Rattle.atlas_entries.specs.declared.error.CacheError.{CacheError}
+use Rattle.atlas_entries.specs.declared.error.CacheError.TheVariants.{OtherSize}
 use Rattle.atlas_cache.specs.declared.inserted.Inserted.{Inserted}
 use Rattle.atlas_cache.specs.declared.inserted.Inserted.TheVariants.{Placed, Held, FrameFull, NeverFits}
 use Rattle.atlas_cache.specs.declared.places.Place.{Place}
 use Rattle.atlas_cache.specs.Asking.{CanStand}
 use Rattle.atlas_cache.specs.Caches.{CacheState, entry_for, place_for, shown, AreAllInUse, HasNoPageFor, IsFull}
 use Rattle.atlas_cache.specs.Counting.{one_more}
-use Rattle.atlas_cache.specs.Entries.{is_blank, lying}
+use Rattle.atlas_entries.specs.Entries.{is_blank, lying}
 use Rattle.atlas_cache.specs.Placing.{GrantsOn, GrowsOn, StartsOn}
-use Rattle.atlas_cache.specs.Refusals.{IsWithoutNumber}
+use Rattle.atlas_entries.specs.Limits.{IsWithoutNumber}
 use Rattle.atlas_cache.specs.Reserving.{UseAtMost}
 use Rattle.atlas_cache.specs.Rooms.{page_sizes, AreAllLargest, IsAtLeast, IsFirstToGrow, IsRounded}
 

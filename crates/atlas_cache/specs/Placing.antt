@@ -10,10 +10,10 @@ use Rattle.guillotiere.specs.Steps.{Step}
 use Rattle.guillotiere.specs.Steps.AtlasCall.{Allocate, Grow}
 use Rattle.guillotiere.specs.Steps.AtlasReply.{Allocated, Done}
 use Rattle.guillotiere.specs.Stored.{state_of, AtlasValue}
-use Rattle.atlas_cache.specs.declared.error.CacheError.{CacheError}
-use Rattle.atlas_cache.specs.declared.error.CacheError.TheVariants.{Memory, Slots}
+use Rattle.atlas_entries.specs.declared.error.CacheError.{CacheError}
+use Rattle.atlas_entries.specs.declared.error.CacheError.TheVariants.{Memory, Slots}
 use Rattle.atlas_cache.specs.declared.options.CacheOptions.{CacheOptions}
-use Rattle.atlas_cache.specs.Entries.{no_page}
+use Rattle.atlas_entries.specs.Entries.{no_page}
 use Rattle.atlas_cache.specs.Reserving.{HaveSlots, IsShortOfSlots, UseAtMost}
 use Rattle.atlas_cache.specs.Rooms.{page_sizes, IsAtLeast, IsRefusal, IsRounded, RoomsState}
 

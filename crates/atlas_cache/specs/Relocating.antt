@@ -9,7 +9,7 @@ use Rattle.guillotiere.specs.declared.Allocation.{Allocation}
 use Rattle.guillotiere.specs.Pages.{KeepsPages}
 use Rattle.atlas_cache.specs.declared.changes.CacheChange.{CacheChange}
 use Rattle.atlas_cache.specs.declared.changes.CacheChange.TheVariants.{Evicted, Moved}
-use Rattle.atlas_cache.specs.declared.entries.Entry.{Entry}
+use Rattle.atlas_entries.specs.declared.entries.Entry.{Entry}
 use Rattle.atlas_cache.specs.Caches.{CacheState, shown}
 use Rattle.atlas_cache.specs.Repacking.{PlacesAnew}
 use Rattle.atlas_cache.specs.Rooms.{page_sizes}

@@ -6,8 +6,8 @@ use Rattle.guillotiere.specs.Pixels.{sides_of, size_of}
 use Rattle.guillotiere.specs.Reserves.{HasReserve, UsesAtMost}
 use Rattle.guillotiere.specs.States.{used_in}
 use Rattle.guillotiere.specs.Stored.{state_of, AtlasValue}
-use Rattle.atlas_cache.specs.declared.error.CacheError.{CacheError}
-use Rattle.atlas_cache.specs.declared.error.CacheError.TheVariants.{Memory, Slots}
+use Rattle.atlas_entries.specs.declared.error.CacheError.{CacheError}
+use Rattle.atlas_entries.specs.declared.error.CacheError.TheVariants.{Memory, Slots}
 use Rattle.atlas_cache.specs.Asking.{bordered}
 use Rattle.atlas_cache.specs.Caches.{CacheState, HasNoPageFor, IsFull}
 

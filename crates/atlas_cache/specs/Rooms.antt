@@ -10,8 +10,8 @@ use Rattle.guillotiere.specs.Pixels.{box_of, natural, options_of, sides_of, size
 use Rattle.guillotiere.specs.Replies.{IsExact}
 use Rattle.guillotiere.specs.States.{IsSound}
 use Rattle.guillotiere.specs.Stored.{AtlasValue, Stored, state_of}
-use Rattle.atlas_cache.specs.declared.error.CacheError.{CacheError}
-use Rattle.atlas_cache.specs.declared.error.CacheError.TheVariants.{Memory, Slots}
+use Rattle.atlas_entries.specs.declared.error.CacheError.{CacheError}
+use Rattle.atlas_entries.specs.declared.error.CacheError.TheVariants.{Memory, Slots}
 use Rattle.atlas_cache.specs.declared.options.CacheOptions.{CacheOptions}
 use Rattle.atlas_cache.specs.Asking.{AreUsable, bordered, CanStand}
 

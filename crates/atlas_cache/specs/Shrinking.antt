@@ -4,10 +4,10 @@ use Rattle.guillotiere.specs.States.{live_in}
 use Rattle.guillotiere.specs.Stored.{AtlasValue, state_of}
 use Rattle.atlas_cache.specs.declared.changes.CacheChange.{CacheChange}
 use Rattle.atlas_cache.specs.declared.changes.CacheChange.TheVariants.{PageRemoved}
-use Rattle.atlas_cache.specs.declared.entries.Entry.{Entry}
+use Rattle.atlas_entries.specs.declared.entries.Entry.{Entry}
 use Rattle.atlas_cache.specs.Caches.{CacheState}
 use Rattle.atlas_cache.specs.Changes.{KeepsEntries}
-use Rattle.atlas_cache.specs.Entries.{lying}
+use Rattle.atlas_entries.specs.Entries.{lying}
 use Rattle.atlas_cache.specs.Rooms.{IsNothingLive}
 
 -- The last page goes, and nothing is live on it.

@@ -1,7 +1,7 @@
 -- What a caller knows who follows the changes of an insert.
 use Rattle.std.specs.Prelude.{◌≡◌, Bool, List, ◌++◌, Option, Some, None, Result, Ok, Err}
 use Rattle.atlas_cache.specs.declared.changes.CacheChange.{CacheChange}
-use Rattle.atlas_cache.specs.declared.error.CacheError.{CacheError}
+use Rattle.atlas_entries.specs.declared.error.CacheError.{CacheError}
 use Rattle.atlas_cache.specs.declared.inserted.Inserted.{Inserted}
 use Rattle.atlas_cache.specs.declared.inserted.Inserted.TheVariants.{Placed, Held, FrameFull, NeverFits}
 use Rattle.atlas_cache.specs.declared.places.Place.{Place}

@@ -1,10 +1,10 @@
 -- Entries in the order of their use, one after another.
 use Rattle.std.specs.Prelude.{◌≡◌, ◌≤◌, ◌-◌, ℕ, ℤ, List, [], ◌∷◌, ◌++◌, drop, length, map, Option, None, Some, option_map}
-use Rattle.atlas_cache.specs.declared.entries.Entry.{Entry}
+use Rattle.atlas_entries.specs.declared.entries.Entry.{Entry}
 use Rattle.atlas_cache.specs.declared.places.Place.{Place}
 use Rattle.atlas_cache.specs.Caches.{CacheState, shown}
-use Rattle.atlas_cache.specs.Entries.{numbers}
-use Rattle.atlas_cache.specs.Orders.{newest_of}
+use Rattle.atlas_entries.specs.Entries.{numbers}
+use Rattle.atlas_entries.specs.Orders.{newest_of}
 
 module _ {K : Type 0} where
   -- The first entry of a list.

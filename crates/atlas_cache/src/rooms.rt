@@ -9,14 +9,14 @@ ghost use Rattle.guillotiere.specs.Pages.{LeavesNoBoxOn};
 ghost use Rattle.guillotiere.specs.Pixels.{natural, sides_of, size_of};
 ghost use Rattle.atlas_cache.specs.declared.options.CacheOptions.{CacheOptions};
 ghost use Rattle.atlas_cache.specs.Asking.{AreUsable};
-ghost use Rattle.atlas_cache.specs.Entries.{no_page};
+ghost use Rattle.atlas_entries.specs.Entries.{no_page};
 ghost use Rattle.atlas_cache.specs.Placing.{GrowsOn, PlacesFirst, StartsOn};
 ghost use Rattle.atlas_cache.specs.Reserving.{IsShortOfSlots, UseAtMost};
 ghost use Rattle.atlas_cache.specs.Rooms.{grown_sides, growth_left, page_sizes, rooms_of, AreAllLargest};
 ghost use Rattle.atlas_cache.specs.Rooms.{AreLargestBelow, HasRoomOnlyAmong, IsFirstToGrow, IsNothingLive};
 ghost use Rattle.atlas_cache.specs.Rooms.{IsRefusal, KeepsRooms, LargestHasRoom};
 ghost use Rattle.atlas_cache.specs.Shrinking.{DropsIdle, IsLastInUse};
-ghost use Rattle.atlas_cache.specs.declared.error.CacheError.TheVariants.{Memory, Slots};
+ghost use Rattle.atlas_entries.specs.declared.error.CacheError.TheVariants.{Memory, Slots};
 
 mod asking;
 mod copying;
@@ -24,9 +24,9 @@ mod repacking;
 mod reserving;
 mod usable;
 
-use crate::error::CacheError;
 use crate::options::CacheOptions;
 use crate::rooms::asking::{NO_SIZE, ask};
+use atlas_entries::error::CacheError;
 use guillotiere::pages::prove_page;
 use guillotiere::{AllocId, Allocation, AtlasAllocator, AtlasError, Size};
 use std::alloc::{Allocator, Global};

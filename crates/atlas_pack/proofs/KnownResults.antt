@@ -9,9 +9,8 @@ all_known P Q R T W (Ok (Some s)) p q r t make = make s p q r t
 all_known P Q R T W (Ok None) p q r t make = tt
 all_known P Q R T W (Err e) p q r t make = tt
 
-pub both_known : {S E : Type 0} (P Q W : S → Type 0) (r : Result (Option S) E) → IfOk r (λ f. IfSome f P)
-    → IfOk r (λ f. IfSome f Q)
-    → ((s : S) → P s → Q s → W s) → IfOk r (λ f. IfSome f W)
-both_known P Q W (Ok (Some s)) p q make = make s p q
-both_known P Q W (Ok None) p q make = tt
-both_known P Q W (Err e) p q make = tt
+pub known_together : {S E : Type 0} (P Q : S → Type 0) (r : Result (Option S) E) → IfOk r (λ f. IfSome f P)
+    → IfOk r (λ f. IfSome f Q) → IfOk r (λ f. IfSome f (λ s. P s × Q s))
+known_together P Q (Ok (Some s)) p q = (p, q)
+known_together P Q (Ok None) p q = tt
+known_together P Q (Err e) p q = tt

@@ -14,16 +14,15 @@ use Rattle.atlas_sheet.specs.declared.paging.OnPage.{OnPage}
 use Rattle.atlas_sheet.specs.declared.placed.Placed.{Placed}
 use Rattle.atlas_sheet.specs.declared.ways.TheConstants.{WAYS}
 use Rattle.atlas_sheet.specs.Allowances.{IsAllowed, IsGreatest}
-use Rattle.atlas_sheet.specs.Dense.{AreAllPlaced, ArePaddedApart, IsLeastDense, IsNoLargerThanWays, IsPackedOrDense}
+use Rattle.atlas_sheet.specs.Dense.{AreAllPlaced, ArePaddedApart, IsAsPacked, IsLeastDense, IsNoLargerThanWays, IsPackedOrDense}
 use Rattle.atlas_sheet.specs.Dense.{NoWayFinds, NoneIsDense}
-use Rattle.atlas_sheet.specs.Fillings.{IsBestFound, IsNoBetter, ways_tried}
+use Rattle.atlas_sheet.specs.Fillings.{FindsFewer, IsBestFound, IsNoBetter, ways_tried}
 use Rattle.atlas_sheet.specs.Grouping.{AreGroupPages, AreGroupSheets, LieTogether, members, padded_to}
 use Rattle.atlas_sheet.specs.Lying.{IsShown, areas_of}
-use Rattle.atlas_sheet.specs.Packings.{IsFirstFound, IsNoLarger}
 use Rattle.atlas_sheet.specs.Paging.{ArePages, OneIsTooLarge}
 use Rattle.atlas_sheet.specs.Settings.{IsSheetFault, spacing_of}
 use Rattle.atlas_sheet.specs.Sheets.{used_area}
-use Rattle.atlas_sheet.specs.Turnings.{InEach, InOne}
+use Rattle.atlas_sheet.specs.Turnings.{InEach, InFirst, InOne}
 use Rattle.atlas_words.specs.Devices.{HoldsBytes}
 use Rattle.pack_lines.specs.declared.error.PackError.{PackError}
 use Rattle.pack_lines.specs.declared.error.PackError.TheVariants as error
@@ -82,16 +81,14 @@ abbrev pub written : (json : Bool) → Size → List Frame → (left : List Spri
 written json sheet frames left = if json then json_of sheet frames left else text_of sheet frames left
 
 -- What `pack` answers: an allowed sheet with a place for each sprite, no larger than what the ways find; without effort it is that which
--- they find.
+-- they find first.
 pub record IsFoundSheet (o : SheetOptions) (sizes : List Size) (sheet : Size) (places : List (Option Placed)) : Type 0 where
   pub allowed : IsAllowed o.allowed (sides_of sheet)
   pub all : List Placed
   pub whole : places ≡ map Some all
+  pub larger : IsNoLargerThanWays o sizes (sides_of sheet)
   pub order : List ℕ
-  pub shown : IsShown (sides_of sheet) (spacing_of o) o.turn sizes order places
-  pub larger : InEach o sizes (λ lying. IsNoLarger WAYS o.allowed (spacing_of o) lying (sides_of sheet))
-  pub first : o.effort ≡ 0
-      → InOne o sizes (λ lying. IsFirstFound WAYS o.allowed (spacing_of o) lying (sides_of sheet) order (areas_of places))
+  pub way : IsAsPacked o sizes (sides_of sheet) order all
 
 -- What `pack_dense` answers: an allowed sheet with a place for each sprite, in which they lie apart, no larger than what
 -- the ways find; and which sheet it is.
@@ -112,7 +109,7 @@ IsAllPacked true o sizes sheet places = IsFoundDense o sizes sheet places
 IsAllPacked false o sizes sheet places = IsFoundSheet o sizes sheet places
 
 -- What `fill` answers: the greatest sheet that is allowed, with a place or none for each sprite. The places have no fewer pixels than those
--- that any of the ways finds; without effort they are those of the best of these.
+-- that any of the ways finds; without effort they are those of the best of these, and with sprites that may be turned the first such.
 pub record IsFilled (o : SheetOptions) (sizes : List Size) (sheet : Size) (places : List (Option Placed)) : Type 0 where
   pub greatest : IsGreatest o.allowed (sides_of sheet)
   pub order : List ℕ
@@ -121,6 +118,9 @@ pub record IsFilled (o : SheetOptions) (sizes : List Size) (sheet : Size) (place
       All (IsNoBetter (sides_of sheet) (spacing_of o) lying (used_area (areas_of places))) (take (ways_tried (length sizes)) WAYS))
   pub plain : o.effort ≡ 0 → InOne o sizes (λ lying.
       IsBestFound (take (ways_tried (length sizes)) WAYS) (sides_of sheet) (spacing_of o) lying order (areas_of places))
+  pub earliest : o.effort ≡ 0 → InFirst o sizes
+      (λ lying. IsBestFound (take (ways_tried (length sizes)) WAYS) (sides_of sheet) (spacing_of o) lying order (areas_of places))
+      (λ lying. All (FindsFewer (sides_of sheet) (spacing_of o) lying (used_area (areas_of places))) (take (ways_tried (length sizes)) WAYS))
 
 -- What the library answers to these options, where it is to fill a sheet or not.
 abbrev pub Answers : (fill dense : Bool) → SheetOptions → List Size → (sheet : Size) → List (Option Placed) → Type 0

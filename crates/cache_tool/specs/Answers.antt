@@ -1,12 +1,12 @@
 -- What each call answers, and what it does, by the clauses of the cache.
-use Rattle.std.specs.Prelude.{◌≡◌, ◌≢◌, ◌↔◌, ◌+◌, ◌*◌, ◌<◌, ℕ, Bool, true, false, IsTrue, List, [], length, nat_eq, slice_get}
+use Rattle.std.specs.Prelude.{◌≡◌, ◌≢◌, ◌↔◌, ◌+◌, ◌*◌, ◌<◌, ◌≤◌, ℕ, Bool, true, false, IsTrue, List, [], length, nat_eq, slice_get}
 use Rattle.std.specs.Prelude.{Option, None, Some, IfSome, IsSome, option_map}
 use Rattle.std.specs.Prelude.{Result, Ok, Err, IfErr, IfOk, IsOkUnless, OnErr, OnOk}
 use Rattle.guillotiere.specs.declared.Size.{Size}
 use Rattle.guillotiere.specs.Pixels.{size_of}
 use Rattle.atlas_cache.specs.declared.changes.CacheChange.{CacheChange}
-use Rattle.atlas_cache.specs.declared.error.CacheError.{CacheError}
-use Rattle.atlas_cache.specs.declared.error.CacheError.TheVariants.{Memory, Slots}
+use Rattle.atlas_cache.specs.declared.CacheError.{CacheError}
+use Rattle.atlas_cache.specs.declared.CacheError.TheVariants.{Memory, Slots}
 use Rattle.atlas_cache.specs.declared.inserted.Inserted.{Inserted}
 use Rattle.atlas_cache.specs.declared.inserted.Inserted.TheVariants.{FrameFull, NeverFits}
 use Rattle.atlas_cache.specs.declared.places.Place.{Place}
@@ -107,6 +107,7 @@ pub record AnswersRepack (n : ℕ) (r : Reply) (before after : List (CacheChange
   pub result : Result Bool CacheError
   pub told : r ≡ repacked_reply result
   pub there : IfOk result (λ there. IsTrue there ↔ (n < length s.pages))
+  pub absent : length s.pages ≤ n → result ≡ Ok false
   pub repacks : result ≡ Ok true → Repacks n before after s t
   pub none : result ≡ Ok false → (t ≡ s) × (after ≡ before)
   pub refused : OnErr result ((t ≡ s) × (after ≡ before))
@@ -153,11 +154,12 @@ pub record AnswersInsert (n : ℕ) (size : Size) (r : Reply) (before after : Lis
   pub short : result ≡ Err Slots → IsShortOfSlots t.pages
   pub room : IsNoneInUse s → result ≢ Ok FrameFull
 
--- An area of a page, where memory isn't refused.
+-- An area of a page, where memory isn't refused; of a page that isn't there it never is.
 pub record AnswersArea (areas : List ℕ) (n : ℕ) (r : Reply) : Type 0 where
   pub result : Result (Option ℕ) CacheError
   pub told : r ≡ area_reply result
   pub area : IfOk result (λ area. area ≡ slice_get areas n)
+  pub absent : length areas ≤ n → result ≡ Ok None
   pub unless : IsOkUnless result Memory
 
 -- What a word, a number and a size do.

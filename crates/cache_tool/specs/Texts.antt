@@ -7,8 +7,8 @@ use Rattle.guillotiere.specs.declared.Size.{Size}
 use Rattle.atlas_cache.specs.declared.changes.CacheChange.{CacheChange}
 use Rattle.atlas_cache.specs.declared.changes.CacheChange.TheVariants.{Evicted, Moved, PageAdded, PageGrown, PageRemoved}
 use Rattle.atlas_cache.specs.declared.counts.Counts.{Counts}
-use Rattle.atlas_cache.specs.declared.error.CacheError.{CacheError}
-use Rattle.atlas_cache.specs.declared.error.CacheError.TheVariants as error
+use Rattle.atlas_cache.specs.declared.CacheError.{CacheError}
+use Rattle.atlas_cache.specs.declared.CacheError.TheVariants as error
 use Rattle.atlas_cache.specs.declared.error.OptionsError.{OptionsError}
 use Rattle.atlas_cache.specs.declared.error.OptionsError.TheVariants as fault
 use Rattle.atlas_cache.specs.declared.inserted.Inserted.{Inserted}

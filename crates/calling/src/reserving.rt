@@ -2,7 +2,7 @@
 ghost use Rattle.std.specs.Prelude.{◌≡◌, ◌≢◌, ◌+◌, ◌<◌, Err, OnOk, length};
 ghost use Rattle.atlas_cache.specs.Caches.{IsFull};
 ghost use Rattle.atlas_cache.specs.Reserving.{room_in, IsReadyFor};
-ghost use Rattle.atlas_cache.specs.declared.error.CacheError.TheVariants.{Memory, Slots};
+ghost use Rattle.atlas_cache.specs.declared.CacheError.TheVariants.{Memory, Slots};
 
 use atlas_cache::entries::DefaultHasher;
 use atlas_cache::{CacheError, Changes, Inserted, TextureCache};

@@ -5,8 +5,8 @@ use Rattle.guillotiere.specs.declared.Size.{Size}
 use Rattle.guillotiere.specs.Boxes.{IsPositive}
 use Rattle.guillotiere.specs.Pixels.{sides_of, size_of}
 use Rattle.guillotiere.specs.Stored.{state_of}
-use Rattle.atlas_cache.specs.declared.error.CacheError.{CacheError}
-use Rattle.atlas_cache.specs.declared.error.CacheError.TheVariants.{Memory, Slots}
+use Rattle.atlas_cache.specs.declared.CacheError.{CacheError}
+use Rattle.atlas_cache.specs.declared.CacheError.TheVariants.{Memory, Slots}
 use Rattle.atlas_cache.specs.declared.inserted.Inserted.{Inserted}
 use Rattle.atlas_cache.specs.declared.inserted.Inserted.TheVariants.{Placed, Held, FrameFull, NeverFits}
 use Rattle.atlas_cache.specs.declared.places.Place.{Place}

@@ -13,8 +13,8 @@ use Rattle.guillotiere_c.specs.Numbers.{allocator_options_in, corners_in, size_i
 use Rattle.atlas_cache.specs.declared.changes.CacheChange.{CacheChange}
 use Rattle.atlas_cache.specs.declared.changes.CacheChange.TheVariants.{PageAdded, PageGrown, Evicted, Moved, PageRemoved}
 use Rattle.atlas_cache.specs.declared.counts.Counts.{Counts}
-use Rattle.atlas_cache.specs.declared.error.CacheError.{CacheError}
-use Rattle.atlas_cache.specs.declared.error.CacheError.TheVariants as error
+use Rattle.atlas_cache.specs.declared.CacheError.{CacheError}
+use Rattle.atlas_cache.specs.declared.CacheError.TheVariants as error
 use Rattle.atlas_cache.specs.declared.error.OptionsError.{OptionsError}
 use Rattle.atlas_cache.specs.declared.error.OptionsError.TheVariants as fault
 use Rattle.atlas_cache.specs.declared.inserted.Inserted.{Inserted}

@@ -3,7 +3,7 @@ use Rattle.std.specs.Prelude.{Option, Some, None}
 use Rattle.guillotiere.specs.Simple.{SimpleState, SimpleAtlasCall, SimpleAnswer, SimpleStep}
 use Rattle.guillotiere.specs.Simple.SimpleAtlasCall.{Start}
 use Rattle.guillotiere.specs.Stored.{AtlasValue, state_of}
-use Rattle.guillotiere.specs.SimpleStored.{SimpleValue, simple_state_of}
+use Rattle.guillotiere.specs.SimpleStored.{SimpleValue, simple_state_of, UsesOldEntries}
 
 -- A fact of the allocator that is held: the handle holds one, and it is so.
 abbrev pub HoldsSimple : Option SimpleValue → (SimpleState → Type 0) → Type 0
@@ -20,3 +20,9 @@ IsHeldSimpleStep None call answer new = ⊥
 abbrev pub IsHeldStart : Option SimpleValue → Option AtlasValue → SimpleAnswer → Option SimpleValue → Type 0
 IsHeldStart old (Some source) answer new = IsHeldSimpleStep old (Start (state_of source)) answer new
 IsHeldStart old None answer new = ⊥
+
+-- The allocator that is held uses unused entries first, and the handle holds it still.
+abbrev pub UseOldEntries : (old new : Option SimpleValue) → Type 0
+UseOldEntries (Some old) (Some new) = UsesOldEntries old new
+UseOldEntries (Some old) None = ⊥
+UseOldEntries None new = ⊥

@@ -1,6 +1,6 @@
 //! The exports of an atlas, but for those that take or write lists.
 ghost use Rattle.std.specs.Prelude.{◌≡◌, ◌≢◌, ◌↔◌, ◌⊎◌, ℕ, ◌+◌, ◌<◌, [], option_map, IsFalse, IsTrue, IsSome, IsNone};
-ghost use Rattle.std.specs.Prelude.{Some, None, sum_by};
+ghost use Rattle.std.specs.Prelude.{◌≤◌, IfSome, Some, None, sum_by};
 ghost use Rattle.guillotiere.specs.Boxes.{area, Fits};
 ghost use Rattle.guillotiere.specs.Choice.{rounded, HasRoom};
 ghost use Rattle.guillotiere.specs.Pixels.{allocator_options_of, rectangle_of, size_of};
@@ -288,6 +288,7 @@ pub extern "C" fn guillotiere_atlas_options(atlas: &AtlasReader, options: &mut P
 pub extern "C" fn guillotiere_atlas_slots(atlas: &AtlasReader, slots: &mut PlainSlots) -> u32
     ensures used { IsSome atlas.now.kept → HoldsAtlas atlas.now.kept (λ s. slots.new.used ≡ used_in s) }
     ensures kept { IsSome atlas.now.kept → HoldsAtlas atlas.now.kept (λ s. slots.new.kept ≡ s.kept) }
+    ensures memory { IfSome atlas.now.kept (λ v. slots.new.kept ≤ v.capacity) }
     ensures limit { IsSome atlas.now.kept → HoldsAtlas atlas.now.kept (λ s. slots.new.limit ≡ s.limit) }
     ensures done { IsSome atlas.now.kept → result ≡ DONE }
     ensures empty { IsNone atlas.now.kept → (result ≡ EMPTY) × (slots.new ≡ slots.old) }

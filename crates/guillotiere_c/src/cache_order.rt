@@ -3,7 +3,7 @@ ghost use Rattle.std.specs.Prelude.{◌≡◌, ◌≢◌, ◌≤◌, IsNone, IsS
 ghost use Rattle.atlas_cache.specs.Caches.{with_reserve};
 ghost use Rattle.atlas_cache.specs.Walking.{first_entry, keyed, last_entry};
 ghost use Rattle.atlas_cache.specs.Reserving.{AllowSlots, HaveSlots, IsShortFor, ReadiesInserts, StopsAtPage};
-ghost use Rattle.atlas_cache.specs.declared.error.CacheError.TheVariants.{Memory, Slots};
+ghost use Rattle.atlas_cache.specs.declared.CacheError.TheVariants.{Memory, Slots};
 ghost use Rattle.guillotiere_c.specs.CacheCalls.{IsOlder, KeepsStates};
 ghost use Rattle.guillotiere_c.specs.CacheNumbers.{keyed_answer};
 ghost use Rattle.guillotiere_c.specs.Following.{GoesOver, HoldsCache, StaysHeld};

@@ -1,7 +1,7 @@
 //! A cache with the list of its changes, from which its caller takes one after another.
 ghost use Rattle.std.specs.Prelude.{◌≡◌, ◌↔◌, ◌+◌, ◌*◌, ◌<◌, ◌≤◌, ◌∷◌, [], drop, IfErr, IfOk, IfSome, IsOk, IsOkUnless, None, OnErr};
 ghost use Rattle.std.specs.Prelude.{◌≢◌, Err, Ok, OnOk, false, length, true, vec_capacity, vec_len};
-ghost use Rattle.atlas_cache.specs.declared.error.CacheError.TheVariants.{Memory, Slots};
+ghost use Rattle.atlas_cache.specs.declared.CacheError.TheVariants.{Memory, Slots};
 ghost use Rattle.atlas_cache.specs.Asking.{AreUsable, IsFaultIn};
 ghost use Rattle.atlas_cache.specs.Caches.{with_reserve};
 ghost use Rattle.atlas_cache.specs.Relocating.{held_on};

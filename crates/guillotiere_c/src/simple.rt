@@ -1,16 +1,16 @@
 //! The exports of a simple allocator.
-ghost use Rattle.std.specs.Prelude.{◌≡◌, ◌≢◌, ◌↔◌, Any, IsFalse, IsTrue, IsSome, IsNone, None, Ok};
+ghost use Rattle.std.specs.Prelude.{◌≡◌, ◌≢◌, ◌↔◌, ◌⊎◌, ◌<◌, Any, IsFalse, IsTrue, IsSome, IsNone, None, Ok};
 ghost use Rattle.std.specs.Prelude.{IfOk, IfSome, OnErr};
 ghost use Rattle.guillotiere.specs.Boxes.{box_sides, Fits, IsPositive};
-ghost use Rattle.guillotiere.specs.Choice.{AreValid};
+ghost use Rattle.guillotiere.specs.Choice.{AreValid, rounded};
 ghost use Rattle.guillotiere.specs.Pixels.{allocator_options_of, options_of, sides_of, size_of};
 ghost use Rattle.guillotiere.specs.Replies.{IsExact};
 ghost use Rattle.guillotiere.specs.Simple.{IsSimple, SimpleStep, simple_answer, simple_start};
 ghost use Rattle.guillotiere.specs.Simple.SimpleAtlasCall.{Allocate, Clear, Grow, Reset};
-ghost use Rattle.guillotiere.specs.SimpleStored.{kept_entries, used_entries};
+ghost use Rattle.guillotiere.specs.SimpleStored.{kept_entries, used_entries, MayAskMemory, UsesEachEntry, UsesOldEntries};
 ghost use Rattle.guillotiere.specs.TheConstants.{DEFAULT_OPTIONS};
 ghost use Rattle.guillotiere_c.specs.Numbers.{allocator_options_in, options_in, corners_in, sides_in, size_in};
-ghost use Rattle.guillotiere_c.specs.SimpleCalls.{HoldsSimple, IsHeldSimpleStep, IsHeldStart};
+ghost use Rattle.guillotiere_c.specs.SimpleCalls.{HoldsSimple, IsHeldSimpleStep, IsHeldStart, UseOldEntries};
 ghost use Rattle.guillotiere_c.specs.SimpleStatuses.{plain_answer, request_answer};
 ghost use Rattle.guillotiere.specs.SimpleStored.{simple_state_of};
 
@@ -36,6 +36,7 @@ fn start(
 ) -> u32
     ensures state { result ≡ DONE → HoldsSimple simple.new.kept
         (λ s. s ≡ simple_start (sides_in width height) (options_of options.now)) }
+    ensures entries { result ≡ DONE → IfSome simple.new.kept UsesEachEntry }
     ensures bad { result ≡ BAD_CALL → IsPositive (sides_in width height) × AreValid (options_of options.now) → ⊥ }
     ensures good { result ≡ MEMORY → IsPositive (sides_in width height) × AreValid (options_of options.now) }
     ensures refused { result ≢ DONE → simple.new.kept ≡ simple.old.kept }
@@ -72,6 +73,7 @@ pub extern "C" fn guillotiere_simple_new(
 ) -> u32
     ensures state { result ≡ DONE → HoldsSimple simple.new.kept
         (λ s. s ≡ simple_start (sides_in width height) (options_of DEFAULT_OPTIONS)) }
+    ensures entries { result ≡ DONE → IfSome simple.new.kept UsesEachEntry }
     ensures bad { result ≡ BAD_CALL → IsPositive (sides_in width height) → ⊥ }
     ensures good { result ≡ MEMORY → IsPositive (sides_in width height) }
     ensures refused { result ≢ DONE → simple.new.kept ≡ simple.old.kept }
@@ -92,6 +94,7 @@ pub extern "C" fn guillotiere_simple_with_options(
 ) -> u32
     ensures state { result ≡ DONE → HoldsSimple simple.new.kept
         (λ s. s ≡ simple_start (sides_in width height) (options_in options.now)) }
+    ensures entries { result ≡ DONE → IfSome simple.new.kept UsesEachEntry }
     ensures bad { result ≡ BAD_CALL → IsPositive (sides_in width height) × AreValid (options_in options.now) → ⊥ }
     ensures good { result ≡ MEMORY → IsPositive (sides_in width height) × AreValid (options_in options.now) }
     ensures refused { result ≢ DONE → simple.new.kept ≡ simple.old.kept }
@@ -120,6 +123,10 @@ fn request(simple: &mut SimpleAtlasAllocator, size: Size) -> Result<Option<Recta
     ensures exact { IfOk result (λ granted. IfSome granted (λ rectangle. IsExact rectangle)) }
     ensures none { result ≡ Ok None → simple.new ≡ simple.old }
     ensures refused { OnErr result (simple.new ≡ simple.old) }
+    ensures entries { UsesOldEntries simple.old simple.new }
+    ensures memory { OnErr result (MayAskMemory simple.old (Allocate (sides_of size))) }
+    ensures past { (2147483647 < (rounded (simple_state_of simple.old).options (sides_of size)).width)
+        ⊎ (2147483647 < (rounded (simple_state_of simple.old).options (sides_of size)).height) → result ≡ Ok None }
     ensures simple { IsSimple (simple_state_of simple.new) }
 {
     simple.allocate(size)
@@ -139,6 +146,10 @@ pub extern "C" fn guillotiere_simple_allocate(
         (request_answer result granted.new) simple.new.kept }
     ensures kept { IsSome simple.old.kept → HoldsSimple simple.new.kept IsSimple }
     ensures exact { result ≡ DONE → IsExact (corners_in granted.new) }
+    ensures entries { result ≡ DONE → UseOldEntries simple.old.kept simple.new.kept }
+    ensures memory { result ≡ MEMORY → IfSome simple.old.kept (λ v. MayAskMemory v (Allocate (sides_in width height))) }
+    ensures past { HoldsSimple simple.old.kept (λ s. (2147483647 < (rounded s.options (sides_in width height)).width)
+        ⊎ (2147483647 < (rounded s.options (sides_in width height)).height)) → result ≡ NO_ROOM }
     ensures refused { result ≢ DONE → (simple.new.kept ≡ simple.old.kept) × (granted.new ≡ granted.old) }
     ensures empty { IsNone simple.old.kept → result ≡ EMPTY }
 {
@@ -169,6 +180,10 @@ pub extern "C" fn guillotiere_simple_grow(
     ensures step { IsSome simple.old.kept → IsHeldSimpleStep simple.old.kept (Grow (sides_in width height))
         (plain_answer result) simple.new.kept }
     ensures kept { IsSome simple.old.kept → HoldsSimple simple.new.kept IsSimple }
+    ensures equal { result ≢ BAD_CALL → HoldsSimple simple.old.kept (λ s. s.size ≡ sides_in width height)
+        → (result ≡ DONE) × (simple.new.kept ≡ simple.old.kept) }
+    ensures entries { result ≡ DONE → UseOldEntries simple.old.kept simple.new.kept }
+    ensures memory { result ≡ MEMORY → IfSome simple.old.kept (λ v. MayAskMemory v (Grow (sides_in width height))) }
     ensures refused { result ≢ DONE → simple.new.kept ≡ simple.old.kept }
     ensures empty { IsNone simple.old.kept → result ≡ EMPTY }
 {
@@ -210,6 +225,7 @@ pub extern "C" fn guillotiere_simple_clear(alloc: Global, simple: &mut SimpleHan
     ensures step { IsSome simple.old.kept → IsHeldSimpleStep simple.old.kept Clear (plain_answer result)
         simple.new.kept }
     ensures kept { IsSome simple.old.kept → HoldsSimple simple.new.kept IsSimple }
+    ensures entries { IfSome simple.new.kept UsesEachEntry }
     ensures done { IsSome simple.old.kept → result ≡ DONE }
     ensures empty { IsNone simple.old.kept → (result ≡ EMPTY) × (simple.new.kept ≡ None) }
 {
@@ -235,6 +251,7 @@ pub extern "C" fn guillotiere_simple_reset(
     ensures step { IsSome simple.old.kept → IsHeldSimpleStep simple.old.kept
         (Reset (sides_in width height) (options_in options.now)) (plain_answer result) simple.new.kept }
     ensures kept { IsSome simple.old.kept → HoldsSimple simple.new.kept IsSimple }
+    ensures entries { result ≡ DONE → IfSome simple.new.kept UsesEachEntry }
     ensures unless { IsSome simple.old.kept → result ≢ DONE → result ≡ BAD_CALL }
     ensures refused { result ≢ DONE → simple.new.kept ≡ simple.old.kept }
     ensures empty { IsNone simple.old.kept → result ≡ EMPTY }
@@ -264,6 +281,7 @@ pub extern "C" fn guillotiere_simple_init_from_allocator(
     ensures step { IsSome simple.old.kept → IsSome atlas.now.kept
         → IsHeldStart simple.old.kept atlas.now.kept (plain_answer result) simple.new.kept }
     ensures kept { IsSome simple.old.kept → HoldsSimple simple.new.kept IsSimple }
+    ensures entries { result ≡ DONE → IfSome simple.new.kept UsesEachEntry }
     ensures refused { result ≢ DONE → simple.new.kept ≡ simple.old.kept }
     ensures empty { IsNone simple.old.kept → result ≡ EMPTY }
     ensures no_source { IsNone atlas.now.kept → result ≡ EMPTY }

@@ -21,6 +21,8 @@
 pub mod atlas_allocator;
 #[cfg(feature = "cache")]
 pub mod atlas_cache;
+#[cfg(feature = "cache")]
+pub mod atlas_entries;
 #[cfg(feature = "sheet")]
 pub mod atlas_maxrects;
 pub mod atlas_model;

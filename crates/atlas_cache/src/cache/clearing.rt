@@ -8,13 +8,13 @@ ghost use Rattle.atlas_cache.specs.Changes.{picture_of, ShowsSame};
 ghost use Rattle.atlas_cache.specs.Clearing.{all_forgotten, Clears, DropsLast, IsUsedSince, TellsChanges, Trims};
 ghost use Rattle.atlas_cache.specs.Reserving.{AllowSlots, HaveSlots, IsShortFor, KeepsReady, ReadiesInserts, StopsAtPage, UseAtMost};
 ghost use Rattle.atlas_cache.specs.Rooms.{IsRefusal};
-ghost use Rattle.atlas_cache.specs.declared.error.CacheError.TheVariants.{Memory, Slots};
+ghost use Rattle.atlas_entries.specs.declared.error.CacheError.TheVariants.{Memory, Slots};
 
 use crate::cache::TextureCache;
 use crate::cache::holding::{oldest, place_of, take_out};
 use crate::changes::{CacheChange, Changes};
 use crate::counts::count;
-use crate::error::CacheError;
+use atlas_entries::error::CacheError;
 use std::alloc::Allocator;
 use std::hash::{BuildHasher, Hash};
 

@@ -6,8 +6,8 @@ ghost use Rattle.atlas_cache.specs.Usable.{unusable_by_page};
 
 use crate::cache::TextureCache;
 use crate::counts::Counts;
-use crate::error::CacheError;
 use crate::options::CacheOptions;
+use atlas_entries::error::CacheError;
 use guillotiere::Size;
 use std::alloc::Allocator;
 use std::hash::{BuildHasher, Hash};

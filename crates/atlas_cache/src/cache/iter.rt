@@ -5,9 +5,9 @@ ghost use Rattle.atlas_cache.specs.Walking.{keyed_entries};
 
 use crate::cache::TextureCache;
 use crate::cache::holding::place_of;
-use crate::entries::{DefaultHasher, Entries};
 use crate::options::CacheOptions;
 use crate::places::Place;
+use atlas_entries::entries::{DefaultHasher, Entries};
 use std::alloc::{Allocator, Global};
 use std::hash::{BuildHasher, Hash};
 use std::iter::FusedIterator;

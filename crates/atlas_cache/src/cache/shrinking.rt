@@ -6,7 +6,7 @@ ghost use Rattle.atlas_cache.specs.Shrinking.{DropsPage, IsLastInUse, Shrinks};
 
 use crate::cache::TextureCache;
 use crate::changes::{CacheChange, Changes};
-use crate::error::CacheError;
+use atlas_entries::error::CacheError;
 use std::alloc::Allocator;
 use std::hash::{BuildHasher, Hash};
 

@@ -1,14 +1,14 @@
 //! The keys of a cache in the order of their use.
 ghost use Rattle.std.specs.Prelude.{◌≡◌, None, Some, IfNone, IfSome, option_map};
-ghost use Rattle.atlas_cache.specs.declared.entries.Entry.{Entry};
+ghost use Rattle.atlas_entries.specs.declared.entries.Entry.{Entry};
 ghost use Rattle.atlas_cache.specs.Caches.{entries_of, entry_for};
-ghost use Rattle.atlas_cache.specs.Entries.{entry_at, IsNumber};
+ghost use Rattle.atlas_entries.specs.Entries.{entry_at, IsNumber};
 ghost use Rattle.atlas_cache.specs.Walking.{first_entry, keyed, last_entry, IsNext, ShowsOlder};
 
 use crate::cache::TextureCache;
 use crate::cache::holding::{look_up, oldest, place_of};
-use crate::entries::{Entries, Entry};
 use crate::places::Place;
+use atlas_entries::entries::{Entries, Entry};
 use std::alloc::Allocator;
 use std::hash::{BuildHasher, Hash};
 

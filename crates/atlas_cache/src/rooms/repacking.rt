@@ -14,12 +14,12 @@ ghost use Rattle.guillotiere.specs.Stored.{state_of};
 ghost use Rattle.atlas_cache.specs.Repacking.{free_by_page, live_by_page, IsLargestFirst, NamesPage, PlacesAnew};
 ghost use Rattle.atlas_cache.specs.Repacking.{RepacksPage};
 ghost use Rattle.atlas_cache.specs.Rooms.{page_sizes, IsRefusal};
-ghost use Rattle.atlas_cache.specs.declared.error.CacheError.TheVariants.{Slots};
+ghost use Rattle.atlas_entries.specs.declared.error.CacheError.TheVariants.{Slots};
 
-use crate::error::CacheError;
 use crate::rooms::asking::NO_SIZE;
 use crate::rooms::usable::extent;
 use crate::rooms::{Rooms, refusal};
+use atlas_entries::error::CacheError;
 use guillotiere::{Allocation, AtlasAllocator, Change, ChangeList, Rectangle, Size};
 use std::alloc::Allocator;
 use std::cmp::Reverse;

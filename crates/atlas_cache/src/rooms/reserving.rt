@@ -3,10 +3,10 @@ ghost use Rattle.std.specs.Prelude.{◌≡◌, ◌≢◌, map, Err, IfErr, OnOk}
 ghost use Rattle.guillotiere.specs.Stored.{state_of};
 ghost use Rattle.atlas_cache.specs.Reserving.{AllowSlots, HaveSlots, IsShortFor, StopsAtPage, UseAtMost};
 ghost use Rattle.atlas_cache.specs.Rooms.{IsRefusal};
-ghost use Rattle.atlas_cache.specs.declared.error.CacheError.TheVariants.{Memory, Slots};
+ghost use Rattle.atlas_entries.specs.declared.error.CacheError.TheVariants.{Memory, Slots};
 
-use crate::error::CacheError;
 use crate::rooms::{Rooms, refusal};
+use atlas_entries::error::CacheError;
 use std::alloc::Allocator;
 
 impl<A: Allocator + Copy> Rooms<A> {

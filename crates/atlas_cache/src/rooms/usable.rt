@@ -8,8 +8,8 @@ ghost use Rattle.guillotiere.specs.Stored.{state_of};
 ghost use Rattle.atlas_cache.specs.Asking.{bordered};
 ghost use Rattle.atlas_cache.specs.Usable.{unusable, unusable_by_page};
 
-use crate::error::CacheError;
 use crate::rooms::Rooms;
+use atlas_entries::error::CacheError;
 use guillotiere::{AtlasAllocator, Rectangle, Size};
 use std::alloc::Allocator;
 

@@ -15,12 +15,13 @@ use crate::atlas_cache::cache::holding::{
 };
 use crate::atlas_cache::changes::{CacheChange, Changes};
 use crate::atlas_cache::counts::{count, Counts, NO_COUNTS};
-use crate::atlas_cache::entries::{DefaultHasher, Entries};
-use crate::atlas_cache::error::{CacheError, OptionsError};
+use crate::atlas_cache::error::OptionsError;
 use crate::atlas_cache::inserted::Inserted;
 use crate::atlas_cache::options::CacheOptions;
 use crate::atlas_cache::places::Place;
 use crate::atlas_cache::rooms::Rooms;
+use crate::atlas_entries::entries::{DefaultHasher, Entries};
+use crate::atlas_entries::error::CacheError;
 use crate::guillotiere::Size;
 pub use iter::Iter;
 use wollemigo_support::alloc::{Allocator, Global};

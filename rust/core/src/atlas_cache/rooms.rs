@@ -7,9 +7,9 @@ mod repacking;
 mod reserving;
 mod usable;
 
-use crate::atlas_cache::error::CacheError;
 use crate::atlas_cache::options::CacheOptions;
 use crate::atlas_cache::rooms::asking::{ask, NO_SIZE};
+use crate::atlas_entries::error::CacheError;
 use wollemigo_support::prelude::Vec;
 
 use crate::guillotiere::{AllocId, Allocation, AtlasAllocator, AtlasError, Size};

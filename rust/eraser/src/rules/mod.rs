@@ -33,8 +33,9 @@ pub use laws::laws_of;
 use std::collections::BTreeSet;
 
 /// Modules of the library that belong to a feature of its package, and the feature.
-pub const FEATURES: [(&str, &str); 5] = [
+pub const FEATURES: [(&str, &str); 6] = [
     ("atlas_cache", "cache"),
+    ("atlas_entries", "cache"),
     ("atlas_maxrects", "sheet"),
     ("atlas_sheet", "sheet"),
     ("guillotiere_recording", "recording"),

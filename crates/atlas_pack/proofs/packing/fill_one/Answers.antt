@@ -1,9 +1,10 @@
-use Rattle.std.proofs.Common.{ℕ, length, take, true, All, None, subst}
+use Rattle.std.proofs.Common.{◌≡◌, ℕ, length, take, true, All, None, subst}
 use Rattle.atlas_model.specs.Pixels.{sides_of}
 use Rattle.atlas_sheet.specs.declared.ways.TheConstants.{WAYS}
-use Rattle.atlas_sheet.specs.Fillings.{IsNoBetter, ways_tried}
+use Rattle.atlas_sheet.specs.Fillings.{FindsFewer, IsBestFound, IsNoBetter, ways_tried}
+use Rattle.atlas_sheet.specs.Lying.{areas_of}
 use Rattle.atlas_sheet.specs.Settings.{spacing_of}
-use Rattle.atlas_sheet.specs.Turnings.{InEach}
+use Rattle.atlas_sheet.specs.Turnings.{InEach, InFirst}
 use Rattle.atlas_pack.proofs.packing.fill_one.Goals as goal
 
 pub returns-in-Ok-clause-filled : goal.returns-in-Ok-clause-filled
@@ -18,6 +19,12 @@ returns-in-Ok-clause-filled c =
           All (IsNoBetter (sides_of filled.size) (spacing_of c.args.options.now) lying area) (take (ways_tried (length sizes)) WAYS)))
           c.in-Ok.ensures.area c.in-Ok.ensures.best;
       plain = c.in-Ok.ensures.plain;
+      earliest = subst (λ (area : ℕ). c.args.options.now.effort ≡ 0 → InFirst c.args.options.now sizes
+          (λ lying. IsBestFound (take (ways_tried (length sizes)) WAYS) (sides_of filled.size) (spacing_of c.args.options.now) lying
+          filled.order.items (areas_of filled.places.items))
+          (λ lying. All (FindsFewer (sides_of filled.size) (spacing_of c.args.options.now) lying area)
+          (take (ways_tried (length sizes)) WAYS)))
+          c.in-Ok.ensures.area c.in-Ok.ensures.earliest;
     }
 
 pub returns-in-Err : goal.returns-in-Err

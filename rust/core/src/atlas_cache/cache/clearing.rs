@@ -5,7 +5,7 @@ use crate::atlas_cache::cache::holding::{oldest, place_of, take_out};
 use crate::atlas_cache::cache::TextureCache;
 use crate::atlas_cache::changes::{CacheChange, Changes};
 use crate::atlas_cache::counts::count;
-use crate::atlas_cache::error::CacheError;
+use crate::atlas_entries::error::CacheError;
 use wollemigo_support::alloc::Allocator;
 use wollemigo_support::hash::{BuildHasher, Hash};
 

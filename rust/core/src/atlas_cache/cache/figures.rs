@@ -3,8 +3,8 @@
 
 use crate::atlas_cache::cache::TextureCache;
 use crate::atlas_cache::counts::Counts;
-use crate::atlas_cache::error::CacheError;
 use crate::atlas_cache::options::CacheOptions;
+use crate::atlas_entries::error::CacheError;
 use crate::guillotiere::Size;
 use wollemigo_support::alloc::Allocator;
 use wollemigo_support::hash::{BuildHasher, Hash};

@@ -1,11 +1,11 @@
 // Erased from crates/atlas_cache/src/cache/holding.rt by rust/erase: don't edit.
 //! Steps over the pages and the entries of a cache: what is live on the pages stays what the entries hold, each once.
 
-use crate::atlas_cache::entries::{Entries, Entry, NO_PAGE};
-use crate::atlas_cache::error::CacheError;
 use crate::atlas_cache::options::CacheOptions;
 use crate::atlas_cache::places::{Place, NO_PIXELS};
 use crate::atlas_cache::rooms::Rooms;
+use crate::atlas_entries::entries::{Entries, Entry, NO_PAGE};
+use crate::atlas_entries::error::CacheError;
 use crate::guillotiere::{AllocId, Size};
 use wollemigo_support::alloc::Allocator;
 use wollemigo_support::hash::{BuildHasher, Hash};

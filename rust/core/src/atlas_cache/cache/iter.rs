@@ -3,9 +3,9 @@
 
 use crate::atlas_cache::cache::holding::place_of;
 use crate::atlas_cache::cache::TextureCache;
-use crate::atlas_cache::entries::{DefaultHasher, Entries};
 use crate::atlas_cache::options::CacheOptions;
 use crate::atlas_cache::places::Place;
+use crate::atlas_entries::entries::{DefaultHasher, Entries};
 use core::iter::FusedIterator;
 use wollemigo_support::alloc::{Allocator, Global};
 use wollemigo_support::hash::{BuildHasher, Hash};

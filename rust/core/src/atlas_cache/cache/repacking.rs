@@ -4,9 +4,9 @@
 use crate::atlas_cache::cache::holding::place_of;
 use crate::atlas_cache::cache::TextureCache;
 use crate::atlas_cache::changes::{CacheChange, Changes};
-use crate::atlas_cache::entries::{Entries, Entry};
-use crate::atlas_cache::error::CacheError;
 use crate::atlas_cache::options::CacheOptions;
+use crate::atlas_entries::entries::{Entries, Entry};
+use crate::atlas_entries::error::CacheError;
 use crate::guillotiere::{AllocId, Allocation, Change};
 use wollemigo_support::alloc::Allocator;
 use wollemigo_support::hash::{BuildHasher, Hash};

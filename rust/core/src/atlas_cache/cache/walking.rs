@@ -3,8 +3,8 @@
 
 use crate::atlas_cache::cache::holding::{look_up, oldest, place_of};
 use crate::atlas_cache::cache::TextureCache;
-use crate::atlas_cache::entries::{Entries, Entry};
 use crate::atlas_cache::places::Place;
+use crate::atlas_entries::entries::{Entries, Entry};
 use wollemigo_support::alloc::Allocator;
 use wollemigo_support::hash::{BuildHasher, Hash};
 

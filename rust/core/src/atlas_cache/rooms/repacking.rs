@@ -1,10 +1,10 @@
 // Erased from crates/atlas_cache/src/rooms/repacking.rt by rust/erase: don't edit.
 //! A page's rectangles placed anew, and the areas of a page.
 
-use crate::atlas_cache::error::CacheError;
 use crate::atlas_cache::rooms::asking::NO_SIZE;
 use crate::atlas_cache::rooms::usable::extent;
 use crate::atlas_cache::rooms::{refusal, Rooms};
+use crate::atlas_entries::error::CacheError;
 use crate::guillotiere::{Allocation, AtlasAllocator, Change, ChangeList, Rectangle, Size};
 use core::cmp::Reverse;
 use wollemigo_support::alloc::Allocator;

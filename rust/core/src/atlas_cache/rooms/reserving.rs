@@ -1,8 +1,8 @@
 // Erased from crates/atlas_cache/src/rooms/reserving.rt by rust/erase: don't edit.
 //! Memory for slots of the pages before they are used.
 
-use crate::atlas_cache::error::CacheError;
 use crate::atlas_cache::rooms::{refusal, Rooms};
+use crate::atlas_entries::error::CacheError;
 use wollemigo_support::alloc::Allocator;
 
 impl<A: Allocator + Copy> Rooms<A> {

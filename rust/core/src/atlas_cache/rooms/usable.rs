@@ -1,8 +1,8 @@
 // Erased from crates/atlas_cache/src/rooms/usable.rt by rust/erase: don't edit.
 //! How much of a page's free area is of use for entries of a size.
 
-use crate::atlas_cache::error::CacheError;
 use crate::atlas_cache::rooms::Rooms;
+use crate::atlas_entries::error::CacheError;
 use crate::guillotiere::{AtlasAllocator, Rectangle, Size};
 use wollemigo_support::alloc::Allocator;
 

@@ -1,6 +1,6 @@
 use Rattle.std.proofs.Common.{refl}
 use Rattle.atlas_cache.specs.Caches.{entries_of}
-use Rattle.atlas_cache.specs.Entries.{lying}
+use Rattle.atlas_entries.specs.Entries.{lying}
 use Rattle.atlas_cache.proofs.HoldingLemmas.{stays}
 use Rattle.atlas_cache.proofs.RoomLemmas.StoredPages.{states_same}
 use Rattle.atlas_cache.proofs.RoomLemmas.PageReserves.{same_rectangles, same_sizes}

@@ -1,6 +1,6 @@
 use Rattle.std.proofs.Common.{refl, arith}
 use Rattle.atlas_cache.specs.Caches.{entries_of}
-use Rattle.atlas_cache.specs.Entries.{without_number}
+use Rattle.atlas_entries.specs.Entries.{without_number}
 use Rattle.atlas_cache.proofs.CacheLemmas.{bordered-at, rest_bordered, rest_falls}
 use Rattle.atlas_cache.proofs.ListLemmas.{falls-last, parts}
 use Rattle.atlas_cache.proofs.TrimLemmas.{used-all}

@@ -1,5 +1,5 @@
 use Rattle.atlas_cache.specs.Caches.{entries_of}
-use Rattle.atlas_cache.specs.Entries.{lying}
+use Rattle.atlas_entries.specs.Entries.{lying}
 use Rattle.atlas_cache.proofs.HoldingLemmas.{stays}
 use Rattle.atlas_cache.proofs.ShrinkLemmas.{drops_same}
 use Rattle.atlas_cache.proofs.cache.TextureCache.drop_page.Goals as goal

@@ -1,6 +1,6 @@
 use Rattle.std.proofs.Common.{ap, length, refl, arith, ◌≡◌, ◌++◌}
 use Rattle.atlas_cache.specs.Caches.{entries_of}
-use Rattle.atlas_cache.specs.Entries.{without_number}
+use Rattle.atlas_entries.specs.Entries.{without_number}
 use Rattle.atlas_cache.specs.declared.changes.CacheChange.TheVariants.{Evicted}
 use Rattle.atlas_cache.proofs.CacheLemmas.{bordered-at, rectangle-live, rest_bordered, rest_falls}
 use Rattle.atlas_cache.proofs.BlankLemmas.{all-in-use, falls-here, length-less}

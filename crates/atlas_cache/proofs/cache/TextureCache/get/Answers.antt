@@ -1,8 +1,8 @@
 use Rattle.std.proofs.Common.{ap, arith, length, refl, ◌≡◌, ◌+◌, ◌∷◌, ◌++◌}
 use Rattle.atlas_cache.specs.Caches.{CacheState, entries_of}
 use Rattle.atlas_cache.specs.Changes.{Uses}
-use Rattle.atlas_cache.specs.Entries.{without_number}
-use Rattle.atlas_cache.specs.declared.entries.Entry.{Entry}
+use Rattle.atlas_entries.specs.Entries.{without_number}
+use Rattle.atlas_entries.specs.declared.entries.Entry.{Entry}
 use Rattle.atlas_cache.proofs.BlankLemmas.{length-less}
 use Rattle.atlas_cache.proofs.CacheLemmas.{bordered-at, touched-is, used}
 use Rattle.atlas_cache.proofs.KeyLemmas.{own_keys}

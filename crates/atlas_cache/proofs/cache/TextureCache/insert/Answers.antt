@@ -2,12 +2,13 @@ use Rattle.std.proofs.Common.{◌≡◌, ◌+◌, ap, length, refl, subst, sym, 
 use Rattle.std.proofs.Common.{vec_capacity, vec_len}
 use Rattle.atlas_cache.specs.Caches.{CacheState, entries_of}
 use Rattle.atlas_cache.specs.Changes.{Uses}
-use Rattle.atlas_cache.specs.Entries.{without_number}
-use Rattle.atlas_cache.specs.declared.entries.Entry.{Entry}
+use Rattle.atlas_entries.specs.Entries.{without_number}
+use Rattle.atlas_entries.specs.declared.entries.Entry.{Entry}
 use Rattle.atlas_cache.proofs.CacheLemmas.{bordered-at, touched-is, used}
 use Rattle.atlas_cache.proofs.InsertLemmas.{blank_takes, inserts_stay, inserts_take, not_held, not_never}
 use Rattle.atlas_cache.proofs.KeyLemmas.{found_named, own_keys}
-use Rattle.atlas_cache.proofs.ListLemmas.{append-none, parts}
+use Rattle.atlas_entries.proofs.AppendedLists.{append-none}
+use Rattle.atlas_cache.proofs.ListLemmas.{parts}
 use Rattle.atlas_cache.proofs.PictureLemmas.{blanks_tell, inserts_tell, same_shown, uses_tell}
 use Rattle.guillotiere.specs.declared.Size.{Size}
 use Rattle.guillotiere.specs.Pixels.{size_of}

@@ -1,6 +1,6 @@
 use Rattle.std.proofs.Common.{ap, sym, refl, ◌∙◌, ◌≡◌, ◌+◌, Err, Ok, arith, rules}
 use Rattle.std.proofs.lemmas.Option.{slice_get_within}
-use Rattle.atlas_cache.proofs.ListLemmas.{append-none}
+use Rattle.atlas_entries.proofs.AppendedLists.{append-none}
 use Rattle.atlas_cache.proofs.LoopLemmas.{inserted, nothing_yet, one_absent, one_more_change, one_options}
 use Rattle.atlas_cache.proofs.RoomLemmas.KeptPages.{only_changed}
 use Rattle.atlas_cache.proofs.RoomLemmas.PageReserves.{both_used, none_used, short_before}

@@ -1,6 +1,6 @@
 use Rattle.std.proofs.Common.{◌≡◌, ap, arith, refl, rules, Err, Ok}
 use Rattle.atlas_cache.specs.Caches.{entries_of}
-use Rattle.atlas_cache.specs.Entries.{lying}
+use Rattle.atlas_entries.specs.Entries.{lying}
 use Rattle.atlas_cache.specs.declared.changes.CacheChange.TheVariants.{PageGrown}
 use Rattle.atlas_cache.proofs.HoldingLemmas.{stays}
 use Rattle.atlas_cache.proofs.ReadyLemmas.{error_is, reserves_left}

@@ -1,7 +1,7 @@
-use Rattle.std.proofs.Common.{◌≡◌, ◌+◌, ◌*◌, ◌∙◌, ◌++◌, ap, arith, length, refl}
+use Rattle.std.proofs.Common.{◌≡◌, ◌∙◌, ◌++◌, ap, arith, length, refl}
 use Rattle.atlas_cache.specs.Caches.{CacheState, entries_of}
 use Rattle.atlas_cache.specs.Changes.{Removes}
-use Rattle.atlas_cache.specs.Entries.{without_number}
+use Rattle.atlas_entries.specs.Entries.{without_number}
 use Rattle.atlas_cache.proofs.CacheLemmas.{bordered-at, rest_bordered, rest_falls}
 use Rattle.atlas_cache.proofs.KeyLemmas.{found_named, own_keys}
 use Rattle.atlas_cache.proofs.ListLemmas.{parts}

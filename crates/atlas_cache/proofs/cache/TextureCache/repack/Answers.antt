@@ -1,6 +1,6 @@
 use Rattle.std.proofs.Common.{◌≡◌, ◌∙◌, ◌+◌, ◌-◌, ◌++◌, min, length, refl, arith, rules, ap, Err}
 use Rattle.atlas_cache.specs.Caches.{entries_of}
-use Rattle.atlas_cache.specs.Entries.{no_page}
+use Rattle.atlas_entries.specs.Entries.{no_page}
 use Rattle.atlas_cache.specs.Relocating.{become, renewed_by}
 use Rattle.atlas_cache.proofs.BlankLemmas.{each-where}
 use Rattle.atlas_cache.proofs.HoldingLemmas.{IsLiveOn}

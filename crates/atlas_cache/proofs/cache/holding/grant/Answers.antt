@@ -2,8 +2,8 @@ use Rattle.std.proofs.Common.{◌≡◌, false, ap, arith, rules, Err}
 use Rattle.std.proofs.lemmas.Bool.{ne_eqb}
 use Rattle.guillotiere.proofs.Callers.{pages_given_back}
 use Rattle.atlas_cache.specs.Caches.{entries_of}
-use Rattle.atlas_cache.specs.Entries.{is_blank, lying, no_page}
-use Rattle.atlas_cache.specs.declared.entries.Entry.{Entry}
+use Rattle.atlas_entries.specs.Entries.{is_blank, lying, no_page}
+use Rattle.atlas_entries.specs.declared.entries.Entry.{Entry}
 use Rattle.atlas_cache.proofs.HoldingLemmas.{joined, stays}
 use Rattle.atlas_cache.proofs.ReadyLemmas.{error_is}
 use Rattle.atlas_cache.proofs.RoomLemmas.PageReserves.{both_used}

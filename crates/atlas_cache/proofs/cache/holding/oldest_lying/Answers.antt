@@ -1,5 +1,5 @@
 use Rattle.std.proofs.Common.{◌∙◌, ap, refl, subst, sym, arith}
-use Rattle.atlas_cache.specs.Entries.{entry_at, numbers, EndsBlank, IsNumber, Table}
+use Rattle.atlas_entries.specs.Entries.{entry_at, numbers, EndsBlank, IsNumber, Table}
 use Rattle.atlas_cache.proofs.PassLemmas.{can-pass, looked, looked-numbers, next-number, none-passed, oldest-looked, passed-all, passed-none, passed-one}
 use Rattle.atlas_cache.proofs.cache.holding.oldest_lying.Goals as goal
 

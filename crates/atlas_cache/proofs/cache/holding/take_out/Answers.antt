@@ -1,7 +1,7 @@
 use Rattle.std.proofs.Common.{◌≡◌, false, arith, pos}
 use Rattle.std.proofs.lemmas.Bool.{ne_eqb}
 use Rattle.atlas_cache.specs.Caches.{entries_of}
-use Rattle.atlas_cache.specs.Entries.{is_blank, no_page, without_number}
+use Rattle.atlas_entries.specs.Entries.{is_blank, no_page, without_number}
 use Rattle.atlas_cache.proofs.CacheLemmas.{number-at, pages_stay, rectangle-live, rest_held, rest_off}
 use Rattle.atlas_cache.proofs.ListLemmas.{parts}
 use Rattle.atlas_cache.proofs.RoomLemmas.PageReserves.{none_used}

@@ -1,5 +1,5 @@
 use Rattle.std.proofs.Common.{◌∙◌, ap, arith}
-use Rattle.atlas_cache.specs.Entries.{numbers}
+use Rattle.atlas_entries.specs.Entries.{numbers}
 use Rattle.atlas_cache.proofs.GatherLemmas.{coming, coming-number, gathered-all, gathered-here, gathered-none, gathered-past, none-gathered}
 use Rattle.atlas_cache.proofs.WalkLemmas.{numbers-append}
 use Rattle.atlas_cache.proofs.cache.repacking.rectangles_of.Goals.{then-found-page+in_ok-push, else-found-page}

@@ -1,7 +1,7 @@
 use Rattle.std.proofs.Common.{◌≡◌, ◌==◌, ◌∙◌, Some, None, ap, sym, option_map}
 use Rattle.std.specs.List.{find}
 use Rattle.guillotiere.specs.declared.Change.{Change}
-use Rattle.atlas_cache.specs.Entries.{moved, without_number}
+use Rattle.atlas_entries.specs.Entries.{moved, without_number}
 use Rattle.atlas_cache.proofs.RelocateLemmas.{moved-at, without-at}
 use Rattle.atlas_cache.proofs.cache.repacking.settle.Goals as goal
 

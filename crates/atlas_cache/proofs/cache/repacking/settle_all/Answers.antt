@@ -1,6 +1,6 @@
 use Rattle.std.proofs.Common.{◌-◌, ◌∙◌, ap, arith, refl, vec_capacity, vec_len}
 use Rattle.std.specs.List.{filter_map}
-use Rattle.atlas_cache.specs.Entries.{numbers}
+use Rattle.atlas_entries.specs.Entries.{numbers}
 use Rattle.atlas_cache.proofs.RelocateLemmas.{ahead, bordered-is, bordered-was, next-number, none-walked, settled, walked-all, walked-here, walked-none, walked-past}
 use Rattle.atlas_cache.proofs.WalkLemmas.{numbers-append}
 use Rattle.atlas_cache.proofs.cache.repacking.settle_all.Goals.{then-entry-page, else-entry-page}

@@ -1,5 +1,5 @@
 use Rattle.std.proofs.Common.{sym}
-use Rattle.atlas_cache.specs.Entries.{numbers}
+use Rattle.atlas_entries.specs.Entries.{numbers}
 use Rattle.atlas_cache.proofs.WalkLemmas.{next-some, no-next, numbers-split, split}
 use Rattle.atlas_cache.proofs.cache.walking.older.Goals as goal
 

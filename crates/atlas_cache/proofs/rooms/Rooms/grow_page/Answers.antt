@@ -5,7 +5,7 @@ use Rattle.guillotiere.specs.Steps.{Step}
 use Rattle.guillotiere.specs.Steps.AtlasCall.{Grow}
 use Rattle.guillotiere.specs.Steps.AtlasReply.{Refused}
 use Rattle.guillotiere.specs.Stored.{state_of}
-use Rattle.atlas_cache.specs.declared.error.CacheError.TheVariants.{Slots}
+use Rattle.atlas_entries.specs.declared.error.CacheError.TheVariants.{Slots}
 use Rattle.atlas_cache.specs.Rooms.{page_sizes, rooms_of, AreRefused, KeepsRooms}
 use Rattle.atlas_cache.proofs.RoomLemmas.PageGrowth.{grown_less, growth_of, not_all_largest}
 use Rattle.atlas_cache.proofs.RoomLemmas.KeptPages.{nothing_changes, others_kept, page_grows, rectangles_stay, rooms_keep, sizes_set}

@@ -1,4 +1,4 @@
-use Rattle.std.proofs.Common.{◌<◌, ℕ, [], refl, sym, subst₂, arith}
+use Rattle.std.proofs.Common.{[], refl, sym, subst₂, arith}
 use Rattle.std.proofs.lemmas.Option.{slice_get_within}
 use Rattle.atlas_cache.specs.Rooms.{AreRefused, KeepsRooms, rooms_of}
 use Rattle.atlas_cache.proofs.rooms.Rooms.new.Goals as goal

@@ -5,7 +5,7 @@ use Rattle.guillotiere.specs.Steps.{Step}
 use Rattle.guillotiere.specs.Steps.AtlasCall.{Allocate}
 use Rattle.guillotiere.specs.Steps.AtlasReply.{Refused}
 use Rattle.guillotiere.specs.Stored.{state_of}
-use Rattle.atlas_cache.specs.declared.error.CacheError.TheVariants.{Memory, Slots}
+use Rattle.atlas_entries.specs.declared.error.CacheError.TheVariants.{Memory, Slots}
 use Rattle.atlas_cache.specs.Placing.{PlacesFirst}
 use Rattle.atlas_cache.specs.Rooms.{rooms_of, KeepsRooms, RoomsState}
 use Rattle.atlas_cache.proofs.RoomLemmas.KeptPages.{none_yet, no_room, nothing_changes, rooms_stay, rounded_as, sizes_stay, takes}

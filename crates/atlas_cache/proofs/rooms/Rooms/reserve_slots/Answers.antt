@@ -3,7 +3,7 @@ use Rattle.std.proofs.lemmas.{Bool.{cases_lt}, List.{length-set}, Option.{slice_
 use Rattle.guillotiere.specs.Reserves.{HasReserve}
 use Rattle.guillotiere.specs.States.{used_in, State}
 use Rattle.guillotiere.specs.Stored.{state_of}
-use Rattle.atlas_cache.specs.declared.error.CacheError.TheVariants.{Memory, Slots}
+use Rattle.atlas_entries.specs.declared.error.CacheError.TheVariants.{Memory, Slots}
 use Rattle.atlas_cache.specs.Rooms.{RoomsState}
 use Rattle.atlas_cache.proofs.RoomLemmas.KeptPages.{nothing_changes, others_kept}
 use Rattle.atlas_cache.proofs.RoomLemmas.PageReserves.{both_used, none_used, one_more_page, page_states, page_uses, holds_there, same_rooms}

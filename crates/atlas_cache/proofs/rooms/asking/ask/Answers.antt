@@ -1,5 +1,4 @@
-use Rattle.std.proofs.Common.{◌∙◌, arith, refl, sym}
-use Rattle.atlas_cache.proofs.RoomLemmas.RefusedSizes.{larger_has_none, no_size_has_none}
+use Rattle.atlas_cache.proofs.RoomLemmas.RefusedSizes.{larger_has_none}
 use Rattle.atlas_cache.proofs.rooms.asking.ask.Goals as goal
 
 pub returns-then-is_no_smaller-clause-answer : goal.returns-then-is_no_smaller-clause-answer

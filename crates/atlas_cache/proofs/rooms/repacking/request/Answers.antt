@@ -5,7 +5,7 @@ use Rattle.guillotiere.specs.Steps.{Step}
 use Rattle.guillotiere.specs.Steps.AtlasCall.{Allocate}
 use Rattle.guillotiere.specs.Steps.AtlasReply.{Refused}
 use Rattle.guillotiere.specs.Stored.{AtlasValue, state_of}
-use Rattle.atlas_cache.specs.declared.error.CacheError.TheVariants.{Slots}
+use Rattle.atlas_entries.specs.declared.error.CacheError.TheVariants.{Slots}
 use Rattle.atlas_cache.proofs.RoomLemmas.PageReserves.{request_needs}
 use Rattle.atlas_cache.proofs.rooms.repacking.request.Goals as goal
 

@@ -1,5 +1,5 @@
 use Rattle.std.proofs.Common.{◌≡◌, Err, subst}
-use Rattle.atlas_cache.specs.declared.error.CacheError.TheVariants.{Memory}
+use Rattle.atlas_cache.specs.declared.CacheError.TheVariants.{Memory}
 use Rattle.atlas_cache.specs.Reserving.{HaveSlots}
 use Rattle.guillotiere_c.specs.Following.{Followed}
 use Rattle.guillotiere_c.proofs.followed.FollowedCache.reserve_slots.Goals as goal

@@ -1,0 +1,10 @@
+pub mod AppendedLists
+pub mod CopyLemmas
+pub mod EntryLemmas
+pub mod KeptEntries
+pub mod MarkLemmas
+pub mod RecencyCalls
+pub mod ReserveLemmas
+pub mod RingCalls
+pub mod RingLemmas
+pub mod SpareLemmas
