@@ -141,16 +141,24 @@ impl Crates {
                 "\n[lib]\nname = \"guillotiere\"\ncrate-type = [\"staticlib\", \"cdylib\"]\ndoc = false\n",
             );
         }
-        let (features, support) = if of.is_static_library {
-            (
-                ", default-features = false, features = [\"cache\", \"sheet\"]",
-                "\"raw\"",
-            )
+        text.push_str(&self.dependencies(of));
+        if of.is_static_library {
+            text.push_str(STATIC_FEATURES);
+        }
+        if is_program {
+            text.push_str("\n[dev-dependencies]\nstored = { path = \"../../stored\" }\n");
+        }
+        text
+    }
+
+    fn dependencies(&self, of: &Crate) -> String {
+        let (rust, features, support) = if of.is_static_library {
+            let features = ", default-features = false, features = [\"cache\", \"sheet\"]";
+            ("..", features, "\"raw\"")
         } else {
-            ("", "\"std\"")
+            ("../..", "", "\"std\"")
         };
-        text.push_str("\n[dependencies]\n");
-        let rust = if of.is_static_library { ".." } else { "../.." };
+        let mut text = String::from("\n[dependencies]\n");
         let needs_core = of.needs.iter().any(|n| self.library.contains(n));
         if needs_core {
             text.push_str(&format!(
@@ -172,12 +180,6 @@ impl Crates {
                 "{} = {{ path = \"{}/{}\" }}\n",
                 need, folder, need
             ));
-        }
-        if of.is_static_library {
-            text.push_str(STATIC_FEATURES);
-        }
-        if is_program {
-            text.push_str("\n[dev-dependencies]\nstored = { path = \"../../stored\" }\n");
         }
         text
     }
