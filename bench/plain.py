@@ -17,7 +17,7 @@ def missing():
 
 
 def build():
-    """Builds the erased atlas_bench by cargo, in release, as the workspace of rust/ says."""
+    """Builds the erased atlas_bench by cargo, in release, as its workspace says."""
     say('building the plain atlas_bench')
     return cargo_here.program('atlas_bench')
 

@@ -1,4 +1,5 @@
-"""The cargo of this machine, for what builds the workspace of rust/."""
+"""The cargo of this machine, for what builds the workspaces of rust/."""
+import functools
 import json
 import os
 import re
@@ -19,6 +20,8 @@ REGISTRY = stand_in.REGISTRY
 PACKAGES = ['librust-%s-dev' % name for name in ('autocfg', 'euclid', 'libm', 'num-traits', 'proc-macro2', 'quote', 'serde', 'serde-derive',
                                              'syn', 'unicode-ident')]
 UNPACKED = os.path.join(HERE, 'target', 'debian')
+# The workspace of programs and tests, which the eraser writes before they are built.
+ERASED = os.path.join(HERE, 'erased')
 
 
 def cargos():
@@ -107,10 +110,10 @@ def crates_of_others(cargo_path, settings):
 class Build:
     """What cargo tells of a run: the files that it made, and what the compiler said."""
 
-    def __init__(self, command, words, more=()):
+    def __init__(self, command, words, more=(), folder=HERE):
         path = cargo()
         done = subprocess.run([path, '--offline', command, '--release', '--message-format', 'json'] + list(words),
-                              cwd=HERE, env={**environment(path), **dict(more)}, stdout=subprocess.PIPE,
+                              cwd=folder, env={**environment(path), **dict(more)}, stdout=subprocess.PIPE,
                               stderr=subprocess.PIPE, text=True)
         told = [json.loads(line) for line in done.stdout.splitlines() if line.startswith('{')]
         said = [each['message'] for each in told if each['reason'] == 'compiler-message']
@@ -127,8 +130,20 @@ class Build:
             raise Failure('cargo failed: %s' % '\n'.join(self.errors)[-3000:])
 
 
+@functools.lru_cache(maxsize=None)
+def erase():
+    """Has the eraser write rust/erased, as the sources in crates/ are when this is first called."""
+    path = cargo()
+    words = ['run', '--quiet', '--offline', '--manifest-path', os.path.join(HERE, 'eraser', 'Cargo.toml'), '--', '--programs']
+    done = subprocess.run([path] + words, env=environment(path), stdin=subprocess.DEVNULL, stdout=subprocess.PIPE,
+                          stderr=subprocess.PIPE, text=True)
+    if done.returncode:
+        raise Failure('rust/erase --programs failed: %s' % done.stderr.strip()[-3000:])
+
+
 def program(name, words=(), more=()):
-    """A program of the workspace, built."""
-    build = Build('build', ['-p', name] + list(words), more)
+    """A program of rust/erased, erased and built."""
+    erase()
+    build = Build('build', ['-p', name] + list(words), more, ERASED)
     build.require('this machine')
     return next(each['executable'] for each in build.made if each['target']['name'] == name and each['executable'])

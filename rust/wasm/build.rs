@@ -3,7 +3,7 @@ use std::{env, fs, path::Path};
 
 fn main() {
     let root = env::var("CARGO_MANIFEST_DIR").expect("cargo says where the crate is");
-    let sources = Path::new(&root).join("../erased/guillotiere_c/src");
+    let sources = Path::new(&root).join("../c/src");
     let library = fs::read_to_string(sources.join("lib.rs")).expect("rust/erase wrote lib.rs");
     let names = library
         .lines()

@@ -25,6 +25,12 @@ const LIBRARY: [&str; 5] = [
 /// Crates that don't erase, and stand in rust/ by hand.
 const BY_HAND: [&str; 1] = ["test_memory"];
 
+/// The folder below rust/ of the exports for C.
+pub const EXPORTS_FOLDER: &str = "c";
+
+/// The folder below rust/ of the packages that are written when they are built, and not kept: programs and tests.
+pub const PROGRAMS: &str = "erased";
+
 /// Libraries of the kit that an erased crate doesn't need.
 const KIT: [&str; 1] = ["thiserror"];
 
@@ -87,11 +93,24 @@ impl Crates {
         }
     }
 
+    /// Whether a crate is built from what stands in the repository: the library, and the exports for C.
+    pub fn is_kept(&self, of: &Crate) -> bool {
+        of.is_static_library || self.library.contains(&of.name)
+    }
+
+    /// The folder below rust/ of a crate that is a package of its own.
+    pub fn package(&self, of: &Crate) -> PathBuf {
+        match of.is_static_library {
+            true => PathBuf::from(EXPORTS_FOLDER),
+            false => Path::new(PROGRAMS).join(&of.name),
+        }
+    }
+
     /// Where a source of a crate goes, below rust/.
     pub fn target(&self, of: &Crate, file: &Path) -> PathBuf {
         let file = file.with_extension("rs");
         if !self.library.contains(&of.name) {
-            return Path::new("erased").join(&of.name).join("src").join(file);
+            return self.package(of).join("src").join(file);
         }
         let file = if file == Path::new("lib.rs") {
             PathBuf::from("mod.rs")
@@ -122,37 +141,7 @@ impl Crates {
                 "\n[lib]\nname = \"guillotiere\"\ncrate-type = [\"staticlib\", \"cdylib\"]\ndoc = false\n",
             );
         }
-        let (features, support) = if of.is_static_library {
-            (
-                ", default-features = false, features = [\"cache\", \"sheet\"]",
-                "\"raw\"",
-            )
-        } else {
-            ("", "\"std\"")
-        };
-        text.push_str("\n[dependencies]\n");
-        let needs_core = of.needs.iter().any(|n| self.library.contains(n));
-        if needs_core {
-            text.push_str(&format!(
-                "wollemigo-core = {{ path = \"../../core\"{} }}\n",
-                features
-            ));
-        }
-        text.push_str(&format!(
-            "wollemigo-support = {{ path = \"../../support\", features = [{}] }}\n",
-            support
-        ));
-        for need in of.needs.iter().filter(|n| !self.library.contains(*n)) {
-            let folder = if BY_HAND.contains(&need.as_str()) {
-                "../.."
-            } else {
-                ".."
-            };
-            text.push_str(&format!(
-                "{} = {{ path = \"{}/{}\" }}\n",
-                need, folder, need
-            ));
-        }
+        text.push_str(&self.dependencies(of));
         if of.is_static_library {
             text.push_str(STATIC_FEATURES);
         }
@@ -161,7 +150,70 @@ impl Crates {
         }
         text
     }
+
+    fn dependencies(&self, of: &Crate) -> String {
+        let (rust, features, support) = if of.is_static_library {
+            let features = ", default-features = false, features = [\"cache\", \"sheet\"]";
+            ("..", features, "\"raw\"")
+        } else {
+            ("../..", "", "\"std\"")
+        };
+        let mut text = String::from("\n[dependencies]\n");
+        let needs_core = of.needs.iter().any(|n| self.library.contains(n));
+        if needs_core {
+            text.push_str(&format!(
+                "wollemigo-core = {{ path = \"{}/core\"{} }}\n",
+                rust, features
+            ));
+        }
+        text.push_str(&format!(
+            "wollemigo-support = {{ path = \"{}/support\", features = [{}] }}\n",
+            rust, support
+        ));
+        for need in of.needs.iter().filter(|n| !self.library.contains(*n)) {
+            let folder = if BY_HAND.contains(&need.as_str()) {
+                rust
+            } else {
+                ".."
+            };
+            text.push_str(&format!(
+                "{} = {{ path = \"{}/{}\" }}\n",
+                need, folder, need
+            ));
+        }
+        text
+    }
+
+    /// The manifest of the workspace of programs and tests, with the profiles of that of rust/.
+    pub fn workspace(&self, root: &Path) -> Result<String, Fault> {
+        let name = "rust/Cargo.toml";
+        let text =
+            fs::read_to_string(root.join(name)).map_err(|e| Fault::of(name, &e.to_string()))?;
+        let profiles = text
+            .find("[profile.")
+            .map(|at| &text[at..])
+            .ok_or_else(|| Fault::of(name, "it has no profiles"))?;
+        let packages: String = self
+            .erased()
+            .filter(|of| !self.is_kept(of))
+            .map(|of| format!("    \"{}\",\n", of.name))
+            .collect();
+        Ok(format!(
+            "{}{}{}]\n\n{}",
+            WORKSPACE, packages, TESTS, profiles
+        ))
+    }
 }
+
+const WORKSPACE: &str = "\
+# Written by rust/erase from crates.txt, with the profiles of rust/Cargo.toml: don't edit.
+[workspace]
+resolver = \"2\"
+members = [
+";
+
+/// The tests that are written by hand, since they are over these packages.
+const TESTS: &str = "    \"../tests\",\n";
 
 /// A library for C is built with Rust's `std`, or without it, over C's memory alone.
 const STATIC_FEATURES: &str = "

@@ -1,14 +1,15 @@
 //! Writes the plain Rust that the proved sources give, or compares it with what stands there.
 use eraser::fault::Fault;
 use eraser::interface::Interface;
-use eraser::tree::Tree;
+use eraser::tree::{Part, Tree};
 use std::path::{Path, PathBuf};
 use std::process::ExitCode;
 
 const USAGE: &str = "\
-erase           writes rust/core/src, rust/erased, and what is written of the exports for C, as the sources in crates/ give them
-erase --check   says whether they are so; the last line is 'N passed, M failed'
-erase --count   says how often each rule was applied
+erase               writes rust/core/src, rust/c, what is written of the exports for C, and rust/erased, as the sources in crates/ give them
+erase --programs    writes rust/erased alone: programs and tests, which are written when they are built. It needs no rustfmt
+erase --check       says whether all but rust/erased is so; the last line is 'N passed, M failed'
+erase --count       says how often each rule was applied
 erase --interface   lists what the library for C offers, and says whether the files that are written of it are so";
 
 fn run(words: &[String]) -> Result<bool, Fault> {
@@ -17,14 +18,17 @@ fn run(words: &[String]) -> Result<bool, Fault> {
     if matches!(words, [word] if word == "--interface") {
         return list_interface(&root, &rust);
     }
-    let tree = Tree::made(&root)?;
+    let part = match words.first().map(String::as_str) {
+        Some("--check") => Part::Kept,
+        Some("--programs") => Part::Programs,
+        _ => Part::All,
+    };
+    let tree = Tree::made(&root, part)?;
     match words {
-        [] => {
-            println!(
-                "{} of {} files changed",
-                tree.write(&rust)?,
-                tree.files.len()
-            );
+        [word] if word == "--count" => {
+            for (rule, count) in &tree.counts {
+                println!("rule {}: {} times", rule, count);
+            }
             Ok(true)
         }
         [word] if word == "--check" => {
@@ -40,9 +44,11 @@ fn run(words: &[String]) -> Result<bool, Fault> {
             Ok(found.is_empty())
         }
         _ => {
-            for (rule, count) in &tree.counts {
-                println!("rule {}: {} times", rule, count);
-            }
+            println!(
+                "{} of {} files changed",
+                tree.write(&rust)?,
+                tree.files.len()
+            );
             Ok(true)
         }
     }
@@ -67,9 +73,12 @@ fn list_interface(root: &Path, rust: &Path) -> Result<bool, Fault> {
 fn main() -> ExitCode {
     let words: Vec<String> = std::env::args().skip(1).collect();
     let is_known = matches!(words.as_slice(), [] | [_])
-        && words
-            .iter()
-            .all(|w| matches!(w.as_str(), "--check" | "--count" | "--interface"));
+        && words.iter().all(|w| {
+            matches!(
+                w.as_str(),
+                "--programs" | "--check" | "--count" | "--interface"
+            )
+        });
     if !is_known {
         eprintln!("{}", USAGE);
         return ExitCode::from(2);

@@ -1,5 +1,5 @@
-//! All that the sources of a repository give: files by their paths below rust/.
-use crate::crates::{Crate, Crates};
+//! What the sources of a repository give: files by their paths below rust/.
+use crate::crates::{Crate, Crates, EXPORTS_FOLDER, PROGRAMS};
 use crate::fault::Fault;
 use crate::interface::{Interface, EXPORTS};
 use crate::rules::laws_of;
@@ -11,12 +11,35 @@ use std::path::{Path, PathBuf};
 use std::sync::Mutex;
 use std::thread;
 
-/// The folders below rust/ that have nothing but what is written here.
-const FOLDERS: [&str; 2] = ["core/src", "erased"];
+/// What is made of the sources: what stands in the repository, what is written when it is built, or both.
+#[derive(Clone, Copy, Debug, PartialEq, Eq)]
+pub enum Part {
+    Kept,
+    Programs,
+    All,
+}
+
+impl Part {
+    fn has(self, is_kept: bool) -> bool {
+        self == Part::All || is_kept == (self == Part::Kept)
+    }
+
+    /// The folders below rust/ that have nothing but what is written here, and what cargo makes.
+    fn folders(self) -> &'static [&'static str] {
+        match self {
+            Part::Kept => &["core/src", EXPORTS_FOLDER],
+            Part::Programs => &[PROGRAMS],
+            Part::All => &["core/src", EXPORTS_FOLDER, PROGRAMS],
+        }
+    }
+}
+
+/// What cargo makes in the folder of a workspace.
+const OF_CARGO: [&str; 2] = ["Cargo.lock", "target"];
 
 /// Files by their paths below rust/, and how often each rule was applied.
-#[derive(Default)]
 pub struct Tree {
+    pub part: Part,
     pub files: BTreeMap<PathBuf, String>,
     pub counts: BTreeMap<u32, usize>,
 }
@@ -29,15 +52,18 @@ struct Job<'a> {
 }
 
 impl Tree {
-    /// Erases all sources of the repository at `root`.
-    pub fn made(root: &Path) -> Result<Tree, Fault> {
+    /// Erases sources of the repository at `root`.
+    pub fn made(root: &Path, part: Part) -> Result<Tree, Fault> {
         let mut crates = Crates::read(root)?;
         crates.laws = laws(root, &crates)?;
         let mut jobs = Vec::new();
-        let mut tree = Tree::default();
-        tree.files
-            .insert(PathBuf::from("core/src/lib.rs"), crates.library_root());
-        for of in crates.erased() {
+        let mut tree = Tree {
+            part,
+            files: BTreeMap::new(),
+            counts: BTreeMap::new(),
+        };
+        let texts = tree.add_roots(root, &crates)?;
+        for of in crates.erased().filter(|of| part.has(crates.is_kept(of))) {
             let folder = root.join("crates").join(&of.name);
             let is_program = folder.join("src/main.rt").is_file();
             for file in sources(&folder.join("src"))? {
@@ -48,7 +74,7 @@ impl Tree {
                 });
             }
             if !crates.library.contains(&of.name) {
-                let package = Path::new("erased").join(&of.name);
+                let package = crates.package(of);
                 tree.files
                     .insert(package.join("Cargo.toml"), crates.manifest(of, is_program));
                 if is_program {
@@ -57,16 +83,27 @@ impl Tree {
                 }
             }
         }
-        let texts = match root.join("crates").join(EXPORTS).is_dir() {
-            true => tree.add_interface(root)?,
-            false => String::new(),
-        };
         tree.erase_all(root, &crates, &texts, jobs)?;
         Ok(tree)
     }
 
-    /// Adds what is written of the exports for C. Gives the texts of statuses.
-    fn add_interface(&mut self, root: &Path) -> Result<String, Fault> {
+    /// Adds what comes from no one source: the library's root, what is written of the exports for C, and the workspace of programs. Gives
+    /// the texts of statuses.
+    fn add_roots(&mut self, root: &Path, crates: &Crates) -> Result<String, Fault> {
+        if self.part.has(false) {
+            self.files.insert(
+                Path::new(PROGRAMS).join("Cargo.toml"),
+                crates.workspace(root)?,
+            );
+        }
+        if !self.part.has(true) {
+            return Ok(String::new());
+        }
+        self.files
+            .insert(PathBuf::from("core/src/lib.rs"), crates.library_root());
+        if !root.join("crates").join(EXPORTS).is_dir() {
+            return Ok(String::new());
+        }
         let (files, texts) = Interface::read(root)?.files(root)?;
         self.files.extend(files);
         Ok(texts)
@@ -134,7 +171,7 @@ impl Tree {
                 Err(_) => found.push(format!("{}: isn't there", shown(path))),
             }
         }
-        for path in there(rust)? {
+        for path in there(rust, self.part)? {
             if !self.files.contains_key(&path) {
                 found.push(format!("rust/{}: comes from no source", path.display()));
             }
@@ -157,12 +194,15 @@ impl Tree {
             fs::write(&path, text).map_err(failed)?;
             changed += 1;
         }
-        for path in there(rust)? {
+        for path in there(rust, self.part)? {
             if !self.files.contains_key(&path) {
                 let path = rust.join(path);
                 fs::remove_file(&path)
                     .map_err(|e| Fault::of(&path.display().to_string(), &e.to_string()))?;
                 changed += 1;
+                // Folders that are empty now go as well.
+                let mut above = path.ancestors().skip(1);
+                while above.next().map_or(false, |it| fs::remove_dir(it).is_ok()) {}
             }
         }
         Ok(changed)
@@ -216,7 +256,11 @@ fn erase_one(
     } else {
         whole.push_str(&text);
     }
-    Ok((layout::laid_out(&name, &whole, &root.join("rust"))?, counts))
+    // Nobody reads what isn't kept, and whoever builds it may have no rustfmt.
+    if crates.is_kept(job.of) {
+        whole = layout::laid_out(&name, &whole, &root.join("rust"))?;
+    }
+    Ok((whole, counts))
 }
 
 /// The text of a root file with the attributes of its crate, behind its documentation.
@@ -255,16 +299,18 @@ fn stored_test(name: &str) -> String {
 /// The sources below a folder, by their paths there.
 fn sources(folder: &Path) -> Result<BTreeSet<PathBuf>, Fault> {
     files_below(folder, &|path| {
-        path.extension().map_or(false, |e| e == "rt")
+        path.is_dir() || path.extension().map_or(false, |e| e == "rt")
     })
 }
 
 /// The files below rust/ in the folders that have nothing but what is written here.
-fn there(rust: &Path) -> Result<BTreeSet<PathBuf>, Fault> {
+fn there(rust: &Path, part: Part) -> Result<BTreeSet<PathBuf>, Fault> {
     let mut found = BTreeSet::new();
-    for folder in FOLDERS {
-        if rust.join(folder).is_dir() {
-            for path in files_below(&rust.join(folder), &|_| true)? {
+    for folder in part.folders() {
+        let here = rust.join(folder);
+        if here.is_dir() {
+            let of_cargo = OF_CARGO.map(|name| here.join(name));
+            for path in files_below(&here, &|path| !of_cargo.iter().any(|it| it == path))? {
                 found.insert(Path::new(folder).join(path));
             }
         }
@@ -272,6 +318,7 @@ fn there(rust: &Path) -> Result<BTreeSet<PathBuf>, Fault> {
     Ok(found)
 }
 
+/// The files below a folder, by their paths there, but for files and folders that aren't wanted.
 fn files_below(
     folder: &Path,
     is_wanted: &dyn Fn(&Path) -> bool,
@@ -281,13 +328,16 @@ fn files_below(
     for entry in fs::read_dir(folder).map_err(failed)? {
         let entry = entry.map_err(failed)?;
         let (path, name) = (entry.path(), PathBuf::from(entry.file_name()));
+        if !is_wanted(&path) {
+            continue;
+        }
         if path.is_dir() {
             found.extend(
                 files_below(&path, is_wanted)?
                     .into_iter()
                     .map(|p| name.join(p)),
             );
-        } else if is_wanted(&path) {
+        } else {
             found.insert(name);
         }
     }
