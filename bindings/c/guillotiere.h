@@ -21,9 +21,10 @@
  *
  * Statuses. A call returns a status. It is total: sizes, options, ids and limits may be any numbers, and what is wrong
  * is reported. After any status other than GUILLOTIERE_DONE all handles hold what they held, and nothing was written, except
- * the number of a bad sprite (of a sheet), and except by two calls of a cache: guillotiere_cache_insert answers
+ * the number of a bad sprite (of a sheet), and except by three calls of a cache: guillotiere_cache_insert answers
  * GUILLOTIERE_HELD for a key that was held, which counts as used then and whose place is written, and may have made changes after
- * another status, which it reports; and guillotiere_cache_get counts a miss.
+ * another status, which it reports; guillotiere_cache_get counts a miss; and after a refused guillotiere_cache_reserve_slots the
+ * pages before the refused one have theirs in reserve.
  *
  * Null. A null pointer is answered at once by GUILLOTIERE_NULL_POINTER, by `false`, or by a call that returns nothing by doing
  * nothing, so that guillotiere_atlas_free(NULL) is harmless. An array of length 0 may be null. Where a call of a sheet writes the

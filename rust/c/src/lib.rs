@@ -3,8 +3,8 @@
 //!
 //! An allocator is held by a handle of one pointer, which its caller keeps and which is all zero while it holds
 //! nothing. Each call is total: it tests its own conditions, answers a status (`plain`), and writes what it gives back
-//! where its arguments point. A call that isn't `DONE` changes nothing; but a cache counts a miss, and an insert that
-//! is refused may have made changes, which it reports.
+//! where its arguments point. A call that isn't `DONE` changes nothing; but a cache counts a miss, an insert that is
+//! refused may have made changes, which it reports, and a refused reserve of slots keeps those of the pages before.
 #![cfg_attr(not(feature = "std"), no_std)]
 #![allow(dead_code, unused_imports, unused_labels, unused_variables)]
 
