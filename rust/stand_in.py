@@ -15,20 +15,20 @@ import tempfile
 HERE = os.path.dirname(os.path.abspath(__file__))
 REGISTRY = os.environ.get('CRATES', '/usr/share/cargo/registry')
 
-# Without std the functions of floating point numbers come from libm: this euclid can't do without them.
+# As in 0.22.7 the functions of floating point numbers come from std or from the feature libm, and nothing compiles without both.
 MANIFEST = """[package]
 name = "euclid"
 version = "0.22.0"
 description = "euclid %s, standing in for 0.22"
 
 [dependencies]
-num-traits = { version = "0.2", default-features = false, features = ["libm"] }
+num-traits = { version = "0.2", default-features = false }
 serde = { version = "1", default-features = false, features = ["serde_derive"], optional = true }
 
 [features]
 default = ["std"]
 std = ["num-traits/std"]
-libm = []
+libm = ["num-traits/libm"]
 
 [workspace]
 """

@@ -8,6 +8,9 @@
 //! | all sprites known beforehand | [`sheet::pack`]: the smallest sheet that is found |
 //! | an allocator that is to be kept in a file | [`recording::RecordingAllocator`] |
 //!
+//! A `#![no_std]` program takes it with `default-features = false` and `features = ["libm"]`: without `libm` euclid 0.22.7 doesn't compile
+//! there ([features](#features)).
+//!
 //! A cache of glyphs, with what its program follows:
 //!
 //! ```
@@ -96,7 +99,7 @@
 //! | `std` (default) | `std::error::Error` for the errors; [`dump_svg`], [`dump_into_svg`] |
 //! | `cache`, `sheet`, `recording` (default) | the modules of these names |
 //! | `serialization` | serde for [`AllocId`] and [`AllocatorOptions`], for an allocator by its [`recording`], and for what euclid has |
-//! | `libm` | euclid's feature of this name |
+//! | `libm` | euclid's feature of this name, which its versions before 0.22.14 need without `std` |
 //!
 //! Without `std` this crate and those below it use only `core` and `alloc`.
 //!
