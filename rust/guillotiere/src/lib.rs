@@ -98,7 +98,7 @@
 //! |---|---|
 //! | `std` (default) | `std::error::Error` for the errors; [`dump_svg`], [`dump_into_svg`] |
 //! | `cache`, `sheet`, `recording` (default) | the modules of these names |
-//! | `serialization` | serde for [`AllocId`] and [`AllocatorOptions`], for an allocator by its [`recording`], and for what euclid has |
+//! | `serialization`, `serde` | serde for [`AllocId`], [`AllocatorOptions`] and [`NodeKind`], for an allocator by its [`recording`], and for what euclid has |
 //! | `libm` | euclid's feature of this name, which its versions before 0.22.14 need without `std` |
 //!
 //! Without `std` this crate and those below it use only `core` and `alloc`.
@@ -146,12 +146,11 @@ pub use crate::simple::SimpleAtlasAllocator;
 #[cfg(feature = "std")]
 pub use crate::svg::{dump_into_svg, dump_svg};
 pub use crate::values::{
-    AllocId, Allocation, AllocatorOptions, Areas, Change, ChangeList, Point, Rectangle, Size,
-    SlotCount, DEFAULT_OPTIONS, MOST_SLOTS,
+    AllocId, Allocation, AllocatorOptions, Areas, Change, ChangeList, NodeKind, Point, Rectangle,
+    Size, SlotCount, DEFAULT_OPTIONS, MOST_SLOTS,
 };
 pub use crate::walks::{Allocations, FreeRectangles};
 pub use euclid::{point2, size2};
-pub use wollemigo_core::guillotiere::NodeKind;
 
 // That rustc says so where an answer is dropped that is needed.
 #[cfg(all(doctest, feature = "cache", feature = "sheet", feature = "recording"))]

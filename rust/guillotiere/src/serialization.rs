@@ -1,11 +1,12 @@
-//! serde of ids and options, in the form that the crate `guillotiere` gives them: an id is a number, options are a
-//! struct of three fields, and their alignment a pair. What is read is data alone: whether an id is live and whether
+//! serde of ids, options and kinds of slots, in the form that the crate `guillotiere` gives them: an id is a number, options are a
+//! struct of three fields, and their alignment a pair; a kind is a variant. What is read is data alone: whether an id is live and whether
 //! options are valid is tested by the call that takes them. Recordings have a form that `recording` describes.
-use crate::{size2, AllocId, AllocatorOptions};
+use crate::{size2, AllocId, AllocatorOptions, NodeKind};
 use core::fmt;
 use core::marker::PhantomData;
 use serde::de::{
-    Deserialize, DeserializeSeed, Deserializer, Error, IgnoredAny, MapAccess, SeqAccess, Visitor,
+    Deserialize, DeserializeSeed, Deserializer, EnumAccess, Error, IgnoredAny, MapAccess,
+    SeqAccess, VariantAccess, Visitor,
 };
 use serde::ser::{Serialize, SerializeStruct, Serializer};
 
@@ -51,7 +52,7 @@ impl<'de> Visitor<'de> for Among {
     type Value = usize;
 
     fn expecting(&self, f: &mut fmt::Formatter<'_>) -> fmt::Result {
-        f.write_str("the name of a field or of an event")
+        f.write_str("the name of a field or of a variant")
     }
 
     fn visit_u64<E: Error>(self, number: u64) -> Result<usize, E> {
@@ -74,6 +75,48 @@ impl<'de> DeserializeSeed<'de> for Among {
 
     fn deserialize<D: Deserializer<'de>>(self, deserializer: D) -> Result<usize, D::Error> {
         deserializer.deserialize_identifier(self)
+    }
+}
+
+const KINDS: &[&str] = &["Container", "Alloc", "Free", "Unused"];
+
+impl Serialize for NodeKind {
+    fn serialize<S: Serializer>(&self, serializer: S) -> Result<S::Ok, S::Error> {
+        let number = match self {
+            NodeKind::Container => 0,
+            NodeKind::Alloc => 1,
+            NodeKind::Free => 2,
+            NodeKind::Unused => 3,
+        };
+        serializer.serialize_unit_variant("NodeKind", number, KINDS[number as usize])
+    }
+}
+
+struct KindVisitor;
+
+impl<'de> Visitor<'de> for KindVisitor {
+    type Value = NodeKind;
+
+    fn expecting(&self, f: &mut fmt::Formatter<'_>) -> fmt::Result {
+        f.write_str("what a slot is used for")
+    }
+
+    fn visit_enum<A: EnumAccess<'de>>(self, input: A) -> Result<NodeKind, A::Error> {
+        let (number, variant) = input.variant_seed(Among(KINDS))?;
+        variant.unit_variant()?;
+        Ok(match number {
+            0 => NodeKind::Container,
+            1 => NodeKind::Alloc,
+            2 => NodeKind::Free,
+            3 => NodeKind::Unused,
+            _ => return Err(A::Error::custom("there is no such use of a slot")),
+        })
+    }
+}
+
+impl<'de> Deserialize<'de> for NodeKind {
+    fn deserialize<D: Deserializer<'de>>(deserializer: D) -> Result<Self, D::Error> {
+        deserializer.deserialize_enum("NodeKind", KINDS, KindVisitor)
     }
 }
 

@@ -43,6 +43,25 @@ impl AllocId {
     }
 }
 
+/// What a slot of an atlas is used for. No call here takes or gives one: it is for programs that name the type of the crate `guillotiere`.
+///
+/// ```
+/// use guillotiere::NodeKind;
+///
+/// assert_eq!(format!("{:?}", NodeKind::Free), "Free");
+/// ```
+#[derive(Copy, Clone, Debug, PartialEq, Eq, Hash)]
+pub enum NodeKind {
+    /// A sequence of other slots.
+    Container,
+    /// An allocated rectangle.
+    Alloc,
+    /// A free rectangle.
+    Free,
+    /// Nothing: the slot may be taken.
+    Unused,
+}
+
 /// How an allocator rounds requests and distinguishes small, medium and large ones. These are all fields: a program may write them out.
 ///
 /// ```

@@ -1,4 +1,5 @@
-//! serde of ids and options, as a format sees them: an id is a newtype of a number, options are a struct.
+//! serde of ids, options and kinds of slots, as a format sees them: an id is a newtype of a number, options are a struct, and a kind is a
+//! variant without a value.
 #![cfg(feature = "serialization")]
 
 use guillotiere::serde::de::value::{Error, MapDeserializer, SeqDeserializer};
@@ -6,7 +7,7 @@ use guillotiere::serde::de::{Deserialize, Deserializer, IntoDeserializer, Visito
 use guillotiere::serde::ser::{
     Error as _, Impossible, Serialize, SerializeStruct, SerializeTuple, Serializer,
 };
-use guillotiere::{serde, size2, AllocId, AllocatorOptions, Point, Rectangle, Size};
+use guillotiere::{serde, size2, AllocId, AllocatorOptions, NodeKind, Point, Rectangle, Size};
 use std::fmt::Display;
 
 #[derive(Clone, Copy, Debug, PartialEq)]
@@ -16,6 +17,7 @@ enum Token {
     Field(&'static str),
     Tuple(usize),
     Number(i64),
+    Variant(&'static str, u32, &'static str),
 }
 
 // Gathers what a value tells of itself.
@@ -56,12 +58,21 @@ impl<'a> Serializer for Tokens<'a> {
         serialize_none() -> ();
         serialize_unit() -> ();
         serialize_unit_struct(&'static str) -> ();
-        serialize_unit_variant(&'static str, u32, &'static str) -> ();
         serialize_seq(Option<usize>) -> Self::SerializeSeq;
         serialize_tuple_struct(&'static str, usize) -> Self::SerializeTupleStruct;
         serialize_tuple_variant(&'static str, u32, &'static str, usize) -> Self::SerializeTupleVariant;
         serialize_map(Option<usize>) -> Self::SerializeMap;
         serialize_struct_variant(&'static str, u32, &'static str, usize) -> Self::SerializeStructVariant;
+    }
+
+    fn serialize_unit_variant(
+        self,
+        name: &'static str,
+        number: u32,
+        variant: &'static str,
+    ) -> Result<(), Error> {
+        self.0.push(Token::Variant(name, number, variant));
+        Ok(())
     }
 
     fn serialize_i32(self, number: i32) -> Result<(), Error> {
@@ -252,6 +263,30 @@ fn options_are_read_in_any_order() {
         assert!(read(&missing.map(Clone::clone)).is_err());
     }
     assert!(read(&[&alignment, &small, &large, &small].map(Clone::clone)).is_err());
+}
+
+#[test]
+fn kinds_are_variants() {
+    for (number, kind, name) in [
+        (0, NodeKind::Container, "Container"),
+        (1, NodeKind::Alloc, "Alloc"),
+        (2, NodeKind::Free, "Free"),
+        (3, NodeKind::Unused, "Unused"),
+    ] {
+        let mut tokens = Vec::new();
+        kind.serialize_into(&mut tokens);
+        assert_eq!(tokens, [Token::Variant("NodeKind", number, name)]);
+        let read: Result<NodeKind, Error> = NodeKind::deserialize(name.into_deserializer());
+        assert_eq!(read, Ok(kind));
+        let read: Result<NodeKind, Error> = NodeKind::deserialize(number.into_deserializer());
+        assert_eq!(read, Ok(kind));
+    }
+    for name in ["free", "", "Containers"] {
+        let read: Result<NodeKind, Error> = NodeKind::deserialize(name.into_deserializer());
+        assert!(read.is_err());
+    }
+    let read: Result<NodeKind, Error> = NodeKind::deserialize(4_u32.into_deserializer());
+    assert!(read.is_err());
 }
 
 // What a program keeps in a struct of its own: the feature switches on that of euclid.
