@@ -1,6 +1,7 @@
 // Written by rust/erase from crates.txt: don't edit.
 //! The library crates of `crates/` with their contracts erased, a module each. `wollemigo` is the crate to use: here a
-//! call's conditions stand in its documentation, and nothing tests them.
+//! call's conditions stand in its documentation, and nothing tests them. No module is an API: each may change with every
+//! version, so `wollemigo` asks for exactly one.
 #![no_std]
 #![forbid(unsafe_code)]
 #![allow(dead_code, unused_imports, unused_labels, unused_variables)]
@@ -18,20 +19,32 @@
     clippy::too_many_arguments
 )]
 
+#[doc(hidden)]
 pub mod atlas_allocator;
 #[cfg(feature = "cache")]
+#[doc(hidden)]
 pub mod atlas_cache;
 #[cfg(feature = "cache")]
+#[doc(hidden)]
 pub mod atlas_entries;
 #[cfg(feature = "sheet")]
+#[doc(hidden)]
 pub mod atlas_maxrects;
+#[doc(hidden)]
 pub mod atlas_model;
+#[doc(hidden)]
 pub mod atlas_search;
 #[cfg(feature = "sheet")]
+#[doc(hidden)]
 pub mod atlas_sheet;
+#[doc(hidden)]
 pub mod atlas_store;
+#[doc(hidden)]
 pub mod atlas_tree;
+#[doc(hidden)]
 pub mod guillotiere;
 #[cfg(feature = "recording")]
+#[doc(hidden)]
 pub mod guillotiere_recording;
+#[doc(hidden)]
 pub mod guillotiere_total;

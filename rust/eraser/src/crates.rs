@@ -124,7 +124,8 @@ impl Crates {
     pub fn library_root(&self) -> String {
         let mut text = String::from(LIBRARY_HEAD);
         for name in &self.library {
-            text.push_str(&format!("{}pub mod {};\n", condition_of(name), name));
+            let condition = condition_of(name);
+            text.push_str(&format!("{}#[doc(hidden)]\npub mod {};\n", condition, name));
         }
         text
     }
@@ -225,7 +226,8 @@ std = [\"wollemigo-core/std\", \"wollemigo-support/std\"]
 const LIBRARY_HEAD: &str = "\
 // Written by rust/erase from crates.txt: don't edit.
 //! The library crates of `crates/` with their contracts erased, a module each. `wollemigo` is the crate to use: here a
-//! call's conditions stand in its documentation, and nothing tests them.
+//! call's conditions stand in its documentation, and nothing tests them. No module is an API: each may change with every
+//! version, so `wollemigo` asks for exactly one.
 #![no_std]
 #![forbid(unsafe_code)]
 #![allow(dead_code, unused_imports, unused_labels, unused_variables)]

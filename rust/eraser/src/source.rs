@@ -256,6 +256,25 @@ impl<'a> Source<'a> {
         }
     }
 
+    /// Rule 18 in the comments.
+    pub fn name_powers(&mut self) {
+        const POWER: &str = "4294967296";
+        for token in self.all.iter().filter(|t| t.kind == Kind::Comment) {
+            for (at, _) in self.text[token.start..token.end].match_indices(POWER) {
+                let start = token.start + at;
+                let end = start + POWER.len();
+                if !self.edits.iter().any(|e| e.start <= start && end <= e.end) {
+                    *self.counts.entry(18).or_insert(0) += 1;
+                    self.edits.push(Edit {
+                        start,
+                        end,
+                        put: "`1 << 32`".to_string(),
+                    });
+                }
+            }
+        }
+    }
+
     pub fn count(&mut self, rule: u32) {
         *self.counts.entry(rule).or_insert(0) += 1;
     }

@@ -90,6 +90,18 @@ fn programs_are_apart_from_what_is_kept() {
 }
 
 #[test]
+fn modules_of_the_library_are_no_api() {
+    let root = repository("hidden");
+    let tree = Tree::made(&root, Part::Kept).expect("a tree");
+    let text = &tree.files[Path::new("core/src/lib.rs")];
+    assert!(text.contains("No module is an API"), "{}", text);
+    let declared: Vec<&str> = text.lines().filter(|l| l.starts_with("pub mod ")).collect();
+    assert_eq!(declared, ["pub mod guillotiere;"]);
+    assert!(text.ends_with("#[doc(hidden)]\npub mod guillotiere;\n"));
+    fs::remove_dir_all(root).expect("the folder goes");
+}
+
+#[test]
 fn only_what_differs_is_written() {
     let root = repository("writes");
     assert_eq!(changed(&root, Part::Programs), PROGRAMS.len());

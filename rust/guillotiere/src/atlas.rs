@@ -2,15 +2,17 @@
 use crate::error::expected;
 use crate::shown::Shown;
 use crate::{
-    convert, AllocId, Allocation, AllocatorOptions, Areas, AtlasError, ChangeList, Rectangle, Size,
-    SlotCount, DEFAULT_OPTIONS,
+    convert, AllocId, Allocation, AllocatorOptions, Areas, AtlasError, Rectangle, Size, SlotCount,
+    DEFAULT_OPTIONS,
 };
 use alloc::vec::Vec;
 use core::fmt;
 use core::ops::Index;
 use wollemigo_core::guillotiere as library;
-use wollemigo_core::guillotiere_total::{atlas as total, CallError};
+use wollemigo_core::guillotiere_total::atlas as total;
 use wollemigo_support::alloc::Global;
+
+mod rearranging;
 
 /// Hands out rectangles inside one large rectangle, the atlas, takes them back and joins free space at once.
 ///
@@ -69,7 +71,11 @@ impl AtlasAllocator {
         expected(AtlasAllocator::try_new(size))
     }
 
-    /// `new` with the error as a value: `EmptySize` or `Memory`.
+    /// `new` with the error as a value.
+    ///
+    /// # Errors
+    ///
+    /// `EmptySize` if a side is below 1, `Memory` if memory is refused.
     pub fn try_new(size: Size) -> Result<Self, AtlasError> {
         AtlasAllocator::try_with_options(size, &DEFAULT_OPTIONS)
     }
@@ -93,15 +99,23 @@ impl AtlasAllocator {
         expected(AtlasAllocator::try_with_options(size, options))
     }
 
-    /// `with_options` with the error as a value: `EmptySize`, `Alignment`, `Thresholds` or `Memory`.
+    /// `with_options` with the error as a value.
+    ///
+    /// # Errors
+    ///
+    /// Those of `try_new`; `Alignment` if a side of the alignment is below 1, `Thresholds` if the small threshold is above the
+    /// large one.
     pub fn try_with_options(size: Size, options: &AllocatorOptions) -> Result<Self, AtlasError> {
         let options = convert::library_options(options);
         let made = total::with_options(Global, convert::library_size(size), &options)?;
         Ok(AtlasAllocator::over(made))
     }
 
-    /// The same with a limit on the slots that are used at once, from 1 to `MOST_SLOTS`. An error is `EmptySize`,
-    /// `Alignment`, `Thresholds`, `SlotLimit` or `Memory`.
+    /// The same with a limit on the slots that are used at once, from 1 to `MOST_SLOTS`.
+    ///
+    /// # Errors
+    ///
+    /// Those of `try_with_options`; `SlotLimit` if the limit is none of these.
     pub fn try_with_slot_limit(
         size: Size,
         options: &AllocatorOptions,
@@ -112,7 +126,11 @@ impl AtlasAllocator {
         Ok(AtlasAllocator::over(made))
     }
 
-    /// A copy that shares nothing with this one. `Memory` is the only error.
+    /// A copy that shares nothing with this one.
+    ///
+    /// # Errors
+    ///
+    /// `Memory` if memory is refused.
     pub fn try_clone(&self) -> Result<Self, AtlasError> {
         Ok(AtlasAllocator {
             atlas: self.atlas.clone()?,
@@ -193,7 +211,11 @@ impl AtlasAllocator {
         expected(self.try_allocate(requested_size))
     }
 
-    /// `allocate` with the error as a value: `Slots` or `Memory`.
+    /// `allocate` with the error as a value.
+    ///
+    /// # Errors
+    ///
+    /// `Slots` if more slots would be used than the limit allows, `Memory` if memory is refused.
     #[inline]
     pub fn try_allocate(&mut self, requested_size: Size) -> Result<Option<Allocation>, AtlasError> {
         self.shown
@@ -222,8 +244,7 @@ impl AtlasAllocator {
 
     /// Takes memory for this many slots beyond those in use; nothing else changes. While there is memory for 4
     /// more slots no request is refused memory, and for 3 no growth; a request uses at most 4, a growth at most 3, a
-    /// freeing none. The memory stays until the atlas is rearranged or dropped, and a copy has none of it. An error is
-    /// `Slots` or `Memory`.
+    /// freeing none. The memory stays until the atlas is rearranged or dropped, and a copy has none of it.
     ///
     /// ```
     /// use guillotiere::{size2, AtlasAllocator};
@@ -233,6 +254,10 @@ impl AtlasAllocator {
     /// assert!(atlas.allocate(size2(20, 60)).is_some());
     /// # Ok::<(), guillotiere::AtlasError>(())
     /// ```
+    ///
+    /// # Errors
+    ///
+    /// `Slots` if so many more would pass the limit, `Memory` if memory is refused.
     pub fn try_reserve(&mut self, additional: u32) -> Result<(), AtlasError> {
         self.atlas.reserve(additional)?;
         let slots = self.atlas.slots();
@@ -260,13 +285,17 @@ impl AtlasAllocator {
         expected(self.try_deallocate(node_id));
     }
 
-    /// `deallocate` with the error as a value: `NotLive`.
+    /// `deallocate` with the error as a value.
+    ///
+    /// # Errors
+    ///
+    /// `NotLive` if the id isn't live.
     #[inline]
     pub fn try_deallocate(&mut self, node_id: AllocId) -> Result<(), AtlasError> {
         Ok(self.atlas.deallocate(convert::library_id(node_id))?)
     }
 
-    /// Frees the rectangles of a list of ids, all or none. `NotLive` if one isn't live or is listed twice; `Memory`.
+    /// Frees the rectangles of a list of ids, all or none.
     ///
     /// ```
     /// use guillotiere::{size2, AtlasAllocator};
@@ -278,6 +307,10 @@ impl AtlasAllocator {
     /// assert!(atlas.is_empty());
     /// # Ok::<(), guillotiere::AtlasError>(())
     /// ```
+    ///
+    /// # Errors
+    ///
+    /// `NotLive` if one isn't live or is listed twice, `Memory` if memory is refused.
     pub fn try_deallocate_all(&mut self, ids: &[AllocId]) -> Result<(), AtlasError> {
         let mut library_ids = Vec::new();
         library_ids
@@ -311,7 +344,12 @@ impl AtlasAllocator {
         expected(self.try_reset(size, options));
     }
 
-    /// `reset` with the error as a value: `EmptySize`, `Alignment` or `Thresholds`.
+    /// `reset` with the error as a value.
+    ///
+    /// # Errors
+    ///
+    /// `EmptySize` if a side is below 1, `Alignment` if one of the alignment is, `Thresholds` if the small threshold is above the large
+    /// one.
     pub fn try_reset(&mut self, size: Size, options: &AllocatorOptions) -> Result<(), AtlasError> {
         let options = convert::library_options(options);
         Ok(total::reset(
@@ -341,7 +379,12 @@ impl AtlasAllocator {
         expected(self.try_grow(new_size));
     }
 
-    /// `grow` with the error as a value: `Shrinks`, `Slots` or `Memory`.
+    /// `grow` with the error as a value.
+    ///
+    /// # Errors
+    ///
+    /// `Shrinks` if a side would be less than it is, `Slots` if more slots would be used than the limit allows, `Memory` if memory is
+    /// refused.
     pub fn try_grow(&mut self, new_size: Size) -> Result<(), AtlasError> {
         Ok(total::grow(
             &mut self.atlas,
@@ -353,73 +396,6 @@ impl AtlasAllocator {
     #[must_use]
     pub fn can_grow_to(&self, new_size: Size) -> bool {
         self.atlas.can_grow_to(convert::library_size(new_size))
-    }
-
-    /// `resize_and_rearrange` at the present size.
-    ///
-    /// ```
-    /// use guillotiere::{size2, AtlasAllocator};
-    ///
-    /// let mut atlas = AtlasAllocator::new(size2(64, 64));
-    /// let small = atlas.allocate(size2(8, 8)).unwrap();
-    /// let list = atlas.rearrange();
-    /// assert_eq!((list.changes[0].old, list.failures.len()), (small, 0));
-    /// ```
-    ///
-    /// # Panics
-    ///
-    /// If memory or slots run out.
-    #[track_caller]
-    pub fn rearrange(&mut self) -> ChangeList {
-        expected(self.try_rearrange())
-    }
-
-    /// `rearrange` with the error as a value: `Slots` or `Memory`.
-    pub fn try_rearrange(&mut self) -> Result<ChangeList, AtlasError> {
-        self.rearranged(|atlas| Ok(atlas.rearrange()?))
-    }
-
-    /// Repacks what is allocated into an empty atlas of this size, the largest first; all former ids are void.
-    ///
-    /// ```
-    /// use guillotiere::{size2, AtlasAllocator};
-    ///
-    /// let mut atlas = AtlasAllocator::new(size2(64, 64));
-    /// let _ = atlas.allocate(size2(8, 8));
-    /// let list = atlas.resize_and_rearrange(size2(4, 4));
-    /// assert_eq!(list.failures.len(), 1); // it is no longer live
-    /// ```
-    ///
-    /// # Panics
-    ///
-    /// If a side is below 1, or memory or slots run out.
-    #[track_caller]
-    pub fn resize_and_rearrange(&mut self, new_size: Size) -> ChangeList {
-        expected(self.try_resize_and_rearrange(new_size))
-    }
-
-    /// `resize_and_rearrange` with the error as a value: `EmptySize`, `Slots` or `Memory`.
-    pub fn try_resize_and_rearrange(&mut self, new_size: Size) -> Result<ChangeList, AtlasError> {
-        self.rearranged(|atlas| total::resize_and_rearrange(atlas, convert::library_size(new_size)))
-    }
-
-    // Memory for the lists and for what is shown comes first, so that nothing is refused after the rearranging.
-    fn rearranged(
-        &mut self,
-        call: impl FnOnce(
-            &mut library::AtlasAllocator<Global>,
-        ) -> Result<library::ChangeList, CallError>,
-    ) -> Result<ChangeList, AtlasError> {
-        let mut live = 0;
-        self.atlas.for_each_allocated_rectangle(|_, _| live += 1);
-        let mut list = convert::change_list_for(live, live)?;
-        self.shown.reserve(1 + SLOTS_OF_A_REQUEST * live)?;
-        let moved = call(&mut self.atlas)?;
-        convert::fill_change_list(&mut list, &moved);
-        for change in &list.changes {
-            self.shown.put(&change.new);
-        }
-        Ok(list)
     }
 
     /// Calls `callback` on each free rectangle once, in an order that is left open.

@@ -44,8 +44,9 @@
 //!
 //! # Keys and values of other kinds
 //!
-//! Keys are `Copy`, since a page's changes repeat them. A program whose keys are names numbers them, and keeps what belongs to an entry
-//! in a list at the number of its place:
+//! Keys are `Copy`, since a page's changes repeat them, and calls take them by value: there is no look-up by a borrowed form of a key. A
+//! program whose keys are names numbers them in a map, which has that, and keeps what belongs to an entry in a list at the number of its
+//! place:
 //!
 //! ```
 //! use guillotiere::cache::{CacheOptions, Inserted, TextureCache};
@@ -75,6 +76,7 @@ use wollemigo_support::alloc::Global;
 
 mod changes;
 mod copies;
+mod figures;
 mod options;
 mod values;
 mod walks;
@@ -111,7 +113,7 @@ pub struct TextureCache<K: Copy + Eq + Hash = u64, S: BuildHasher = DefaultHashe
 }
 
 impl<K: Copy + Eq + Hash> TextureCache<K> {
-    /// No pages and no entries. Takes no memory. An error says what is wrong with the options.
+    /// No pages and no entries. Takes no memory.
     ///
     /// ```
     /// use guillotiere::cache::{CacheOptions, TextureCache};
@@ -121,6 +123,10 @@ impl<K: Copy + Eq + Hash> TextureCache<K> {
     /// let glyphs: TextureCache<(u32, char)> = TextureCache::new(&layers).unwrap();
     /// assert!(glyphs.is_empty());
     /// ```
+    ///
+    /// # Errors
+    ///
+    /// What is wrong with the options: the variants of `OptionsError`, each with its condition.
     pub fn new(options: &CacheOptions) -> Result<Self, OptionsError> {
         let cache = library::TextureCache::new(Global, library_options(options))?;
         Ok(TextureCache::over(cache))
@@ -146,6 +152,10 @@ impl<K: Copy + Eq + Hash, S: BuildHasher> TextureCache<K, S> {
     /// let mut glyphs = TextureCache::with_hasher(&options, RandomState::new()).unwrap();
     /// assert!(glyphs.insert("from a stranger", size2(10, 20)).is_ok());
     /// ```
+    ///
+    /// # Errors
+    ///
+    /// Those of `new`.
     pub fn with_hasher(options: &CacheOptions, hasher: S) -> Result<Self, OptionsError> {
         let cache = library::TextureCache::with_hasher(Global, library_options(options), hasher)?;
         Ok(TextureCache::over(cache))
@@ -221,6 +231,11 @@ impl<K: Copy + Eq + Hash, S: BuildHasher> TextureCache<K, S> {
     /// assert!(!glyph.inner.is_empty() && space.inner.is_empty());
     /// # Ok::<(), guillotiere::cache::CacheError>(())
     /// ```
+    ///
+    /// # Errors
+    ///
+    /// `OtherSize` if the key is held with another size; `Slots` if those of a page don't suffice; `Numbers` if 4,294,967,295 keys are held;
+    /// `Memory` if memory is refused.
     #[inline]
     pub fn insert(&mut self, key: K, size: Size) -> Result<Inserted, CacheError> {
         let size = convert::library_size(size);
@@ -309,12 +324,20 @@ impl<K: Copy + Eq + Hash, S: BuildHasher> TextureCache<K, S> {
     /// assert!(glyphs.keys().eq(['b']));
     /// # Ok::<(), guillotiere::cache::CacheError>(())
     /// ```
+    ///
+    /// # Errors
+    ///
+    /// `Memory` if memory for the changes is refused: then nothing changed.
     pub fn trim(&mut self, frames: u64) -> Result<(), CacheError> {
         self.reporting(|cache, changes| cache.trim(frames, changes))
     }
 
     /// Removes the pages after the last one with a key, each reported by a change, the last one first; the others stay, with
     /// their sizes, and so do all keys. After `clear` all pages go.
+    ///
+    /// # Errors
+    ///
+    /// `Memory` if memory for the changes is refused: then nothing changed.
     pub fn shrink(&mut self) -> Result<(), CacheError> {
         self.reporting(|cache, changes| cache.shrink(changes))
     }
@@ -340,20 +363,19 @@ impl<K: Copy + Eq + Hash, S: BuildHasher> TextureCache<K, S> {
     /// }
     /// # Ok::<(), guillotiere::cache::CacheError>(())
     /// ```
+    ///
+    /// # Errors
+    ///
+    /// `Slots` if the page has too few, which takes more than 4,194,303 keys on it; `Memory` if memory is refused. Then all is as before.
     pub fn repack(&mut self, page: u32) -> Result<bool, CacheError> {
         self.reporting(|cache, changes| cache.repack(page, changes))
     }
 
-    /// The area of a page, in pixels, that is free in rectangles which have no room for an entry of this size, with its padding
-    /// and rounded up to the alignment; a side below 0 counts as 0. None if there is no such page. Where much of the free area is
-    /// of no use for entries of the usual size, it is time to repack the page.
-    pub fn unusable_area(&self, page: u32, size: Size) -> Result<Option<u64>, CacheError> {
-        Ok(self
-            .cache
-            .unusable_area(page, convert::library_size(size))?)
-    }
-
     /// Takes memory for this many more entries. An insertion still asks for memory for slots of a page and for changes.
+    ///
+    /// # Errors
+    ///
+    /// `Memory` if memory is refused.
     pub fn reserve(&mut self, additional: usize) -> Result<(), CacheError> {
         Ok(self.cache.reserve(additional)?)
     }
@@ -426,58 +448,6 @@ impl<K: Copy + Eq + Hash, S: BuildHasher> TextureCache<K, S> {
     #[must_use]
     pub fn older(&self, key: K) -> Option<(K, Place)> {
         self.cache.older(&key).map(keyed)
-    }
-
-    /// How many pages there are.
-    #[must_use]
-    pub fn pages(&self) -> u32 {
-        self.cache.pages()
-    }
-
-    /// The size of a page, in pixels; None if there is no such page.
-    #[must_use]
-    pub fn page_size(&self, page: u32) -> Option<Size> {
-        self.cache.page_size(page).map(convert::size)
-    }
-
-    /// The area of all entries of a page together, with their padding and what alignment added, in unit squares; None
-    /// if there is no such page.
-    #[must_use]
-    pub fn live_area(&self, page: u32) -> Option<u64> {
-        self.cache.live_area(page)
-    }
-
-    /// The area of a page that no entry takes, in unit squares; None if there is no such page.
-    #[must_use]
-    pub fn free_area(&self, page: u32) -> Option<u64> {
-        self.cache.free_area(page)
-    }
-
-    /// The options with which the cache was made.
-    #[must_use]
-    pub fn options(&self) -> CacheOptions {
-        let options = self.cache.options();
-        CacheOptions {
-            page: convert::size(options.page),
-            largest_page: convert::size(options.largest_page),
-            pages: options.pages,
-            padding: options.padding,
-            atlas: convert::options(&options.atlas),
-        }
-    }
-
-    /// The counts since the cache was made.
-    ///
-    /// In a loop that calls `insert` where `get` finds nothing, the hit rate is hits by hits and misses together. In one that calls
-    /// `insert` alone there are no misses, since `insert` counts none: the hit rate is hits by calls.
-    #[must_use]
-    pub fn statistics(&self) -> Counts {
-        let counts = self.cache.statistics();
-        Counts {
-            hits: counts.hits,
-            misses: counts.misses,
-            evictions: counts.evictions,
-        }
     }
 }
 

@@ -35,7 +35,7 @@ pub enum AtlasError {
     Slots,
     /// A request for memory was refused.
     Memory,
-    /// A recording allocator has given out all of its 4294967296 names.
+    /// A recording allocator has given out all of its `1 << 32` names.
     Names,
 }
 

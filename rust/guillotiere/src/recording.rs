@@ -46,10 +46,13 @@ use alloc::vec::Vec;
 use core::fmt;
 use wollemigo_core::guillotiere as library_atlas;
 use wollemigo_core::guillotiere_recording as library;
-use wollemigo_core::guillotiere_total::{recording as total, CallError};
+use wollemigo_core::guillotiere_total::recording as total;
 use wollemigo_support::alloc::Global;
 
 mod events;
+mod kept;
+
+pub use self::kept::{Event, Recording, ResumeError};
 
 /// An allocator that hands out names in place of ids, and records each of its calls that isn't refused. Rectangles lie
 /// where an [`AtlasAllocator`](crate::AtlasAllocator) would place them.
@@ -85,7 +88,11 @@ impl RecordingAllocator {
         expected(RecordingAllocator::try_new(size))
     }
 
-    /// `new` with the error as a value: `EmptySize` or `Memory`.
+    /// `new` with the error as a value.
+    ///
+    /// # Errors
+    ///
+    /// `EmptySize` if a side is below 1, `Memory` if memory is refused.
     pub fn try_new(size: Size) -> Result<Self, AtlasError> {
         RecordingAllocator::try_with_options(size, &DEFAULT_OPTIONS)
     }
@@ -101,7 +108,12 @@ impl RecordingAllocator {
         expected(RecordingAllocator::try_with_options(size, options))
     }
 
-    /// `with_options` with the error as a value: `EmptySize`, `Alignment`, `Thresholds` or `Memory`.
+    /// `with_options` with the error as a value.
+    ///
+    /// # Errors
+    ///
+    /// Those of `try_new`; `Alignment` if a side of the alignment is below 1, `Thresholds` if the small threshold is above the
+    /// large one.
     pub fn try_with_options(size: Size, options: &AllocatorOptions) -> Result<Self, AtlasError> {
         let options = convert::library_options(options);
         let session = total::with_options(Global, convert::library_size(size), &options)?;
@@ -109,7 +121,11 @@ impl RecordingAllocator {
     }
 
     /// A copy that shares nothing with this one, and goes on by itself: with the same rectangles under the same names, and the same
-    /// recording. `Memory` is the only error.
+    /// recording.
+    ///
+    /// # Errors
+    ///
+    /// `Memory` if memory is refused.
     pub fn try_clone(&self) -> Result<Self, AtlasError> {
         let session = self.session.clone()?;
         Ok(RecordingAllocator { session })
@@ -138,14 +154,18 @@ impl RecordingAllocator {
     ///
     /// # Panics
     ///
-    /// If memory or slots run out, or all 4294967296 names were given.
+    /// If memory or slots run out, or all `1 << 32` names were given.
     #[must_use = "the rectangle is taken until its name is freed"]
     #[track_caller]
     pub fn allocate(&mut self, requested_size: Size) -> Option<Allocation> {
         expected(self.try_allocate(requested_size))
     }
 
-    /// `allocate` with the error as a value: `Slots`, `Memory` or `Names`.
+    /// `allocate` with the error as a value.
+    ///
+    /// # Errors
+    ///
+    /// `Names` if all names were given, `Slots` if more slots would be used than an atlas may use, `Memory` if memory is refused.
     pub fn try_allocate(&mut self, requested_size: Size) -> Result<Option<Allocation>, AtlasError> {
         let granted = self
             .session
@@ -161,7 +181,11 @@ impl RecordingAllocator {
     }
 
     /// Takes memory for this many slots beyond those in use, as `AtlasAllocator::try_reserve` does; it is not recorded.
-    /// What is recorded and the names take memory in addition. An error is `Slots` or `Memory`.
+    /// What is recorded and the names take memory in addition.
+    ///
+    /// # Errors
+    ///
+    /// `Slots` if an atlas may not use so many more, `Memory` if memory is refused.
     pub fn try_reserve(&mut self, additional: u32) -> Result<(), AtlasError> {
         Ok(self.session.reserve(additional)?)
     }
@@ -176,7 +200,11 @@ impl RecordingAllocator {
         expected(self.try_deallocate(name));
     }
 
-    /// `deallocate` with the error as a value: `NotLive` or `Memory`.
+    /// `deallocate` with the error as a value.
+    ///
+    /// # Errors
+    ///
+    /// `NotLive` if the name isn't live, `Memory` if memory is refused.
     pub fn try_deallocate(&mut self, name: AllocId) -> Result<(), AtlasError> {
         Ok(self.session.deallocate(convert::library_id(name))?)
     }
@@ -191,7 +219,12 @@ impl RecordingAllocator {
         expected(self.try_grow(new_size));
     }
 
-    /// `grow` with the error as a value: `Shrinks`, `Slots` or `Memory`.
+    /// `grow` with the error as a value.
+    ///
+    /// # Errors
+    ///
+    /// `Shrinks` if a side would be less than it is, `Slots` if more slots would be used than an atlas may use, `Memory` if memory is
+    /// refused.
     pub fn try_grow(&mut self, new_size: Size) -> Result<(), AtlasError> {
         Ok(total::grow(
             &mut self.session,
@@ -215,7 +248,11 @@ impl RecordingAllocator {
         expected(self.try_rearrange())
     }
 
-    /// `rearrange` with the error as a value: `Slots` or `Memory`.
+    /// `rearrange` with the error as a value.
+    ///
+    /// # Errors
+    ///
+    /// `Slots` if more slots would be used than an atlas may use, `Memory` if memory is refused.
     pub fn try_rearrange(&mut self) -> Result<ChangeList, AtlasError> {
         self.rearranged(|session| Ok(session.rearrange()?))
     }
@@ -231,7 +268,11 @@ impl RecordingAllocator {
         expected(self.try_resize_and_rearrange(new_size))
     }
 
-    /// `resize_and_rearrange` with the error as a value: `EmptySize`, `Slots` or `Memory`.
+    /// `resize_and_rearrange` with the error as a value.
+    ///
+    /// # Errors
+    ///
+    /// `EmptySize` if a side is below 1; those of `try_rearrange`.
     pub fn try_resize_and_rearrange(&mut self, new_size: Size) -> Result<ChangeList, AtlasError> {
         let new_size = convert::library_size(new_size);
         self.rearranged(|session| Ok(total::resize_and_rearrange(session, new_size)?))
@@ -292,7 +333,11 @@ impl RecordingAllocator {
         expected(self.try_allocations())
     }
 
-    /// `allocations` with the error as a value: `Memory`.
+    /// `allocations` with the error as a value.
+    ///
+    /// # Errors
+    ///
+    /// `Memory` if memory is refused.
     pub fn try_allocations(&self) -> Result<Vec<Allocation>, AtlasError> {
         let found = self.session.allocations()?;
         events::listed(found.as_slice(), convert::allocation)
@@ -309,7 +354,11 @@ impl RecordingAllocator {
         expected(self.try_recording())
     }
 
-    /// `recording` with the error as a value: `Memory`.
+    /// `recording` with the error as a value.
+    ///
+    /// # Errors
+    ///
+    /// `Memory` if memory is refused.
     pub fn try_recording(&self) -> Result<Recording, AtlasError> {
         let recorded = self.session.recording()?;
         let mut events = Vec::new();
@@ -341,138 +390,5 @@ impl fmt::Debug for RecordingAllocator {
             .field("options", &self.options())
             .field("slots", &self.slots())
             .finish_non_exhaustive()
-    }
-}
-
-/// One call that wasn't refused, with its answer. Every id in it is a name; lengths are in pixels. These are all its variants.
-///
-/// ```
-/// use guillotiere::recording::{Event, RecordingAllocator};
-/// use guillotiere::size2;
-///
-/// let mut atlas = RecordingAllocator::new(size2(64, 64));
-/// atlas.grow(size2(128, 64));
-/// assert_eq!(atlas.recording().events, [Event::Grow(size2(128, 64))]);
-/// ```
-#[derive(Clone, Debug, PartialEq, Eq, Hash)]
-pub enum Event {
-    /// A request of this size, and what it was granted; None if it had no room.
-    Allocate(Size, Option<Allocation>),
-    /// The rectangle of this name was freed.
-    Deallocate(AllocId),
-    /// The atlas grew to this size.
-    Grow(Size),
-    /// The atlas was rearranged.
-    Rearrange(ChangeList),
-    /// The atlas was rearranged into this size.
-    ResizeAndRearrange(Size, ChangeList),
-}
-
-/// What happened to an atlas: plain data, which may be anything until `resume` has tested it.
-///
-/// It grows by one event with each call, and to resume it takes about as long as its calls took. To keep it short, ask a new
-/// allocator for what is live now; names and places are then new, as after a rearranging, so pixels are to be copied:
-///
-/// ```
-/// use guillotiere::recording::RecordingAllocator;
-/// use guillotiere::size2;
-///
-/// let mut atlas = RecordingAllocator::new(size2(512, 512));
-/// let first = atlas.allocate(size2(20, 30)).unwrap();
-/// let second = atlas.allocate(size2(40, 50)).unwrap();
-/// atlas.deallocate(first.id);
-///
-/// let mut live = atlas.allocations();
-/// live.sort_by_key(|old| std::cmp::Reverse(old.rectangle.area()));
-/// let mut anew = RecordingAllocator::with_options(atlas.size(), &atlas.options());
-/// for old in live {
-///     match anew.allocate(old.rectangle.size()) {
-///         Some(new) => println!("copy {:?} to {:?}", old, new),
-///         None => println!("{:?} found no room", old),
-///     }
-/// }
-/// assert_eq!((atlas.recording().events.len(), anew.recording().events.len()), (3, 1));
-/// # assert_eq!(anew.allocations()[0].rectangle.size(), second.rectangle.size());
-/// ```
-#[derive(Clone, Debug, PartialEq, Eq, Hash)]
-pub struct Recording {
-    /// The size of the atlas when it was new, in pixels.
-    pub size: Size,
-    /// The options of the atlas.
-    pub options: AllocatorOptions,
-    /// What was called since, in order.
-    pub events: Vec<Event>,
-}
-
-impl Recording {
-    /// An allocator that carried out the events as its own calls, each answer compared, and so goes on from where they
-    /// end: its recording is this one. The first fault ends it.
-    pub fn resume(&self) -> Result<RecordingAllocator, ResumeError> {
-        let options = convert::library_options(&self.options);
-        let mut recorder = total::recorder(Global, convert::library_size(self.size), &options)?;
-        for event in &self.events {
-            let event = events::library_event(event).map_err(|_| ResumeError::Memory)?;
-            recorder.record(event).map_err(|_| ResumeError::Memory)?;
-        }
-        let session = recorder.finish().resume()?;
-        Ok(RecordingAllocator { session })
-    }
-}
-
-/// Why a recording isn't resumed. Events are counted from 0.
-///
-/// ```
-/// use guillotiere::recording::{Event, RecordingAllocator, ResumeError};
-/// use guillotiere::size2;
-///
-/// let mut kept = RecordingAllocator::new(size2(64, 64)).recording();
-/// kept.events.push(Event::Grow(size2(32, 64)));
-/// assert_eq!(kept.resume().err(), Some(ResumeError::BadEvent(0))); // it shrinks
-/// ```
-#[derive(Copy, Clone, Debug, PartialEq, Eq, Hash)]
-#[non_exhaustive]
-pub enum ResumeError {
-    /// No atlas has this size and these options: `EmptySize`, `Alignment` or `Thresholds`.
-    Start(AtlasError),
-    /// The event with this number can't be carried out: its new name isn't the next one, no name is left, the name that
-    /// it frees isn't live, a side shrinks, or a size is empty.
-    BadEvent(usize),
-    /// The event with this number has a different answer from the one that the atlas gives.
-    Differs(usize),
-    /// More slots would be used than an atlas may use.
-    Slots,
-    /// A request for memory was refused.
-    Memory,
-}
-
-impl fmt::Display for ResumeError {
-    fn fmt(&self, f: &mut fmt::Formatter<'_>) -> fmt::Result {
-        match self {
-            ResumeError::Start(error) => write!(f, "{}", error),
-            ResumeError::BadEvent(number) => write!(f, "event {} is bad", number),
-            ResumeError::Differs(number) => write!(f, "event {} differs", number),
-            ResumeError::Slots => write!(f, "{}", AtlasError::Slots),
-            ResumeError::Memory => write!(f, "{}", AtlasError::Memory),
-        }
-    }
-}
-
-#[cfg(feature = "std")]
-impl std::error::Error for ResumeError {}
-
-impl From<CallError> for ResumeError {
-    fn from(error: CallError) -> ResumeError {
-        ResumeError::Start(AtlasError::from(error))
-    }
-}
-
-impl From<library::ReplayFault> for ResumeError {
-    fn from(fault: library::ReplayFault) -> ResumeError {
-        match fault {
-            library::ReplayFault::Memory => ResumeError::Memory,
-            library::ReplayFault::Slots => ResumeError::Slots,
-            library::ReplayFault::Differs(number) => ResumeError::Differs(number),
-            library::ReplayFault::BadEvent(number) => ResumeError::BadEvent(number),
-        }
     }
 }

@@ -319,6 +319,11 @@ fn placed(placed: &library::Placed) -> Placed {
 /// assert!(pack(&[size2(100, 8)], &squares)?.is_none());
 /// # Ok::<(), guillotiere::sheet::SheetError>(())
 /// ```
+///
+/// # Errors
+///
+/// `EmptySheet`, `EmptyRange` or `EmptyAlignment` if the options allow no sheet; `EmptySprite` or `GreatSprite` with the number of the
+/// first sprite that has no place in any sheet; `Memory` if memory is refused.
 pub fn pack(sprites: &[Size], options: &SheetOptions) -> Result<Option<Sheet>, SheetError> {
     pack_telling(sprites, options, |_| {})
 }
@@ -336,6 +341,10 @@ pub fn pack(sprites: &[Size], options: &SheetOptions) -> Result<Option<Sheet>, S
 /// assert_eq!(last, Some(sheet.size));
 /// # Ok::<(), guillotiere::sheet::SheetError>(())
 /// ```
+///
+/// # Errors
+///
+/// Those of `pack`.
 pub fn pack_telling(
     sprites: &[Size],
     options: &SheetOptions,
@@ -360,6 +369,10 @@ pub fn pack_telling(
 /// assert_eq!(sheet.size, size2(16, 16));
 /// # Ok::<(), guillotiere::sheet::SheetError>(())
 /// ```
+///
+/// # Errors
+///
+/// Those of `pack`.
 pub fn pack_dense(sprites: &[Size], options: &SheetOptions) -> Result<Option<Sheet>, SheetError> {
     let sprites = library_sizes(sprites)?;
     converted(library::pack_dense(Global, &sprites, &library_options(options))?)
@@ -389,6 +402,10 @@ fn converted(found: Option<library::Sheet>) -> Result<Option<Sheet>, SheetError>
 /// assert_eq!(filled.places.iter().flatten().count(), 2); // the third has no room
 /// # Ok::<(), guillotiere::sheet::SheetError>(())
 /// ```
+///
+/// # Errors
+///
+/// Those of `pack`.
 pub fn fill(sprites: &[Size], options: &SheetOptions) -> Result<Filled, SheetError> {
     let filled = library::fill(Global, &library_sizes(sprites)?, &library_options(options))?;
     Ok(Filled {
@@ -412,6 +429,10 @@ pub fn fill(sprites: &[Size], options: &SheetOptions) -> Result<Filled, SheetErr
 /// assert!(pack_pages(&[size2(17, 8)], &one)?.is_none()); // too large for any sheet
 /// # Ok::<(), guillotiere::sheet::SheetError>(())
 /// ```
+///
+/// # Errors
+///
+/// Those of `pack`.
 pub fn pack_pages(sprites: &[Size], options: &SheetOptions) -> Result<Option<Pages>, SheetError> {
     let (sprites, options) = (library_sizes(sprites)?, library_options(options));
     converted_pages(library::pack_pages(Global, &sprites, &options)?)
@@ -439,6 +460,10 @@ pub fn pack_pages(sprites: &[Size], options: &SheetOptions) -> Result<Option<Pag
 /// assert_eq!(sheets, [0, 1, 0, 1, 0, 0]);
 /// # Ok::<(), guillotiere::sheet::SheetError>(())
 /// ```
+///
+/// # Errors
+///
+/// Those of `pack`.
 pub fn pack_groups(
     sprites: &[Size],
     groups: &[Option<usize>],

@@ -37,7 +37,11 @@ impl SimpleAtlasAllocator {
         expected(SimpleAtlasAllocator::try_new(size))
     }
 
-    /// `new` with the error as a value: `EmptySize` or `Memory`.
+    /// `new` with the error as a value.
+    ///
+    /// # Errors
+    ///
+    /// `EmptySize` if a side is below 1, `Memory` if memory is refused.
     pub fn try_new(size: Size) -> Result<Self, AtlasError> {
         SimpleAtlasAllocator::try_with_options(size, &DEFAULT_OPTIONS)
     }
@@ -53,14 +57,19 @@ impl SimpleAtlasAllocator {
         expected(SimpleAtlasAllocator::try_with_options(size, options))
     }
 
-    /// `with_options` with the error as a value: `EmptySize`, `Alignment`, `Thresholds` or `Memory`.
+    /// `with_options` with the error as a value.
+    ///
+    /// # Errors
+    ///
+    /// Those of `try_new`; `Alignment` if a side of the alignment is below 1, `Thresholds` if the small threshold is above the
+    /// large one.
     pub fn try_with_options(size: Size, options: &AllocatorOptions) -> Result<Self, AtlasError> {
         let options = convert::library_options(options);
         let simple = total::with_options(Global, convert::library_size(size), &options)?;
         Ok(SimpleAtlasAllocator { simple })
     }
 
-    /// A copy that shares nothing with this one, and goes on by itself. `Memory` is the only error.
+    /// A copy that shares nothing with this one, and goes on by itself.
     ///
     /// ```
     /// use guillotiere::{size2, SimpleAtlasAllocator};
@@ -71,6 +80,10 @@ impl SimpleAtlasAllocator {
     /// assert_eq!(this_frame.allocate(size2(60, 20)), frame.allocate(size2(60, 20)));
     /// # Ok::<(), guillotiere::AtlasError>(())
     /// ```
+    ///
+    /// # Errors
+    ///
+    /// `Memory` if memory is refused.
     pub fn try_clone(&self) -> Result<Self, AtlasError> {
         let simple = self.simple.clone()?;
         Ok(SimpleAtlasAllocator { simple })
@@ -123,7 +136,11 @@ impl SimpleAtlasAllocator {
         expected(self.try_allocate(requested_size))
     }
 
-    /// `allocate` with the error as a value: `Memory`.
+    /// `allocate` with the error as a value.
+    ///
+    /// # Errors
+    ///
+    /// `Memory` if memory is refused.
     #[inline]
     pub fn try_allocate(&mut self, requested_size: Size) -> Result<Option<Rectangle>, AtlasError> {
         let granted = self
@@ -147,7 +164,12 @@ impl SimpleAtlasAllocator {
         expected(self.try_reset(size, options));
     }
 
-    /// `reset` with the error as a value: `EmptySize`, `Alignment` or `Thresholds`.
+    /// `reset` with the error as a value.
+    ///
+    /// # Errors
+    ///
+    /// `EmptySize` if a side is below 1, `Alignment` if one of the alignment is, `Thresholds` if the small threshold is above the large
+    /// one.
     pub fn try_reset(&mut self, size: Size, options: &AllocatorOptions) -> Result<(), AtlasError> {
         let options = convert::library_options(options);
         Ok(total::reset(
@@ -167,7 +189,11 @@ impl SimpleAtlasAllocator {
         expected(self.try_grow(new_size));
     }
 
-    /// `grow` with the error as a value: `Shrinks` or `Memory`.
+    /// `grow` with the error as a value.
+    ///
+    /// # Errors
+    ///
+    /// `Shrinks` if a side would be less than it is, `Memory` if memory is refused.
     pub fn try_grow(&mut self, new_size: Size) -> Result<(), AtlasError> {
         Ok(total::grow(
             &mut self.simple,
@@ -191,7 +217,11 @@ impl SimpleAtlasAllocator {
         expected(self.try_init_from_allocator(src));
     }
 
-    /// `init_from_allocator` with the error as a value: `Memory`.
+    /// `init_from_allocator` with the error as a value.
+    ///
+    /// # Errors
+    ///
+    /// `Memory` if memory is refused.
     pub fn try_init_from_allocator(&mut self, src: &AtlasAllocator) -> Result<(), AtlasError> {
         Ok(self.simple.init_from_allocator(src.library())?)
     }

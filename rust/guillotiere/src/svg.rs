@@ -17,6 +17,10 @@ use std::string::String;
 /// assert!(drawing.starts_with(b"<svg"));
 /// # Ok::<(), std::io::Error>(())
 /// ```
+///
+/// # Errors
+///
+/// Those of `output`.
 pub fn dump_svg(atlas: &AtlasAllocator, output: &mut dyn Write) -> Result<()> {
     let size = atlas.size();
     writeln!(
@@ -41,6 +45,10 @@ pub fn dump_svg(atlas: &AtlasAllocator, output: &mut dyn Write) -> Result<()> {
 /// assert!(drawing.starts_with(b"    <rect x=\"10\" y=\"10\" width=\"10\""));
 /// # Ok::<(), std::io::Error>(())
 /// ```
+///
+/// # Errors
+///
+/// Those of `output`.
 pub fn dump_into_svg(
     atlas: &AtlasAllocator,
     rect: Option<&Rectangle>,

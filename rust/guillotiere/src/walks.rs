@@ -30,7 +30,11 @@ impl AtlasAllocator {
         expected(self.try_allocations())
     }
 
-    /// `allocations` with the error as a value: `Memory`.
+    /// `allocations` with the error as a value.
+    ///
+    /// # Errors
+    ///
+    /// `Memory` if memory is refused.
     pub fn try_allocations(&self) -> Result<Allocations<'_>, AtlasError> {
         Ok(Allocations::of(self.library().allocations()?))
     }
@@ -46,7 +50,11 @@ impl AtlasAllocator {
         expected(self.try_free_rectangles())
     }
 
-    /// `free_rectangles` with the error as a value: `Memory`.
+    /// `free_rectangles` with the error as a value.
+    ///
+    /// # Errors
+    ///
+    /// `Memory` if memory is refused.
     pub fn try_free_rectangles(&self) -> Result<FreeRectangles<'_>, AtlasError> {
         Ok(FreeRectangles::of(self.library().free_rectangles()?))
     }

@@ -66,7 +66,7 @@ fn rank(is_large: bool, margin: i32) -> u32 {
 #[inline]
 #[must_use]
 pub fn corner(rectangle: Rectangle) -> u64 {
-    rectangle.min.y as u32 as u64 * 4294967296 + rectangle.min.x as u32 as u64
+    rectangle.min.y as u32 as u64 * (1 << 32) + rectangle.min.x as u32 as u64
 }
 
 impl Best {
@@ -99,7 +99,7 @@ impl Best {
     // box that begins below it isn't.
     #[inline]
     fn rank_ahead(&self, rectangle: Rectangle, corner: u64) -> Option<u32> {
-        if corner / 4294967296 > self.bar as u64 {
+        if corner / (1 << 32) > self.bar as u64 {
             return None;
         }
         let margin = margin_in(rectangle, self.size);
@@ -118,7 +118,7 @@ impl Best {
     #[inline]
     fn least_with_best(&self, list: usize, least: u32) -> u32 {
         if self.spot.list == list {
-            least.min((self.corner / 4294967296) as u32)
+            least.min((self.corner / (1 << 32)) as u32)
         } else {
             least
         }
@@ -139,7 +139,7 @@ impl Best {
         let rank = match self.rank_ahead(rectangle, corner) {
             Some(rank) => rank,
             _ => {
-                return least.min((corner / 4294967296) as u32);
+                return least.min((corner / (1 << 32)) as u32);
             }
         };
         let rest = self.least_with_best(list, least);
@@ -149,7 +149,7 @@ impl Best {
             rank,
             corner,
             bar: if rank == 0 {
-                (corner / 4294967296) as u32
+                (corner / (1 << 32)) as u32
             } else {
                 self.bar
             },

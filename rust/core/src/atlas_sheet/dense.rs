@@ -18,7 +18,7 @@ use wollemigo_support::prelude::Vec;
 // What a sprite counts: its height, and among those as high its width.
 #[inline]
 fn height_rank(sprite: Size) -> u64 {
-    sprite.height.max(0) as u64 * 4294967296 + sprite.width.max(0) as u64
+    sprite.height.max(0) as u64 * (1 << 32) + sprite.width.max(0) as u64
 }
 
 // The sprites with their numbers: the highest come first, and of those as high the widest.

@@ -18,7 +18,7 @@ use wollemigo_support::alloc::{Allocator, Global};
 use wollemigo_support::prelude::Vec;
 
 // How many names there are.
-const NAMES: u64 = 4294967296;
+const NAMES: u64 = 1 << 32;
 
 /// An atlas that hands out names in place of ids, and records each of its calls that isn't refused.
 ///
@@ -62,7 +62,7 @@ impl<A: Allocator + Copy> RecordingAllocator<A> {
         self.atlas.size()
     }
 
-    /// Grants a request as the atlas does, under a new name. `Names` for every request once all 4294967296 names were
+    /// Grants a request as the atlas does, under a new name. `Names` for every request once all `1 << 32` names were
     /// given out; None where the atlas gives None, which is recorded; `Memory` if memory for the event, for the name or for slots is
     /// refused, even where the answer would otherwise be `Slots` or None; `Slots` where the atlas gives `Slots`.
     #[inline]

@@ -18,7 +18,7 @@
 //! 15. A public function of the library that changes nothing gets `#[must_use]` for its answer.
 //! 16. A law goes, and so do its calls and imports: a function without parameters and without a body, or one named `prove_..`.
 //! 17. In the library a reference to a page of the repository goes: `(docs/..)` in a comment.
-//! 18. The greatest `u64` is called so.
+//! 18. The greatest `u64` is called so, and 4294967296, one more than the greatest `u32`, is `1 << 32`, in comments of the library too.
 //! 19. A module of the library that belongs to a feature is compiled with that alone.
 mod choices;
 mod derives;
@@ -119,6 +119,7 @@ pub fn apply(source: &mut Source<'_>, place: &Place) -> Result<(), Fault> {
     walk.import_prelude();
     if place.is_library {
         source.cut_references();
+        source.name_powers();
     }
     Ok(())
 }
@@ -162,6 +163,13 @@ impl Walk<'_, '_> {
             "18446744073709551615" => {
                 self.source.count(18);
                 self.source.replace(i, i + 1, "u64::MAX");
+                return Ok(i + 1);
+            }
+            "4294967296" => {
+                let is_alone = self.source.before(i) == "=" && self.source.word(i + 1) == ";";
+                let put = if is_alone { "1 << 32" } else { "(1 << 32)" };
+                self.source.count(18);
+                self.source.replace(i, i + 1, put);
                 return Ok(i + 1);
             }
             "#" => return self.attribute(i),

@@ -5,7 +5,7 @@ use core::hash::{BuildHasher, Hash};
 impl<K: Copy + Eq + Hash, S: BuildHasher + Clone> TextureCache<K, S> {
     /// A copy that shares nothing with this one, and goes on by itself: it has the same pages, keys, places and counts, is in the same
     /// frame, and has the same changes to hand over. Its calls are answered as this one's, except that it has nothing in reserve
-    /// (`reserve`). `Memory` is the only error.
+    /// (`reserve`).
     ///
     /// ```
     /// use guillotiere::cache::{CacheOptions, TextureCache};
@@ -20,6 +20,10 @@ impl<K: Copy + Eq + Hash, S: BuildHasher + Clone> TextureCache<K, S> {
     /// assert_eq!(glyphs.insert('h', size2(10, 20))?, there);
     /// # Ok::<(), guillotiere::cache::CacheError>(())
     /// ```
+    ///
+    /// # Errors
+    ///
+    /// `Memory` if memory is refused.
     pub fn try_clone(&self) -> Result<Self, CacheError> {
         Ok(TextureCache {
             cache: self.cache.clone().map_err(|_| CacheError::Memory)?,
