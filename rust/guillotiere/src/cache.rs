@@ -67,6 +67,25 @@
 //! assert_eq!(advances[place.number as usize], 17.5);
 //! # Ok::<(), guillotiere::cache::CacheError>(())
 //! ```
+//!
+//! # A lost device
+//!
+//! Changes say what differs from before, so they can't make textures again that are gone. What the cache holds can: its pages with their
+//! sizes, and its keys with their places. Changes that still wait are dropped, since what is held is what they lead to.
+//!
+//! ```
+//! # use guillotiere::cache::{CacheOptions, Place, TextureCache};
+//! # use guillotiere::{size2, Size};
+//! # fn texture(size: Size) -> Size { size }
+//! # fn write(textures: &mut [Size], glyph: char, place: Place) { assert_eq!((textures.len(), glyph, place.page), (1, 'g', 0)); }
+//! # let mut glyphs = TextureCache::new(&CacheOptions::new(size2(64, 64))).unwrap();
+//! # let _ = glyphs.insert('g', size2(10, 20))?;
+//! while glyphs.next_change().is_some() {}
+//! let mut textures: Vec<_> = (0..glyphs.pages()).map(|page| texture(glyphs.page_size(page).unwrap())).collect();
+//! glyphs.iter().for_each(|(glyph, place)| write(&mut textures, glyph, place));
+//! # assert_eq!(textures, [size2(64, 64)]);
+//! # Ok::<(), guillotiere::cache::CacheError>(())
+//! ```
 use crate::{convert, Size};
 use core::fmt;
 use core::hash::{BuildHasher, Hash};
