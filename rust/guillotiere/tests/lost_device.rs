@@ -2,7 +2,7 @@
 #![cfg(feature = "cache")]
 
 use guillotiere::cache::{CacheChange, CacheOptions, Inserted, Place, TextureCache};
-use guillotiere::{size2, AllocatorOptions, Rectangle, Size};
+use guillotiere::{point2, size2, AllocatorOptions, Rectangle, Size};
 
 struct Random(u64);
 
@@ -37,8 +37,8 @@ impl Texture {
     }
 
     fn copy(&mut self, from: &mut Texture, old: &Rectangle, new: &Rectangle) {
-        for y in 0..old.height() {
-            for x in 0..old.width() {
+        for y in 0..old.size().height {
+            for x in 0..old.size().width {
                 *self.at(new.min.x + x, new.min.y + y) = *from.at(old.min.x + x, old.min.y + y);
             }
         }
@@ -85,12 +85,11 @@ impl Client {
             match change {
                 CacheChange::PageAdded { size, .. } => self.device.push(Texture::new(size)),
                 CacheChange::PageGrown { page, size } => {
-                    let whole = Rectangle::new(Default::default(), Default::default());
                     let mut old =
                         std::mem::replace(&mut self.device[page as usize], Texture::new(size));
                     let all = Rectangle {
-                        max: guillotiere::point2(old.size.width, old.size.height),
-                        ..whole
+                        min: point2(0, 0),
+                        max: point2(old.size.width, old.size.height),
                     };
                     self.device[page as usize].copy(&mut old, &all, &all);
                 }
@@ -143,8 +142,8 @@ impl Client {
 
     fn check(&mut self, key: u32, place: Place) {
         let min = place.inner.min;
-        for y in 0..place.inner.height() {
-            for x in 0..place.inner.width() {
+        for y in 0..place.inner.size().height {
+            for x in 0..place.inner.size().width {
                 let found = *self.device[place.page as usize].at(min.x + x, min.y + y);
                 assert_eq!(found, pixel(key, x, y), "key {} at {}, {}", key, x, y);
             }
@@ -154,8 +153,8 @@ impl Client {
 
 fn write(device: &mut [Texture], key: u32, place: Place) {
     let min = place.inner.min;
-    for y in 0..place.inner.height() {
-        for x in 0..place.inner.width() {
+    for y in 0..place.inner.size().height {
+        for x in 0..place.inner.size().width {
             *device[place.page as usize].at(min.x + x, min.y + y) = pixel(key, x, y);
         }
     }
