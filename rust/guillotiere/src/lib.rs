@@ -60,7 +60,7 @@
 //! | [`allocate`](AtlasAllocator::allocate), [`can_fit`](AtlasAllocator::can_fit) | the lists of free boxes that are as wide or as high, at most 103, since boxes are listed by 52 bands of their widths and 52 of their heights; in a list of more than 96 the logarithm of their number; where none has just that side, the free boxes that are larger in both, one by one |
 //! | [`deallocate`](AtlasAllocator::deallocate) | the slots that go where free space is joined, each of which goes once |
 //! | `atlas[id]`, [`get`](AtlasAllocator::get), [`size`](AtlasAllocator::size), [`is_empty`](AtlasAllocator::is_empty) | nothing |
-//! | [`allocations`](AtlasAllocator::allocations), [`free_rectangles`](AtlasAllocator::free_rectangles), the `for_each` calls, [`areas`](AtlasAllocator::areas), `clone` | the most slots that were used at once |
+//! | [`iter`](AtlasAllocator::iter), [`free_iter`](AtlasAllocator::free_iter) and the `for_each` calls, which take no memory; [`allocations`](AtlasAllocator::allocations) and [`free_rectangles`](AtlasAllocator::free_rectangles), which gather a list; [`areas`](AtlasAllocator::areas), `clone` | the most slots that were used at once |
 //! | [`grow`](AtlasAllocator::grow) | the boxes and groups along the first cut |
 //! | [`rearrange`](AtlasAllocator::rearrange), [`resize_and_rearrange`](AtlasAllocator::resize_and_rearrange) | sorting all live boxes, and a request for each |
 //! | [`clear`](AtlasAllocator::clear), [`reset`](AtlasAllocator::reset) | the lists that had free boxes, at most 2,704 |
@@ -149,7 +149,7 @@ pub use crate::values::{
     AllocId, Allocation, AllocatorOptions, Areas, Change, ChangeList, NodeKind, Point, Rectangle,
     Size, SlotCount, DEFAULT_OPTIONS, MOST_SLOTS,
 };
-pub use crate::walks::{Allocations, FreeRectangles};
+pub use crate::walks::{Allocations, FreeIter, FreeRectangles, LiveIter};
 pub use euclid::{point2, size2};
 
 // That rustc says so where an answer is dropped that is needed.

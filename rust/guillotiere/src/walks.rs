@@ -4,12 +4,55 @@ use crate::{convert, Allocation, AtlasAllocator, AtlasError, Rectangle};
 use core::fmt;
 use core::iter::FusedIterator;
 use core::marker::PhantomData;
+use core::ops::Range;
+use wollemigo_core::atlas_allocator::store_of;
+use wollemigo_core::atlas_search::link::Link;
+use wollemigo_core::atlas_store::slots::walks::slot_id;
 use wollemigo_core::guillotiere as library;
 use wollemigo_support::alloc::Global;
 use wollemigo_support::vec::Vec as LibraryVec;
 
 impl AtlasAllocator {
-    /// The live rectangles with their ids, by rising slot. One pass over the slots, which gathers them in a list.
+    /// The live rectangles with their ids, by rising slot, one after another: no list is made, and no memory taken. A walk to the end is
+    /// one pass over the slots.
+    ///
+    /// ```
+    /// use guillotiere::{size2, AtlasAllocator};
+    ///
+    /// let mut atlas = AtlasAllocator::new(size2(64, 64));
+    /// let glyph = atlas.allocate(size2(20, 60)).unwrap();
+    /// assert_eq!(atlas.iter().find(|live| live.rectangle.max.x == 20), Some(glyph));
+    /// for live in &atlas {
+    ///     println!("{:?} at {:?}", live.id, live.rectangle);
+    /// }
+    /// ```
+    #[must_use]
+    pub fn iter(&self) -> LiveIter<'_> {
+        LiveIter {
+            left: Slots::all(self),
+        }
+    }
+
+    /// The free rectangles, one after another, in an order that is left open: no list is made, and no memory taken. A walk to the end is
+    /// one pass over the slots.
+    ///
+    /// ```
+    /// use guillotiere::{size2, AtlasAllocator};
+    ///
+    /// let mut atlas = AtlasAllocator::new(size2(64, 64));
+    /// let _ = atlas.allocate(size2(64, 60));
+    /// let largest = atlas.free_iter().max_by_key(|free| free.area());
+    /// assert_eq!(largest.unwrap().size(), size2(64, 4));
+    /// ```
+    #[must_use]
+    pub fn free_iter(&self) -> FreeIter<'_> {
+        FreeIter {
+            left: Slots::all(self),
+        }
+    }
+
+    /// The live rectangles with their ids, by rising slot. One pass over the slots, which gathers them in a list: so their number is known
+    /// at once (`len`), and `iter` is for the others.
     ///
     /// ```
     /// use guillotiere::{size2, AtlasAllocator};
@@ -23,7 +66,7 @@ impl AtlasAllocator {
     ///
     /// # Panics
     ///
-    /// If memory for the list runs out; `for_each_allocated_rectangle` takes none.
+    /// If memory for the list runs out; `iter` takes none.
     #[must_use]
     #[track_caller]
     pub fn allocations(&self) -> Allocations<'_> {
@@ -39,11 +82,11 @@ impl AtlasAllocator {
         Ok(Allocations::of(self.library().allocations()?))
     }
 
-    /// The free rectangles, in an order that is left open. One pass over the slots, which gathers them in a list.
+    /// The free rectangles, in an order that is left open. One pass over the slots, which gathers them in a list, as `allocations` does.
     ///
     /// # Panics
     ///
-    /// If memory for the list runs out; `for_each_free_rectangle` takes none.
+    /// If memory for the list runs out; `free_iter` takes none.
     #[must_use]
     #[track_caller]
     pub fn free_rectangles(&self) -> FreeRectangles<'_> {
@@ -59,6 +102,111 @@ impl AtlasAllocator {
         Ok(FreeRectangles::of(self.library().free_rectangles()?))
     }
 }
+
+impl<'a> IntoIterator for &'a AtlasAllocator {
+    type Item = Allocation;
+    type IntoIter = LiveIter<'a>;
+
+    fn into_iter(self) -> LiveIter<'a> {
+        self.iter()
+    }
+}
+
+// The slots of an atlas, of which some were passed at both ends.
+#[derive(Clone)]
+struct Slots<'a> {
+    atlas: &'a library::AtlasAllocator<Global>,
+    numbers: Range<usize>,
+}
+
+impl<'a> Slots<'a> {
+    fn all(atlas: &'a AtlasAllocator) -> Self {
+        let atlas = atlas.library();
+        Slots {
+            atlas,
+            numbers: 0..store_of(atlas).slots().len(),
+        }
+    }
+}
+
+// What a slot has, if it has one: the library says whether the id that it would have is live.
+fn live_in(atlas: &library::AtlasAllocator<Global>, number: usize) -> Option<Allocation> {
+    let generation = store_of(atlas).slots()[number].node.generation;
+    let id = slot_id(number, generation);
+    let rectangle = atlas.get(id)?;
+    Some(convert::allocation(&library::Allocation { id, rectangle }))
+}
+
+fn free_in(atlas: &library::AtlasAllocator<Global>, number: usize) -> Option<Rectangle> {
+    let (store, number) = (store_of(atlas), number as u32);
+    let at = Link { number };
+    (store.is_free(at)).then(|| convert::rectangle(&store.node(at).area))
+}
+
+/// The live rectangles of an atlas with their ids, by rising slot, without a list.
+///
+/// ```
+/// use guillotiere::{size2, AtlasAllocator};
+///
+/// let mut atlas = AtlasAllocator::new(size2(64, 64));
+/// let glyph = atlas.allocate(size2(20, 60)).unwrap();
+/// let mut walk = atlas.iter();
+/// assert_eq!((walk.next(), walk.next()), (Some(glyph), None));
+/// ```
+#[derive(Clone)]
+pub struct LiveIter<'a> {
+    left: Slots<'a>,
+}
+
+/// The free rectangles of an atlas, in an order that is left open, without a list.
+///
+/// ```
+/// use guillotiere::{size2, AtlasAllocator};
+///
+/// let atlas = AtlasAllocator::new(size2(64, 64));
+/// assert_eq!(atlas.free_iter().count(), 1);
+/// ```
+#[derive(Clone)]
+pub struct FreeIter<'a> {
+    left: Slots<'a>,
+}
+
+macro_rules! lazy_walk {
+    ($walk:ident, $item:ty, $found:path) => {
+        impl Iterator for $walk<'_> {
+            type Item = $item;
+
+            #[inline]
+            fn next(&mut self) -> Option<$item> {
+                let Slots { atlas, numbers } = &mut self.left;
+                numbers.find_map(|number| $found(atlas, number))
+            }
+
+            fn size_hint(&self) -> (usize, Option<usize>) {
+                (0, Some(self.left.numbers.len()))
+            }
+        }
+
+        impl DoubleEndedIterator for $walk<'_> {
+            #[inline]
+            fn next_back(&mut self) -> Option<$item> {
+                let Slots { atlas, numbers } = &mut self.left;
+                numbers.rev().find_map(|number| $found(atlas, number))
+            }
+        }
+
+        impl FusedIterator for $walk<'_> {}
+
+        impl fmt::Debug for $walk<'_> {
+            fn fmt(&self, f: &mut fmt::Formatter<'_>) -> fmt::Result {
+                f.debug_list().entries(self.clone()).finish()
+            }
+        }
+    };
+}
+
+lazy_walk!(LiveIter, Allocation, live_in);
+lazy_walk!(FreeIter, Rectangle, free_in);
 
 // A list of the library, of which some items were taken at both ends.
 struct Left<T> {

@@ -223,6 +223,21 @@ fn nothing_is_asked_for_where_room_is_reserved() {
     assert!(atlas.is_empty());
 }
 
+// Not even what is dropped is asked for: these walks make no list.
+#[test]
+fn walks_ask_for_nothing() {
+    let atlas = played(CALLS.len());
+    let (live, free) = granting(0, || {
+        let walk = atlas.iter();
+        let copy = walk.clone();
+        assert_eq!(walk.count(), copy.rev().count());
+        (atlas.iter().count(), atlas.free_iter().clone().count())
+    });
+    let (_, _, live_there, free_there) = state_of(&atlas);
+    assert_eq!((live, free), (live_there.len(), free_there.len()));
+    assert!(live > 0 && free > 0);
+}
+
 #[test]
 fn starts_are_refused() {
     let error = granting(0, || AtlasAllocator::try_new(size2(9, 9)).err());
