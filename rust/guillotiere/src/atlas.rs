@@ -162,7 +162,20 @@ impl AtlasAllocator {
         convert::slots(self.atlas.slots())
     }
 
-    /// The areas of all live and of all free rectangles, in unit squares. Two passes over the slots.
+    /// The areas of all live and of all free rectangles, in unit squares. Two passes over the slots. With `free_iter` they tell how full an
+    /// atlas is, and how much of what is free is of use for a size:
+    ///
+    /// ```
+    /// use guillotiere::{size2, AtlasAllocator};
+    ///
+    /// let mut atlas = AtlasAllocator::new(size2(64, 64));
+    /// let _ = atlas.allocate(size2(64, 40));
+    /// let _ = atlas.allocate(size2(10, 24));
+    /// let areas = atlas.areas();
+    /// assert_eq!(areas.allocated * 100 / (areas.allocated + areas.free), 68); // percent
+    /// let usable = atlas.free_iter().filter(|free| free.size().width >= 60 && free.size().height >= 20);
+    /// assert_eq!((areas.free, usable.count()), (54 * 24, 0)); // nothing has room for 60 by 20: rearrange
+    /// ```
     #[must_use]
     pub fn areas(&self) -> Areas {
         Areas {
