@@ -2,12 +2,12 @@
 use crate::error::expected;
 use crate::{convert, Allocation, AtlasAllocator, AtlasError, Rectangle};
 use core::fmt;
-use core::iter::FusedIterator;
+use core::iter::{Enumerate, FusedIterator};
 use core::marker::PhantomData;
-use core::ops::Range;
+use core::slice;
 use wollemigo_core::atlas_allocator::store_of;
-use wollemigo_core::atlas_search::link::Link;
-use wollemigo_core::atlas_store::slots::walks::slot_id;
+use wollemigo_core::atlas_store::slots::walks::{slot_id, visit_allocated, visit_free};
+use wollemigo_core::atlas_store::slots::Slot;
 use wollemigo_core::guillotiere as library;
 use wollemigo_support::alloc::Global;
 use wollemigo_support::vec::Vec as LibraryVec;
@@ -29,7 +29,7 @@ impl AtlasAllocator {
     #[must_use]
     pub fn iter(&self) -> LiveIter<'_> {
         LiveIter {
-            left: Slots::all(self),
+            left: self.numbered_slots(),
         }
     }
 
@@ -47,7 +47,7 @@ impl AtlasAllocator {
     #[must_use]
     pub fn free_iter(&self) -> FreeIter<'_> {
         FreeIter {
-            left: Slots::all(self),
+            left: self.numbered_slots(),
         }
     }
 
@@ -112,35 +112,35 @@ impl<'a> IntoIterator for &'a AtlasAllocator {
     }
 }
 
-// The slots of an atlas, of which some were passed at both ends.
-#[derive(Clone)]
-struct Slots<'a> {
-    atlas: &'a library::AtlasAllocator<Global>,
-    numbers: Range<usize>,
-}
+// The slots of an atlas with their numbers, of which some were passed at both ends.
+type Slots<'a> = Enumerate<slice::Iter<'a, Slot>>;
 
-impl<'a> Slots<'a> {
-    fn all(atlas: &'a AtlasAllocator) -> Self {
-        let atlas = atlas.library();
-        Slots {
-            atlas,
-            numbers: 0..store_of(atlas).slots().len(),
-        }
+impl AtlasAllocator {
+    fn numbered_slots(&self) -> Slots<'_> {
+        store_of(self.library()).slots().iter().enumerate()
     }
 }
 
-// What a slot has, if it has one: the library says whether the id that it would have is live.
-fn live_in(atlas: &library::AtlasAllocator<Global>, number: usize) -> Option<Allocation> {
-    let generation = store_of(atlas).slots()[number].node.generation;
-    let id = slot_id(number, generation);
-    let rectangle = atlas.get(id)?;
-    Some(convert::allocation(&library::Allocation { id, rectangle }))
+// What a walk of the library shows of one slot.
+#[inline]
+fn live_in((number, slot): (usize, &Slot)) -> Option<Allocation> {
+    let mut found = None;
+    visit_allocated(slice::from_ref(slot), |_, area: &library::Rectangle| {
+        found = Some(Allocation {
+            id: convert::id(slot_id(number, slot.node.generation)),
+            rectangle: convert::rectangle(area),
+        });
+    });
+    found
 }
 
-fn free_in(atlas: &library::AtlasAllocator<Global>, number: usize) -> Option<Rectangle> {
-    let (store, number) = (store_of(atlas), number as u32);
-    let at = Link { number };
-    (store.is_free(at)).then(|| convert::rectangle(&store.node(at).area))
+#[inline]
+fn free_in((_, slot): (usize, &Slot)) -> Option<Rectangle> {
+    let mut found = None;
+    visit_free(slice::from_ref(slot), |area: &library::Rectangle| {
+        found = Some(convert::rectangle(area));
+    });
+    found
 }
 
 /// The live rectangles of an atlas with their ids, by rising slot, without a list.
@@ -178,20 +178,18 @@ macro_rules! lazy_walk {
 
             #[inline]
             fn next(&mut self) -> Option<$item> {
-                let Slots { atlas, numbers } = &mut self.left;
-                numbers.find_map(|number| $found(atlas, number))
+                self.left.find_map($found)
             }
 
             fn size_hint(&self) -> (usize, Option<usize>) {
-                (0, Some(self.left.numbers.len()))
+                (0, Some(self.left.len()))
             }
         }
 
         impl DoubleEndedIterator for $walk<'_> {
             #[inline]
             fn next_back(&mut self) -> Option<$item> {
-                let Slots { atlas, numbers } = &mut self.left;
-                numbers.rev().find_map(|number| $found(atlas, number))
+                self.left.by_ref().rev().find_map($found)
             }
         }
 
