@@ -1,0 +1,69 @@
+-- A rehearsal of freeings: which members of a tree are open, and the runs of them. No public clause cites this module, but for
+-- that of `AreShown`.
+use Rattle.std.specs.Prelude.{ℕ, ◌+◌, ◌≡◌, ◌&&◌, ◌||◌, ◌⊎◌, Bool, true, false, List, if◌then◌else◌, slice_index_or}
+use Rattle.atlas_store.specs.declared.slots.Node.{Node}
+use Rattle.atlas_model.specs.Boxes.{Box}
+use Rattle.atlas_model.specs.Trees.{Members}
+use Rattle.atlas_model.specs.Trees as tree
+use Rattle.atlas_store.specs.Slots.{node_at}
+use Rattle.atlas_store.specs.Slots.Lists.{is_free}
+use Rattle.atlas_store.specs.Slots.Numbered.{Numbered, id_of, End, Free, Alloc, Seq}
+use Rattle.atlas_store.specs.Slots.Standing.{Sequence, inside, member_box}
+
+-- Whether slot i is free, or is marked as shown free.
+abbrev pub is_open : List Node → List Bool → ℕ → Bool
+is_open ns marks i = is_free (node_at ns i).kind || slice_index_or marks i false
+
+-- Whether all members of a sequence are open.
+abbrev pub all_open : (o : ℕ → Bool) → Numbered → Bool
+all_open o End = true
+all_open o (Free i e rest) = o i && all_open o rest
+all_open o (Alloc i g e rest) = o i && all_open o rest
+all_open o (Seq i e inner rest) = o i && all_open o rest
+
+-- Free leaves are open; allocated leaves are exactly if the set has their ids; and containers, but for the one at slot `hole`, exactly
+-- if all their members are.
+abbrev pub ShowsBut : (hole : ℕ) → (o set : ℕ → Bool) → Numbered → Type 0
+ShowsBut hole o set End = Unit {0}
+ShowsBut hole o set (Free i e rest) = (o i ≡ true) × ShowsBut hole o set rest
+ShowsBut hole o set (Alloc i g e rest) = (o i ≡ set (id_of i g)) × ShowsBut hole o set rest
+ShowsBut hole o set (Seq i e inner rest) =
+    ((i ≡ hole → ⊥) → o i ≡ all_open o inner) × ShowsBut hole o set inner × ShowsBut hole o set rest
+
+-- The same of each container.
+abbrev pub Shows : (o set : ℕ → Bool) → Numbered → Type 0
+Shows o set End = Unit {0}
+Shows o set (Free i e rest) = (o i ≡ true) × Shows o set rest
+Shows o set (Alloc i g e rest) = (o i ≡ set (id_of i g)) × Shows o set rest
+Shows o set (Seq i e inner rest) = (o i ≡ all_open o inner) × Shows o set inner × Shows o set rest
+
+-- The tree in which each open member is a free leaf.
+abbrev pub opened : (o : ℕ → Bool) → Numbered → Members
+opened o End = tree.End
+opened o (Free i e rest) = tree.Free e (opened o rest)
+opened o (Alloc i g e rest) =
+    if o i then tree.Free e (opened o rest) else tree.Alloc (id_of i g) e (opened o rest)
+opened o (Seq i e inner rest) =
+    if o i then tree.Free e (opened o rest) else tree.Seq e (opened o inner) (opened o rest)
+
+-- How long the run of open members is that a sequence begins with.
+abbrev pub run_length : (o : ℕ → Bool) → Numbered → ℕ
+run_length o End = 0
+run_length o (Free i e rest) = if o i then e + run_length o rest else 0
+run_length o (Alloc i g e rest) = if o i then e + run_length o rest else 0
+run_length o (Seq i e inner rest) = if o i then e + run_length o rest else 0
+
+-- The box is that of a longest run of open members of a sequence that isn't open as a whole, or of the top one. From p on the members
+-- of s are these, and `after_open` says whether an open one comes before them.
+abbrev pub IsRunIn : (o : ℕ → Bool) → (box : Box) → (after_open : Bool) → Sequence → (p : ℕ) → Numbered → Type 0
+IsRunIn o box after_open s p End = ⊥
+IsRunIn o box after_open s p (Free i e rest) =
+    ((after_open ≡ false) × (o i ≡ true) × (box ≡ member_box s p (run_length o (Free i e rest))))
+    ⊎ IsRunIn o box (o i) s (p + e) rest
+IsRunIn o box after_open s p (Alloc i g e rest) =
+    ((after_open ≡ false) × (o i ≡ true) × (box ≡ member_box s p (run_length o (Alloc i g e rest))))
+    ⊎ IsRunIn o box (o i) s (p + e) rest
+IsRunIn o box after_open s p (Seq i e inner rest) =
+    ((after_open ≡ false) × (o i ≡ true) × (box ≡ member_box s p (run_length o (Seq i e inner rest))))
+    ⊎ ((o i ≡ false) × IsRunIn o box false (inside s i p e) s.start inner)
+    ⊎ IsRunIn o box (o i) s (p + e) rest

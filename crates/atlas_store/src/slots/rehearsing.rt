@@ -1,0 +1,67 @@
+//! A rehearsal of freeings: the free box that there would be, were some allocated leaves freed. What is stored stays as it is; marks, one
+//! for each slot, show which members would be free.
+ghost use Rattle.std.specs.Prelude.{◌≡◌, ◌≤◌, ◌<◌, ℕ, Bool, length};
+ghost use Rattle.atlas_model.specs.Trees.{most_slots};
+ghost use Rattle.atlas_store.specs.Slots.{nodes, node_at};
+ghost use Rattle.atlas_store.specs.Slots.Standing.{IsSlot};
+ghost use Rattle.atlas_store.specs.Slots.Rehearsing.{is_open};
+
+use crate::slots::{NodeKind, Slot, read_node};
+use atlas_model::Rectangle;
+use atlas_search::link::{Link, NO_SLOT};
+
+// Whether there is a member at a slot that is free or shown as free.
+fn is_open(slots: &[Slot], marks: &[bool], at: Link) -> bool
+    requires slot { IsSlot (length slots.now) at.number }
+    requires short { length slots.now ≤ most_slots }
+    requires marks { length marks.now ≡ length slots.now }
+    ensures { result ≡ is_open (nodes slots.now) marks.now at.number }
+{
+    at.number != NO_SLOT
+        && (read_node(slots, at).kind == NodeKind::Free || marks[at.number as usize])
+}
+
+// The first of the open members of a sequence that come without a gap before the one at a slot, or this one.
+fn first_open(slots: &[Slot], marks: &[bool], at: Link) -> Link {
+    let mut low = at;
+    loop {
+        let before = read_node(slots, low).previous;
+        if !is_open(slots, marks, before) {
+            return low;
+        }
+        low = before;
+    }
+}
+
+// The last of those that come without a gap after it, or this one.
+fn last_open(slots: &[Slot], marks: &[bool], at: Link) -> Link {
+    let mut high = at;
+    loop {
+        let after = read_node(slots, high).next;
+        if !is_open(slots, marks, after) {
+            return high;
+        }
+        high = after;
+    }
+}
+
+/// Shows an allocated leaf as free, and each container that has no other member left. The answer is the free box that would be around
+/// it, were all that is shown freed.
+pub fn show(slots: &[Slot], marks: &mut [bool], leaf: Link) -> Rectangle {
+    let mut at = leaf;
+    loop {
+        marks[at.number as usize] = true;
+        let low = read_node(slots, first_open(slots, marks, at));
+        let high = read_node(slots, last_open(slots, marks, at));
+        if low.previous.number != NO_SLOT
+            || high.next.number != NO_SLOT
+            || low.parent.number == NO_SLOT
+        {
+            return Rectangle {
+                min: low.area.min,
+                max: high.area.max,
+            };
+        }
+        at = low.parent;
+    }
+}
