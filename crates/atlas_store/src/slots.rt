@@ -12,7 +12,6 @@ pub mod lists;
 pub mod piles;
 pub mod piling;
 pub mod placing;
-pub mod rehearsing;
 pub mod walks;
 
 use atlas_model::Rectangle;
