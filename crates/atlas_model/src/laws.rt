@@ -25,6 +25,7 @@ ghost use Rattle.atlas_model.specs.Steps.AtlasReply.{Changed, Refused};
 ghost use Rattle.atlas_model.specs.Laws.TreeLaws.{LeavesTile, AreasAddUp, ReleasesInAnyOrder, GrantsAreUndone};
 ghost use Rattle.atlas_model.specs.Laws.TreeLaws.{GrowthAndReleaseSwap, NothingLiveIsOneFree, PlacingsKeepTrees};
 ghost use Rattle.atlas_model.specs.Laws.TreeLaws.{ReleasesKeepTrees, GrowthsKeepTrees, FreedHasRoom, MembersAreCounted};
+ghost use Rattle.atlas_model.specs.Laws.RoomLaws.{RoomComesFromInside, FreeingMakesOneBox, OneFreeBoxAround};
 ghost use Rattle.atlas_model.specs.Laws.StepLaws.{StepsKeep, PicksAreOne, PicksExist, SmallerFits, GrantsLieInside};
 ghost use Rattle.atlas_model.specs.Laws.StepLaws.{FreeingsRemoveOne, GrowthsKeepBoxes, RearrangingsLoseNothing};
 ghost use Rattle.atlas_model.specs.Laws.StepLaws.{RefusalsChangeNothing, StepsAnswerAsDue};
@@ -374,4 +375,19 @@ pub fn guarded_are_disjoint()
 #[tactic(auto, using(crate::proofs::SimpleLemmas::SimpleRuns::simple_starts_guard))]
 pub fn simple_starts_guard()
     ensures { SimpleStartsGuard }
+{}
+
+/// A box that is free once a set of ids is freed is free once those of the set are freed whose boxes lie inside it.
+pub fn room_comes_from_inside()
+    ensures { RoomComesFromInside }
+{}
+
+/// Where one id more is freed, each free box was free without it, or a live box of that id lies inside it.
+pub fn freeing_makes_one_box()
+    ensures { FreeingMakesOneBox }
+{}
+
+/// Two free boxes that hold one nonempty box are one.
+pub fn one_free_box_around()
+    ensures { OneFreeBoxAround }
 {}

@@ -36,15 +36,15 @@ room_cases b [] ds h = inr h
 room_cases b (c ∷ cs) ds (inl h) = inl (inl h)
 room_cases b (c ∷ cs) ds (inr h) = grind (arith, room_cases b cs ds h)
 
-inside_trans : (b c d : Box) → IsInside b c → IsInside c d → IsInside b d
+pub inside_trans : (b c d : Box) → IsInside b c → IsInside c d → IsInside b d
 inside_trans b c d h k = (omega (arith, h.0, k.0), omega (arith, h.1, k.1), omega (arith, h.2, k.2), omega (arith, h.3, k.3))
 
-inside_first : (axis : Axis) (o : Position) (e k across : ℕ)
+pub inside_first : (axis : Axis) (o : Position) (e k across : ℕ)
     → IsInside (box_at o (sized axis e across)) (box_at o (sized axis (e + k) across))
 inside_first Horizontal o e k across = (omega arith, omega arith, omega arith, omega arith)
 inside_first Vertical o e k across = (omega arith, omega arith, omega arith, omega arith)
 
-inside_second : (axis : Axis) (o : Position) (e k across : ℕ)
+pub inside_second : (axis : Axis) (o : Position) (e k across : ℕ)
     → IsInside (box_at (moved axis o e) (sized axis k across)) (box_at o (sized axis (e + k) across))
 inside_second Horizontal o e k across = (omega arith, omega arith, omega arith, omega arith)
 inside_second Vertical o e k across = (omega arith, omega arith, omega arith, omega arith)
