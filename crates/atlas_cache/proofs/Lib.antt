@@ -21,4 +21,5 @@ pub mod PictureLemmas
 pub mod StandLemmas
 pub mod TrimLemmas
 pub mod UsableLemmas
+pub mod VacateLemmas
 pub mod WalkLemmas

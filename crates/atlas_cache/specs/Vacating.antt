@@ -1,5 +1,6 @@
 -- Room that would be, were some entries gone, and the entries in a box.
-use Rattle.std.specs.Prelude.{◌≡◌, ◌==◌, ◌&&◌, ◌||◌, ℕ, Bool, false, nat_le, nat_lt, List, [], ◌∷◌, Contains, Some, length, slice_get}
+use Rattle.std.specs.List.{AllByRecursion}
+use Rattle.std.specs.Prelude.{◌≡◌, ◌<◌, ◌++◌, ◌==◌, ◌&&◌, ◌||◌, ◌+◌, ℕ, Bool, false, nat_le, nat_lt, List, [], ◌∷◌, Contains, Some, length, slice_get}
 use Rattle.std.specs.Prelude.{if◌then◌else◌}
 use Rattle.guillotiere.specs.declared.Size.{Size}
 use Rattle.guillotiere.specs.Boxes.{Box, box_sides, Fits}
@@ -9,7 +10,7 @@ use Rattle.guillotiere.specs.Rehearsals.{AreShown}
 use Rattle.guillotiere.specs.States.{after_freeing, free_in}
 use Rattle.guillotiere.specs.Stored.{AtlasValue, state_of}
 use Rattle.atlas_entries.specs.declared.entries.Entry.{Entry}
-use Rattle.atlas_cache.specs.Caches.{has_id}
+use Rattle.atlas_cache.specs.Caches.{entries_of, has_id}
 
 -- The first box lies inside the second.
 abbrev pub is_inside : Box → Box → Bool
@@ -50,8 +51,29 @@ module _ {K : Type 0} where
   abbrev pub lies_in : (page : ℕ) → Box → Entry K → Bool
   lies_in page box e = (e.page == page) && is_inside (box_of e.rectangle) box
 
+  -- How many do.
+  abbrev pub inside_count : (page : ℕ) → Box → List (Entry K) → ℕ
+  inside_count page box [] = 0
+  inside_count page box (e ∷ es) = (if lies_in page box e then 1 else 0) + inside_count page box es
+
+  -- The ids of those that do.
+  abbrev pub ids_inside : (page : ℕ) → Box → List (Entry K) → ℕ → Bool
+  ids_inside page box [] id = false
+  ids_inside page box (e ∷ es) id = (lies_in page box e && e.id == id) || ids_inside page box es id
+
   -- The others.
   abbrev pub without_inside : (page : ℕ) → Box → List (Entry K) → List (Entry K)
   without_inside page box [] = []
   without_inside page box (e ∷ es) =
       if lies_in page box e then without_inside page box es else e ∷ without_inside page box es
+
+  -- What was found on a page: a box that is free once the entries go that were used no later than the one of this number.
+  pub record IsVacancy (asked : Size) (frame page : ℕ) (pages : List AtlasValue) (n : ℕ) (box : Box)
+      (es : List (ℕ × Entry K)) : Type 0 where
+    pub newer : List (ℕ × Entry K)
+    pub entry : Entry K
+    pub older : List (ℕ × Entry K)
+    pub was : es ≡ newer ++ (n, entry) ∷ older
+    pub unused : AllByRecursion (λ e. e.frame < frame) (entry ∷ entries_of older)
+    pub least : HasNoRoomWithout asked pages page (ids_on page (entries_of older))
+    pub room : IsRoomWithout asked pages page (ids_on page (entry ∷ entries_of older)) box
