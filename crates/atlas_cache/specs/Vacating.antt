@@ -67,13 +67,14 @@ module _ {K : Type 0} where
   without_inside page box (e ∷ es) =
       if lies_in page box e then without_inside page box es else e ∷ without_inside page box es
 
-  -- What was found on a page: a box that is free once the entries go that were used no later than the one of this number.
-  pub record IsVacancy (asked : Size) (frame page : ℕ) (pages : List AtlasValue) (n : ℕ) (box : Box)
+  -- What was found on a page: a box that is free once so many of the least recently used entries go.
+  pub record IsVacancy (asked : Size) (frame page : ℕ) (pages : List AtlasValue) (count : ℕ) (box : Box)
       (es : List (ℕ × Entry K)) : Type 0 where
     pub newer : List (ℕ × Entry K)
-    pub entry : Entry K
+    pub last : ℕ × Entry K
     pub older : List (ℕ × Entry K)
-    pub was : es ≡ newer ++ (n, entry) ∷ older
-    pub unused : AllByRecursion (λ e. e.frame < frame) (entry ∷ entries_of older)
+    pub was : es ≡ newer ++ last ∷ older
+    pub counted : count ≡ length older + 1
+    pub unused : AllByRecursion (λ e. e.frame < frame) (last.1 ∷ entries_of older)
     pub least : HasNoRoomWithout asked pages page (ids_on page (entries_of older))
-    pub room : IsRoomWithout asked pages page (ids_on page (entry ∷ entries_of older)) box
+    pub room : IsRoomWithout asked pages page (ids_on page (last.1 ∷ entries_of older)) box

@@ -41,8 +41,8 @@ fn show<K: Copy, A: Allocator + Copy>(
     rooms.rehearse(page, marks, entry.id, asked)
 }
 
-// On a page, as if the entries went in the order of use that a frame didn't use: the number of the one with which a box comes free that a
-// request fits, and the box; None if even then it has no room.
+// On a page, as if the entries went in the order of use that a frame didn't use: with how many of them a box comes free that a request
+// fits, and the box; None if even then it has no room.
 fn box_on<K: Copy + Eq + Hash, S: BuildHasher, A: Allocator + Copy>(
     rooms: &Rooms<A>,
     entries: &Entries<K, S, A>,
@@ -50,7 +50,7 @@ fn box_on<K: Copy + Eq + Hash, S: BuildHasher, A: Allocator + Copy>(
     frame: u64,
     page: u32,
     asked: Size,
-) -> Option<(u32, Rectangle)>
+) -> Option<(usize, Rectangle)>
     requires there { page < length rooms.now.pages }
     requires numbered { length rooms.now.pages ≤ no_page }
     requires held { HoldsEntries rooms.now.pages (lying (entries_of entries.now.entries)) }
@@ -64,7 +64,7 @@ fn box_on<K: Copy + Eq + Hash, S: BuildHasher, A: Allocator + Copy>(
 {
     entries.prove_kept();
     let mut next = entries.oldest();
-    for _ in 0..entries.len() {
+    for looked in 0..entries.len() {
         let Some(number) = next else {
             return None;
         };
@@ -73,7 +73,7 @@ fn box_on<K: Copy + Eq + Hash, S: BuildHasher, A: Allocator + Copy>(
             return None;
         }
         if let Some(area) = show(rooms, marks, page, asked, entry) {
-            return Some((number, area));
+            return Some((looked + 1, area));
         }
         next = entries.newer(number);
     }
