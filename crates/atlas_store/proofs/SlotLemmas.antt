@@ -27,6 +27,7 @@ pub mod Suffixes
 pub mod Spots
 pub mod Extensions
 pub mod Followers
+pub mod OpenWalks
 pub mod NestedTops
 pub mod Edits
 pub mod Entries

@@ -1,10 +1,10 @@
 //! A rehearsal of freeings: the free box that there would be, were some allocated leaves freed. What is stored stays as it is; marks, one
 //! for each slot, show which members would be free.
-ghost use Rattle.std.specs.Prelude.{◌≡◌, ◌≤◌, ◌<◌, ℕ, Bool, length};
+ghost use Rattle.std.specs.Prelude.{◌≡◌, ◌≤◌, ◌<◌, ℕ, Bool, true, length};
 ghost use Rattle.atlas_model.specs.Trees.{most_slots};
 ghost use Rattle.atlas_store.specs.Slots.{nodes, node_at};
-ghost use Rattle.atlas_store.specs.Slots.Standing.{IsSlot};
-ghost use Rattle.atlas_store.specs.Slots.Rehearsing.{is_open};
+ghost use Rattle.atlas_store.specs.Slots.Standing.{IsSlot, IsTree};
+ghost use Rattle.atlas_store.specs.Slots.Rehearsing.{is_open, IsUsedAt, IsRunStart, IsRunEnd};
 
 use crate::slots::{NodeKind, Slot, read_node};
 use atlas_model::Rectangle;
@@ -22,7 +22,13 @@ fn is_open(slots: &[Slot], marks: &[bool], at: Link) -> bool
 }
 
 // The first of the open members of a sequence that come without a gap before the one at a slot, or this one.
-fn first_open(slots: &[Slot], marks: &[bool], at: Link) -> Link {
+fn first_open(slots: &[Slot], marks: &[bool], at: Link) -> Link
+    requires tree { IsTree (nodes slots.now) }
+    requires member { IsUsedAt (nodes slots.now) at.number }
+    requires short { length slots.now ≤ most_slots }
+    requires marks { length marks.now ≡ length slots.now }
+    ensures { IsRunStart (nodes slots.now) (is_open (nodes slots.now) marks.now) result.number at.number }
+{
     let mut low = at;
     loop {
         let before = read_node(slots, low).previous;
@@ -34,7 +40,14 @@ fn first_open(slots: &[Slot], marks: &[bool], at: Link) -> Link {
 }
 
 // The last of those that come without a gap after it, or this one.
-fn last_open(slots: &[Slot], marks: &[bool], at: Link) -> Link {
+fn last_open(slots: &[Slot], marks: &[bool], at: Link) -> Link
+    requires tree { IsTree (nodes slots.now) }
+    requires member { IsUsedAt (nodes slots.now) at.number }
+    requires open { is_open (nodes slots.now) marks.now at.number ≡ true }
+    requires short { length slots.now ≤ most_slots }
+    requires marks { length marks.now ≡ length slots.now }
+    ensures { IsRunEnd (nodes slots.now) (is_open (nodes slots.now) marks.now) at.number result.number }
+{
     let mut high = at;
     loop {
         let after = read_node(slots, high).next;
