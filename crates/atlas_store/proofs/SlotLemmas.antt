@@ -29,6 +29,7 @@ pub mod Extensions
 pub mod Followers
 pub mod NestedTops
 pub mod Edits
+pub mod OpenMembers
 pub mod Entries
 pub mod PilePuts
 pub mod PileLifts
