@@ -30,6 +30,7 @@ pub mod Followers
 pub mod OpenWalks
 pub mod NestedTops
 pub mod Edits
+pub mod OpenMembers
 pub mod Entries
 pub mod PilePuts
 pub mod PileLifts
