@@ -30,6 +30,7 @@ pub mod Followers
 pub mod NestedTops
 pub mod Edits
 pub mod OpenMembers
+pub mod OpenRuns
 pub mod Entries
 pub mod PilePuts
 pub mod PileLifts
