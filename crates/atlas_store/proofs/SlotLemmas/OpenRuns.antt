@@ -1,8 +1,8 @@
 -- The tree in which the open members are free, and its free boxes.
-use Rattle.std.proofs.Common.{ℕ, ◌+◌, ◌<◌, ◌≡◌, ◌&&◌, ◌⊎◌, inl, inr, List, Bool, true, false, refl, sym, ap, ap₂, subst, ◌∙◌, arith, Contains}
+use Rattle.std.proofs.Common.{ℕ, ◌+◌, ◌<◌, ◌≡◌, ◌⊎◌, inl, inr, List, Bool, true, false, refl, sym, ap, ap₂, subst, ◌∙◌, arith, Contains}
 use Rattle.std.proofs.lemmas.Bool.{cases_Bool, and_cases, and_parts, true≢false}
 use Rattle.std.proofs.lemmas.List.Elements.{Contains-append_left, Contains-append_right}
-use Rattle.atlas_model.specs.Boxes.{Axis, Box, other, moved}
+use Rattle.atlas_model.specs.Boxes.{Box, other, moved}
 use Rattle.atlas_model.specs.Changes.{free_before, seq_before, nf, mark}
 use Rattle.atlas_model.specs.Trees as tree
 use Rattle.atlas_model.specs.Trees.{Members, IsCut, total, is_idle, begins_free}
