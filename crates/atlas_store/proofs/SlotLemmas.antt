@@ -31,6 +31,7 @@ pub mod OpenWalks
 pub mod NestedTops
 pub mod Edits
 pub mod OpenMembers
+pub mod OpenRuns
 pub mod Entries
 pub mod PilePuts
 pub mod PileLifts

@@ -5,4 +5,5 @@ pub mod FreedAtlas
 pub mod HiddenSlots
 pub mod NamedSlots
 pub mod StoredAtlas
+pub mod ShownAtlas
 pub mod WalkSteps

@@ -1,6 +1,6 @@
 -- Opening one member more, in a tree of which some members are open.
 use Rattle.std.proofs.Common.{ℕ, ◌+◌, ◌<◌, ◌≤◌, ◌≡◌, ◌||◌, ◌⊎◌, inl, inr, List, Bool, true, false, refl, sym, ap, ◌∙◌, arith, length, set, get_or-set_same, get_or-set_other}
-use Rattle.std.proofs.lemmas.Bool.{cases_eq, cases_Bool, eq-eqb, ne_eqb, and_left, and_right, and_from, and_parts, or_right}
+use Rattle.std.proofs.lemmas.Bool.{cases_eq, eq-eqb, ne_eqb, and_left, and_right, and_from, and_parts, or_right}
 use Rattle.atlas_store.specs.declared.slots.Node.{Node}
 use Rattle.atlas_store.specs.declared.slots.NodeKind.TheVariants as kind
 use Rattle.atlas_model.specs.Changes.{and_id}
@@ -30,8 +30,9 @@ opened-set ns marks i l =
       others = λ k ne. ap (λ b. is_free (node_at ns k).kind || b) (get_or-set_other marks i k true false ne);
     }
 
-or_false : (a b : Bool) → b ≡ false → (a || b) ≡ a
-or_false a b h = elim (cases_Bool a) [ inl t ↦ rw t refl | inr f ↦ rw (f, h) refl ]
+pub or_false : (a b : Bool) → b ≡ false → (a || b) ≡ a
+or_false true b h = refl
+or_false false b h = h
 
 -- Where all members are open, they stay so.
 pub all_open-stays : (o more : ℕ → Bool) (i : ℕ) (n : Numbered) → IsOpenedAt o more i → all_open o n ≡ true
