@@ -28,6 +28,9 @@ pub mod Spots
 pub mod Extensions
 pub mod Followers
 pub mod OpenWalks
+pub mod OpenLines
+pub mod LineBoxes
+pub mod Climbs
 pub mod NestedTops
 pub mod Edits
 pub mod OpenMembers

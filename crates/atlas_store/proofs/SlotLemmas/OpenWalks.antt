@@ -1,16 +1,15 @@
 -- Walks along the members of a sequence, in both directions.
-use Rattle.std.proofs.Common.{rules, ℕ, ◌+◌, ◌<◌, ◌≤◌, ◌≡◌, ◌==◌, ◌⊎◌, inl, inr, List, Bool, true, false, refl, sym, ap, subst, ◌∙◌, arith}
+use Rattle.std.proofs.Common.{ℕ, ◌+◌, ◌<◌, ◌≤◌, ◌≡◌, ◌==◌, ◌⊎◌, inl, inr, List, Bool, true, false, refl, sym, ap, subst, ◌∙◌, arith}
 use Rattle.std.proofs.Common.{length, zero, suc, if◌then◌else◌}
 use Rattle.std.proofs.lemmas.Bool.{cases_eq, ne_eqb, true≢false}
 use Rattle.std.proofs.lemmas.List.{get_or_past}
-use Rattle.atlas_store.specs.Slots.Lists.{is_free}
 use Rattle.atlas_store.specs.declared.slots.Node.{Node}
 use Rattle.atlas_store.specs.Slots.{node_at, use_count, blank_node}
 use Rattle.atlas_search.specs.Numbers.{no_slot}
-use Rattle.atlas_store.specs.Slots.Numbered.{Numbered, tally, numbers, first_slot, End, Free, Alloc, Seq}
-use Rattle.atlas_store.specs.Slots.Standing.{Sequence, Standing, Stands, IsTree, IsSlot, inside}
+use Rattle.atlas_store.specs.Slots.Numbered.{Numbered, tally, numbers, End, Free, Alloc, Seq}
+use Rattle.atlas_store.specs.Slots.Standing.{Sequence, Standing, IsTree, IsSlot, inside}
 use Rattle.atlas_store.specs.Slots.Rehearsing.{IsUsedAt, OpenLine, is_open}
-use Rattle.atlas_store.proofs.SlotLemmas.Frames.{same-self, same-ne, split_pos, used-le, ne-from_same}
+use Rattle.atlas_store.proofs.SlotLemmas.Frames.{same-ne, split_pos, used-le, ne-from_same}
 use Rattle.atlas_store.proofs.SlotLemmas.JoinWrites.{used-inside, none-unused}
 use Rattle.atlas_store.proofs.SlotLemmas.ReadTrees.{numbers-few, tallies-le, tallies-numbers}
 use Rattle.atlas_store.proofs.SlotLemmas.MemberLinks.{next-in}

@@ -6,9 +6,10 @@ use Rattle.atlas_model.specs.Boxes.{Box}
 use Rattle.atlas_model.specs.Trees.{Members}
 use Rattle.atlas_model.specs.Trees as tree
 use Rattle.atlas_store.specs.Slots.{node_at, use_count}
+use Rattle.atlas_search.specs.Numbers.{no_slot}
 use Rattle.atlas_store.specs.Slots.Lists.{is_free}
 use Rattle.atlas_store.specs.Slots.Numbered.{Numbered, id_of, End, Free, Alloc, Seq}
-use Rattle.atlas_store.specs.Slots.Standing.{Sequence, inside, member_box}
+use Rattle.atlas_store.specs.Slots.Standing.{Sequence, Stands, inside, member_box}
 
 -- Whether slot i is free, or is marked as shown free.
 abbrev pub is_open : List Node → List Bool → ℕ → Bool
@@ -89,3 +90,13 @@ pub record IsRunEnd (ns : List Node) (o : ℕ → Bool) (i high : ℕ) : Type 0 
   pub line : (count : ℕ) × OpenLine ns o count i high
   pub last : o high ≡ true
   pub after : o (node_at ns high).next.number ≡ false
+
+-- The id of the leaf at slot i.
+abbrev pub leaf_id : List Node → (i : ℕ) → ℕ
+leaf_id ns i = id_of i (node_at ns i).generation
+
+-- The slots hold the whole tree n, in the sequence s, and the marks show a set of ids.
+pub record AreShownIn (ns : List Node) (marks : List Bool) (set : ℕ → Bool) (s : Sequence) (n : Numbered) : Type 0 where
+  pub top : s.parent ≡ no_slot
+  pub stands : Stands ns s n
+  pub shown : Shows (is_open ns marks) set n

@@ -1,4 +1,4 @@
-use Rattle.std.proofs.Common.{◌≡◌, ℕ, length}
+use Rattle.std.proofs.Common.{ℕ, length}
 use Rattle.atlas_store.specs.Slots.{nodes}
 use Rattle.atlas_store.specs.Slots.Rehearsing.{IsUsedAt, OpenLine, is_open}
 use Rattle.atlas_store.proofs.SlotLemmas.OpenWalks.{leaders}
