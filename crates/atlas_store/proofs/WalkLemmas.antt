@@ -6,4 +6,5 @@ pub mod HiddenSlots
 pub mod NamedSlots
 pub mod StoredAtlas
 pub mod ShownAtlas
+pub mod RehearsedAtlas
 pub mod WalkSteps
