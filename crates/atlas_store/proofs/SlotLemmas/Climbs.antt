@@ -1,5 +1,6 @@
 -- A showing of an allocated leaf, from its slot up the containers that have no other member left.
-use Rattle.std.proofs.Common.{ℕ, ◌+◌, ◌<◌, ◌≤◌, ◌≡◌, ◌⊎◌, ◌||◌, inl, inr, List, Bool, true, false, refl, sym, ap, ap₂, subst, ◌∙◌, arith, length, set}
+use Rattle.std.proofs.Common.{ℕ, ◌+◌, ◌<◌, ◌≤◌, ◌≡◌, ◌⊎◌, ◌||◌, inl, inr, List, Bool}
+use Rattle.std.proofs.Common.{true, false, refl, sym, ap, ap₂, subst, ◌∙◌, arith, length, set}
 use Rattle.std.proofs.Common.{suc, length-set, sum_by, cond, get_or}
 use Rattle.std.proofs.lemmas.Bool.{cases_eq}
 use Rattle.std.proofs.lemmas.List.Sums.{sum_by-set}
@@ -15,11 +16,13 @@ use Rattle.atlas_search.specs.Numbers.{no_slot}
 use Rattle.atlas_store.specs.Slots.Lists.{is_free}
 use Rattle.atlas_store.specs.Slots.Numbered.{Numbered, tally, first_slot, erase, End, Free, Alloc, Seq}
 use Rattle.atlas_store.specs.Slots.Standing.{Sequence, Standing, Stands, inside}
-use Rattle.atlas_store.specs.Slots.Rehearsing.{is_open, Shows, ShowsBut, IsRunIn, OpenLine, IsUsedAt, IsRunStart, IsRunEnd, AreShownIn, leaf_id}
+use Rattle.atlas_store.specs.Slots.Rehearsing.{is_open, Shows, ShowsBut, IsRunIn, OpenLine}
+use Rattle.atlas_store.specs.Slots.Rehearsing.{IsUsedAt, IsRunStart, IsRunEnd, AreShownIn, leaf_id}
 use Rattle.atlas_store.proofs.SlotLemmas.Frames.{same-ne, split_pos, used-le, used-inside}
 use Rattle.atlas_store.proofs.SlotLemmas.JoinWrites.{none-unused}
 use Rattle.atlas_store.proofs.SlotLemmas.Suffixes.{suffix-at}
-use Rattle.atlas_store.proofs.SlotLemmas.OpenMembers.{IsOpenedAt, opened-set, shows-but, leaf-shown, container-shown, top-shown, closed-shown, parent-closed, parent-apart, parent-container}
+use Rattle.atlas_store.proofs.SlotLemmas.OpenMembers.{IsOpenedAt, opened-set, shows-but, leaf-shown, container-shown}
+use Rattle.atlas_store.proofs.SlotLemmas.OpenMembers.{top-shown, closed-shown, parent-closed, parent-apart, parent-container}
 use Rattle.atlas_store.proofs.SlotLemmas.OpenWalks.{previous-used, next-used, line-after, none-closed}
 use Rattle.atlas_store.proofs.SlotLemmas.OpenLines.{none-open, line-on, line-first, line-is_run}
 use Rattle.atlas_store.proofs.SlotLemmas.LineBoxes.{IsAlong, line-beyond, exact-at, inside-parent, open-each}
@@ -109,19 +112,24 @@ module _ (ns : List Node) (old : List Bool) (leaf : ℕ) (short : length ns ≤ 
   none_in : tally no_slot n ≡ 0
   none_in = is.stands.numbered no_slot ∙ ap use_count (none-unused ns (omega arith))
 
+  single : (x : ℕ) (m : Numbered) → tally x m ≡ use_count (node_at ns x).kind → tally x m ≤ 1
+  single x m e = omega (arith, e, used-le (node_at ns x).kind)
+
   once_in : (x : ℕ) → tally x n ≤ 1
   once_in x = omega (arith, is.stands.numbered x, used-le (node_at ns x).kind)
 
   pub climb-starts : length old ≡ length ns → (node_at ns leaf).kind ≡ kind.Alloc → IsClimbing ns old old leaf leaf
   climb-starts long was =
       let used : IsUsedAt ns leaf = rw was (omega arith) in
-      let closed : is_open ns old leaf ≡ false = leaf-open (is_open ns old) held ns leaf s no_slot 0 n was is.stands.standing is.shown (member leaf used) ∙ new_id in
+      let as_held = leaf-open (is_open ns old) held ns leaf s no_slot 0 n was is.stands.standing is.shown (member leaf used) in
+      let closed : is_open ns old leaf ≡ false = as_held ∙ new_id in
+      let but = shows-but (is_open ns old) held no_slot n is.shown in
       let w = opened-set ns old leaf (omega (arith, long, used-inside ns leaf used)) in
       record {
         long = long;
         used = used;
         closed = closed;
-        above = λ ne. parent-closed ns s n short is.top is.stands (is_open ns old) held no_slot leaf used closed ne ne (shows-but _ held no_slot n is.shown);
+        above = λ ne. parent-closed ns s n short is.top is.stands (is_open ns old) held no_slot leaf used closed ne ne but;
         shown = λ s2 n2 held2 x no. leaf-shown ns s2 n2 short x.top x.stands (is_open ns old) _ held2 leaf was w x.shown;
         around = λ s2 n2 t x c. inside-itself _;
       }
@@ -227,17 +235,23 @@ module _ (ns : List Node) (old : List Bool) (leaf : ℕ) (short : length ns ≤ 
           let used : IsUsedAt ns parent = rw was (omega arith) in
           let w = opened-set ns (set marks at true) parent (omega (arith, length-set marks at true, k.long, used-inside ns parent used)) in
           let f = k.shown s n held is new_id in
+          let apart = parent-apart ns s n short is.top is.stands parent used in
           let up : IsClimbing ns old (set marks at true) leaf parent = record {
             long = length-set marks at true ∙ k.long;
             used = used;
             closed = shut some;
-            above = λ nz. parent-closed ns s n short is.top is.stands o with_leaf parent parent used (shut some) nz (parent-apart ns s n short is.top is.stands parent used) f;
+            above = λ nz. parent-closed ns s n short is.top is.stands o with_leaf parent parent used (shut some) nz apart f;
             shown = λ s2 n2 held2 x2 no2. climb-shown s2 n2 held2 x2 no2 np nn some was w;
-            around = λ s2 n2 t x2 c. inside-on _ _ _ (k.around s2 n2 t x2 c)
-                (inside-parent ns at s2 no_slot 0 n2 x2.standing (omega (arith, x2.numbered at, k.used)) (λ e. some (e ∙ t)) (λ v. omega (arith, x2.numbered v, used-le (node_at ns v).kind)) c);
+            around = λ s2 n2 t x2 c. inside-on _ _ _ (k.around s2 n2 t x2 c) (at-inside s2 n2 t x2 c some);
           } in
           subst (λ (i : ℕ). IsClimbing ns old (set marks at true) leaf i) to_at.1 up
         where
+          at-inside : (s2 : Sequence) (n2 : Numbered) → s2.parent ≡ no_slot → Stands ns s2 n2 → IsCut s2.width (erase n2)
+              → (parent ≡ no_slot → ⊥) → IsInside (box_of (node_at ns at).area) (box_of (node_at ns parent).area)
+          at-inside s2 n2 t x2 c some =
+              let once = (λ (v : ℕ). single v n2 (x2.numbered v)) in
+              inside-parent ns at s2 no_slot 0 n2 x2.standing (omega (arith, x2.numbered at, k.used)) (λ e. some (e ∙ t)) once c
+
           climb-shown : (s2 : Sequence) (n2 : Numbered) (held2 : ℕ → Bool) → AreShownIn ns old held2 s2 n2
               → held2 (leaf_id ns leaf) ≡ false → (node_at ns low).previous.number ≡ no_slot
               → (node_at ns high).next.number ≡ no_slot → (parent ≡ no_slot → ⊥)
@@ -246,5 +260,7 @@ module _ (ns : List Node) (old : List Bool) (leaf : ℕ) (short : length ns ≤ 
           climb-shown s2 n2 held2 x2 no2 np nn some was w =
               let whole = rw nn at (line-after ns o all.0 low high y.last all.1) in
               let each = (λ (i : ℕ) (u : IsUsedAt ns i) (e : (node_at ns i).parent.number ≡ parent).
-              open-each ns o parent low i (suc all.0) whole (sym to_at.1) np e s no_slot 0 n is.stands.standing (λ q. some (q ∙ is.top)) once_in none_in (member low x.used) (member i u)) in
-              container-shown ns s2 n2 short x2.top x2.stands o (is_open ns (set (set marks at true) parent true)) (and_id held2 (leaf_id ns leaf)) parent was w each (k.shown s2 n2 held2 x2 no2)
+              open-each ns o parent low i (suc all.0) whole (sym to_at.1) np e s no_slot 0 n is.stands.standing
+              (λ q. some (q ∙ is.top)) once_in none_in (member low x.used) (member i u)) in
+              container-shown ns s2 n2 short x2.top x2.stands o (is_open ns (set (set marks at true) parent true))
+              (and_id held2 (leaf_id ns leaf)) parent was w each (k.shown s2 n2 held2 x2 no2)

@@ -119,11 +119,14 @@ module _ (ns : List Node) (short : length ns ≤ 16777216) (tree : IsTree ns) (i
   next-falls =
       let f = suffix-at ns i tree.0 no_slot 0 tree.1 tree.2.standing here in
       let no_tally : tally no_slot f.members ≡ 0 = omega (arith, f.within no_slot, tree.2.numbered no_slot, none) in
-      let few : outermost f.members ≤ length ns =
-      omega (arith, outermost-numbers f.members, tallies-le (length ns) f.members (λ k. once_in k f.members (f.within k)), tallies-numbers (length ns) f.members (λ k l. used-inside ns k (use_of k (omega (arith, f.within k, l)))))
-      in
+      let most = tallies-le (length ns) f.members (λ k. once_in k f.members (f.within k)) in
+      let inside = λ (k : ℕ) (l : 0 < tally k f.members). used-inside ns k (use_of k (omega (arith, f.within k, l))) in
+      let all = tallies-numbers (length ns) f.members inside in
+      let few : outermost f.members ≤ length ns = omega (arith, outermost-numbers f.members, most, all) in
       let y : followers (suc (length ns)) ns i ≡ 1 + followers (length ns) ns (node_at ns i).next.number = rw (ne_eqb i no_slot some) refl in
-      let l = (λ (bound : ℕ) (l : outermost f.members ≤ bound). subst (λ k. followers bound ns k ≡ outermost f.members) f.begins (followers-outermost bound ns f.at f.before f.start f.members f.standing no_tally l)) in
+      let l = (λ (bound : ℕ) (l : outermost f.members ≤ bound).
+      subst (λ k. followers bound ns k ≡ outermost f.members) f.begins
+      (followers-outermost bound ns f.at f.before f.start f.members f.standing no_tally l)) in
       omega (arith, y, l (length ns) few, l (suc (length ns)) (omega arith))
 
   -- The slots beside it are slots, or none.

@@ -1,13 +1,12 @@
 -- A showing of a live id of an atlas.
-use Rattle.std.proofs.Common.{ℕ, ◌<◌, ◌≤◌, ◌≡◌, Bool, true, false, List, [], ◌∷◌, Option, Some, None, inl, inr, option_map, length, refl, sym, ap, subst, ◌∙◌, arith, cond}
+use Rattle.std.proofs.Common.{ℕ, ◌<◌, ◌≡◌, Bool, false, List, Option, Some, None, inl, inr, option_map, length, sym, ap, subst, ◌∙◌, cond}
 use Rattle.std.proofs.Common.{Contains, All}
 use Rattle.std.proofs.lemmas.Bool.{cases_lt}
-use Rattle.std.proofs.lemmas.List.{get_or_past, length-map}
+use Rattle.std.proofs.lemmas.List.{get_or_past}
 use Rattle.std.proofs.lemmas.List.Elements.{All-get_or}
 use Rattle.std.specs.Prelude.{slice_index_or}
 use Rattle.std.specs.Option.{IfSome}
-use Rattle.atlas_model.specs.Boxes.{Box, IsInside}
-use Rattle.atlas_model.specs.Changes.{and_id}
+use Rattle.atlas_model.specs.Boxes.{Box}
 use Rattle.atlas_model.specs.Pixels.{box_of, rectangle_of}
 use Rattle.atlas_model.specs.Replies.{live_box}
 use Rattle.atlas_model.specs.States.{after_freeing, free_in}
@@ -17,7 +16,7 @@ use Rattle.atlas_search.specs.Numbers.{no_slot}
 use Rattle.atlas_store.specs.declared.slots.NodeKind.TheVariants as kind
 use Rattle.atlas_store.specs.Rehearsals.{AreShown}
 use Rattle.atlas_store.specs.Slots.{nodes, node_at}
-use Rattle.atlas_store.specs.Slots.Numbered.{Numbered, id_of, erase}
+use Rattle.atlas_store.specs.Slots.Numbered.{erase}
 use Rattle.atlas_store.specs.Slots.Reading.{numbered_of, tree_of}
 use Rattle.atlas_store.specs.Slots.Rehearsing.{is_open, leaf_id, AreShownIn, IsRunIn, Shows}
 use Rattle.atlas_store.specs.Visits.{named_area}
