@@ -201,7 +201,7 @@ module _ (ns : List Node) where
 
   module _ (k : ℕ) where
     -- A member that isn't in the sequence itself is below this container, or below one in the rest.
-    below-cases : (s : Sequence) (b p j e : ℕ) (inner rest : Numbered) → Standing ns s b p (Seq j e inner rest)
+    pub below-cases : (s : Sequence) (b p j e : ℕ) (inner rest : Numbered) → Standing ns s b p (Seq j e inner rest)
         → 0 < tally k (Seq j e inner rest) → ((node_at ns k).parent.number ≡ s.parent → ⊥)
         → ((0 < tally k inner) × (((node_at ns k).parent.number ≡ j) ⊎ (0 < tally (node_at ns k).parent.number inner)))
         ⊎ ((0 < tally k rest) × (0 < tally (node_at ns k).parent.number rest))
