@@ -27,8 +27,10 @@ pub run-released : (o set : ℕ → Bool) (box : Box) (size : Sides) (s : Sequen
     → Contains (free_boxes size (release set (record { axis = s.axis; members = erase n }))) box
 run-released o set box size s n start across wide cut f run =
     let m = nf (mark set (erase n)) in
-    let there : Contains (free_from s 0 m) box = subst (λ k. Contains (free_from s 0 k) box) (opened-marked o set s.width n wide cut f) (run-free o set box s 0 n f run) in
-    let here : Contains (free_among s.axis origin s.width m) box = subst (λ q. Contains (free_among s.axis q s.width m) box) (sym (origin-spot s.axis s.start start)) there in
+    let same = opened-marked o set s.width n wide cut f in
+    let there = subst (λ k. Contains (free_from s 0 k) box) same (run-free o set box s 0 n f run) in
+    let at_origin = sym (origin-spot s.axis s.start start) in
+    let here = subst (λ q. Contains (free_among s.axis q s.width m) box) at_origin there in
     subst (λ w. Contains (free_among s.axis origin w m) box) across here
 
 pub run-in_atlas : (v : Stored) (a : IsAtlas v) (o set : ℕ → Bool) (box : Box) (turns capacity : ℕ)
