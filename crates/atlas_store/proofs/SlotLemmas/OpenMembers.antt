@@ -359,11 +359,11 @@ module _ (ns : List Node) (s : Sequence) (n : Numbered) (short : length ns ≤ 1
   container-shown o more set c was w each f =
       shows-container ns o more set c s no_slot 0 n was w (open_inside-each ns o c s no_slot 0 n each h.standing) h.standing f
 
-  -- Nothing is open but for what is to be, where no container is left.
+  -- Where the hole is no slot, each container is as it is to be.
   pub top-shown : (o set : ℕ → Bool) (hole : ℕ) → hole ≡ no_slot → ShowsBut hole o set n → Shows o set n
   top-shown o set hole e f = shows-no_hole o set hole n (rw e none_in) f
 
-  -- Or where a member of the container isn't open.
+  -- So it is where a member of the hole isn't open, nor the hole.
   pub closed-shown : (o set : ℕ → Bool) (k : ℕ) → 0 < use_count (node_at ns k).kind → o k ≡ false
       → (((node_at ns k).parent.number ≡ no_slot → ⊥) → o (node_at ns k).parent.number ≡ false)
       → ShowsBut (node_at ns k).parent.number o set n → Shows o set n
