@@ -1,5 +1,6 @@
 -- Opening one member more, in a tree of which some members are open.
-use Rattle.std.proofs.Common.{ℕ, ◌+◌, ◌<◌, ◌≤◌, ◌≡◌, ◌||◌, ◌⊎◌, inl, inr, List, Bool, true, false, refl, sym, ap, ◌∙◌, arith, length, set, get_or-set_same, get_or-set_other}
+use Rattle.std.proofs.Common.{ℕ, ◌+◌, ◌<◌, ◌≤◌, ◌≡◌, ◌||◌, ◌⊎◌, inl, inr, Bool, true, false, refl, sym, ap, ◌∙◌, arith}
+use Rattle.std.proofs.Common.{List, length, set, get_or-set_same, get_or-set_other}
 use Rattle.std.proofs.lemmas.Bool.{cases_eq, eq-eqb, ne_eqb, and_left, and_right, and_from, and_parts, or_right}
 use Rattle.atlas_store.specs.declared.slots.Node.{Node}
 use Rattle.atlas_store.specs.declared.slots.NodeKind.TheVariants as kind
@@ -214,14 +215,20 @@ module _ (ns : List Node) where
           ]
         ]
 
+    -- A member of another sequence comes after the first of this one.
+    not-first : (s : Sequence) (j later : ℕ) → (node_at ns j).parent.number ≡ s.parent
+        → ((node_at ns k).parent.number ≡ s.parent → ⊥) → 0 < same k j + later → 0 < later
+    not-first s j later h ne l =
+        elim (cases_eq k j) [ inl x ↦ absurd (ne (rw x h)) | inr other ↦ omega (arith, same-ne k j other) ]
+
     -- What is below a container names it.
     pub parent-kind : (s : Sequence) (b p : ℕ) (n : Numbered) → Standing ns s b p n → 0 < tally k n
         → ((node_at ns k).parent.number ≡ s.parent → ⊥) → (node_at ns (node_at ns k).parent.number).kind ≡ kind.Container
     parent-kind s b p End h l ne = absurd (omega arith)
     parent-kind s b p (Free j e rest) h l ne =
-        parent-kind s j (p + e) rest h.2 (elim (cases_eq k j) [ inl x ↦ absurd (ne (rw x h.0.parent)) | inr other ↦ omega (arith, same-ne k j other) ]) ne
+        parent-kind s j (p + e) rest h.2 (not-first s j (tally k rest) h.0.parent ne l) ne
     parent-kind s b p (Alloc j g e rest) h l ne =
-        parent-kind s j (p + e) rest h.3 (elim (cases_eq k j) [ inl x ↦ absurd (ne (rw x h.0.parent)) | inr other ↦ omega (arith, same-ne k j other) ]) ne
+        parent-kind s j (p + e) rest h.3 (not-first s j (tally k rest) h.0.parent ne l) ne
     parent-kind s b p (Seq j e inner rest) h l ne =
         elim (below-cases s b p j e inner rest h l ne) [
           | inl (a, x) ↦ elim (cases_eq (node_at ns k).parent.number j) [
@@ -249,7 +256,9 @@ module _ (ns : List Node) where
         elim (cases_eq k j) [
           | inl x ↦ absurd (ne-from_same s.parent j (omega arith) (sym x ∙ sym q ∙ rw x h.0.parent))
           | inr ne ↦ elim (split_pos (tally k inner) (tally k rest) (omega (arith, same-ne k j ne))) [
-            | inl a ↦ parent-other (inside s j p e) no_slot s.start inner h.2 a (λ x. omega (arith, once x)) (omega (arith, once j, same-self j)) q
+            | inl a ↦
+                let none : tally j inner ≡ 0 = omega (arith, once j, same-self j) in
+                parent-other (inside s j p e) no_slot s.start inner h.2 a (λ x. omega (arith, once x)) none q
             | inr a ↦ parent-other s j (p + e) rest h.3 a (λ x. omega (arith, once x)) (omega arith) q
           ]
         ]
@@ -287,21 +296,24 @@ module _ (ns : List Node) where
           → AreInside false o (node_at ns k).parent.number n
       closed-inside s b p End h l ne once = tt
       closed-inside s b p (Free j e rest) h l ne once =
-          closed-inside s j (p + e) rest h.2 (elim (cases_eq k j) [ inl x ↦ absurd (ne (rw x h.0.parent)) | inr other ↦ omega (arith, same-ne k j other) ]) ne (omega arith)
+          closed-inside s j (p + e) rest h.2 (not-first s j (tally k rest) h.0.parent ne l) ne (omega arith)
       closed-inside s b p (Alloc j g e rest) h l ne once =
-          closed-inside s j (p + e) rest h.3 (elim (cases_eq k j) [ inl x ↦ absurd (ne (rw x h.0.parent)) | inr other ↦ omega (arith, same-ne k j other) ]) ne (omega arith)
+          closed-inside s j (p + e) rest h.3 (not-first s j (tally k rest) h.0.parent ne l) ne (omega arith)
       closed-inside s b p (Seq j e inner rest) h l ne once =
           let c = (node_at ns k).parent.number in
           elim (below-cases s b p j e inner rest h l ne) [
             | inl (a, inl q) ↦
                 let z : tally c inner + tally c rest ≡ 0 = omega (arith, ap (λ m. same m j) q, same-self j) in
-                ((λ _. closed-here (inside s j p e) no_slot s.start inner h.2 a q (rw (← q) (omega arith))), inside-none false o c inner (omega arith), inside-none false o c rest (omega arith))
+                let shut = closed-here (inside s j p e) no_slot s.start inner h.2 a q (rw (← q) (omega arith)) in
+                ((λ _. shut), inside-none false o c inner (omega arith), inside-none false o c rest (omega arith))
             | inl (a, inr x) ↦
                 let other : c ≡ j → ⊥ = λ q. absurd (omega (arith, ap (λ m. same m j) q, same-self j)) in
-                ((λ q. absurd (other (sym q))), closed-inside (inside s j p e) no_slot s.start inner h.2 a other (omega arith), inside-none false o c rest (omega arith))
+                let deep = closed-inside (inside s j p e) no_slot s.start inner h.2 a other (omega arith) in
+                ((λ q. absurd (other (sym q))), deep, inside-none false o c rest (omega arith))
             | inr (a, x) ↦
                 let other : c ≡ j → ⊥ = λ q. absurd (omega (arith, ap (λ m. same m j) q, same-self j)) in
-                ((λ q. absurd (other (sym q))), inside-none false o c inner (omega arith), closed-inside s j (p + e) rest h.3 a ne (omega arith))
+                let later = closed-inside s j (p + e) rest h.3 a ne (omega arith) in
+                ((λ q. absurd (other (sym q))), inside-none false o c inner (omega arith), later)
           ]
 
       -- So that container isn't open.
@@ -310,9 +322,9 @@ module _ (ns : List Node) where
           → ((node_at ns k).parent.number ≡ hole → ⊥) → ShowsBut hole o set n → o (node_at ns k).parent.number ≡ false
       closed-above set hole s b p End h l ne once nh f = absurd (omega arith)
       closed-above set hole s b p (Free j e rest) h l ne once nh f =
-          closed-above set hole s j (p + e) rest h.2 (elim (cases_eq k j) [ inl x ↦ absurd (ne (rw x h.0.parent)) | inr other ↦ omega (arith, same-ne k j other) ]) ne (omega arith) nh f.1
+          closed-above set hole s j (p + e) rest h.2 (not-first s j (tally k rest) h.0.parent ne l) ne (omega arith) nh f.1
       closed-above set hole s b p (Alloc j g e rest) h l ne once nh f =
-          closed-above set hole s j (p + e) rest h.3 (elim (cases_eq k j) [ inl x ↦ absurd (ne (rw x h.0.parent)) | inr other ↦ omega (arith, same-ne k j other) ]) ne (omega arith) nh f.1
+          closed-above set hole s j (p + e) rest h.3 (not-first s j (tally k rest) h.0.parent ne l) ne (omega arith) nh f.1
       closed-above set hole s b p (Seq j e inner rest) h l ne once nh f =
           let c = (node_at ns k).parent.number in
           elim (below-cases s b p j e inner rest h l ne) [
@@ -347,11 +359,11 @@ module _ (ns : List Node) (s : Sequence) (n : Numbered) (short : length ns ≤ 1
   container-shown o more set c was w each f =
       shows-container ns o more set c s no_slot 0 n was w (open_inside-each ns o c s no_slot 0 n each h.standing) h.standing f
 
-  -- Nothing is open but for what is to be, where no container is left.
+  -- Where the hole is no slot, each container is as it is to be.
   pub top-shown : (o set : ℕ → Bool) (hole : ℕ) → hole ≡ no_slot → ShowsBut hole o set n → Shows o set n
   top-shown o set hole e f = shows-no_hole o set hole n (rw e none_in) f
 
-  -- Or where a member of the container isn't open.
+  -- So it is where a member of the hole isn't open, nor the hole.
   pub closed-shown : (o set : ℕ → Bool) (k : ℕ) → 0 < use_count (node_at ns k).kind → o k ≡ false
       → (((node_at ns k).parent.number ≡ no_slot → ⊥) → o (node_at ns k).parent.number ≡ false)
       → ShowsBut (node_at ns k).parent.number o set n → Shows o set n
@@ -360,7 +372,8 @@ module _ (ns : List Node) (s : Sequence) (n : Numbered) (short : length ns ≤ 1
         | inl e ↦ top-shown o set (node_at ns k).parent.number e f
         | inr ne ↦
             let c = (node_at ns k).parent.number in
-            let x : AreInside false o c n = closed-inside ns k o closed s no_slot 0 n h.standing (rw (h.numbered k) used) (λ q. ne (q ∙ top)) (once_in c) in
+            let here : 0 < tally k n = rw (h.numbered k) used in
+            let x = closed-inside ns k o closed s no_slot 0 n h.standing here (λ q. ne (q ∙ top)) (once_in c) in
             shows-all o set c n (rw (above ne) x) f
       ]
 

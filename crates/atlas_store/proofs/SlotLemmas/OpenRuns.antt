@@ -1,5 +1,6 @@
 -- The tree in which the open members are free, and its free boxes.
-use Rattle.std.proofs.Common.{ℕ, ◌+◌, ◌<◌, ◌≡◌, ◌⊎◌, inl, inr, List, Bool, true, false, refl, sym, ap, ap₂, subst, ◌∙◌, arith, Contains}
+use Rattle.std.proofs.Common.{ℕ, ◌+◌, ◌<◌, ◌≡◌, ◌⊎◌, inl, inr, Bool, true, false, refl, sym, ap, ap₂, subst, ◌∙◌, arith}
+use Rattle.std.proofs.Common.{List, Contains}
 use Rattle.std.proofs.lemmas.Bool.{cases_Bool, and_cases, and_parts, true≢false}
 use Rattle.std.proofs.lemmas.List.Elements.{Contains-append_left, Contains-append_right}
 use Rattle.atlas_model.specs.Boxes.{Box, other, moved}
@@ -14,18 +15,21 @@ use Rattle.atlas_store.specs.Slots.Standing.{Sequence, inside, member_box, spot}
 use Rattle.atlas_store.specs.Slots.Rehearsing.{all_open, Shows, opened, run_length, IsRunIn}
 use Rattle.atlas_store.proofs.SlotLemmas.Spots.{moved-spot, spot-other}
 
+alone : {d e : ℕ} → d ≡ e → tree.Free d tree.End ≡ tree.Free e tree.End
+alone h = ap (λ k. tree.Free k tree.End) h
+
 -- Open members are one free extent.
 free_before-open : (o : ℕ → Bool) (e : ℕ) (n : Numbered) → all_open o n ≡ true
     → free_before e (nf (opened o n)) ≡ tree.Free (e + total (erase n)) tree.End
-free_before-open o e End h = ap (λ k. tree.Free k tree.End) (omega arith)
+free_before-open o e End h = alone (omega arith)
 free_before-open o e (Free i d rest) h =
-    free_before-twice e d (nf (opened o rest)) ∙ free_before-open o (e + d) rest (and_parts _ _ h).1 ∙ ap (λ k. tree.Free k tree.End) (omega arith)
+    free_before-twice e d (nf (opened o rest)) ∙ free_before-open o (e + d) rest (and_parts _ _ h).1 ∙ alone (omega arith)
 free_before-open o e (Alloc i g d rest) h =
     let x = and_parts (o i) (all_open o rest) h in
-    rw x.0 (free_before-twice e d (nf (opened o rest)) ∙ free_before-open o (e + d) rest x.1 ∙ ap (λ k. tree.Free k tree.End) (omega arith))
+    rw x.0 (free_before-twice e d (nf (opened o rest)) ∙ free_before-open o (e + d) rest x.1 ∙ alone (omega arith))
 free_before-open o e (Seq i d inner rest) h =
     let x = and_parts (o i) (all_open o rest) h in
-    rw x.0 (free_before-twice e d (nf (opened o rest)) ∙ free_before-open o (e + d) rest x.1 ∙ ap (λ k. tree.Free k tree.End) (omega arith))
+    rw x.0 (free_before-twice e d (nf (opened o rest)) ∙ free_before-open o (e + d) rest x.1 ∙ alone (omega arith))
 
 pub nf-open : (o : ℕ → Bool) (n : Numbered) → all_open o n ≡ true → 0 < total (erase n)
     → nf (opened o n) ≡ tree.Free (total (erase n)) tree.End
@@ -103,7 +107,7 @@ seq-kept o set i e inner rest f t =
 -- A free extent takes in the run that follows it.
 pub run-begins : (o set : ℕ → Bool) (e : ℕ) (n : Numbered) → Shows o set n
     → (m : Members) × (free_before e (nf (opened o n)) ≡ tree.Free (e + run_length o n) m)
-run-begins o set e End f = (tree.End, ap (λ k. tree.Free k tree.End) (omega arith))
+run-begins o set e End f = (tree.End, alone (omega arith))
 run-begins o set e (Free i d rest) f =
     let x = run-begins o set (e + d) rest f.1 in
     (x.0, rw f.0 (free_before-twice e d (nf (opened o rest)) ∙ x.1 ∙ ap (λ k. tree.Free k x.0) (omega arith)))
@@ -127,6 +131,10 @@ run-begins o set e (Seq i d inner rest) f =
 abbrev pub free_from : Sequence → (p : ℕ) → Members → List Box
 free_from s p m = free_among s.axis (spot s.axis p s.start) s.width m
 
+carried : (s : Sequence) (p : ℕ) (box : Box) (m k : Members) → m ≡ k → Contains (free_from s p k) box
+    → Contains (free_from s p m) box
+carried s p box m k e h = subst (λ x. Contains (free_from s p x) box) (sym e) h
+
 module _ (s : Sequence) (p e : ℕ) (box : Box) where
   on : (m : Members) → Contains (free_from s (p + e) m) box
       → Contains (free_among s.axis (moved s.axis (spot s.axis p s.start) e) s.width m) box
@@ -142,13 +150,15 @@ module _ (s : Sequence) (p e : ℕ) (box : Box) where
   after_seq : (inner m : Members) → Contains (free_from s (p + e) m) box
       → Contains (free_from s p (tree.Seq e inner m)) box
   after_seq inner m at =
-      subst (λ l. Contains l box) (sym (free_among-seq s.axis (spot s.axis p s.start) s.width e inner m)) (Contains-append_right _ _ box (on m at))
+      let parts = free_among-seq s.axis (spot s.axis p s.start) s.width e inner m in
+      subst (λ l. Contains l box) (sym parts) (Contains-append_right _ _ box (on m at))
 
   within : (i : ℕ) (inner m : Members) → Contains (free_from (inside s i p e) s.start inner) box
       → Contains (free_from s p (tree.Seq e inner m)) box
   within i inner m at =
       let there = subst (λ q. Contains (free_among (other s.axis) q e inner) box) (spot-other s.axis p s.start) at in
-      subst (λ l. Contains l box) (sym (free_among-seq s.axis (spot s.axis p s.start) s.width e inner m)) (Contains-append_left _ _ box there)
+      let parts = free_among-seq s.axis (spot s.axis p s.start) s.width e inner m in
+      subst (λ l. Contains l box) (sym parts) (Contains-append_left _ _ box there)
 
 begins_with : (s : Sequence) (p e : ℕ) (m : Members) → Contains (free_from s p (tree.Free e m)) (member_box s p e)
 begins_with s p e m = Contains-first _ _
@@ -167,13 +177,17 @@ module _ (o set : ℕ → Bool) (box : Box) (s : Sequence) (p e : ℕ) (rest : N
       → Contains (free_from s p m) box
   first_open m is (inl q) =
       let x = run-begins o set e rest f in
-      subst (λ k. Contains (free_from s p k) box) (sym (is ∙ x.1)) (subst (Contains (free_from s p (tree.Free (e + run_length o rest) x.0))) (sym q) (begins_with s p (e + run_length o rest) x.0))
+      let k = tree.Free (e + run_length o rest) x.0 in
+      let here = begins_with s p (e + run_length o rest) x.0 in
+      carried s p box m k (is ∙ x.1) (subst (Contains (free_from s p k)) (sym q) here)
   first_open m is (inr h) = subst (λ k. Contains (free_from s p k) box) (sym is) ((more p).1 e (p + e) refl h)
 
   next_open : (m : Members) → m ≡ free_before e (nf (opened o rest)) → (d q : ℕ) → p + d ≡ q
       → IsRunIn o box true s (q + e) rest → Contains (free_from s p (free_before d m)) box
   next_open m is d q at h =
-      subst (λ k. Contains (free_from s p k) box) (sym (ap (free_before d) is ∙ free_before-twice d e (nf (opened o rest)))) ((more p).1 (d + e) (q + e) (omega arith) h)
+      let k = nf (opened o rest) in
+      let both = ap (free_before d) is ∙ free_before-twice d e k in
+      carried s p box (free_before d m) (free_before (d + e) k) both ((more p).1 (d + e) (q + e) (omega arith) h)
 
   -- It is an allocated leaf.
   after_closed : (id : ℕ) → IsRunIn o box false s (p + e) rest
@@ -185,18 +199,24 @@ free_before-closed e (tree.Free k rest) h = absurd (true≢false h)
 free_before-closed e m h = refl
 
 -- A free extent before members that don't begin with one.
-after_extent : (s : Sequence) (p d q : ℕ) (box : Box) (m : Members) → p + d ≡ q → begins_free m ≡ false
-    → Contains (free_from s q m) box
-    → Contains (free_from s p (free_before d m)) box
-after_extent s p d q box m at apart h =
-    subst (λ k. Contains (free_from s p k) box) (sym (free_before-closed d m apart)) (after_free s p d box m (subst (λ k. Contains (free_from s k m) box) (sym at) h))
+after_extent : (s : Sequence) (p d q : ℕ) (box : Box) (m k : Members) → p + d ≡ q → m ≡ k → begins_free k ≡ false
+    → Contains (free_from s q k) box → Contains (free_from s p (free_before d m)) box
+after_extent s p d q box m k at is apart h =
+    let there = subst (λ x. Contains (free_from s x k) box) (sym at) h in
+    let before = ap (free_before d) is ∙ free_before-closed d k apart in
+    carried s p box (free_before d m) (tree.Free d k) before (after_free s p d box k there)
+
+-- Whether an open one comes before is known.
+turned : (o : ℕ → Bool) (box : Box) (s : Sequence) (q : ℕ) (n : Numbered) (a b : Bool) → a ≡ b
+    → IsRunIn o box a s q n → IsRunIn o box b s q n
+turned o box s q n a b t x = subst (λ c. IsRunIn o box c s q n) t x
 
 runs-free : (o set : ℕ → Bool) (box : Box) (s : Sequence) (p : ℕ) (n : Numbered) → Shows o set n → HasRuns o box s p n
 runs-free o set box s p End f = ((λ h. absurd h), (λ d q at h. absurd h))
 runs-free o set box s p (Free i e rest) f =
     let more : (q : ℕ) → HasRuns o box s q rest = λ q. runs-free o set box s q rest f.1 in
     let length : run_length o (Free i e rest) ≡ e + run_length o rest = rw f.0 refl in
-    let turn = (λ (q : ℕ) (x : IsRunIn o box (o i) s q rest). subst (λ b. IsRunIn o box b s q rest) f.0 x) in (
+    let turn = (λ (q : ℕ). turned o box s q rest (o i) true f.0) in (
       (λ h. elim h [
         | inl x ↦ first_open o set box s p e rest f.1 more _ refl (inl (x.2 ∙ ap (member_box s p) length))
         | inr x ↦ first_open o set box s p e rest f.1 more _ refl (inr (turn (p + e) x))
@@ -208,7 +228,7 @@ runs-free o set box s p (Free i e rest) f =
     )
 runs-free o set box s p (Alloc i g e rest) f =
     let more : (q : ℕ) → HasRuns o box s q rest = λ q. runs-free o set box s q rest f.1 in
-    let turn = (λ (b : Bool) (t : o i ≡ b) (q : ℕ) (x : IsRunIn o box (o i) s q rest). subst (λ b. IsRunIn o box b s q rest) t x) in
+    let turn = (λ (b : Bool) (t : o i ≡ b) (q : ℕ). turned o box s q rest (o i) b t) in
     elim (cases_Bool (o i)) [
       | inl t ↦
           let is : nf (opened o (Alloc i g e rest)) ≡ free_before e (nf (opened o rest)) = rw t refl in
@@ -224,20 +244,21 @@ runs-free o set box s p (Alloc i g e rest) f =
           )
       | inr t ↦
           let m = tree.Alloc (id_of i g) e (nf (opened o rest)) in
-          let is : nf (opened o (Alloc i g e rest)) ≡ m = rw t refl in (
+          let is : nf (opened o (Alloc i g e rest)) ≡ m = rw t refl in
+          let past = (λ (q : ℕ). after_closed o set box s q e rest f.1 more (id_of i g)) in (
             (λ h. elim h [
               | inl x ↦ absurd (true≢false (sym x.1 ∙ t))
-              | inr x ↦ subst (λ k. Contains (free_from s p k) box) (sym is) (after_closed o set box s p e rest f.1 more (id_of i g) (turn false t (p + e) x))
+              | inr x ↦ carried s p box _ m is (past p (turn false t (p + e) x))
             ]),
             (λ d q at h. elim h [
               | inl x ↦ absurd (true≢false x.0)
-              | inr x ↦ subst (λ k. Contains (free_from s p (free_before d k)) box) (sym is) (after_extent s p d q box m at refl (after_closed o set box s q e rest f.1 more (id_of i g) (turn false t (q + e) x)))
+              | inr x ↦ after_extent s p d q box _ m at is refl (past q (turn false t (q + e) x))
             ]),
           )
     ]
 runs-free o set box s p (Seq i e inner rest) f =
     let more : (q : ℕ) → HasRuns o box s q rest = λ q. runs-free o set box s q rest f.2 in
-    let turn = (λ (b : Bool) (t : o i ≡ b) (q : ℕ) (x : IsRunIn o box (o i) s q rest). subst (λ b. IsRunIn o box b s q rest) t x) in
+    let turn = (λ (b : Bool) (t : o i ≡ b) (q : ℕ). turned o box s q rest (o i) b t) in
     elim (cases_Bool (o i)) [
       | inl t ↦
           let is : nf (opened o (Seq i e inner rest)) ≡ free_before e (nf (opened o rest)) = rw t refl in
@@ -255,19 +276,21 @@ runs-free o set box s p (Seq i e inner rest) f =
           )
       | inr t ↦
           let m = nf (opened o inner) in
+          let k = nf (opened o rest) in
           let is = seq-kept o set i e inner rest f t in
-          let deep = (λ (q : ℕ) (x : IsRunIn o box false (inside s i q e) s.start inner). within s q e box i m (nf (opened o rest)) ((runs-free o set box (inside s i q e) s.start inner f.1).0 x)) in
-          let past = (λ (q : ℕ) (x : IsRunIn o box (o i) s (q + e) rest). after_seq s q e box m (nf (opened o rest)) ((more (q + e)).0 (turn false t (q + e) x))) in (
-            (λ h. subst (λ k. Contains (free_from s p k) box) (sym is) (elim h [
+          let inmost = (λ (q : ℕ). (runs-free o set box (inside s i q e) s.start inner f.1).0) in
+          let deep = (λ (q : ℕ) (x : IsRunIn o box false (inside s i q e) s.start inner). within s q e box i m k (inmost q x)) in
+          let past = (λ (q : ℕ) (x : IsRunIn o box (o i) s (q + e) rest). after_seq s q e box m k ((more (q + e)).0 (turn false t (q + e) x))) in (
+            (λ h. carried s p box _ (tree.Seq e m k) is (elim h [
               | inl x ↦ absurd (true≢false (sym x.1 ∙ t))
               | inr (inl x) ↦ deep p x.1
               | inr (inr x) ↦ past p x
             ])),
-            (λ d q at h. subst (λ k. Contains (free_from s p (free_before d k)) box) (sym is) (after_extent s p d q box (tree.Seq e m (nf (opened o rest))) at refl (elim h [
+            (λ d q at h. after_extent s p d q box _ (tree.Seq e m k) at is refl (elim h [
               | inl x ↦ absurd (true≢false x.0)
               | inr (inl x) ↦ deep q x.1
               | inr (inr x) ↦ past q x
-            ]))),
+            ])),
           )
     ]
 

@@ -10,7 +10,7 @@ use Rattle.atlas_model.specs.Trees.{IsCut, IsNormal, is_idle, free_boxes}
 use Rattle.atlas_model.proofs.TreeLemmas.TreeBasics.{free_among}
 use Rattle.atlas_search.specs.Numbers.{no_slot}
 use Rattle.atlas_store.specs.declared.slots.Node.{Node}
-use Rattle.atlas_store.specs.Slots.{node_at}
+use Rattle.atlas_store.specs.Slots.{nodes, node_at}
 use Rattle.atlas_store.specs.Slots.Lists.{is_free}
 use Rattle.atlas_store.specs.Slots.Numbered.{Numbered, erase, End, Free, Alloc, Seq}
 use Rattle.atlas_store.specs.Slots.Standing.{Sequence, Standing, inside}
@@ -18,7 +18,7 @@ use Rattle.atlas_store.specs.Slots.Rehearsing.{is_open, all_open, Shows, IsRunIn
 use Rattle.atlas_store.specs.Stored.{Stored, IsAtlas, state_of}
 use Rattle.atlas_store.proofs.SlotLemmas.OpenMembers.{or_false}
 use Rattle.atlas_store.proofs.SlotLemmas.OpenRuns.{free_from, opened-marked, run-free}
-use Rattle.atlas_store.proofs.WalkLemmas.StoredAtlas.{origin-spot, tree_of-IsAtlas}
+use Rattle.atlas_store.proofs.WalkLemmas.StoredAtlas.{origin-spot, members-IsAtlas, tree_of-IsAtlas}
 
 -- A run of open members is a free box of the tree that is left.
 pub run-released : (o set : ℕ → Bool) (box : Box) (size : Sides) (s : Sequence) (n : Numbered) → s.start ≡ 0
@@ -27,8 +27,10 @@ pub run-released : (o set : ℕ → Bool) (box : Box) (size : Sides) (s : Sequen
     → Contains (free_boxes size (release set (record { axis = s.axis; members = erase n }))) box
 run-released o set box size s n start across wide cut f run =
     let m = nf (mark set (erase n)) in
-    let there : Contains (free_from s 0 m) box = subst (λ k. Contains (free_from s 0 k) box) (opened-marked o set s.width n wide cut f) (run-free o set box s 0 n f run) in
-    let here : Contains (free_among s.axis origin s.width m) box = subst (λ q. Contains (free_among s.axis q s.width m) box) (sym (origin-spot s.axis s.start start)) there in
+    let same = opened-marked o set s.width n wide cut f in
+    let there = subst (λ k. Contains (free_from s 0 k) box) same (run-free o set box s 0 n f run) in
+    let at_origin = sym (origin-spot s.axis s.start start) in
+    let here = subst (λ q. Contains (free_among s.axis q s.width m) box) at_origin there in
     subst (λ w. Contains (free_among s.axis origin w m) box) across here
 
 pub run-in_atlas : (v : Stored) (a : IsAtlas v) (o set : ℕ → Bool) (box : Box) (turns capacity : ℕ)
@@ -71,3 +73,10 @@ pub shows-none : (ns : List Node) (marks : List Bool) (s : Sequence) (b p : ℕ)
     → Shows (is_open ns marks) (λ k. false) n
 shows-none ns marks s b p n unmarked h normal =
     shows-free ns (is_open ns marks) (λ k. or_false _ _ (unmarked k)) s b p n h normal
+
+pub shows-none_atlas : (v : Stored) (a : IsAtlas v) (marks : List Bool)
+    → ((k : ℕ) → slice_index_or marks k false ≡ false)
+    → Shows (is_open (nodes v.shelf.slots) marks) (λ k. false) a.holding.tree
+shows-none_atlas v a marks unmarked =
+    let normal : IsNormal (erase a.holding.tree) = subst IsNormal (members-IsAtlas v a) a.sound.normal in
+    shows-none (nodes v.shelf.slots) marks a.holding.sequence no_slot 0 a.holding.tree unmarked a.holds.stands.standing normal
