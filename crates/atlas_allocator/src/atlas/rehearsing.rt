@@ -3,7 +3,7 @@ ghost use Rattle.std.specs.Prelude.{◌≡◌, ◌↔◌, IsTrue, ℕ, Bool, tru
 ghost use Rattle.atlas_model.specs.Boxes.{box_sides, Fits, IsInside, IsPositive};
 ghost use Rattle.atlas_model.specs.Changes.{and_id};
 ghost use Rattle.atlas_model.specs.Choice.{rounded};
-ghost use Rattle.atlas_model.specs.Pixels.{box_of, sides_of};
+ghost use Rattle.atlas_model.specs.Pixels.{box_of, sides_of, IsMeasurable};
 ghost use Rattle.atlas_model.specs.Replies.{IsExact, live_box};
 ghost use Rattle.atlas_model.specs.States.{IsLive, after_freeing, free_in};
 ghost use Rattle.atlas_store.specs.Rehearsals.{AreShown};
@@ -31,6 +31,7 @@ impl<A: Allocator + Copy> AtlasAllocator<A> {
             → Contains (free_in (after_freeing (state_of self.now) (and_id set id))) (box_of result) }
         ensures around { IfSome (live_box (state_of self.now) id) (λ b. IsInside b (box_of result)) }
         ensures exact { IsExact result }
+        ensures measurable { IsMeasurable result }
         ensures marks { length marks.new ≡ length marks.old }
     {
         let leaf = Link {
@@ -51,14 +52,15 @@ impl<A: Allocator + Copy> AtlasAllocator<A> {
     /// Whether a request, rounded up, fits a rectangle: its size isn't empty, and neither side passes that of the rectangle. Requires
     /// coordinates that aren't negative.
     pub fn fits(&self, requested_size: Size, area: &Rectangle) -> bool
-        requires { IsExact area.now }
+        requires exact { IsExact area.now }
+        requires measurable { IsMeasurable area.now }
         ensures { IsTrue result ↔ (IsPositive (sides_of requested_size)
             × Fits (rounded (state_of self.now).options (sides_of requested_size)) (box_sides (box_of area.now))) }
     {
+        let width = area.width();
+        let height = area.height();
         match self.store.rounded(requested_size) {
-            Some(size) => {
-                size.width <= area.max.x - area.min.x && size.height <= area.max.y - area.min.y
-            }
+            Some(size) => size.width <= width && size.height <= height,
             None => false,
         }
     }

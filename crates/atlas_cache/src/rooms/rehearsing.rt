@@ -1,5 +1,5 @@
 //! A rehearsal: which box of a page would be free, were some of its rectangles freed.
-ghost use Rattle.std.specs.Prelude.{◌≡◌, ◌<◌, ℕ, Bool, false, length, IfSome, IsSome, IsTrue, None};
+ghost use Rattle.std.specs.Prelude.{◌≡◌, ◌<◌, ℕ, Bool, false, length, IfSome, IsSome, None, OnOk};
 ghost use Rattle.guillotiere.specs.Changes.{and_id};
 ghost use Rattle.guillotiere.specs.Pages.{rectangle_on};
 ghost use Rattle.guillotiere.specs.Pixels.{box_of};
@@ -7,22 +7,20 @@ ghost use Rattle.atlas_cache.specs.Vacating.{AreShownOn, HasNoRoomWithout, IsRoo
 
 use crate::rooms::Rooms;
 use guillotiere::{AllocId, Rectangle, Size};
-use std::alloc::Allocator;
+use std::alloc::{AllocError, Allocator};
 
 impl<A: Allocator + Copy> Rooms<A> {
-    /// Begins a rehearsal on a page: no rectangle is shown as freed. Whether there is memory for the marks, one for each slot of it.
-    pub fn show_none(&self, page: u32, marks: &mut Vec<bool, A>) -> bool
+    /// Begins a rehearsal on a page: no rectangle is shown as freed. An error is a refusal of memory for the marks, one for each slot of it.
+    pub fn show_none(&self, page: u32, marks: &mut Vec<bool, A>) -> Result<(), AllocError>
         requires { page < length self.now.pages }
-        ensures { IsTrue result → AreShownOn self.now.pages page marks.new.items (λ id. false) }
+        ensures { OnOk result (AreShownOn self.now.pages page marks.new.items (λ id. false)) }
     {
         let atlas = &self.pages[page as usize];
         let slots = atlas.slots().kept as usize;
         marks.clear();
-        if marks.resize(slots, false).is_err() {
-            return false;
-        }
+        marks.resize(slots, false)?;
         atlas.prove_none_shown(marks);
-        true
+        Ok(())
     }
 
     /// Shows the rectangle of an id of a page as freed, with those that are shown already. The free box that there would be around it, if

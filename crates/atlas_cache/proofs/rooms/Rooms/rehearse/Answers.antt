@@ -3,16 +3,16 @@ use Rattle.atlas_cache.proofs.RoomLemmas.KeptPages.{has_a, id_lives, page_of}
 use Rattle.atlas_cache.proofs.RoomLemmas.ShownPages.{none_around, room_there, shown_after}
 use Rattle.atlas_cache.proofs.rooms.Rooms.rehearse.Goals as goal
 
-pub rehearse-area-requires-clause-is_live : goal.rehearse-area-requires-clause-is_live
-rehearse-area-requires-clause-is_live g c =
+pub rehearse-area-requires-clause-live : goal.rehearse-area-requires-clause-live
+rehearse-area-requires-clause-live g c =
     let shown = rw (← c.self.view_is) at c.requires.on_page in
     let pages = c.self.inside.pages.items in
     let within = page_of pages c.args.page c.args.id shown in
     let a = c.index-atlas.result.now in
     id_lives pages _ a a c.index-atlas.ensures within c.args.id shown
 
-pub rehearse-area-requires-clause-showing : goal.rehearse-area-requires-clause-showing
-rehearse-area-requires-clause-showing g c =
+pub rehearse-area-requires-clause-shown : goal.rehearse-area-requires-clause-shown
+rehearse-area-requires-clause-shown g c =
     let pages = c.self.inside.pages.items in
     let within = page_of pages c.args.page c.args.id (rw (← c.self.view_is) at c.requires.on_page) in
     let a = c.index-atlas.result.now in
@@ -24,7 +24,7 @@ returns-then-fits-clause-shown g c =
     let pages = c.self.inside.pages.items in
     let within = page_of pages c.args.page c.args.id (rw (← c.self.view_is) at c.requires.on_page) in
     rw (← c.self.view_is) (λ ids was fresh.
-    shown_after pages c.args.page c.index-atlas.result.now c.index-atlas.ensures within _ _ ids _ was c.rehearse-area.ensures.length
+    shown_after pages c.args.page c.index-atlas.result.now c.index-atlas.ensures within _ _ ids _ was c.rehearse-area.ensures.marks
     (λ old. c.rehearse-area.ensures.shown ids old fresh))
 
 pub returns-clause-shown : goal.returns-clause-shown
@@ -32,7 +32,7 @@ returns-clause-shown g c =
     let pages = c.self.inside.pages.items in
     let within = page_of pages c.args.page c.args.id (rw (← c.self.view_is) at c.requires.on_page) in
     rw (← c.self.view_is) (λ ids was fresh.
-    shown_after pages c.args.page c.index-atlas.result.now c.index-atlas.ensures within _ _ ids _ was c.rehearse-area.ensures.length
+    shown_after pages c.args.page c.index-atlas.result.now c.index-atlas.ensures within _ _ ids _ was c.rehearse-area.ensures.marks
     (λ old. c.rehearse-area.ensures.shown ids old fresh))
 
 pub returns-then-fits-clause-room : goal.returns-then-fits-clause-room
