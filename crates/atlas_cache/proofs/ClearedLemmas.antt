@@ -1,6 +1,6 @@
 -- The entries in a box of a page freed one after another, and the room that this leaves.
-use Rattle.std.proofs.Common.{ℕ, ◌≡◌, ◌||◌, ◌&&◌, true, false, eqb, Bool, List, [], ◌∷◌, ◌++◌, Some, refl, sym, ap, subst, ◌∙◌, arith, option_map, slice_get, Contains}
-use Rattle.std.proofs.Common.{inl, inr}
+use Rattle.std.proofs.Common.{ℕ, ◌≡◌, ◌||◌, ◌&&◌, true, false, eqb, Bool, List, [], ◌∷◌, ◌++◌, Some}
+use Rattle.std.proofs.Common.{refl, sym, ap, subst, ◌∙◌, option_map, slice_get, Contains, inl, inr}
 use Rattle.std.proofs.lemmas.Bool.{and_from, cases_Bool, eq-eqb, le-leb, false≢true}
 use Rattle.std.proofs.lemmas.Bool.Decides.{eqb_tells}
 use Rattle.std.proofs.lemmas.List.Elements.{All-contains_itself, All-weaker}
@@ -8,20 +8,23 @@ use Rattle.std.specs.List.{AllByRecursion}
 use Rattle.guillotiere.specs.declared.Rectangle.{Rectangle}
 use Rattle.guillotiere.specs.declared.Size.{Size}
 use Rattle.guillotiere.specs.Boxes.{Box, IsInside, IsPositive}
+use Rattle.guillotiere.specs.Changes.{and_id, only, release}
 use Rattle.guillotiere.specs.Choice.{HasRoom}
 use Rattle.guillotiere.specs.Laws.RoomLaws.{HasThoseInside}
-use Rattle.guillotiere.specs.Pages.{rectangle_on}
+use Rattle.guillotiere.specs.Pages.{rectangle_on, HasRoomFor, HasRoomOn}
 use Rattle.guillotiere.specs.Pixels.{box_of, rectangle_of, sides_of}
 use Rattle.guillotiere.specs.Replies.{live_box}
 use Rattle.guillotiere.specs.States.{State, live_in, free_in, after_freeing, IsSound}
 use Rattle.guillotiere.specs.Stored.{AtlasValue, state_of}
-use Rattle.guillotiere.specs.Trees.{Grant}
+use Rattle.guillotiere.specs.Trees.{free_boxes, Grant}
 use Rattle.guillotiere.proofs.ListLemmas.CallerLemmas.{find-counted_once}
 use Rattle.guillotiere.proofs.StepLemmas.FreedRoom.{room_is_kept}
 use Rattle.guillotiere.proofs.StepLemmas.LiveBoxes.{is_for, few_live}
+use Rattle.guillotiere.proofs.TreeLemmas.TreeNormal.{release-none, release-release}
 use Rattle.atlas_entries.specs.declared.entries.Entry.{Entry}
 use Rattle.atlas_entries.specs.Entries.{is_blank, lying, no_page}
 use Rattle.atlas_cache.specs.Caches.{HoldsEntries}
+use Rattle.atlas_cache.specs.Placing.{FreesOn}
 use Rattle.atlas_cache.specs.Vacating.{is_inside, ids_inside, ids_on, lies_in, IsRoomWithout}
 use Rattle.atlas_cache.proofs.BlankLemmas.{lying-append}
 use Rattle.atlas_cache.proofs.HoldingLemmas.{id_cases, IsLiveOn}
@@ -29,6 +32,20 @@ use Rattle.atlas_cache.proofs.HoldingLemmas.{id_cases, IsLiveOn}
 or-true : (x : Bool) → (x || true) ≡ true
 or-true true = refl
 or-true false = refl
+
+or-swap : (x y : Bool) → (x || y) ≡ (y || x)
+or-swap true y = sym (or-true y)
+or-swap false true = refl
+or-swap false false = refl
+
+eqb-sym : (a b : ℕ) → eqb a b ≡ eqb b a
+eqb-sym a b = elim (eqb_tells a b) [
+  | inl same ↦ rw same.1 refl
+  | inr other ↦ elim (eqb_tells b a) [
+    | inl back ↦ absurd (other.1 (sym back.1))
+    | inr neither ↦ other.0 ∙ sym neither.0
+  ]
+]
 
 inside-true : (b c : Box) → IsInside b c → is_inside b c ≡ true
 inside-true b c h =
@@ -54,8 +71,14 @@ either-more true false true r q f is = refl
 either-more true false false r q f is = f is
 either-more false i d r q f is = f is
 
+same-value : (v w : AtlasValue) → Some v ≡ Some w → v ≡ w
+same-value v w is = cc
+
 same-rectangle : (o : Rectangle) (r : Rectangle) → Some o ≡ Some r → o ≡ r
 same-rectangle o r is = cc
+
+inside-none : (K : Type 0) (page : ℕ) (box : Box) → ids_inside {K = K} page box [] ≡ (λ k. false)
+inside-none K page box = λ i k. false
 
 module _ {K : Type 0} where
   inside-on : (page : ℕ) (box : Box) (es : List (Entry K)) (k : ℕ) → ids_inside page box es k ≡ true
@@ -133,3 +156,100 @@ module _ {K : Type 0} where
             (rectangle-here pages page v g at (sound v at) has) inside on)
             (live_in (state_of v)) (All-contains_itself (live_in (state_of v)));
       }
+
+  -- A page is as it was, but for the entries of a list that lay in a box there: they were freed.
+  pub record IsClearedTo (base w : AtlasValue) (page : ℕ) (box : Box) (es : List (Entry K)) : Type 0 where
+    pub tree : (state_of w).tree ≡ release (ids_inside page box es) (state_of base).tree
+    pub size : (state_of w).size ≡ (state_of base).size
+    pub options : (state_of w).options ≡ (state_of base).options
+
+  inside-more : (page : ℕ) (box : Box) (e : Entry K) (es : List (Entry K)) → lies_in page box e ≡ true
+      → and_id (ids_inside page box es) e.id ≡ ids_inside page box (e ∷ es)
+  inside-more page box e es lies = λ i k. at_each k i
+    where
+      at_each : (k : ℕ) → and_id (ids_inside page box es) e.id k ≡ ids_inside page box (e ∷ es) k
+      at_each k = rw (lies, eqb-sym k e.id) (or-swap (ids_inside page box es k) (eqb e.id k))
+
+  inside-other : (page : ℕ) (box : Box) (e : Entry K) (es : List (Entry K)) → lies_in page box e ≡ false
+      → ids_inside page box es ≡ ids_inside page box (e ∷ es)
+  inside-other page box e es other = λ i k. at_each k i
+    where
+      at_each : (k : ℕ) → ids_inside page box es k ≡ ids_inside page box (e ∷ es) k
+      at_each k = rw other refl
+
+  module _ (base : AtlasValue) (page : ℕ) (box : Box) where
+    pub cleared-start : IsSound (state_of base) → IsClearedTo base base page box []
+    cleared-start sound = record {
+      tree = sym (ap (λ s. release s (state_of base).tree) (inside-none K page box) ∙ release-none (state_of base).tree sound.normal);
+      size = refl;
+      options = refl;
+    }
+
+    pub cleared-one : (pages new : List AtlasValue) (v w : AtlasValue) (e : Entry K) (es : List (Entry K))
+        → slice_get pages page ≡ Some v → slice_get new page ≡ Some w → FreesOn pages new page e.id
+        → lies_in page box e ≡ true → IsClearedTo base v page box es → IsClearedTo base w page box (e ∷ es)
+    cleared-one pages new v w e es at_v at_w frees lies p =
+        let freed : state_of w ≡ after_freeing (state_of v) (only e.id) = frees v w at_v at_w in
+        record {
+          tree = ap (λ (s : State). s.tree) freed ∙ ap (release (only e.id)) p.tree
+              ∙ release-release (only e.id) (ids_inside page box es) (state_of base).tree
+              ∙ ap (λ s. release s (state_of base).tree) (inside-more page box e es lies);
+          size = ap (λ (s : State). s.size) freed ∙ p.size;
+          options = ap (λ (s : State). s.options) freed ∙ p.options;
+        }
+
+    pub cleared-other : (w : AtlasValue) (e : Entry K) (es : List (Entry K)) → lies_in page box e ≡ false
+        → IsClearedTo base w page box es → IsClearedTo base w page box (e ∷ es)
+    cleared-other w e es other p = record {
+      tree = p.tree ∙ ap (λ s. release s (state_of base).tree) (inside-other page box e es other);
+      size = p.size;
+      options = p.options;
+    }
+
+    pub cleared-free : (w : AtlasValue) (es : List (Entry K)) → IsClearedTo base w page box es
+        → free_in (state_of w) ≡ free_in (after_freeing (state_of base) (ids_inside page box es))
+    cleared-free w es p = ap (λ n. free_boxes n (state_of w).tree) p.size ∙ ap (free_boxes (state_of base).size) p.tree
+
+    pub cleared-keeps_room : (asked : Size) (w : AtlasValue) (es : List (Entry K)) → IsClearedTo base w page box es
+        → HasRoom (free_in (after_freeing (state_of base) (ids_inside page box es))) (state_of base).options (sides_of asked)
+        → HasRoomFor asked w
+    cleared-keeps_room asked w es p room =
+        subst (λ o. HasRoom (free_in (state_of w)) o (sides_of asked)) (sym p.options)
+        (subst (λ f. HasRoom f (state_of base).options (sides_of asked)) (sym (cleared-free w es p)) room)
+
+  -- The same of the page in a list.
+  abbrev pub IsClearedOn : (base : AtlasValue) → List AtlasValue → (page : ℕ) → Box → List (Entry K) → Type 0
+  IsClearedOn base pages page box es =
+      (v : AtlasValue) → slice_get pages page ≡ Some v → IsClearedTo base v page box es
+
+  module _ (base : AtlasValue) (pages : List AtlasValue) (page : ℕ) (box : Box) where
+    pub cleared_on-start : slice_get pages page ≡ Some base → IsSound (state_of base) → IsClearedOn base pages page box []
+    cleared_on-start at sound v is =
+        subst (λ (w : AtlasValue). IsClearedTo base w page box []) (same-value base v (sym at ∙ is))
+        (cleared-start base page box sound)
+
+    pub cleared_on-one : (new : List AtlasValue) (v : AtlasValue) (e : Entry K) (es : List (Entry K))
+        → slice_get pages page ≡ Some v → FreesOn pages new page e.id → lies_in page box e ≡ true
+        → IsClearedOn base pages page box es → IsClearedOn base new page box (e ∷ es)
+    cleared_on-one new v e es at frees lies p w is =
+        cleared-one base page box pages new v w e es at is frees lies (p v at)
+
+    pub cleared_on-other : (e : Entry K) (es : List (Entry K)) → lies_in page box e ≡ false
+        → IsClearedOn base pages page box es → IsClearedOn base pages page box (e ∷ es)
+    cleared_on-other e es other p w is = cleared-other base page box w e es other (p w is)
+
+  -- Once all those in the box are freed, there is the room for which they were.
+  module _ (asked : Size) (pages : List AtlasValue) (page : ℕ) (box : Box) (newer es : List (Entry K)) where
+    pub cleared-room : ((v : AtlasValue) → slice_get pages page ≡ Some v → IsSound (state_of v))
+        → HoldsEntries pages (lying (newer ++ es)) → (page ≡ no_page → ⊥) → IsPositive (sides_of asked)
+        → IsRoomWithout asked pages page (ids_on page es) box → (base w : AtlasValue) → slice_get pages page ≡ Some base
+        → IsClearedTo base w page box es → HasRoomFor asked w
+    cleared-room sound held lies positive room base w at p =
+        cleared-keeps_room base page box asked w es p (room-left asked pages page newer es box sound held lies positive room base at)
+
+    pub cleared_on-room : ((v : AtlasValue) → slice_get pages page ≡ Some v → IsSound (state_of v))
+        → HoldsEntries pages (lying (newer ++ es)) → (page ≡ no_page → ⊥) → IsPositive (sides_of asked)
+        → IsRoomWithout asked pages page (ids_on page es) box → (base : AtlasValue) (new : List AtlasValue)
+        → slice_get pages page ≡ Some base → IsClearedOn base new page box es → HasRoomOn asked new page
+    cleared_on-room sound held lies positive room base new at p w is =
+        cleared-room sound held lies positive room base w at (p w is)
