@@ -1,4 +1,5 @@
 pub mod BlankLemmas
+pub mod ClearedLemmas
 pub mod PassLemmas
 pub mod GatherLemmas
 pub mod IdOrderLemmas
