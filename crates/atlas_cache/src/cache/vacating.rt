@@ -1,10 +1,10 @@
 //! Room for a request by the eviction of what lies in one box of a page.
-ghost use Rattle.std.specs.Prelude.{◌≡◌, ◌<◌, ◌≤◌, ◌∷◌, List, false, length, IfSome, IsSome, None};
+ghost use Rattle.std.specs.Prelude.{◌≡◌, ◌<◌, ◌≤◌, ◌++◌, ◌∷◌, ℕ, List, nat_le, false, length, IfSome, IsSome, None};
 ghost use Rattle.guillotiere.specs.Pages.{rectangle_on};
-ghost use Rattle.guillotiere.specs.Pixels.{box_of};
+ghost use Rattle.guillotiere.specs.Pixels.{box_of, natural};
 ghost use Rattle.atlas_entries.specs.declared.entries.Entry.{Entry};
 ghost use Rattle.atlas_cache.specs.Caches.{entries_of, FramesFall, HoldsEntries};
-ghost use Rattle.atlas_cache.specs.Vacating.{idle_on, ids_on, AreShownOn, HasNoRoomWithout, IsRoomWithout, IsVacancy};
+ghost use Rattle.atlas_cache.specs.Vacating.{idle_on, ids_on, inside_count, lies_in, AreShownOn, HasNoRoomWithout, IsRoomWithout, IsVacancy};
 ghost use Rattle.atlas_entries.specs.Entries.{lying, no_page};
 
 use crate::rooms::Rooms;
@@ -78,4 +78,52 @@ fn box_on<K: Copy + Eq + Hash, S: BuildHasher, A: Allocator + Copy>(
         next = entries.newer(number);
     }
     None
+}
+
+// Whether one coordinate is no greater than another, where those below 0 count as 0.
+fn is_no_greater(a: i32, b: i32) -> bool
+    ensures { result ≡ nat_le (natural a) (natural b) }
+{
+    a <= 0 || a <= b
+}
+
+// Whether an entry lies on a page inside a box.
+fn lies_in<K: Copy>(entry: &Entry<K>, page: u32, area: &Rectangle) -> bool
+    ensures { result ≡ lies_in page (box_of area.now) entry.now }
+{
+    let outer = *area;
+    let inner = entry.rectangle;
+    entry.page == page
+        && is_no_greater(outer.min.x, inner.min.x)
+        && is_no_greater(outer.min.y, inner.min.y)
+        && is_no_greater(inner.max.x, outer.max.x)
+        && is_no_greater(inner.max.y, outer.max.y)
+}
+
+// How many of so many of the least recently used entries lie on a page inside a box.
+fn inside<K: Copy + Eq + Hash, S: BuildHasher, A: Allocator + Copy>(
+    entries: &Entries<K, S, A>,
+    count: usize,
+    page: u32,
+    area: &Rectangle,
+) -> usize
+    requires { count ≤ length entries.now.entries }
+    ensures inside { (newer older : List (ℕ × Entry K)) → entries.now.entries ≡ newer ++ older → length older ≡ count
+        → result ≡ inside_count page (box_of area.now) (entries_of older) }
+    ensures few { result ≤ length entries.now.entries }
+{
+    entries.prove_kept();
+    let mut next = entries.oldest();
+    let mut found = 0;
+    for looked in 0..count {
+        let Some(number) = next else {
+            return found;
+        };
+        let entry = entries.entry(number);
+        if lies_in(&entry, page, area) {
+            found += 1;
+        }
+        next = entries.newer(number);
+    }
+    found
 }
