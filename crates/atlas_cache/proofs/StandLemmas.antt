@@ -1,6 +1,7 @@
 -- A frame that has used nothing has room for whatever can stand on a page, and one that has used all has none.
-use Rattle.std.proofs.Common.{ℕ, ◌<◌, ◌≤◌, ◌≡◌, ◌&&◌, ◌||◌, true, false, Bool, eqb, ltb, not, filter, find, option_map, List, [], ◌∷◌, length, slice_get}
-use Rattle.std.proofs.Common.{Option, None, Some, refl, sym, ap, subst, ◌∙◌, arith, inl, inr, eq-eqb, ◌==◌}
+use Rattle.std.proofs.Common.{ℕ, ◌<◌, ◌≤◌, ◌≡◌, ◌&&◌, ◌||◌, ◌==◌, true, false, Bool, eqb, ltb, not, filter, find, option_map}
+use Rattle.std.proofs.Common.{List, [], ◌∷◌, length, slice_get}
+use Rattle.std.proofs.Common.{Option, None, Some, refl, sym, ap, subst, ◌∙◌, arith, inl, inr, eq-eqb}
 use Rattle.std.proofs.lemmas.{Bool.{cases_Bool}}
 use Rattle.std.proofs.lemmas.Bool.Decides.{eqb_tells}
 use Rattle.std.proofs.lemmas.List.{length-map}
