@@ -1,11 +1,12 @@
 -- What a cache does, change by change, and what a caller learns of it.
 use Rattle.std.specs.Prelude.{◌≡◌, ◌≢◌, ◌+◌, ◌-◌, ◌<◌, ◌≤◌, max, ℕ, Bool, true, false, List, [], ◌∷◌, ◌++◌, length, Option, Some, None}
-use Rattle.std.specs.Prelude.{if◌then◌else◌, slice_set, take, Result, Ok, Err, ◌⊎◌}
+use Rattle.std.specs.Prelude.{if◌then◌else◌, slice_get, slice_set, take, Result, Ok, Err, ◌⊎◌}
 use Rattle.std.specs.List.{AllByRecursion}
 use Rattle.guillotiere.specs.declared.Size.{Size}
 use Rattle.guillotiere.specs.Boxes.{Box, IsPositive}
 use Rattle.guillotiere.specs.Pixels.{sides_of}
-use Rattle.guillotiere.specs.Stored.{AtlasValue}
+use Rattle.guillotiere.specs.Changes.{release}
+use Rattle.guillotiere.specs.Stored.{state_of, AtlasValue}
 use Rattle.guillotiere.specs.Pages.{AddsBoxOn, HasSameRectangles, KeepsPages, LeavesNoBoxOn, NoneHasRoomBelow}
 use Rattle.atlas_cache.specs.declared.changes.CacheChange.{CacheChange}
 use Rattle.atlas_cache.specs.declared.changes.CacheChange.TheVariants.{PageAdded, PageGrown, Evicted, Moved, PageRemoved}
@@ -16,14 +17,14 @@ use Rattle.atlas_cache.specs.declared.inserted.Inserted.{Inserted}
 use Rattle.atlas_cache.specs.declared.inserted.Inserted.TheVariants.{Placed, Held, FrameFull, NeverFits}
 use Rattle.atlas_cache.specs.declared.places.Place.{Place}
 use Rattle.atlas_cache.specs.Asking.{CanStand}
-use Rattle.atlas_cache.specs.Caches.{CacheState, entry_for, place_for, shown, HasNoPageFor, IsFull}
+use Rattle.atlas_cache.specs.Caches.{CacheState, entries_of, entry_for, place_for, shown, HasNoPageFor, IsFull}
 use Rattle.atlas_cache.specs.Counting.{one_more}
 use Rattle.atlas_entries.specs.Entries.{is_blank, lying}
 use Rattle.atlas_cache.specs.Placing.{GrantsOn, GrowsOn, StartsOn}
 use Rattle.atlas_entries.specs.Limits.{IsWithoutNumber}
 use Rattle.atlas_cache.specs.Reserving.{UseAtMost}
 use Rattle.atlas_cache.specs.Rooms.{page_sizes, AreAllLargest, IsAtLeast, IsFirstToGrow, IsRounded}
-use Rattle.atlas_cache.specs.Vacating.{idle_on, ids_on, lies_in, without_inside, HasNoRoomWithout, IsRoomWithout}
+use Rattle.atlas_cache.specs.Vacating.{idle_on, ids_on, ids_inside, lies_in, without_inside, HasNoRoomWithout, IsRoomWithout}
 
 -- A caller's picture of a cache: the place of each key, and the size of each page.
 pub record Picture (K : Type 0) : Type 0 where
@@ -152,6 +153,18 @@ module _ {K : Type 0} where
   ClearsBox page box [] s t = s ≡ t
   ClearsBox page box (c ∷ cs) s t =
       (next : CacheState K) × ClearsOne page box c s next × ClearsBox page box cs next t
+
+  -- Of these entries, the least recently used ones, those went that lie on a page inside a box; and what is free on that page is what
+  -- freeing their ids leaves.
+  pub record IsCleared (page : ℕ) (box : Box) (newer older : List (ℕ × Entry K)) (before after : List (CacheChange K))
+      (s t : CacheState K) : Type 0 where
+    pub made : List (CacheChange K)
+    pub listed : after ≡ before ++ made
+    pub clears : ClearsBox page box made s t
+    pub left : t.entries ≡ entries_of newer ++ without_inside page box (entries_of older)
+    pub freed : (v w : AtlasValue) → slice_get s.pages page ≡ Some v → slice_get t.pages page ≡ Some w
+        → ((state_of w).tree ≡ release (ids_inside page box (entries_of older)) (state_of v).tree)
+        × ((state_of w).size ≡ (state_of v).size) × ((state_of w).options ≡ (state_of v).options)
 
   -- Of the least recently used entries, none of which this frame used, those go that lie on a page inside a box, and no others. The
   -- request had room on no page, and would have none on this one if all of those but the most recently used one of them went; if all

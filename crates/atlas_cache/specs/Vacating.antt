@@ -10,7 +10,10 @@ use Rattle.guillotiere.specs.Rehearsals.{AreShown}
 use Rattle.guillotiere.specs.States.{after_freeing, free_in}
 use Rattle.guillotiere.specs.Stored.{AtlasValue, state_of}
 use Rattle.atlas_entries.specs.declared.entries.Entry.{Entry}
-use Rattle.atlas_cache.specs.Caches.{entries_of, has_id}
+use Rattle.atlas_cache.specs.declared.counts.Counts.{Counts}
+use Rattle.atlas_cache.specs.Caches.{entries_of, has_id, CacheState}
+use Rattle.atlas_cache.specs.Rooms.{RoomsState}
+use Rattle.atlas_entries.specs.Entries.{Table}
 
 -- The first box lies inside the second.
 abbrev pub is_inside : Box → Box → Bool
@@ -78,3 +81,16 @@ module _ {K : Type 0} where
     pub unused : AllByRecursion (λ e. e.frame < frame) (last.1 ∷ entries_of older)
     pub least : HasNoRoomWithout asked pages page (ids_on page (entries_of older))
     pub room : IsRoomWithout asked pages page (ids_on page (last.1 ∷ entries_of older)) box
+
+  -- The state of a cache by its parts.
+  abbrev pub state_with : RoomsState → Table K → (frame : ℕ) → Counts → CacheState K
+  state_with rooms entries frame counts =
+      record {
+        options = rooms.options;
+        pages = rooms.pages;
+        entries = entries_of entries.entries;
+        numbers = entries.made;
+        reserved = entries.reserved;
+        frame = frame;
+        counts = counts;
+      }

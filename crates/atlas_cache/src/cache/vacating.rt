@@ -1,16 +1,28 @@
 //! Room for a request by the eviction of what lies in one box of a page.
-ghost use Rattle.std.specs.Prelude.{◌≡◌, ◌<◌, ◌≤◌, ◌++◌, ◌∷◌, ℕ, List, nat_le, false, length, IfSome, IsSome, None};
-ghost use Rattle.guillotiere.specs.Pages.{rectangle_on};
+ghost use Rattle.std.specs.Prelude.{◌≡◌, ◌+◌, ◌<◌, ◌≤◌, ◌++◌, ◌∷◌, [], ℕ, List, nat_le, false, length, IfOk, IfSome, IsSome, None, Ok, Some};
+ghost use Rattle.std.specs.Prelude.{vec_capacity, vec_len};
+ghost use Rattle.std.specs.List.{AllByRecursion};
+ghost use Rattle.guillotiere.specs.Pages.{rectangle_on, LeavesNoBoxOn};
 ghost use Rattle.guillotiere.specs.Pixels.{box_of, natural};
+ghost use Rattle.atlas_cache.specs.declared.changes.CacheChange.TheVariants.{Evicted};
+ghost use Rattle.atlas_cache.specs.Caches.{entries_of, shown, AreBordered, FramesFall, HoldsEntries, IsFull};
+ghost use Rattle.atlas_cache.specs.Changes.{IsCleared};
+ghost use Rattle.atlas_cache.specs.Counting.{one_more};
+ghost use Rattle.atlas_cache.specs.Placing.{FreesOn};
+ghost use Rattle.atlas_cache.specs.Reserving.{UseAtMost};
+ghost use Rattle.atlas_cache.specs.Rooms.{page_sizes};
+ghost use Rattle.atlas_cache.specs.Vacating.{idle_on, ids_on, inside_count, lies_in, state_with};
+ghost use Rattle.atlas_cache.specs.Vacating.{AreShownOn, HasNoRoomWithout, IsRoomWithout, IsVacancy};
 ghost use Rattle.atlas_entries.specs.declared.entries.Entry.{Entry};
-ghost use Rattle.atlas_cache.specs.Caches.{entries_of, FramesFall, HoldsEntries};
-ghost use Rattle.atlas_cache.specs.Vacating.{idle_on, ids_on, inside_count, lies_in, AreShownOn, HasNoRoomWithout, IsRoomWithout, IsVacancy};
-ghost use Rattle.atlas_entries.specs.Entries.{lying, no_page};
+ghost use Rattle.atlas_entries.specs.Entries.{entry_at, lying, no_page, without_number};
 
+use crate::cache::holding::{place_of, take_out};
+use crate::changes::{CacheChange, Changes};
+use crate::counts::{Counts, count};
 use crate::rooms::Rooms;
 use atlas_entries::entries::{Entries, Entry};
 use guillotiere::{Rectangle, Size};
-use std::alloc::Allocator;
+use std::alloc::{AllocError, Allocator};
 use std::hash::{BuildHasher, Hash};
 
 // Shows an entry as gone, if it lies on this page, with those that are shown already: the box that would come free, if the request fits it.
@@ -126,4 +138,146 @@ fn inside<K: Copy + Eq + Hash, S: BuildHasher, A: Allocator + Copy>(
         next = entries.newer(number);
     }
     found
+}
+
+// A box of a page that would be free, were so many of the least recently used entries gone.
+struct Vacancy {
+    page: u32,
+    area: Rectangle,
+    count: usize,
+}
+
+// The same of one page. An error is a refusal of memory for marks of its slots.
+fn vacancy_on<K: Copy + Eq + Hash, S: BuildHasher, A: Allocator + Copy>(
+    rooms: &Rooms<A>,
+    entries: &Entries<K, S, A>,
+    marks: &mut Vec<bool, A>,
+    frame: u64,
+    page: u32,
+    asked: Size,
+) -> Result<Option<Vacancy>, AllocError>
+    requires there { page < length rooms.now.pages }
+    requires numbered { length rooms.now.pages ≤ no_page }
+    requires held { HoldsEntries rooms.now.pages (lying (entries_of entries.now.entries)) }
+    requires falls { FramesFall frame (entries_of entries.now.entries) }
+    requires none { HasNoRoomWithout asked rooms.now.pages page (λ id. false) }
+    ensures found { IfOk result (λ found. IfSome found (λ v. (v.page ≡ page)
+        × IsVacancy asked frame page rooms.now.pages v.count (box_of v.area) entries.now.entries)) }
+    ensures crowded { result ≡ Ok None
+        → HasNoRoomWithout asked rooms.now.pages page (idle_on frame page (entries_of entries.now.entries)) }
+{
+    rooms.show_none(page, marks)?;
+    let Some((count, area)) = box_on(rooms, entries, marks, frame, page, asked) else {
+        return Ok(None);
+    };
+    Ok(Some(Vacancy { page, area, count }))
+}
+
+// Of the first page that can have one, where this page comes first.
+fn find_vacancy<K: Copy + Eq + Hash, S: BuildHasher, A: Allocator + Copy>(
+    rooms: &Rooms<A>,
+    entries: &Entries<K, S, A>,
+    marks: &mut Vec<bool, A>,
+    frame: u64,
+    first: u32,
+    asked: Size,
+) -> Result<Option<Vacancy>, AllocError>
+    requires there { first < length rooms.now.pages }
+    requires held { HoldsEntries rooms.now.pages (lying (entries_of entries.now.entries)) }
+    requires falls { FramesFall frame (entries_of entries.now.entries) }
+    requires none { (page : ℕ) → HasNoRoomWithout asked rooms.now.pages page (λ id. false) }
+    ensures found { IfOk result (λ found. IfSome found (λ v. (v.page < length rooms.now.pages)
+        × IsVacancy asked frame v.page rooms.now.pages v.count (box_of v.area) entries.now.entries)) }
+    ensures crowded { result ≡ Ok None → (page : ℕ)
+        → HasNoRoomWithout asked rooms.now.pages page (idle_on frame page (entries_of entries.now.entries)) }
+{
+    let pages = rooms.len();
+    if let Some(found) = vacancy_on(rooms, entries, marks, frame, first, asked)? {
+        return Ok(Some(found));
+    }
+    for page in 0..pages {
+        if let Some(found) = vacancy_on(rooms, entries, marks, frame, page, asked)? {
+            return Ok(Some(found));
+        }
+    }
+    Ok(None)
+}
+
+// An entry that lies on a page goes, and the change that says so is listed.
+fn let_go<K: Copy + Eq + Hash, S: BuildHasher, A: Allocator + Copy>(
+    rooms: &mut Rooms<A>,
+    entries: &mut Entries<K, S, A>,
+    counts: &mut Counts,
+    number: u32,
+    entry: Entry<K>,
+    changes: &mut Changes<K, A>,
+)
+    requires held { HoldsEntries rooms.old.pages (lying (entries_of entries.old.entries)) }
+    requires bordered { AreBordered rooms.old.options.padding (entries_of entries.old.entries) }
+    requires here { entry_at number entries.old.entries ≡ Some entry }
+    requires room { vec_len changes.old < vec_capacity changes.old }
+    ensures held { HoldsEntries rooms.new.pages (lying (entries_of entries.new.entries)) }
+    ensures without { entries.new.entries ≡ without_number number entries.old.entries }
+    ensures made { entries.new.made ≡ entries.old.made }
+    ensures reserved { entries.new.reserved ≡ entries.old.reserved }
+    ensures leaves { LeavesNoBoxOn rooms.old.pages rooms.new.pages entry.page entry.id }
+    ensures sizes { page_sizes rooms.new.pages ≡ page_sizes rooms.old.pages }
+    ensures options { rooms.new.options ≡ rooms.old.options }
+    ensures slots { UseAtMost 0 rooms.old.pages rooms.new.pages }
+    ensures step { FreesOn rooms.old.pages rooms.new.pages entry.page entry.id }
+    ensures counted { counts.new ≡ record counts.old { evictions = one_more counts.old.evictions } }
+    ensures listed { changes.new.items
+        ≡ changes.old.items ++ Evicted entry.key (shown rooms.old.options.padding entry) ∷ [] }
+    ensures capacity { vec_capacity changes.old ≤ vec_capacity changes.new }
+{
+    let place = place_of(entry, &rooms.options());
+    take_out(rooms, entries, number, entry);
+    counts.evictions = count(counts.evictions);
+    let key = entry.key;
+    changes.push_reserved(CacheChange::Evicted { key, place });
+}
+
+// Of so many of the least recently used entries those go that lie on a page inside a box.
+fn clear<K: Copy + Eq + Hash, S: BuildHasher, A: Allocator + Copy>(
+    rooms: &mut Rooms<A>,
+    entries: &mut Entries<K, S, A>,
+    counts: &mut Counts,
+    frame: u64,
+    vacancy: &Vacancy,
+    changes: &mut Changes<K, A>,
+)
+    requires full { IsFull (state_with rooms.old entries.old frame counts.old) }
+    requires held { HoldsEntries rooms.old.pages (lying (entries_of entries.old.entries)) }
+    requires bordered { AreBordered rooms.old.options.padding (entries_of entries.old.entries) }
+    requires count { vacancy.now.count ≤ length entries.old.entries }
+    requires on_page { vacancy.now.page < length rooms.old.pages }
+    requires numbered { length rooms.old.pages ≤ no_page }
+    requires unused { (newer older : List (ℕ × Entry K)) → entries.old.entries ≡ newer ++ older
+        → length older ≡ vacancy.now.count → AllByRecursion (λ e. e.frame < frame) (entries_of older) }
+    requires room { (newer older : List (ℕ × Entry K)) → entries.old.entries ≡ newer ++ older
+        → length older ≡ vacancy.now.count
+        → vec_len changes.old + inside_count vacancy.now.page (box_of vacancy.now.area) (entries_of older)
+        ≤ vec_capacity changes.old }
+    ensures cleared { (newer older : List (ℕ × Entry K)) → entries.old.entries ≡ newer ++ older
+        → length older ≡ vacancy.now.count
+        → IsCleared vacancy.now.page (box_of vacancy.now.area) newer older changes.old.items changes.new.items
+        (state_with rooms.old entries.old frame counts.old) (state_with rooms.new entries.new frame counts.new) }
+    ensures held { HoldsEntries rooms.new.pages (lying (entries_of entries.new.entries)) }
+    ensures bordered { AreBordered rooms.new.options.padding (entries_of entries.new.entries) }
+    ensures options { rooms.new.options ≡ rooms.old.options }
+    ensures sizes { page_sizes rooms.new.pages ≡ page_sizes rooms.old.pages }
+    ensures capacity { vec_capacity changes.old ≤ vec_capacity changes.new }
+{
+    entries.prove_kept();
+    let mut next = entries.oldest();
+    for looked in 0..vacancy.count {
+        let Some(number) = next else {
+            return;
+        };
+        let entry = entries.entry(number);
+        next = entries.newer(number);
+        if lies_in(&entry, vacancy.page, &vacancy.area) {
+            let_go(rooms, entries, counts, number, entry, changes);
+        }
+    }
 }
