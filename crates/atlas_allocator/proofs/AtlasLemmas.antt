@@ -14,3 +14,4 @@ pub mod RearrangedAtlas
 pub mod MeasurableLists
 pub mod Reserves
 pub mod Requests
+pub mod RehearsedIds

@@ -21,6 +21,7 @@ ghost use Rattle.atlas_model.specs.Steps.AtlasReply.{Done};
 
 pub mod queries;
 pub mod rearranging;
+pub mod rehearsing;
 pub mod requesting;
 pub mod reserving;
 pub mod walks;

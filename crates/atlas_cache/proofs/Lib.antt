@@ -1,4 +1,5 @@
 pub mod BlankLemmas
+pub mod ClearedLemmas
 pub mod PassLemmas
 pub mod GatherLemmas
 pub mod IdOrderLemmas
@@ -21,4 +22,5 @@ pub mod PictureLemmas
 pub mod StandLemmas
 pub mod TrimLemmas
 pub mod UsableLemmas
+pub mod VacateLemmas
 pub mod WalkLemmas

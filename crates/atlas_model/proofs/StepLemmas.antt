@@ -17,3 +17,4 @@ pub mod GuardedBoxes
 pub mod CallerSteps
 pub mod CallerGrants
 pub mod GivenBack
+pub mod FreedRoom

@@ -14,4 +14,5 @@ pub mod TreePlacements
 pub mod TreeKept
 pub mod TreeGrowth
 pub mod TreeRoom
+pub mod TreeInside
 pub mod TreeCounts

@@ -1,5 +1,6 @@
 -- Laws over the definitions, and worked examples.
 pub mod TreeLaws
+pub mod RoomLaws
 pub mod Examples
 pub mod StepLaws
 pub mod RunLaws

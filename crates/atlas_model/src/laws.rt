@@ -25,6 +25,9 @@ ghost use Rattle.atlas_model.specs.Steps.AtlasReply.{Changed, Refused};
 ghost use Rattle.atlas_model.specs.Laws.TreeLaws.{LeavesTile, AreasAddUp, ReleasesInAnyOrder, GrantsAreUndone};
 ghost use Rattle.atlas_model.specs.Laws.TreeLaws.{GrowthAndReleaseSwap, NothingLiveIsOneFree, PlacingsKeepTrees};
 ghost use Rattle.atlas_model.specs.Laws.TreeLaws.{ReleasesKeepTrees, GrowthsKeepTrees, FreedHasRoom, MembersAreCounted};
+ghost use Rattle.atlas_model.specs.Laws.RoomLaws.{RoomComesFromInside, FreeingMakesOneBox, OneFreeBoxAround};
+ghost use Rattle.atlas_model.specs.Laws.RoomLaws.{RoomIsAround, RoomIsKept, NothingShownChangesNothing};
+ghost use Rattle.atlas_model.specs.Laws.RoomLaws.{FreedTwice, RoomGrows};
 ghost use Rattle.atlas_model.specs.Laws.StepLaws.{StepsKeep, PicksAreOne, PicksExist, SmallerFits, GrantsLieInside};
 ghost use Rattle.atlas_model.specs.Laws.StepLaws.{FreeingsRemoveOne, GrowthsKeepBoxes, RearrangingsLoseNothing};
 ghost use Rattle.atlas_model.specs.Laws.StepLaws.{RefusalsChangeNothing, StepsAnswerAsDue};
@@ -374,4 +377,46 @@ pub fn guarded_are_disjoint()
 #[tactic(auto, using(crate::proofs::SimpleLemmas::SimpleRuns::simple_starts_guard))]
 pub fn simple_starts_guard()
     ensures { SimpleStartsGuard }
+{}
+
+/// A box that is free once a set of ids is freed is free once those of the set are freed whose boxes lie inside it.
+pub fn room_comes_from_inside()
+    ensures { RoomComesFromInside }
+{}
+
+/// Where one id more is freed, each free box was free without it, or a live box of that id lies inside it.
+pub fn freeing_makes_one_box()
+    ensures { FreeingMakesOneBox }
+{}
+
+/// Two free boxes that hold one nonempty box are one.
+pub fn one_free_box_around()
+    ensures { OneFreeBoxAround }
+{}
+
+/// Where a request has no room once a set of ids is freed, and doesn't fit the free box that is around the box of one id
+/// more once that is freed too, it has no room then.
+pub fn room_is_around()
+    ensures { RoomIsAround }
+{}
+
+/// A positive request that fits a box that is free once a set of ids is freed has room once those of the set are freed
+/// whose boxes lie inside it.
+pub fn room_is_kept()
+    ensures { RoomIsKept }
+{}
+
+/// Freeing no id leaves the free boxes as they are.
+pub fn nothing_shown()
+    ensures { NothingShownChangesNothing }
+{}
+
+/// An id freed after a set leaves free and live what freeing both at once does.
+pub fn freed_twice()
+    ensures { FreedTwice }
+{}
+
+/// What has room once a part of a set of ids is freed has room once the set is.
+pub fn room_grows()
+    ensures { RoomGrows }
 {}

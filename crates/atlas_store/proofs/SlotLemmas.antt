@@ -27,8 +27,14 @@ pub mod Suffixes
 pub mod Spots
 pub mod Extensions
 pub mod Followers
+pub mod OpenWalks
+pub mod OpenLines
+pub mod LineBoxes
+pub mod Climbs
 pub mod NestedTops
 pub mod Edits
+pub mod OpenMembers
+pub mod OpenRuns
 pub mod Entries
 pub mod PilePuts
 pub mod PileLifts

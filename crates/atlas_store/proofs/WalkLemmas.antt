@@ -5,4 +5,6 @@ pub mod FreedAtlas
 pub mod HiddenSlots
 pub mod NamedSlots
 pub mod StoredAtlas
+pub mod ShownAtlas
+pub mod RehearsedAtlas
 pub mod WalkSteps

@@ -6,3 +6,4 @@ pub mod Walks
 pub mod Batches
 pub mod Generations
 pub mod Reserves
+pub mod Rehearsals

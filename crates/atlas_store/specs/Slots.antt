@@ -14,6 +14,7 @@ pub mod SlotCalls
 pub mod Placing
 pub mod Picks
 pub mod Piles
+pub mod Rehearsing
 use Rattle.std.specs.Prelude.{ℕ, ◌≡◌, List, map, pos, slice_index_or}
 use Rattle.atlas_store.specs.declared.slots.Slot.{Slot}
 use Rattle.atlas_search.specs.declared.link.Link.{Link}

@@ -12,6 +12,7 @@ pub mod lists;
 pub mod piles;
 pub mod piling;
 pub mod placing;
+pub mod rehearsing;
 pub mod walks;
 
 use atlas_model::Rectangle;

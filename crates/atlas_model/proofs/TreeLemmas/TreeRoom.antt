@@ -36,15 +36,15 @@ room_cases b [] ds h = inr h
 room_cases b (c ∷ cs) ds (inl h) = inl (inl h)
 room_cases b (c ∷ cs) ds (inr h) = grind (arith, room_cases b cs ds h)
 
-inside_trans : (b c d : Box) → IsInside b c → IsInside c d → IsInside b d
+pub inside_trans : (b c d : Box) → IsInside b c → IsInside c d → IsInside b d
 inside_trans b c d h k = (omega (arith, h.0, k.0), omega (arith, h.1, k.1), omega (arith, h.2, k.2), omega (arith, h.3, k.3))
 
-inside_first : (axis : Axis) (o : Position) (e k across : ℕ)
+pub inside_first : (axis : Axis) (o : Position) (e k across : ℕ)
     → IsInside (box_at o (sized axis e across)) (box_at o (sized axis (e + k) across))
 inside_first Horizontal o e k across = (omega arith, omega arith, omega arith, omega arith)
 inside_first Vertical o e k across = (omega arith, omega arith, omega arith, omega arith)
 
-inside_second : (axis : Axis) (o : Position) (e k across : ℕ)
+pub inside_second : (axis : Axis) (o : Position) (e k across : ℕ)
     → IsInside (box_at (moved axis o e) (sized axis k across)) (box_at o (sized axis (e + k) across))
 inside_second Horizontal o e k across = (omega arith, omega arith, omega arith, omega arith)
 inside_second Vertical o e k across = (omega arith, omega arith, omega arith, omega arith)
@@ -114,6 +114,30 @@ room-mark s id b chosen axis o across (Seq e inner rest) h =
         → LiesAmong b (free_among (other axis) o e (mark s inner) ++ free_among axis (moved axis o e) across (mark s rest))
     joined (inl k) f g = grind (arith, room_left, free_among)
     joined (inr k) f g = grind (arith, room_right, free_among)
+
+room-mark-free : (s : ℕ → Bool) (b : Box) (axis : Axis) (o : Position) (across : ℕ) (m : Members)
+    → LiesAmong b (free_among axis o across m) → LiesAmong b (free_among axis o across (mark s m))
+room-mark-free s b axis o across End h = h
+room-mark-free s b axis o across (Free e rest) (inl h) = inl h
+room-mark-free s b axis o across (Free e rest) (inr h) = inr (room-mark-free s b axis (moved axis o e) across rest h)
+room-mark-free s b axis o across (Alloc id e rest) h =
+    by_test (s id) (room-mark-free s b axis (moved axis o e) across rest h)
+  where
+    by_test : (x : Bool) → LiesAmong b (free_among axis (moved axis o e) across (mark s rest))
+        → LiesAmong b (free_among axis o across (cond x (Free e (mark s rest)) (Alloc id e (mark s rest))))
+    by_test true later = inr later
+    by_test false later = later
+room-mark-free s b axis o across (Seq e inner rest) h =
+    subst (LiesAmong b) (sym (free_among-seq axis o across e (mark s inner) (mark s rest)))
+    (both (room-mark-free s b (other axis) o e inner) (room-mark-free s b axis (moved axis o e) across rest)
+    (room_cases b (free_among (other axis) o e inner) (free_among axis (moved axis o e) across rest)
+    (subst (LiesAmong b) (free_among-seq axis o across e inner rest) h)))
+  where
+    both : {A C : Type 0} → (A → LiesAmong b (free_among (other axis) o e (mark s inner)))
+        → (C → LiesAmong b (free_among axis (moved axis o e) across (mark s rest))) → A ⊎ C
+        → LiesAmong b (free_among (other axis) o e (mark s inner) ++ free_among axis (moved axis o e) across (mark s rest))
+    both f g (inl a) = room_left b (free_among (other axis) o e (mark s inner)) _ (f a)
+    both f g (inr c) = room_right b (free_among (other axis) o e (mark s inner)) _ (g c)
 
 -- Growth
 
@@ -198,7 +222,7 @@ among_itself : (b : Box) (bs : List Box) → Contains bs b → LiesAmong b bs
 among_itself b [] at = Contains-none b at
 among_itself b (c ∷ cs) at = grind (arith, among_itself b cs)
 
-sides_inside : (b f : Box) → IsInside b f → Fits (box_sides b) (box_sides f)
+pub sides_inside : (b f : Box) → IsInside b f → Fits (box_sides b) (box_sides f)
 sides_inside b f h = (omega (arith, h.0, h.2), omega (arith, h.1, h.3))
 
 -- Right after a live box is freed, a free box has room for its sides.
@@ -213,6 +237,14 @@ freed_has_room size t s g well at chosen = (room.0, room.1, room.2, sides_inside
         lies_in_one g.box (free_boxes size (release s t))
         (room-nf g.box t.axis origin (side (other t.axis) size) (mark s t.members) (cut-mark s (side (other t.axis) size) t.members well.cut)
         (room-mark s g.id g.box chosen t.axis origin (side (other t.axis) size) t.members (holds_from g (live size t) at)))
+
+-- Each earlier free box lies in a free box after a freeing.
+pub freed_keeps_room : (size : Sides) (s : ℕ → Bool) (t : Tree) (b : Box) → IsWellFormed size t
+    → Contains (free_boxes size t) b → LiesInOneOf (free_boxes size (release s t)) b
+freed_keeps_room size s t b well at =
+    lies_in_one b (free_boxes size (release s t))
+    (room-nf b t.axis origin (side (other t.axis) size) (mark s t.members) (cut-mark s (side (other t.axis) size) t.members well.cut)
+    (room-mark-free s b t.axis origin (side (other t.axis) size) t.members (among_itself b (free_boxes size t) at)))
 
 -- Each earlier free box lies in a free box after a growth.
 pub grown_room : (old new : Sides) (t : Tree) → IsWellFormed old t → Fits old new

@@ -34,7 +34,7 @@ followers-outermost (suc bound) ns s b q (Alloc i g e rest) h none l =
 followers-outermost (suc bound) ns s b q (Seq i e inner rest) h none l =
     rw (ne_eqb i no_slot (ne-from_same no_slot i (omega arith)), h.0.next) (omega (arith, followers-outermost bound ns s i (q + e) rest h.3 (omega arith) (omega arith)))
 
-outermost-numbers : (n : Numbered) → outermost n ≤ numbers n
+pub outermost-numbers : (n : Numbered) → outermost n ≤ numbers n
 outermost-numbers End = omega arith
 outermost-numbers (Free i e rest) = omega (arith, outermost-numbers rest)
 outermost-numbers (Alloc i g e rest) = omega (arith, outermost-numbers rest)

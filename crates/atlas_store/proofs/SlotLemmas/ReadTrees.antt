@@ -175,7 +175,7 @@ sums-same j (suc m) l =
 abbrev pub tallies : ℕ → Numbered → ℕ
 tallies m n = sums (λ i. tally i n) m
 
-tallies-le : (m : ℕ) (n : Numbered) → ((k : ℕ) → tally k n ≤ 1) → tallies m n ≤ m
+pub tallies-le : (m : ℕ) (n : Numbered) → ((k : ℕ) → tally k n ≤ 1) → tallies m n ≤ m
 tallies-le zero n once = omega arith
 tallies-le (suc m) n once = omega (arith, once m, tallies-le m n once)
 
