@@ -1,5 +1,4 @@
 pub mod BlankLemmas
-pub mod ClearedLemmas
 pub mod PassLemmas
 pub mod GatherLemmas
 pub mod IdOrderLemmas
@@ -22,5 +21,4 @@ pub mod PictureLemmas
 pub mod StandLemmas
 pub mod TrimLemmas
 pub mod UsableLemmas
-pub mod VacateLemmas
 pub mod WalkLemmas

@@ -7,5 +7,4 @@ pub mod PageRoom
 pub mod ReadySlots
 pub mod RefusedSizes
 pub mod RepackedPages
-pub mod ShownPages
 pub mod StoredPages

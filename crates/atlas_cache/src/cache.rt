@@ -22,7 +22,6 @@ pub mod holding;
 mod iter;
 mod repacking;
 mod shrinking;
-mod vacating;
 mod walking;
 
 use crate::cache::holding::{grant, join_blank, look_up, oldest_lying, place_of, take_out};

@@ -10,7 +10,7 @@ ghost use Rattle.guillotiere.specs.Pixels.{natural, sides_of, size_of};
 ghost use Rattle.atlas_cache.specs.declared.options.CacheOptions.{CacheOptions};
 ghost use Rattle.atlas_cache.specs.Asking.{AreUsable};
 ghost use Rattle.atlas_entries.specs.Entries.{no_page};
-ghost use Rattle.atlas_cache.specs.Placing.{FreesOn, GrowsOn, PlacesFirst, StartsOn};
+ghost use Rattle.atlas_cache.specs.Placing.{GrowsOn, PlacesFirst, StartsOn};
 ghost use Rattle.atlas_cache.specs.Reserving.{IsShortOfSlots, UseAtMost};
 ghost use Rattle.atlas_cache.specs.Rooms.{grown_sides, growth_left, page_sizes, rooms_of, AreAllLargest};
 ghost use Rattle.atlas_cache.specs.Rooms.{AreLargestBelow, HasRoomOnlyAmong, IsFirstToGrow, IsNothingLive};
@@ -20,7 +20,6 @@ ghost use Rattle.atlas_entries.specs.declared.error.CacheError.TheVariants.{Memo
 
 mod asking;
 mod copying;
-mod rehearsing;
 mod repacking;
 mod reserving;
 mod usable;
@@ -232,7 +231,6 @@ impl<A: Allocator + Copy> Rooms<A> {
         ensures sizes { page_sizes self.new.pages ≡ page_sizes self.old.pages }
         ensures options { self.new.options ≡ self.old.options }
         ensures slots { UseAtMost 0 self.old.pages self.new.pages }
-        ensures step { FreesOn self.old.pages self.new.pages page id }
     {
         let _freed = self.pages[page as usize].deallocate(id);
         self.refused[page as usize] = NO_SIZE;
