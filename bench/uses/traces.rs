@@ -122,8 +122,8 @@ pub fn glyphs(seed: u64, frames: usize) -> Trace {
 // How many thousandths of its largest size an icon has at each step of zoom: each is the one before, times the fourth root of 2.
 const ZOOMS: [i64; 8] = [297, 354, 420, 500, 595, 707, 841, 1000];
 
-/// 20,000 icons of 3,000 kinds on a square of 100,000 a side, with sides of 8 to 64, and of 128 to 256 for 2 kinds in 100, at eight steps of
-/// zoom, but at least 8 (128). What a window shows, whose middle and zoom move, each 60 frames in another direction.
+/// 20,000 icons of 3,000 kinds on a square of 100,000 a side, with sides of 8 to 64, and of 128 to 256 for 2 kinds in 100, at eight
+/// steps of zoom, but at least 8 (128). What a window shows, whose middle and zoom move, each 60 frames in another direction.
 pub fn map(seed: u64, frames: usize) -> Trace {
     const KINDS: u64 = 3_000;
     let mut random = Random(seed);
