@@ -1,6 +1,7 @@
 //! Anchors: the point of a picture that lies where the engine puts it.
 use crate::fault::{Fault, FILES};
 use crate::folder::{self, Named, Patterns};
+use std::io::ErrorKind;
 use std::path::Path;
 use std::str::FromStr;
 
@@ -46,6 +47,11 @@ fn line(text: &str) -> Option<(Patterns, Anchor)> {
     Some((Patterns::new(&[pattern.to_string()]).ok()?, anchor))
 }
 
+// Whether nothing has this name; what can't be asked is no answer.
+fn is_absent(path: &Path) -> bool {
+    matches!(path.symlink_metadata(), Err(error) if error.kind() == ErrorKind::NotFound)
+}
+
 /// The anchor of each file: that of the last line in the folder's file that is like it, and else `usual`. A line that is like none is told.
 pub fn anchors(
     inside: &Path,
@@ -55,7 +61,7 @@ pub fn anchors(
 ) -> Result<Vec<Option<Anchor>>, Fault> {
     let path = inside.join(FILE);
     let mut anchors = vec![usual; files.len()];
-    if !path.exists() {
+    if is_absent(&path) {
         return Ok(anchors);
     }
     let text = folder::text(&path)?;

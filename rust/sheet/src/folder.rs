@@ -2,6 +2,7 @@
 use crate::fault::{Fault, FILES};
 use crate::nine;
 use globset::{Glob, GlobBuilder, GlobSet, GlobSetBuilder};
+use std::io::ErrorKind;
 use std::path::{Path, PathBuf};
 use walkdir::{DirEntry, WalkDir};
 
@@ -82,8 +83,14 @@ pub fn is_picture(path: &Path) -> bool {
     has_ending(path, &ENDINGS)
 }
 
-fn is_hidden(entry: &DirEntry) -> bool {
-    entry.depth() > 0 && entry.file_name().to_string_lossy().starts_with('.')
+fn is_hidden(path: &Path) -> bool {
+    let name = path.file_name().unwrap_or_default();
+    name.to_string_lossy().starts_with('.')
+}
+
+// A link that leads to nothing.
+fn is_broken_link(path: &Path, kind: ErrorKind) -> bool {
+    kind == ErrorKind::NotFound && path.is_symlink()
 }
 
 // A folder for `target`, the one that the sheets are written to, can only be a link.
@@ -102,12 +109,20 @@ struct Walk<'a> {
     target: &'a Path,
     excluded: &'a Patterns,
     drop_extension: bool,
+    // The folder that is listed, and those in which it lies.
+    inside: Vec<PathBuf>,
     files: Vec<Named>,
     notes: Vec<String>,
     faults: Vec<String>,
 }
 
 impl Walk<'_> {
+    // What isn't looked at.
+    fn is_passed_over(&self, path: &Path, depth: usize) -> bool {
+        let inside = path.strip_prefix(self.folder).unwrap_or(path);
+        depth > 0 && is_hidden(path) || self.excluded.has(inside)
+    }
+
     fn leave_out(&mut self, path: &Path, why: &str) {
         self.notes
             .push(format!("{}: {}; left out", path.display(), why));
@@ -116,11 +131,7 @@ impl Walk<'_> {
     /// Takes what was found, and says whether to go into it, if it is a folder.
     fn take(&mut self, entry: &DirEntry) -> bool {
         let path = entry.path();
-        if is_hidden(entry)
-            || self
-                .excluded
-                .has(path.strip_prefix(self.folder).unwrap_or(path))
-        {
+        if self.is_passed_over(path, entry.depth()) {
             return false;
         }
         if is_target(entry, self.target) {
@@ -143,15 +154,19 @@ impl Walk<'_> {
         true
     }
 
-    /// Of a link to nowhere nothing is told, but where a picture is meant.
+    /// Of a link to nowhere nothing is told, but where a picture is meant. Where a folder can't be listed to its end no path is told.
     fn fail(&mut self, error: &walkdir::Error) {
-        let is_meant = |path: &Path| is_picture(path) || path.is_dir();
-        match error.path() {
-            Some(path) if error.loop_ancestor().is_some() => {
-                self.leave_out(path, "it leads to a folder that it lies in");
-            }
-            Some(path) if !is_meant(path) => {}
-            _ => self.faults.push(error.to_string()),
+        let depth = error.depth();
+        let listed = self.inside.get(depth.saturating_sub(1));
+        let path = error.path().or(listed.map(PathBuf::as_path));
+        let path = path.unwrap_or(self.folder).to_path_buf();
+        if self.is_passed_over(&path, depth) {
+            return;
+        }
+        match error.io_error() {
+            None => self.leave_out(&path, "it leads to a folder that it lies in"),
+            Some(why) if is_broken_link(&path, why.kind()) && !is_picture(&path) => {}
+            Some(why) => self.faults.push(format!("{}: {}", path.display(), why)),
         }
     }
 
@@ -160,8 +175,12 @@ impl Walk<'_> {
         while let Some(entry) = walk.next() {
             match entry {
                 Ok(entry) => {
-                    if !self.take(&entry) && entry.file_type().is_dir() {
+                    let is_folder = entry.file_type().is_dir();
+                    if !self.take(&entry) && is_folder {
                         walk.skip_current_dir();
+                    } else if is_folder {
+                        self.inside.truncate(entry.depth());
+                        self.inside.push(entry.into_path());
                     }
                 }
                 Err(error) => self.fail(&error),
@@ -194,6 +213,7 @@ pub fn files(
         target,
         excluded,
         drop_extension,
+        inside: Vec::new(),
         files: Vec::new(),
         notes: Vec::new(),
         faults: Vec::new(),
