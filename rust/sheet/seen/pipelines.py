@@ -31,9 +31,9 @@ def written(folder):
 
 
 def unreachable():
-    """What a walk can't look at has a line each, and no set is written or called up to date: a folder that can be listed and not entered, for
-    another user than root; a path beyond the system's limit; links in a loop that aren't called as pictures; a disk that fails. Not so a
-    link to nothing, and what is hidden or excluded."""
+    """What a walk can't look at has a line each, and no set is written or called up to date: a folder that can be listed and not entered,
+    for another user than root; a path beyond the system's limit; links in a loop that aren't called as pictures; a disk that fails. Not so
+    a link to nothing, and what is hidden or excluded."""
     user = {'user': 65534, 'group': 65534, 'extra_groups': []} if os.geteuid() == 0 else {}
     with tempfile.TemporaryDirectory() as room:
         put(room + '/in', {**GOOD, 'nothing': 'none'})
@@ -76,7 +76,8 @@ def unreachable():
 
 
 def deep(folder):
-    """Folders in one another, and a picture in the last. Gives the first one whose path the system doesn't take, as it lies in the folder."""
+    """Folders in one another, and a picture in the last. Gives the first one whose path the system doesn't take, by its place in the
+    folder."""
     here, inside, name = os.getcwd(), '', 'x' * 250
     os.chdir(folder)
     while len(os.fsencode(folder)) + 1 + len(inside) < 4400:

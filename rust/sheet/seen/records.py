@@ -43,7 +43,7 @@ def walking(room):
             played(name, out, originals, names)
     out = os.path.join(room, 'split')
     told = run(folder, out, '--size', '64', '40', '--pages', '99').stderr
-    assert told == 'guillotiere-sheet: animation hero/walk lies on several sheets, so no file has it; --group may help\n', told
+    assert told.startswith("guillotiere-sheet: animation hero/walk is split: it doesn't fit on one sheet of 64x40; "), told
     icons.compare(readers.read('json-hash', out), originals, False)
     for name in ('json-hash', 'libgdx', 'libgdx-new', 'godot', 'godot3'):
         out = os.path.join(room, 'single ' + name)

@@ -1,6 +1,6 @@
 //! Animations: pictures whose names differ by the number at their end.
 use crate::folder::ENDINGS;
-use std::collections::{BTreeMap, HashSet};
+use std::collections::{BTreeMap, HashMap, HashSet};
 
 /// Frames in the order of their numbers.
 #[derive(Clone, Debug, PartialEq)]
@@ -102,6 +102,25 @@ pub fn animations(names: &[&str], unnamed: &str) -> Vec<Animation> {
         }
     }
     found
+}
+
+/// Where a frame stands among the sprites.
+pub type Key = (String, u64);
+
+/// The keys of all frames.
+pub fn order(animations: &[Animation]) -> HashMap<&str, Key> {
+    let mut keys = HashMap::new();
+    for one in animations {
+        let frames = one.frames.iter();
+        keys.extend(frames.map(|(number, name)| (name.as_str(), (one.whole.clone(), *number))));
+    }
+    keys
+}
+
+/// By which sprites are sorted: the frames of an animation stand together, in the order of their numbers, and others by their names.
+pub fn key(name: &str, order: &HashMap<&str, Key>) -> Key {
+    let own = || (name.to_string(), 0);
+    order.get(name).cloned().unwrap_or_else(own)
 }
 
 #[cfg(test)]

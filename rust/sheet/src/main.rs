@@ -6,6 +6,7 @@ mod decode;
 mod fault;
 mod folder;
 mod forms;
+mod groups;
 mod head;
 mod heap;
 mod man;
@@ -28,6 +29,7 @@ mod watch;
 mod webp;
 mod words;
 
+use animation::{animations, Animation};
 use colour::Settled;
 use fault::{Fault, FILES, LEFT_OUT, WORDS};
 use folder::{Named, Patterns};
@@ -131,6 +133,7 @@ pub fn run(words: &Words) -> Result<Done, Fault> {
 /// All that is read, and what is told of it.
 struct Read {
     sprites: Vec<Sprite>,
+    animations: Vec<Animation>,
     settled: Settled,
     notes: Vec<String>,
     left_out: Vec<String>,
@@ -204,13 +207,20 @@ fn read(words: &Words) -> Result<Read, Fault> {
     let listed = folder::files(&words.folder, &to, &excluded, words.drop_extension)?;
     let names: Vec<&str> = listed.files.iter().map(|one| one.0.as_str()).collect();
     forms::check_names(words.form, words.stem(), &names)?;
+    let animations = match words.no_animations {
+        true => Vec::new(),
+        false => animations(&names, words.stem()),
+    };
     let mut notes = listed.notes;
     let (files, left_out) = reading::checked(listed.files, words)?;
-    let (sprites, settled) = sprites(files, words, &mut notes)?;
+    let (mut sprites, settled) = sprites(files, words, &mut notes)?;
+    let order = animation::order(&animations);
+    sprites.sort_by_cached_key(|one| animation::key(&one.name, &order));
     notes.extend(settled.notes.iter().cloned());
     notes.extend(forms::lost(words.form, &sprites));
     Ok(Read {
         sprites,
+        animations,
         settled,
         notes,
         left_out,
@@ -228,10 +238,10 @@ fn run_alone(words: &Words, target: &Target) -> Result<Done, Fault> {
     };
     let mut all = Vec::new();
     for scale in &words.scale {
-        let built = sheet::built(&read.sprites, *scale, words)?;
+        let built = sheet::built(&read.sprites, &read.animations, *scale, words)?;
         let suffix = scale.suffix();
         done.has_left_out |= !built.left_out.is_empty();
-        done.notes.extend(built.parted.iter().cloned());
+        done.notes.extend(forms::split(words.form, &built));
         done.notes.extend(
             built
                 .left_out
@@ -239,7 +249,6 @@ fn run_alone(words: &Words, target: &Target) -> Result<Done, Fault> {
                 .chain(&read.left_out)
                 .map(|name| format!("left out of {}{}: {}", words.stem(), suffix, name)),
         );
-        done.notes.extend(forms::split(words.form, &built.sheet));
         done.lines.extend(lines(&built));
         all.push(built);
     }

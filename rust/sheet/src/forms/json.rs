@@ -78,13 +78,15 @@ struct Meta<'a> {
     related_multi_packs: Vec<String>,
     #[serde(rename = "frameTags", skip_serializing_if = "Vec::is_empty")]
     frame_tags: Vec<Tag<'a>>,
+    #[serde(skip_serializing_if = "BTreeMap::is_empty")]
+    animations: Played<'a>,
 }
 
 #[derive(Serialize)]
 struct Whole<'a, F> {
     frames: F,
     #[serde(skip_serializing_if = "BTreeMap::is_empty")]
-    animations: BTreeMap<&'a str, Vec<&'a str>>,
+    animations: Played<'a>,
     meta: Meta<'a>,
 }
 
@@ -181,11 +183,29 @@ impl Serialize for Members<'_> {
     }
 }
 
+// Animations by their names.
+type Played<'a> = BTreeMap<&'a str, Vec<&'a str>>;
+
+fn named(one: &Animation) -> (&str, Vec<&str>) {
+    let frames = one.frames.iter().map(|frame| frame.1.as_str());
+    (one.name.as_str(), frames.collect())
+}
+
 // The animations whose frames all lie on this sheet.
-fn played<'a>(sheet: &'a Sheet, page: &Page) -> BTreeMap<&'a str, Vec<&'a str>> {
+fn played<'a>(sheet: &'a Sheet, page: &Page) -> Played<'a> {
     let whole = sheet.animations.iter().filter(|one| has_all(page, one));
-    let frames = |one: &'a Animation| one.frames.iter().map(|frame| frame.1.as_str()).collect();
-    whole.map(|one| (one.name.as_str(), frames(one))).collect()
+    whole.map(named).collect()
+}
+
+// Those that lie on no single sheet.
+fn split(sheet: &Sheet) -> Played<'_> {
+    let is_split = |one: &&Animation| !sheet.pages.iter().any(|page| has_all(page, one));
+    sheet
+        .animations
+        .iter()
+        .filter(is_split)
+        .map(named)
+        .collect()
 }
 
 // The same, by the places of the first and the last frame in the list.
@@ -223,6 +243,7 @@ fn meta(app_only: bool) -> Meta<'static> {
         scale: None,
         related_multi_packs: Vec::new(),
         frame_tags: Vec::new(),
+        animations: BTreeMap::new(),
     }
 }
 
@@ -239,6 +260,11 @@ fn meta_of<'a>(sheet: &'a Sheet, number: usize) -> Meta<'a> {
         scale: Some(sheet.scale.to_string()),
         related_multi_packs: others.map(|other| beside(&other.image, ".json")).collect(),
         frame_tags: tags(sheet, page),
+        animations: if number == 0 {
+            split(sheet)
+        } else {
+            BTreeMap::new()
+        },
         ..meta(false)
     }
 }

@@ -12,7 +12,7 @@ pub use template::Template;
 use crate::animation::Animation;
 use crate::fault::{Fault, WORDS};
 use crate::picture::Lie;
-use crate::sheet::{Page, Sheet, Sprite};
+use crate::sheet::{Built, Page, Sheet, Sprite};
 use clap::ValueEnum;
 use std::collections::HashSet;
 
@@ -171,19 +171,18 @@ pub fn lost(form: Form, sprites: &[Sprite]) -> Vec<String> {
     lines
 }
 
-/// The animations that a form with a file for each sheet can't have, since their frames lie on several, a line each.
-pub fn split(form: Form, sheet: &Sheet) -> Vec<String> {
-    if !matches!(form, Form::JsonHash | Form::JsonArray) {
-        return Vec::new();
-    }
-    let is_split = |one: &&Animation| !sheet.pages.iter().any(|page| has_all(page, one));
-    let line = |one: &Animation| {
-        format!(
-            "animation {} lies on several sheets, so no file has it; --group may help",
-            one.name
-        )
+/// A line for each folder and each animation that is split. JSON tells of such an animation in its first file.
+pub fn split(form: Form, built: &Built) -> Vec<String> {
+    let is_told = matches!(form, Form::JsonHash | Form::JsonArray);
+    let first = built.sheet.pages.first();
+    let line = |line: &String| match first {
+        Some(page) if is_told && line.starts_with("animation ") => {
+            let file = beside(&page.image, ".json");
+            format!("{}; meta.animations of {} has its frames", line, file)
+        }
+        _ => line.clone(),
     };
-    sheet.animations.iter().filter(is_split).map(line).collect()
+    built.split.iter().map(line).collect()
 }
 
 // Whether all frames of an animation lie on a sheet.
