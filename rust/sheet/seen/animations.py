@@ -110,8 +110,73 @@ def common_frames(room):
         icons.compare(readers.read('json-hash', out), icons.originals(folder), False)
 
 
+# Names of files, what is asked for, the animations in the record, and the lines.
+NAMED = [
+    (['run_1.png', 'run_2.png', 'run_3.png'], [], {'run': 'run_1.png run_2.png run_3.png'}, []),
+    (['fly%d.png' % number for number in (1, 2, 4)], [], {}, ["fly isn't an animation: number 3 is missing"]),
+    (['run_1.png', 'run_2.png', 'run.png'], [], {}, ["run isn't an animation: run.png has its name"]),
+    (['run_1.png', 'run_2.PNG', 'run_3.png'], [], {}, ['run isn\'t an animation: names end in ".PNG" and ".png"']),
+    (['run_1.png', 'run_2.png', 'run-1.png'], [], {}, ['run isn\'t an animation: "-" and "_" stand before the numbers']),
+    (['jump_1.png', 'jump_01.png', 'jump_2.png'], [], {}, ["jump isn't an animation: numbers are written in several widths"]),
+    (['icon_16.png', 'icon_32.png', 'icon_64.png', 'v1.5.png', 'v1.6.png'], [], {}, []),
+    (['icon_16.png', 'icon_32.png', 'icon_8.png', 'v1.5.png', 'v1.6.png'], ['--animations', 'icon*'],
+     {'icon': 'icon_8.png icon_16.png icon_32.png'}, []),
+    (['run_1.png', 'run_2.png'], ['--animations', 'walk*'], {'run': 'run_1.png run_2.png'},
+     ['--animations walk*: no picture with a number is like it']),
+]
+
+
+def by_names(room):
+    """Which names make an animation; a line says what one lacks."""
+    for number, (names, more, played, lines) in enumerate(NAMED):
+        folder, out = os.path.join(room, 'names %d' % number), os.path.join(room, 'named %d' % number)
+        draw(folder, names)
+        done = run(folder, out, *more)
+        assert done.stderr.splitlines() == ['guillotiere-sheet: ' + line for line in lines], (names, done.stderr)
+        told = readers.read_json(out + '.json').get('animations', {})
+        assert told == {name: frames.split() for name, frames in played.items()}, (names, told)
+    run(folder, out, '--animations', 'a[', status=2)
+    run(folder, out, '--animations', 'a', '--no-animations', status=2)
+
+
+def timed(room):
+    """Frames a second and looping of single animations, where the form has a place for them."""
+    folder = os.path.join(room, 'timed')
+    draw(folder, ['hero/%s_%d.png' % (name, number) for name in ('die', 'walk') for number in (1, 2)] + ['coin_1.png', 'coin_2.png', 'a.png'])
+
+    def tell(text):
+        with open(os.path.join(folder, 'animations.txt'), 'w') as file:
+            file.write(text)
+    tell('# how they are played\nhero/* 12.5\n\nhero/die 4 once\ncoin 20 loop\n')
+    wanted = {'hero/walk': (12.5, True), 'hero/die': (4, False), 'coin': (20, True)}
+    for form in [*readers.READERS, 'unity', 'css']:
+        out = os.path.join(room, 'timed ' + form)
+        told = run(folder, out, '--form', form, '--frame-rate', '7').stderr
+        is_lost = form in ('libgdx', 'libgdx-new', 'starling', 'cocos', 'css')
+        assert told == ('guillotiere-sheet: this form has no place for what animations.txt tells\n' if is_lost else ''), (form, told)
+        if form in ('json-hash', 'json-array'):
+            data = readers.read_json(out + '.json')
+            listed = data['frames'].items() if form == 'json-hash' else [(each['filename'], each) for each in data['frames']]
+            times = {name: each.get('duration') for name, each in listed}
+            assert (times['hero/walk_2.png'], times['hero/die_1.png'], times['coin_1.png'], times['a.png']) == (80, 250, 50, None)
+            assert {tag['name']: tag.get('repeat') for tag in data['meta']['frameTags']} == {'coin': None, 'hero/walk': None, 'hero/die': '1'}
+        if form == 'unity':
+            found = {each['name']: (each['frameRate'], each['loop']) for each in readers.read_json(out + '.json')['animations']}
+            assert found == wanted, found
+        if 'godot' in form:
+            with open(out + '.tres') as file:
+                found = re.findall(r'"loop": (\w+),\n"name": &?"(.*)",\n"speed": (.*)\n', file.read())
+            assert {name: (float(speed), loop == 'true') for loop, name, speed in found} == {**wanted, 'a.png': (7, True)}, found
+    tell('run 5\n')
+    assert run(folder, out).stderr.endswith('/animations.txt: line 1: no animation is like it\n')
+    for text in ('coin', 'coin x', 'coin 0', 'coin 5 twice', 'co[in 5'):
+        tell('\n' + text)
+        told = run(folder, out, status=1).stderr
+        assert told.endswith("animations.txt: line 2: it isn't PATTERN RATE, PATTERN RATE loop or PATTERN RATE once\n"), told
+
+
 def all_tests(room):
-    for each in (in_order, together, common_frames):
+    for each in (in_order, together, common_frames, by_names, timed):
         test('animations: ' + each.__name__, each, room)
 
 

@@ -1,7 +1,6 @@
 //! Anchors: the point of a picture that lies where the engine puts it.
 use crate::fault::{Fault, FILES};
 use crate::folder::{self, Named, Patterns};
-use std::io::ErrorKind;
 use std::path::Path;
 use std::str::FromStr;
 
@@ -47,11 +46,6 @@ fn line(text: &str) -> Option<(Patterns, Anchor)> {
     Some((Patterns::new(&[pattern.to_string()]).ok()?, anchor))
 }
 
-// Whether nothing has this name; what can't be asked is no answer.
-fn is_absent(path: &Path) -> bool {
-    matches!(path.symlink_metadata(), Err(error) if error.kind() == ErrorKind::NotFound)
-}
-
 /// The anchor of each file: that of the last line in the folder's file that is like it, and else `usual`. A line that is like none is told.
 pub fn anchors(
     inside: &Path,
@@ -61,17 +55,10 @@ pub fn anchors(
 ) -> Result<Vec<Option<Anchor>>, Fault> {
     let path = inside.join(FILE);
     let mut anchors = vec![usual; files.len()];
-    if is_absent(&path) {
-        return Ok(anchors);
-    }
-    let text = folder::text(&path)?;
-    let lines = text.lines().enumerate();
-    for (number, text) in
-        lines.filter(|(_, text)| !text.trim().is_empty() && !text.starts_with('#'))
-    {
-        let told = |what: &str| format!("{}: line {}: {}", path.display(), number + 1, what);
+    for (number, text) in folder::lines(&path)? {
+        let told = |what: &str| format!("{}: line {}: {}", path.display(), number, what);
         let (pattern, anchor) =
-            line(text).ok_or_else(|| Fault::new(FILES, told("it isn't PATTERN X Y")))?;
+            line(&text).ok_or_else(|| Fault::new(FILES, told("it isn't PATTERN X Y")))?;
         let mut is_used = false;
         for ((_, file), place) in files.iter().zip(&mut anchors) {
             if pattern.has(file.strip_prefix(inside).unwrap_or(file)) {

@@ -78,6 +78,18 @@ pub fn text(path: &Path) -> Result<String, Fault> {
     }
 }
 
+/// The lines of a file that say something, with their numbers; none where it isn't there. What can't be asked is no answer.
+pub fn lines(path: &Path) -> Result<Vec<(usize, String)>, Fault> {
+    let there = path.symlink_metadata();
+    if matches!(there, Err(error) if error.kind() == ErrorKind::NotFound) {
+        return Ok(Vec::new());
+    }
+    let text = text(path)?;
+    let lines = (1..).zip(text.lines().map(str::to_string));
+    let says = |(_, line): &(usize, String)| !line.trim().is_empty() && !line.starts_with('#');
+    Ok(lines.filter(says).collect())
+}
+
 /// Whether a file is read, by its ending.
 pub fn is_picture(path: &Path) -> bool {
     has_ending(path, &ENDINGS)

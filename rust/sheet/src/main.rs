@@ -207,17 +207,16 @@ fn read(words: &Words) -> Result<Read, Fault> {
     let listed = folder::files(&words.folder, &to, &excluded, words.drop_extension)?;
     let names: Vec<&str> = listed.files.iter().map(|one| one.0.as_str()).collect();
     forms::check_names(words.form, words.stem(), &names)?;
-    let animations = match words.no_animations {
-        true => Vec::new(),
-        false => animations(&names, words.stem()),
-    };
+    let played = animations(&listed.files, words)?;
+    let animations = played.animations;
     let mut notes = listed.notes;
+    notes.extend(played.notes);
     let (files, left_out) = reading::checked(listed.files, words)?;
     let (mut sprites, settled) = sprites(files, words, &mut notes)?;
     let order = animation::order(&animations);
     sprites.sort_by_cached_key(|one| animation::key(&one.name, &order));
     notes.extend(settled.notes.iter().cloned());
-    notes.extend(forms::lost(words.form, &sprites));
+    notes.extend(forms::lost(words.form, &sprites, played.has_own));
     Ok(Read {
         sprites,
         animations,

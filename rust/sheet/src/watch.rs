@@ -1,5 +1,6 @@
 //! Sheets that follow their folder.
 use crate::anchor;
+use crate::animation;
 use crate::fault::{Fault, FILES};
 use crate::folder::{self, Patterns};
 use crate::words::Words;
@@ -117,6 +118,7 @@ fn seen(words: &Words) -> Seen {
         Err(error) => (Vec::new(), vec![error.to_string()]),
     };
     paths.push(words.folder.join(anchor::FILE));
+    paths.push(words.folder.join(animation::FILE));
     paths.extend(words.template.clone());
     (paths.into_iter().map(stamp).collect(), lines)
 }

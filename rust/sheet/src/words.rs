@@ -139,7 +139,11 @@ pub struct Words {
     /// Pictures whose names end in numbers make no animations
     #[arg(long)]
     pub no_animations: bool,
-    /// How many pictures of an animation are shown in a second
+    /// Files like PATTERN are frames, whatever numbers there are; without it frames count from 0 or 1 with no gap
+    #[arg(long, value_name = "PATTERN", conflicts_with = "no_animations")]
+    pub animations: Vec<String>,
+    /// How many pictures of an animation are shown in a second; FOLDER/animations.txt can have lines PATTERN N for single animations, with
+    /// `once` behind N for one that isn't repeated
     #[arg(long, value_name = "N", default_value_t = 10.0, value_parser = frame_rate)]
     pub frame_rate: f64,
     /// Names without .png, .jpg and the like
@@ -171,7 +175,8 @@ fn seconds(text: &str) -> Result<Duration, String> {
     Ok(Duration::from_secs_f64(seconds))
 }
 
-fn frame_rate(text: &str) -> Result<f64, String> {
+/// Pictures a second.
+pub fn frame_rate(text: &str) -> Result<f64, String> {
     let rate = text
         .parse()
         .ok()

@@ -60,6 +60,8 @@ struct Tag<'a> {
     from: usize,
     to: usize,
     direction: &'static str,
+    #[serde(skip_serializing_if = "Option::is_none")]
+    repeat: Option<&'static str>,
 }
 
 #[derive(Serialize)]
@@ -163,12 +165,12 @@ fn middle(nine: nine::Sides, (width, height): (u32, u32)) -> Box {
 // All frames of a sheet; those of animations with the milliseconds that each is shown.
 fn all<'a>(sheet: &'a Sheet, page: &'a Page, are_named: bool) -> Vec<(&'a str, One<'a>)> {
     let animated = sheet.animated();
-    let duration = (1000.0 / sheet.frame_rate).round() as u32;
+    let duration = |(one, _): &(&Animation, u64)| (1000.0 / one.frame_rate).round() as u32;
     let frames = page.frames.iter().map(|frame| {
         let name = frame.name.as_str();
         (
             name,
-            one(frame, are_named, animated.get(name).map(|_| duration)),
+            one(frame, are_named, animated.get(name).map(duration)),
         )
     });
     frames.collect()
@@ -210,6 +212,10 @@ fn split(sheet: &Sheet) -> Played<'_> {
 
 // The same, by the places of the first and the last frame in the list.
 fn tags<'a>(sheet: &'a Sheet, page: &Page) -> Vec<Tag<'a>> {
+    let is_once = |name: &str| {
+        let mut all = sheet.animations.iter();
+        all.any(|one| one.name == name && !one.is_looped)
+    };
     let tag = |(name, frames): (&'a str, Vec<&'a str>)| {
         let from = page
             .frames
@@ -221,6 +227,7 @@ fn tags<'a>(sheet: &'a Sheet, page: &Page) -> Vec<Tag<'a>> {
             from,
             to,
             direction: "forward",
+            repeat: is_once(name).then_some("1"),
         })
     };
     played(sheet, page).into_iter().filter_map(tag).collect()

@@ -9,7 +9,7 @@ mod template;
 pub use libgdx::{Filter, Wrap};
 pub use template::Template;
 
-use crate::animation::Animation;
+use crate::animation::{self, Animation};
 use crate::fault::{Fault, WORDS};
 use crate::picture::Lie;
 use crate::sheet::{Built, Page, Sheet, Sprite};
@@ -135,7 +135,7 @@ pub fn check_names(form: Form, stem: &str, names: &[&str]) -> Result<(), Fault> 
 }
 
 /// What the form has no place for, a line each.
-pub fn lost(form: Form, sprites: &[Sprite]) -> Vec<String> {
+pub fn lost(form: Form, sprites: &[Sprite], has_rates: bool) -> Vec<String> {
     let has_anchors = matches!(
         form,
         Form::JsonHash
@@ -158,6 +158,16 @@ pub fn lost(form: Form, sprites: &[Sprite]) -> Vec<String> {
     let mut lines = Vec::new();
     if !has_anchors && sprites.iter().any(|one| one.anchor.is_some()) {
         lines.push("this form has no place for anchors".to_string());
+    }
+    let is_timeless = matches!(
+        form,
+        Form::Libgdx | Form::LibgdxNew | Form::Starling | Form::Css | Form::Cocos
+    );
+    if has_rates && is_timeless {
+        lines.push(format!(
+            "this form has no place for what {} tells",
+            animation::FILE
+        ));
     }
     let nines = sprites
         .iter()

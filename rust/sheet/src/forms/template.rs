@@ -148,7 +148,7 @@ fn whole(sheet: &Sheet) -> Value {
     let animations = sheet
         .animations
         .iter()
-        .map(|one| json!({"name": one.name, "frames": names(one)}));
+        .map(|one| json!({"name": one.name, "frames": names(one), "frame_rate": one.frame_rate, "loop": one.is_looped}));
     json!({
         "stem": sheet.stem, "scale": sheet.scale.value(), "premultiplied": sheet.is_premultiplied, "frame_rate": sheet.frame_rate,
         "pages": sheet.pages.iter().map(|one| page(sheet, one)).collect::<Vec<_>>(),
