@@ -134,7 +134,7 @@ BEFORE = {'a folder': ['sheet.json'], 'a folder for the picture': ['sheet.png']}
 
 
 def written(folder):
-    return sorted(name for _, folders, names in os.walk(folder) for name in folders + names)
+    return sorted(name for _, folders, names in os.walk(folder) for name in folders + names if not name.endswith('.stamp'))
 
 
 def case(what, files, words, status, lines):
@@ -191,7 +191,7 @@ def no_space():
         done = ended([room + '/in', room + '/out/sheet'], preexec_fn=limit)
         after = {name: open(room + '/out/' + name, 'rb').read() for name in os.listdir(room + '/out')}
         is_told = re.fullmatch(r"guillotiere-sheet: .*/sheet\.(png|json): it can't be written there: .*\n", done.stderr)
-        check('no space', done.returncode == 1 and is_told and before == after and len(before) == 2,
+        check('no space', done.returncode == 1 and is_told and before == after and len(before) == 3,
               (done.returncode, done.stderr, sorted(after)))
 
 
@@ -256,7 +256,7 @@ def another_form():
         put(room + '/in', {'d.png': png(60, 60)})
         told('its name in a URL', [('my sheet.css', 'my sheet.png')])
         put(room + '/in', {'d.png': png(60, 60, 9)})
-        told('other pixels', [])
+        told('other pixels', [('my sheet.css', 'my sheet.png')])
         told('others', [], '--pages', '2', '--form', 'libgdx', '--scale', '1,0.5')
         put(room + '/in', {'e.png': png(80, 80)})
         told('numbers', [('my sheet.atlas', 'my sheet-0.png'), ('my sheet@0.5x.atlas', 'my sheet-0@0.5x.png')],
@@ -456,7 +456,7 @@ def checked():
         os.utime(room + '/in/a.png')
         told(0)
         put(room + '/in', {'a.png': png(8, 8, 9)})
-        told(5, 'sheet.png')
+        told(5, 'sheet.png', 'sheet.json')
         ended([room + '/in', room + '/out/sheet'])
         told(0)
         os.remove(room + '/out/sheet.json')

@@ -50,7 +50,7 @@ def told(originals):
 
 
 def hidden(folder):
-    return [name for name in os.listdir(folder) if name.startswith('.')]
+    return [name for name in os.listdir(folder) if name.startswith('.') and not name.endswith('.stamp')]
 
 
 def killed(form, more, library, room):
@@ -145,7 +145,8 @@ def stopped(library, room):
 
 
 def to_the_disk(library, room):
-    """All files and both folders are on the disk before the first one gets its place; then the record goes, and comes last."""
+    """All files and both folders are on the disk before the first one gets its place; then the record goes, where a picture is replaced, and
+    comes after the pictures, and the stamp last."""
     folder, _ = pictures(room, 'disk', 9, 20)
     inside = os.path.join(room, 'on disk')
     os.mkdir(inside)
@@ -154,9 +155,10 @@ def to_the_disk(library, room):
         assert run([folder, os.path.join(inside, 'sheet'), *['--trim'][:number - 1]], library, STEP_LOG=log).returncode == 0
         with open(log) as file:
             steps = file.read().split()
-        # The record is unlinked in the middle; at the end the folder of parts, which isn't there any more, and the lock.
-        assert steps == ['mkdir', 'fsync', 'fsync', 'fsync', 'rename', 'fsync', 'unlink', 'fsync', 'rename', 'rename', 'fsync', 'rmdir',
-                         'unlink', 'unlink'], steps
+        # At the end the folder of parts, which isn't there any more, and the lock.
+        replaced = ['unlink', 'fsync'] if number == 2 else []
+        assert steps == ['mkdir', 'fsync', 'fsync', 'fsync', 'fsync', 'rename', 'fsync', *replaced, 'rename', 'rename', 'rename', 'fsync',
+                         'rmdir', 'unlink', 'unlink'], steps
         icons.save(folder, '0x.png', Image.new('RGBA', (40, 30), (1, 1, 1, 255)))
 
 
@@ -184,7 +186,7 @@ def untouched(room):
     words = [folder, os.path.join(inside, 'sheet'), '--size', '64', '64', '--pages', '9']
 
     def stamps():
-        files = {name: os.stat(os.path.join(inside, name)) for name in os.listdir(inside)}
+        files = {name: os.stat(os.path.join(inside, name)) for name in os.listdir(inside) if not name.endswith('.stamp')}
         return {name: (file.st_mtime_ns, file.st_ino) for name, file in files.items()}
     assert run(words).returncode == 0
     first = stamps()

@@ -24,7 +24,9 @@ mod search;
 mod set;
 mod sheet;
 mod stale;
+mod stamp;
 mod stop;
+mod sums;
 mod watch;
 mod webp;
 mod words;
@@ -123,7 +125,7 @@ fn encoded(
 /// Reads the folder, packs, and writes.
 pub fn run(words: &Words) -> Result<Done, Fault> {
     check_folders(words)?;
-    let target = Target::new(words.target(), words.stem());
+    let target = Target::new(words.target(), words.stem(), &words.form_name());
     if words.check {
         return run_alone(words, &target);
     }
@@ -248,13 +250,18 @@ fn run_alone(words: &Words, target: &Target) -> Result<Done, Fault> {
                 .chain(&read.left_out)
                 .map(|name| format!("left out of {}{}: {}", words.stem(), suffix, name)),
         );
-        done.lines.extend(lines(&built));
         all.push(built);
     }
     let mut files = encoded(&all, &read.settled.chunks, words.compress)?;
-    for Built { sheet, .. } in &all {
+    let pages = all.iter_mut().flat_map(|one| &mut one.sheet.pages);
+    for (page, (name, bytes)) in pages.zip(&mut files) {
+        page.take(bytes, words.names);
+        *name = page.image.clone();
+    }
+    for built in &all {
+        done.lines.extend(lines(built));
         // The first file of several may name the others.
-        files.extend(forms::files(&style, sheet)?.into_iter().rev());
+        files.extend(forms::files(&style, &built.sheet)?.into_iter().rev());
     }
     if words.check {
         target.check(&files)?;

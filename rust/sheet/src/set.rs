@@ -1,32 +1,74 @@
 //! A set of files that is whole or isn't there, written by one run at a time.
 //!
 //! All files are first written into a hidden folder beside their places. Its new name, `.OUT.ready`, says that they are complete: from then
-//! on this run, or else the next one, gives them their places. The records go first and come last, so that whoever finds a record finds
-//! the pictures that it was written with.
+//! on this run, or else the next one, gives them their places. Where a picture is replaced, the records go first and come last, so that
+//! whoever finds a record finds the pictures that it was written with. Where none is, each record is replaced by one rename.
 use crate::fault::{Fault, FILES, STALE};
 use crate::forms::File;
 use crate::output::note;
 use crate::stale;
+use crate::stamp::{Stamp, Written};
 use crate::stop;
+use crate::sums;
 use fd_lock::RwLock;
 use same_file::Handle;
 use std::fs;
 use std::io::{self, ErrorKind, Write};
 use std::path::{Path, PathBuf};
 
+// How a stamp's name ends.
+const STAMP: &str = ".stamp";
 const STRANGE: &str = "it isn't of this program's making; remove it";
 
 /// Where the files of one OUT lie.
 pub struct Target {
     folder: PathBuf,
     stem: String,
+    form: String,
 }
 
 impl Target {
-    pub fn new(folder: PathBuf, stem: &str) -> Target {
+    /// By the form of the records, since several forms can have the same OUT.
+    pub fn new(folder: PathBuf, stem: &str, form: &str) -> Target {
         Target {
             folder,
             stem: stem.to_string(),
+            form: form.to_string(),
+        }
+    }
+
+    // The name of the stamp.
+    fn stamp(&self) -> String {
+        format!(".{}.{}{}", self.stem, self.form, STAMP)
+    }
+
+    fn is_stamp(&self, name: &str) -> bool {
+        let inside = name
+            .strip_prefix('.')
+            .and_then(|name| name.strip_prefix(&self.stem));
+        inside.map_or(false, |inside| {
+            inside.starts_with('.') && inside.ends_with(STAMP)
+        })
+    }
+
+    // Those of other forms.
+    fn other_stamps(&self) -> Vec<Stamp> {
+        let names = fs::read_dir(&self.folder).into_iter().flatten();
+        let names = names.filter_map(|entry| entry.ok()?.file_name().into_string().ok());
+        names
+            .filter(|name| self.is_stamp(name) && *name != self.stamp())
+            .map(|name| Stamp::read(&self.folder.join(name)))
+            .collect()
+    }
+
+    // Takes away what the stamp says is of the set before the one that is there, but what is written anew or another form has.
+    fn prune(&self, old: &Stamp, new: &Stamp) {
+        let others = self.other_stamps();
+        let is_needed = |name: &str| new.has(name) || others.iter().any(|stamp| stamp.has(name));
+        for one in old.before.iter().filter(|one| !is_needed(&one.name)) {
+            if one.is_by_content() && one.is_in(&self.folder) {
+                let _ = fs::remove_file(self.folder.join(&one.name));
+            }
         }
     }
 
@@ -107,7 +149,8 @@ impl Target {
     fn name_in_place<'a>(&self, ready: &'a str) -> Option<&'a str> {
         let (number, name) = ready.split_once('-')?;
         let is_number = number.len() == 8 && number.bytes().all(|byte| byte.is_ascii_digit());
-        Some(name).filter(|name| is_number && name.starts_with(&self.stem))
+        let is_own = name.starts_with(&self.stem) || self.is_stamp(name);
+        Some(name).filter(|_| is_number && is_own)
     }
 
     // Whether each file is there with these bytes.
@@ -152,6 +195,13 @@ impl Target {
         if self.has(files) {
             return Ok(Vec::new());
         }
+        let written = files.iter().map(|(name, bytes)| Written {
+            name: name.clone(),
+            sum: sums::of(bytes),
+        });
+        let old = Stamp::read(&self.folder.join(self.stamp()));
+        let new = old.next(written.collect());
+        let stamp = (self.stamp(), new.bytes());
         let changed: Vec<&File> = files
             .iter()
             .filter(|file| !is_picture(&file.0) || !self.has_one(file))
@@ -167,12 +217,13 @@ impl Target {
         let part = self.hidden("part");
         let held = stop::Held::new(&part, || fs::create_dir(&part))
             .map_err(|error| self.unwritten(&self.sheet(), error))?;
-        for (place, (name, bytes)) in changed.into_iter().enumerate() {
+        for (place, (name, bytes)) in changed.into_iter().chain([&stamp]).enumerate() {
             let beside = part.join(format!("{:08}-{}", place, name));
             stop::whole(|| write_through(&beside, bytes))
                 .map_err(|error| self.unwritten(name, error))?;
         }
         let failed = |error: io::Error| self.unwritten(&self.sheet(), error);
+        self.prune(&old, &new);
         held.end(|| {
             sync_folder(&part)
                 .and_then(|()| fs::rename(&part, self.hidden("ready")))
@@ -183,7 +234,8 @@ impl Target {
         Ok(notes)
     }
 
-    // Renames what is ready in the order of its numbers. Without its record nobody takes a picture for one of the set.
+    // Renames what is ready in the order of its numbers. Where a picture is replaced the records go first: without its record nobody takes a
+    // picture for one of the set.
     fn place(&self) -> Result<(), Fault> {
         let ready = self.hidden("ready");
         let failed = |error: io::Error| self.unwritten(&self.sheet(), error);
@@ -202,8 +254,10 @@ impl Target {
             self.folder
                 .join(self.name_in_place(name).unwrap_or_default())
         };
-        if names.len() > 1 {
-            for name in names.iter().rev().filter(|name| !is_picture(name)) {
+        let is_there = |name: &&String| is_picture(name) && place(name).exists();
+        if names.iter().any(|name| is_there(&name)) {
+            let is_record = |name: &&String| !is_picture(name) && !name.ends_with(STAMP);
+            for name in names.iter().rev().filter(is_record) {
                 remove(&place(name)).map_err(failed)?;
             }
             sync_folder(&self.folder).map_err(failed)?;

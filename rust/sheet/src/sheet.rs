@@ -13,7 +13,8 @@ use crate::progress::Progress;
 use crate::room::{check_memory, size, too_large};
 use crate::scale::Scale;
 use crate::search;
-use crate::words::Words;
+use crate::sums;
+use crate::words::{Names, Words};
 use guillotiere::sheet::SheetError;
 use guillotiere::Size;
 use std::collections::{HashMap, HashSet};
@@ -51,12 +52,30 @@ impl Frame {
 /// A sheet.
 #[derive(Clone, Debug, PartialEq)]
 pub struct Page {
-    /// The name of its picture's file.
+    /// What files beside the picture are called, without their endings.
+    pub record: String,
+    /// The name of its picture's file, and the sum of that file's bytes.
     pub image: String,
+    pub sum: String,
     pub width: u32,
     pub height: u32,
     /// In the order of the names; those of an animation together, in the order of their numbers.
     pub frames: Vec<Frame>,
+}
+
+impl Page {
+    /// The file beside the picture with another ending.
+    pub fn beside(&self, ending: &str) -> String {
+        format!("{}{}", self.record, ending)
+    }
+
+    /// Takes the bytes of the picture for its own, and by them its name, if that is asked for.
+    pub fn take(&mut self, bytes: &[u8], names: Names) {
+        self.sum = sums::of(bytes);
+        if names == Names::Content {
+            self.image = format!("{}.{}.png", self.record, sums::short(&self.sum));
+        }
+    }
 }
 
 /// All sheets of one scale.
@@ -336,18 +355,20 @@ fn no_room(homeless: &[&str], needed: usize, words: &Words) -> Fault {
     Fault::new(ROOM, line)
 }
 
-fn image_name(words: &Words, scale: Scale, page: usize) -> String {
+fn record_name(words: &Words, scale: Scale, page: usize) -> String {
     let number = match words.pages {
         None => String::new(),
         Some(_) => format!("-{}", page),
     };
-    format!("{}{}{}.png", words.stem(), number, scale.suffix())
+    format!("{}{}{}", words.stem(), number, scale.suffix())
 }
 
 // The sheets, still without sprites.
 fn empty_pages(laid: &Laid, scale: Scale, words: &Words) -> Vec<Page> {
     let page = |(number, size): (usize, &Size)| Page {
-        image: image_name(words, scale, number),
+        image: format!("{}.png", record_name(words, scale, number)),
+        record: record_name(words, scale, number),
+        sum: String::new(),
         width: size.width as u32,
         height: size.height as u32,
         frames: Vec::new(),

@@ -3,7 +3,7 @@ use crate::anchor;
 use crate::animation;
 use crate::fault::{Fault, FILES};
 use crate::folder::{self, Patterns};
-use crate::words::Words;
+use crate::words::{Names, Words};
 use crate::{run, told, Done};
 use notify::event::{AccessKind, AccessMode, EventKind};
 use notify::{Event, RecommendedWatcher, RecursiveMode, Watcher};
@@ -139,7 +139,12 @@ pub fn watch(words: &Words) -> Result<Done, Fault> {
         let done = run(words);
         told(&done);
         if let Ok(done) = done {
-            for path in earlier.iter().filter(|path| !done.files.contains(path)) {
+            // Those that are called by what they have stay for a while.
+            let is_fixed = words.names == Names::Fixed;
+            let left = earlier
+                .iter()
+                .filter(|path| is_fixed && !done.files.contains(path));
+            for path in left {
                 let _ = std::fs::remove_file(path);
             }
             earlier = done.files;

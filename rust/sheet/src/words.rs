@@ -9,7 +9,7 @@ use crate::packing::Ways;
 use crate::scale::Scale;
 use crate::search::Limits;
 use clap::error::{ContextKind, ErrorKind};
-use clap::{ArgMatches, CommandFactory, FromArgMatches, Parser};
+use clap::{ArgMatches, CommandFactory, FromArgMatches, Parser, ValueEnum};
 use clap_complete::Shell;
 use guillotiere::sheet::{Allowed, SheetOptions};
 use guillotiere::size2;
@@ -26,6 +26,15 @@ Example: guillotiere-sheet icons game/icons --trim --power-of-two
 
 Status: 0 written; 1 a file can't be read or written; 2 wrong usage; 3 the pictures don't fit; 4 written, and some are left out; \
 5 with --check, the files aren't up to date; 130 ended by Ctrl-C.";
+
+/// How the pictures of the sheets are called.
+#[derive(Clone, Copy, Debug, PartialEq, Eq, ValueEnum)]
+pub enum Names {
+    /// OUT.png, or OUT-0.png, OUT-1.png ..
+    Fixed,
+    /// By what they have, as OUT.0123456789abcdef.png: a new one never takes the place of an old one, which stays until the run after the next
+    Content,
+}
 
 /// Packs the pictures of a folder into sheets that engines load.
 #[derive(Parser, Debug)]
@@ -48,6 +57,9 @@ pub struct Words {
     /// With --form libgdx and libgdx-new: in which directions the engine repeats the sheet
     #[arg(long, value_enum, default_value_t = Wrap::None)]
     pub wrap: Wrap,
+    /// How the pictures of the sheets are called
+    #[arg(long, value_enum, default_value_t = Names::Fixed)]
+    pub names: Names,
     /// Leaves out the transparent borders of the pictures
     #[arg(long)]
     pub trim: bool,
@@ -252,6 +264,15 @@ impl Words {
             .unwrap_or("")
     }
 
+    /// That of the form, or of the template.
+    pub fn form_name(&self) -> String {
+        let name = self.template.as_ref().and_then(|path| path.file_name());
+        match (name, self.form.to_possible_value()) {
+            (None, Some(form)) => form.get_name().to_string(),
+            (name, _) => name.unwrap_or_default().to_string_lossy().into_owned(),
+        }
+    }
+
     /// The folder that the files are written to.
     pub fn target(&self) -> PathBuf {
         match self.out.parent() {
@@ -315,6 +336,7 @@ impl Words {
             template,
             filter: self.filter,
             wrap: self.wrap,
+            names: self.names,
             with_page: self.page,
         })
     }

@@ -102,7 +102,8 @@ pub fn text(sheet: &Sheet) -> String {
         let classes: Vec<String> = classes.collect();
         writeln!(
             text,
-            "{} {{ background-image: url({}) }}",
+            "/* sha256: {} */\n{} {{ background-image: url({}) }}",
+            page.sum,
             classes.join(",\n"),
             quoted(&path(&page.image))
         )

@@ -139,9 +139,14 @@ pub fn text(sheet: &Sheet, version: Version) -> String {
         .iter()
         .map(|one| version.animation(one))
         .collect();
+    let sums = sheet.pages.iter();
+    let sums: Vec<String> = sums
+        .map(|page| format!("{}: \"{}\"", quoted(&page.image), page.sum))
+        .collect();
     writeln!(
         text,
-        "\n[resource]\nanimations = [{}]",
+        "\n[resource]\nmetadata/sha256 = {{\n{}\n}}\nanimations = [{}]",
+        sums.join(",\n"),
         animations.join(", ")
     )
     .unwrap();

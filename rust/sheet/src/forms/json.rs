@@ -1,8 +1,10 @@
 //! TexturePacker's JSON, hash and array, and Phaser's multiatlas.
-use super::{beside, has_all, File};
+use super::{has_all, File};
 use crate::animation::Animation;
 use crate::nine;
 use crate::sheet::{Frame, Page, Sheet};
+use crate::sums;
+use crate::words::Names;
 use serde::{Serialize, Serializer};
 use std::collections::BTreeMap;
 
@@ -71,6 +73,8 @@ struct Meta<'a> {
     #[serde(skip_serializing_if = "Option::is_none")]
     image: Option<&'a str>,
     #[serde(skip_serializing_if = "Option::is_none")]
+    sha256: Option<&'a str>,
+    #[serde(skip_serializing_if = "Option::is_none")]
     format: Option<&'static str>,
     #[serde(skip_serializing_if = "Option::is_none")]
     size: Option<Sides>,
@@ -95,6 +99,7 @@ struct Whole<'a, F> {
 #[derive(Serialize)]
 struct Texture<'a> {
     image: &'a str,
+    sha256: &'a str,
     format: &'static str,
     size: Sides,
     scale: f64,
@@ -245,6 +250,7 @@ fn meta(app_only: bool) -> Meta<'static> {
         app: "guillotiere-sheet",
         version: env!("CARGO_PKG_VERSION"),
         image: None,
+        sha256: None,
         format: if app_only { None } else { Some(FORMAT) },
         size: None,
         scale: None,
@@ -255,17 +261,14 @@ fn meta(app_only: bool) -> Meta<'static> {
 }
 
 // The first file names the others, as engines that load them all from one expect.
-fn meta_of<'a>(sheet: &'a Sheet, number: usize) -> Meta<'a> {
+fn meta_of<'a>(sheet: &'a Sheet, number: usize, others: Vec<String>) -> Meta<'a> {
     let page = &sheet.pages[number];
-    let others = sheet
-        .pages
-        .iter()
-        .filter(|other| number == 0 && other.image != page.image);
     Meta {
         image: Some(&page.image),
+        sha256: Some(&page.sum),
         size: Some(sides(page)),
         scale: Some(sheet.scale.to_string()),
-        related_multi_packs: others.map(|other| beside(&other.image, ".json")).collect(),
+        related_multi_packs: others,
         frame_tags: tags(sheet, page),
         animations: if number == 0 {
             split(sheet)
@@ -282,18 +285,27 @@ fn text(value: &impl Serialize) -> String {
     text
 }
 
-fn each(sheet: &Sheet, of: impl Fn(&Page, Meta<'_>) -> String) -> Vec<File> {
+// Where pictures are called by what they have, so are all files but the first.
+fn each(sheet: &Sheet, names: Names, of: impl Fn(&Page, Meta<'_>) -> String) -> Vec<File> {
     let file = |(number, page): (usize, &Page)| {
-        (
-            beside(&page.image, ".json"),
-            of(page, meta_of(sheet, number)).into_bytes(),
-        )
+        let text = of(page, meta_of(sheet, number, Vec::new())).into_bytes();
+        let name = match names {
+            Names::Fixed => page.beside(".json"),
+            Names::Content => page.beside(&format!(".{}.json", sums::short(&sums::of(&text)))),
+        };
+        (name, text)
     };
-    sheet.pages.iter().enumerate().map(file).collect()
+    let others: Vec<File> = sheet.pages.iter().enumerate().skip(1).map(file).collect();
+    let named = others.iter().map(|(name, _)| name.clone()).collect();
+    let first = sheet.pages.first().map(|page| {
+        let text = of(page, meta_of(sheet, 0, named));
+        (page.beside(".json"), text.into_bytes())
+    });
+    first.into_iter().chain(others).collect()
 }
 
-pub fn hashes(sheet: &Sheet) -> Vec<File> {
-    each(sheet, |page, meta| {
+pub fn hashes(sheet: &Sheet, names: Names) -> Vec<File> {
+    each(sheet, names, |page, meta| {
         text(&Whole {
             frames: Members(all(sheet, page, false)),
             animations: played(sheet, page),
@@ -310,8 +322,8 @@ fn listed<'a>(sheet: &'a Sheet, page: &'a Page) -> Vec<One<'a>> {
         .collect()
 }
 
-pub fn arrays(sheet: &Sheet) -> Vec<File> {
-    each(sheet, |page, meta| {
+pub fn arrays(sheet: &Sheet, names: Names) -> Vec<File> {
+    each(sheet, names, |page, meta| {
         text(&Whole {
             frames: listed(sheet, page),
             animations: played(sheet, page),
@@ -323,6 +335,7 @@ pub fn arrays(sheet: &Sheet) -> Vec<File> {
 fn texture<'a>(sheet: &'a Sheet, page: &'a Page) -> Texture<'a> {
     Texture {
         image: &page.image,
+        sha256: &page.sum,
         format: FORMAT,
         size: sides(page),
         scale: sheet.scale.value(),

@@ -13,6 +13,7 @@ use crate::animation::{self, Animation};
 use crate::fault::{Fault, WORDS};
 use crate::picture::Lie;
 use crate::sheet::{Built, Page, Sheet, Sprite};
+use crate::words::Names;
 use clap::ValueEnum;
 use std::collections::HashSet;
 
@@ -53,6 +54,7 @@ pub struct Style {
     pub template: Option<Template>,
     pub filter: Filter,
     pub wrap: Wrap,
+    pub names: Names,
     /// Whether CSS has a page that shows all.
     pub with_page: bool,
 }
@@ -66,8 +68,8 @@ pub fn files(style: &Style, sheet: &Sheet) -> Result<Vec<File>, Fault> {
         |ending: &str, text: String| vec![(format!("{}{}", sheet.stem, ending), text.into_bytes())];
     let atlas = |is_new| libgdx::text(sheet, style.filter, style.wrap, is_new);
     Ok(match style.form {
-        Form::JsonHash => json::hashes(sheet),
-        Form::JsonArray => json::arrays(sheet),
+        Form::JsonHash => json::hashes(sheet, style.names),
+        Form::JsonArray => json::arrays(sheet, style.names),
         Form::Phaser => one(".json", json::multiatlas(sheet)),
         Form::Libgdx => one(".atlas", atlas(false)),
         Form::LibgdxNew => one(".atlas", atlas(true)),
@@ -187,7 +189,7 @@ pub fn split(form: Form, built: &Built) -> Vec<String> {
     let first = built.sheet.pages.first();
     let line = |line: &String| match first {
         Some(page) if is_told && line.starts_with("animation ") => {
-            let file = beside(&page.image, ".json");
+            let file = page.beside(".json");
             format!("{}; meta.animations of {} has its frames", line, file)
         }
         _ => line.clone(),
@@ -206,11 +208,6 @@ fn has_all(page: &Page, animation: &Animation) -> bool {
         .frames
         .iter()
         .all(|(_, name)| names.contains(name.as_str()))
-}
-
-// The name of a file of this sheet's with another ending: the file beside the picture.
-fn beside(image: &str, ending: &str) -> String {
-    format!("{}{}", image.strip_suffix(".png").unwrap_or(image), ending)
 }
 
 /// How files of these forms can spell the name of a picture.

@@ -1,5 +1,5 @@
 //! Files by templates, so that an engine is a file away: that of the user, and those of forms that are templates themselves.
-use super::{beside, File};
+use super::File;
 use crate::fault::{Fault, FILES, WORDS};
 use crate::folder;
 use crate::sheet::{Frame, Page, Sheet};
@@ -104,7 +104,7 @@ impl Template {
             .iter()
             .zip(all["pages"].as_array().into_iter().flatten());
         pages
-            .map(|(page, value)| file(beside(&page.image, &self.ending), Some(value)))
+            .map(|(page, value)| file(page.beside(&self.ending), Some(value)))
             .collect()
     }
 }
@@ -135,7 +135,7 @@ fn sides(sides: crate::nine::Sides) -> Value {
 
 fn page(sheet: &Sheet, page: &Page) -> Value {
     let frames: Vec<Value> = page.frames.iter().map(|one| frame(sheet, one)).collect();
-    json!({"image": page.image, "width": page.width, "height": page.height, "frames": frames})
+    json!({"image": page.image, "sha256": page.sum, "width": page.width, "height": page.height, "frames": frames})
 }
 
 fn whole(sheet: &Sheet) -> Value {
