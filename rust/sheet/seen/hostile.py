@@ -221,7 +221,7 @@ def kinds(room):
     frames = [each.convert('RGB').convert('P', palette=Image.ADAPTIVE) for each in (alpha, alpha.rotate(180))]
     icons.save(folder, 'moving.gif', frames[0], save_all=True, append_images=frames[1:])
     put(folder, {'top first.bmp': top_first(picture)})
-    done = run(folder, room + '/sheet')
+    done = run(folder, room + '/sheet', '--no-animations')
     assert done.returncode == 0 and done.lines == [], done.lines
     found, wanted = readers.read('json-hash', room + '/sheet'), icons.originals(folder)
     assert found.keys() == wanted.keys()

@@ -1,6 +1,6 @@
 #!/usr/bin/env python3
-"""What a build asks of guillotiere-sheet: that no picture vanishes in silence, and that a reader never finds a picture of another
-set.
+"""What a build asks of guillotiere-sheet: that no picture vanishes in silence, that a reader never finds a picture of another set,
+and that nothing is done twice.
 
     rust/sheet/seen/pipelines.py PROGRAM
 
@@ -8,14 +8,16 @@ The last line is 'N passed, M failed'."""
 import hashlib
 import json
 import os
+import resource
 import shutil
 import subprocess
 import sys
 import tempfile
+import time
 
 sys.dont_write_bytecode = True
 import common  # noqa: E402
-from common import PROGRAM, SUITE, ended, put  # noqa: E402
+from common import PROGRAM, SUITE, ended, outcome, put  # noqa: E402
 
 HERE = os.path.dirname(os.path.abspath(__file__))
 check = SUITE.judge
@@ -188,6 +190,192 @@ def beside_a_reader():
         print('beside a reader: %d reads' % reads)
 
 
-for each in (unreachable, sums, by_content, beside_a_reader):
+class Runs:
+    """Runs on one folder, of which each tells what it did."""
+
+    def __init__(self, room, *more):
+        self.room, self.words = room, [room + '/in', room + '/out/sheet', *more]
+        os.mkdir(room + '/out')
+        put(room + '/in', GOOD)
+
+    def stamps(self):
+        found = {name: os.stat(self.room + '/out/' + name) for name in written(self.room + '/out')}
+        return {name: (file.st_ino, file.st_mtime_ns) for name, file in found.items()}
+
+    def expect(self, what, is_changed, *more, status=0):
+        """Whether a file is written, and the status."""
+        before = self.stamps()
+        done = ended([*self.words, *more])
+        check('once: ' + what, (done.returncode, self.stamps() != before) == (status, is_changed), (done.returncode, done.stderr))
+        return done
+
+
+def seconds(words):
+    """What a run takes of a processor."""
+    before = resource.getrusage(resource.RUSAGE_CHILDREN)
+    done = ended(words)
+    after = resource.getrusage(resource.RUSAGE_CHILDREN)
+    assert done.returncode == 0, done.stderr
+    return after.ru_utime + after.ru_stime - before.ru_utime - before.ru_stime
+
+
+def once():
+    """What hasn't changed isn't done again, and what has is, by whatever it shows."""
+    with tempfile.TemporaryDirectory() as room:
+        runs = Runs(room)
+        first = runs.expect('first', True)
+        again = runs.expect('unchanged', False)
+        check('once: the same lines', (first.stdout, first.stderr) == (again.stdout, again.stderr), again.stdout)
+        os.utime(room + '/in/a.png')
+        put(room + '/in', {'x.txt': b'x'})
+        runs.expect('touched', False)
+        old = os.stat(room + '/in/a.png')
+        put(room + '/in', {'a.png': png(8, 8, 9)})
+        os.utime(room + '/in/a.png', ns=(old.st_atime_ns, old.st_mtime_ns))
+        assert os.stat(room + '/in/a.png').st_size == old.st_size
+        runs.expect('as long and as old', True)
+        runs.expect('unchanged again', False)
+        for name in ('sheet.png', 'sheet.json'):
+            os.remove(room + '/out/' + name)
+            runs.expect('removed: ' + name, True)
+            old = os.stat(room + '/out/' + name)
+            with open(room + '/out/' + name, 'r+b') as file:
+                file.write(b'x')
+            os.utime(room + '/out/' + name, ns=(old.st_atime_ns, old.st_mtime_ns))
+            runs.expect('up to date? ' + name, False, '--check', status=5)
+            runs.expect('written over: ' + name, True)
+        put(room + '/in', {'anchors.txt': b'a.png 1 1\n'})
+        runs.expect('anchors', True)
+        put(room + '/in', {'c.png': png(3, 3)})
+        runs.expect('one more', True)
+        os.remove(room + '/in/c.png')
+        runs.expect('one less', True)
+        runs.expect('another word', True, '--padding', '9')
+        with open(room + '/out/.sheet.json-hash.stamp', 'w') as file:
+            file.write('{"made": 5')
+        runs.expect('a bad stamp', True)
+        runs.expect('up to date', False, '--check')
+    with tempfile.TemporaryDirectory() as room:
+        runs = Runs(room, '--size', '12', '12', '--leave-out')
+        told = [runs.expect('left out', is_first, status=4).stderr for is_first in (True, False)]
+        check('once: left out is told each time', told[0] == told[1] and 'left out of sheet: ' in told[0], told)
+
+
+def many_names():
+    """An unchanged folder takes less than a twentieth of the first run, and a file to which several names lead counts once."""
+    with tempfile.TemporaryDirectory() as room:
+        for number in range(60):
+            put(room + '/in', {'%d.png' % number: common.png(200, 200, 8, 6, [os.urandom(800) for _ in range(200)])})
+            put(room + '/in', {'%d/%d.png' % (place, number): '../%d.png' % number for place in range(4)})
+        words = [room + '/in', room + '/sheet']
+        first, again = seconds(words), min(seconds(words) for _ in range(4))
+        check('many names: again', 20 * again < first, (first, again))
+        print('many names: %.3f and %.3f seconds' % (first, again))
+    with tempfile.TemporaryDirectory() as room:
+        put(room + '/in', {'a.png': png(512, 512), **{'%s.png' % name: 'a.png' for name in 'bcd'}})
+        done = ended([room + '/in', room + '/sheet', '--memory', '3M'])
+        check('many names: one file', done.returncode == 0 and done.stdout.endswith(' 4 sprites\n'), done.stderr)
+
+
+def unwritable():
+    """Where nothing has changed, the folder of the files needn't be one that can be written to."""
+    user = {'user': 65534, 'group': 65534, 'extra_groups': []} if os.geteuid() == 0 else {}
+    with tempfile.TemporaryDirectory() as room:
+        put(room + '/in', GOOD)
+        os.mkdir(room + '/out')
+        os.chmod(room, 0o777)
+        program = shutil.copy(PROGRAM, room + '/program')
+        words = [room + '/in', room + '/out/sheet']
+        first = ended(words, executable=program)
+        os.chmod(room + '/out', 0o555)
+        again = ended(words, executable=program, **user)
+        check('unwritable: unchanged', (again.returncode, again.stdout, again.stderr) == (0, first.stdout, ''), again.stderr)
+        os.utime(room + '/in/a.png')
+        again = ended(words, executable=program, **user)
+        check('unwritable: touched', (again.returncode, again.stdout, again.stderr) == (0, first.stdout, ''), again.stderr)
+        put(room + '/in', {'a.png': png(4, 4)})
+        changed = ended(words, executable=program, **user)
+        os.chmod(room + '/out', 0o777)
+        check('unwritable: changed', changed.returncode == 1 and "it can't be written there" in changed.stderr, changed.stderr)
+
+
+def wait_for(has_come, seconds=30):
+    end = time.time() + seconds
+    while time.time() < end:
+        if has_come():
+            return True
+        time.sleep(0.05)
+    return False
+
+
+def watched_files():
+    """What --watch wrote is written again where it is taken away, also with its folder."""
+    with tempfile.TemporaryDirectory() as room:
+        put(room + '/in', GOOD)
+        os.mkdir(room + '/out')
+        running = common.begun([PROGRAM, room + '/in', room + '/out/sheet', '--watch'], stdout=subprocess.DEVNULL, stderr=subprocess.DEVNULL)
+
+        def is_whole():
+            return all(os.path.exists(room + '/out/' + name) for name in ('sheet.json', 'sheet.png'))
+        check('watched files: first', wait_for(is_whole))
+        for name in ('sheet.json', 'sheet.png'):
+            time.sleep(0.5)
+            os.remove(room + '/out/' + name)
+            check('watched files: ' + name, wait_for(is_whole))
+        for _ in range(2):
+            time.sleep(0.5)
+            shutil.rmtree(room + '/out')
+            time.sleep(1)
+            os.mkdir(room + '/out')
+            check('watched files: the folder', wait_for(is_whole))
+        running.terminate()
+        check('watched files: ended', running.wait(timeout=20) == 130)
+
+
+MAKEFILE = """out/sheet.json:
+\t"$(PROGRAM)" in out/sheet --depfile dep
+-include dep
+"""
+NINJA = """rule sheet
+  command = "%s" in out/sheet --depfile dep
+  depfile = dep
+build out/sheet.json: sheet
+"""
+
+
+def built():
+    """make and ninja run it where a picture is changed, comes or goes, and else don't."""
+    for tool, name, text in (('make', 'Makefile', MAKEFILE), ('ninja', 'build.ninja', NINJA % PROGRAM)):
+        if shutil.which(tool) is None:
+            SUITE.skip('built by ' + tool, 'there is no ' + tool)
+            continue
+        with tempfile.TemporaryDirectory() as room:
+            put(room + '/in', {**GOOD, 'a b.png': WHOLE, '#1 $x.png': WHOLE, 'deep/er/c.png': WHOLE})
+            put(room, {name: text.encode()})
+            os.mkdir(room + '/out')
+
+            def is_run(what, *wanted):
+                for number, is_wanted in enumerate(wanted):
+                    done = outcome([tool], cwd=room, env=dict(os.environ, PROGRAM=PROGRAM))
+                    has_run = 'out/sheet --depfile' in done.stdout or '[1/1]' in done.stdout
+                    check('built by %s: %s, %d' % (tool, what, number), (done.returncode, has_run) == (0, is_wanted), done.stdout)
+            is_run('first', True, False)
+            time.sleep(0.02)
+            put(room + '/in', {'#1 $x.png': png(7, 7)})
+            is_run('changed', True, False)
+            os.utime(room + '/in/a b.png')
+            is_run('touched', True, False)
+            time.sleep(0.02)
+            put(room + '/in', {'deep/er/d.png': WHOLE})
+            is_run('one more', True, False)
+            os.remove(room + '/in/a b.png')
+            is_run('one less', True, False)
+            shutil.rmtree(room + '/in/deep')
+            is_run('a folder less', True, False)
+            put(room + '/in', {'anchors.txt': b'a.png 1 1\n'})
+            is_run('anchors', True, False)
+
+
+for each in (unreachable, sums, by_content, once, many_names, unwritable, watched_files, built, beside_a_reader):
     each()
 sys.exit(SUITE.end())

@@ -24,6 +24,8 @@ pub type Named = (String, PathBuf);
 pub struct Listed {
     pub files: Vec<Named>,
     pub notes: Vec<String>,
+    /// All folders that were looked at.
+    pub folders: Vec<PathBuf>,
 }
 
 /// Files and folders by patterns like those of a shell.
@@ -125,6 +127,7 @@ struct Walk<'a> {
     inside: Vec<PathBuf>,
     files: Vec<Named>,
     notes: Vec<String>,
+    folders: Vec<PathBuf>,
     faults: Vec<String>,
 }
 
@@ -192,6 +195,7 @@ impl Walk<'_> {
                         walk.skip_current_dir();
                     } else if is_folder {
                         self.inside.truncate(entry.depth());
+                        self.folders.push(entry.path().to_path_buf());
                         self.inside.push(entry.into_path());
                     }
                 }
@@ -228,6 +232,7 @@ pub fn files(
         inside: Vec::new(),
         files: Vec::new(),
         notes: Vec::new(),
+        folders: Vec::new(),
         faults: Vec::new(),
     };
     walk.go();
@@ -242,6 +247,7 @@ pub fn files(
         return Ok(Listed {
             files: walk.files,
             notes: walk.notes,
+            folders: walk.folders,
         });
     }
     Err(Fault {

@@ -6,9 +6,11 @@ mod decode;
 mod fault;
 mod folder;
 mod forms;
+mod fresh;
 mod groups;
 mod head;
 mod heap;
+mod inputs;
 mod man;
 mod memory;
 mod nine;
@@ -34,12 +36,15 @@ mod words;
 use animation::{animations, Animation};
 use colour::Settled;
 use fault::{Fault, FILES, LEFT_OUT, WORDS};
-use folder::{Named, Patterns};
+use folder::{Listed, Named, Patterns};
+use inputs::Input;
 use progress::Progress;
 use set::Target;
 use sheet::{Built, Sprite};
+use stamp::Made;
 use std::path::{Path, PathBuf};
 use std::process::ExitCode;
+use std::sync::Arc;
 use std::thread;
 use words::Words;
 
@@ -52,6 +57,28 @@ pub struct Done {
     /// For standard error.
     pub notes: Vec<String>,
     pub has_left_out: bool,
+    /// The files and folders that it is made from.
+    pub from: Vec<PathBuf>,
+}
+
+impl Done {
+    fn new(words: &Words, listed: &Listed) -> Done {
+        let texts = fresh::texts(words).into_iter().filter(|path| path.exists());
+        let pictures = listed.files.iter().map(|(_, path)| path.clone());
+        Done {
+            files: Vec::new(),
+            lines: Vec::new(),
+            notes: Vec::new(),
+            has_left_out: false,
+            from: listed
+                .folders
+                .iter()
+                .cloned()
+                .chain(pictures)
+                .chain(texts)
+                .collect(),
+        }
+    }
 }
 
 // A sheet in its own folder would be one of its sprites the next time.
@@ -122,14 +149,57 @@ fn encoded(
     })
 }
 
-/// Reads the folder, packs, and writes.
+// What is told of a run that has nothing to do.
+fn up_to_date(words: &Words, target: &Target, is_alone: bool) -> Option<Done> {
+    let old = target.stamped();
+    if old.placed.is_empty() || target.is_in_part() {
+        return None;
+    }
+    let listed = listed(words).ok()?;
+    let stamp = old.fresh(&fresh::asked(words, &listed))?;
+    if stamp != old && is_alone {
+        target.renew(&stamp);
+    } else if stamp != old && !words.check {
+        // Where the folder can't be written to, what was compared is compared again.
+        let _ = target.alone_in_silence(|| target.renew(&stamp));
+    }
+    let mut done = Done::new(words, &listed);
+    done.files = stamp
+        .outputs
+        .iter()
+        .map(|one| words.target().join(&one.name))
+        .collect();
+    done.notes = stamp.made.notes;
+    done.has_left_out = stamp.made.has_left_out;
+    if !words.check {
+        done.lines = stamp.made.lines;
+    }
+    Some(done)
+}
+
+/// Reads the folder, packs, and writes, if anything has changed.
 pub fn run(words: &Words) -> Result<Done, Fault> {
     check_folders(words)?;
     let target = Target::new(words.target(), words.stem(), &words.form_name());
-    if words.check {
-        return run_alone(words, &target);
+    let early = match words.check || !target.is_busy() {
+        true => up_to_date(words, &target, false),
+        false => None,
+    };
+    // A run that this one waited for may have done it all.
+    let alone = || match up_to_date(words, &target, true) {
+        Some(done) => Ok(done),
+        None => run_alone(words, &target),
+    };
+    let done = match early {
+        Some(done) => done,
+        None if words.check => run_alone(words, &target)?,
+        None => target.alone(alone)?,
+    };
+    if let (Some(path), Some(record)) = (&words.depfile, done.files.last()) {
+        fresh::write_rule(path, record.strip_prefix(".").unwrap_or(record), &done.from)?;
+        fresh::renew(record, &done.from, &target)?;
     }
-    target.alone(|| run_alone(words, &target))
+    Ok(done)
 }
 
 /// All that is read, and what is told of it.
@@ -139,6 +209,10 @@ struct Read {
     settled: Settled,
     notes: Vec<String>,
     left_out: Vec<String>,
+    inputs: Vec<Input>,
+    asked: String,
+    seen: i64,
+    done: Done,
 }
 
 // Without the lines of nine-patches.
@@ -151,7 +225,7 @@ fn sprite(
     let told = |why| format!("{}: {}", path.display(), why);
     let (picture, nine) = if nine::is_nine(path) {
         let (inner, nine) = nine::read(&picture).map_err(told)?;
-        (inner, Some(nine))
+        (Arc::new(inner), Some(nine))
     } else {
         (picture, None)
     };
@@ -167,7 +241,7 @@ fn sprites(
     files: Vec<Named>,
     words: &Words,
     notes: &mut Vec<String>,
-) -> Result<(Vec<Sprite>, Settled), Fault> {
+) -> Result<(Vec<Sprite>, Settled, Vec<Input>), Fault> {
     let anchors = anchor::anchors(&words.folder, &files, words.anchor, notes)?;
     let paths: Vec<PathBuf> = files.iter().map(|(_, path)| path.clone()).collect();
     if let Some(path) = paths.iter().find(|path| words.turn && nine::is_nine(path)) {
@@ -177,7 +251,7 @@ fn sprites(
         );
         return Err(Fault::new(WORDS, line));
     }
-    let mut found = reading::pictures(files, words)?;
+    let (mut found, inputs) = reading::pictures(files, words)?;
     let settled = if words.manage_colours {
         colour::settle(&mut found)
     } else {
@@ -191,7 +265,7 @@ fn sprites(
         }
     }
     if lines.is_empty() {
-        Ok((sprites, settled))
+        Ok((sprites, settled, inputs))
     } else {
         Err(Fault {
             status: FILES,
@@ -200,13 +274,23 @@ fn sprites(
     }
 }
 
-fn read(words: &Words) -> Result<Read, Fault> {
-    room::check_size(words)?;
+fn listed(words: &Words) -> Result<Listed, Fault> {
     let refused = |error| Fault::new(WORDS, format!("--exclude: {}", error));
     let excluded = Patterns::new(&words.exclude).map_err(refused)?;
     let to = words.target();
     let to = to.canonicalize().map_err(|error| Fault::file(&to, error))?;
-    let listed = folder::files(&words.folder, &to, &excluded, words.drop_extension)?;
+    folder::files(&words.folder, &to, &excluded, words.drop_extension)
+}
+
+fn read(words: &Words) -> Result<Read, Fault> {
+    room::check_size(words)?;
+    let seen = inputs::now();
+    let listed = listed(words)?;
+    let (asked, done) = (fresh::asked(words, &listed), Done::new(words, &listed));
+    let mut inputs: Vec<Input> = fresh::texts(words)
+        .iter()
+        .map(|path| Input::read(path))
+        .collect();
     let names: Vec<&str> = listed.files.iter().map(|one| one.0.as_str()).collect();
     forms::check_names(words.form, words.stem(), &names)?;
     let played = animations(&listed.files, words)?;
@@ -214,7 +298,9 @@ fn read(words: &Words) -> Result<Read, Fault> {
     let mut notes = listed.notes;
     notes.extend(played.notes);
     let (files, left_out) = reading::checked(listed.files, words)?;
-    let (mut sprites, settled) = sprites(files, words, &mut notes)?;
+    let (mut sprites, settled, read) = sprites(files, words, &mut notes)?;
+    inputs.extend(read);
+    inputs.extend(left_out.iter().map(|(_, path)| Input::look(path)));
     let order = animation::order(&animations);
     sprites.sort_by_cached_key(|one| animation::key(&one.name, &order));
     notes.extend(settled.notes.iter().cloned());
@@ -224,7 +310,11 @@ fn read(words: &Words) -> Result<Read, Fault> {
         animations,
         settled,
         notes,
-        left_out,
+        left_out: left_out.into_iter().map(|(name, _)| name).collect(),
+        inputs,
+        asked,
+        seen,
+        done,
     })
 }
 
@@ -232,10 +322,9 @@ fn run_alone(words: &Words, target: &Target) -> Result<Done, Fault> {
     let style = words.style()?;
     let read = read(words)?;
     let mut done = Done {
-        files: Vec::new(),
-        lines: Vec::new(),
         notes: read.notes,
         has_left_out: !read.left_out.is_empty(),
+        ..read.done
     };
     let mut all = Vec::new();
     for scale in &words.scale {
@@ -268,7 +357,15 @@ fn run_alone(words: &Words, target: &Target) -> Result<Done, Fault> {
         done.lines.clear();
         return Ok(done);
     }
-    done.notes.extend(target.write(&files)?);
+    let made = Made {
+        asked: read.asked,
+        inputs: read.inputs,
+        seen: read.seen,
+        lines: done.lines.clone(),
+        notes: done.notes.clone(),
+        has_left_out: done.has_left_out,
+    };
+    done.notes.extend(target.write(&files, &made)?);
     let folder = words.target();
     done.files = files.iter().map(|(name, _)| folder.join(name)).collect();
     Ok(done)

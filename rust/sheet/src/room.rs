@@ -7,6 +7,8 @@ use crate::sheet::Sprite;
 use crate::words::Words;
 use guillotiere::sheet::Allowed;
 use guillotiere::{size2, Size};
+use std::collections::HashSet;
+use std::sync::Arc;
 
 /// The place that a picture needs, with what is repeated around it. Sides beyond those of any sheet are as good as endless.
 pub fn size((width, height): (u64, u64), extrude: u16) -> Size {
@@ -43,7 +45,11 @@ pub fn no_place(name: &str, (width, height): (u64, u64), words: &Words) -> Optio
 
 /// Whether the pictures that were read, and these sheets, may take so much memory.
 pub fn check_memory(found: &[Sprite], sizes: &[Size], words: &Words) -> Result<(), Fault> {
-    let of_pictures = found.iter().fold(Bytes(0), |sum, one| {
+    let mut counted = HashSet::new();
+    let once = found
+        .iter()
+        .filter(|one| counted.insert(Arc::as_ptr(&one.picture)));
+    let of_pictures = once.fold(Bytes(0), |sum, one| {
         sum.and(Bytes::of(
             one.picture.width.into(),
             one.picture.height.into(),

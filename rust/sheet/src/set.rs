@@ -5,9 +5,10 @@
 //! whoever finds a record finds the pictures that it was written with. Where none is, each record is replaced by one rename.
 use crate::fault::{Fault, FILES, STALE};
 use crate::forms::File;
+use crate::inputs::Input;
 use crate::output::note;
 use crate::stale;
-use crate::stamp::{Stamp, Written};
+use crate::stamp::{Made, Stamp, Written};
 use crate::stop;
 use crate::sums;
 use fd_lock::RwLock;
@@ -51,6 +52,64 @@ impl Target {
         })
     }
 
+    /// What the run before wrote.
+    pub fn stamped(&self) -> Stamp {
+        Stamp::read(&self.folder.join(self.stamp()))
+    }
+
+    // The stamp of these files.
+    fn next(&self, old: &Stamp, files: &[File], made: &Made) -> Stamp {
+        let (mut written, mut placed) = (Vec::new(), Vec::new());
+        for (name, bytes) in files {
+            let sum = sums::of(bytes);
+            let path = self.folder.join(name);
+            placed.push(Input::written(&path, bytes.len() as u64, sum.clone()));
+            let name = name.clone();
+            written.push(Written { name, sum });
+        }
+        let is_same = written == old.outputs;
+        let new = old.next(made, written);
+        Stamp {
+            placed,
+            before: if is_same {
+                old.before.clone()
+            } else {
+                new.before
+            },
+            ..new
+        }
+    }
+
+    /// Writes the stamp alone. Where that fails, the next run does what it would have spared.
+    pub fn renew(&self, stamp: &Stamp) {
+        let (path, bytes) = (self.folder.join(self.stamp()), stamp.bytes());
+        if !fs::read(&path).map_or(false, |there| there == bytes) {
+            let _ = self.replace(&path, &bytes);
+        }
+    }
+
+    /// Writes one file anew, by one rename.
+    pub fn replace(&self, path: &Path, bytes: &[u8]) -> io::Result<()> {
+        let new = self.hidden("new");
+        let written = fs::write(&new, bytes).and_then(|()| fs::rename(&new, path));
+        if written.is_err() {
+            let _ = fs::remove_file(&new);
+        }
+        written
+    }
+
+    /// Whether a run was ended while it gave its files their places.
+    pub fn is_in_part(&self) -> bool {
+        self.hidden("ready").is_dir()
+    }
+
+    /// Whether another run writes the same OUT, or was ended while it did.
+    pub fn is_busy(&self) -> bool {
+        ["lock", "new", "part", "ready"]
+            .iter()
+            .any(|ending| self.hidden(ending).exists())
+    }
+
     // Those of other forms.
     fn other_stamps(&self) -> Vec<Stamp> {
         let names = fs::read_dir(&self.folder).into_iter().flatten();
@@ -86,6 +145,23 @@ impl Target {
         format!("{}.png", self.stem)
     }
 
+    /// Does this only if no other run writes the same OUT just now.
+    pub fn alone_in_silence(&self, work: impl FnOnce()) -> io::Result<()> {
+        let path = self.hidden("lock");
+        if self.refuse_strangers().is_err() || path.exists() {
+            return Ok(());
+        }
+        let file = fs::OpenOptions::new()
+            .create_new(true)
+            .write(true)
+            .open(&path)?;
+        let _held = stop::Held::new(&path, || Ok(()))?;
+        let mut lock = RwLock::new(file);
+        let _guard = lock.try_write()?;
+        work();
+        Ok(())
+    }
+
     /// Does this while no other run does it for the same OUT. What an earlier run left behind is put in its place or removed first.
     pub fn alone<T>(&self, work: impl FnOnce() -> Result<T, Fault>) -> Result<T, Fault> {
         let path = self.hidden("lock");
@@ -118,7 +194,12 @@ impl Target {
 
     // What has one of the hidden names and isn't this program's: a pipe would never be opened, and a link lead to files of others.
     fn refuse_strangers(&self) -> Result<(), Fault> {
-        for (ending, is_folder) in [("lock", false), ("part", true), ("ready", true)] {
+        for (ending, is_folder) in [
+            ("lock", false),
+            ("new", false),
+            ("part", true),
+            ("ready", true),
+        ] {
             let path = self.hidden(ending);
             let kind = fs::symlink_metadata(&path).map(|there| there.file_type());
             let is_own = |kind: fs::FileType| match is_folder {
@@ -135,6 +216,10 @@ impl Target {
     // A set that is complete gets its places, and one that isn't is removed.
     fn clear(&self) -> Result<(), Fault> {
         let failed = |error: io::Error| self.unwritten(&self.sheet(), error);
+        let new = self.hidden("new");
+        if new.exists() {
+            remove(&new).map_err(failed)?;
+        }
         let part = self.hidden("part");
         if part.is_dir() {
             fs::remove_dir_all(&part).map_err(failed)?;
@@ -164,7 +249,7 @@ impl Target {
         let line =
             |(name, _): &File| format!("{}: it isn't up to date", self.folder.join(name).display());
         let mut lines: Vec<String> = differ.map(line).collect();
-        if lines.is_empty() && self.hidden("ready").is_dir() {
+        if lines.is_empty() && self.is_in_part() {
             lines.push(format!("{}: it was written in part", self.stem));
         }
         if lines.is_empty() {
@@ -185,23 +270,20 @@ impl Target {
 
     /// Writes the pictures that differ from those that are there, and all records if one file differs. `files` has the pictures first, and
     /// the record that names others last. What is told then: of each record that doesn't fit its picture any more.
-    pub fn write(&self, files: &[File]) -> Result<Vec<String>, Fault> {
+    pub fn write(&self, files: &[File], made: &Made) -> Result<Vec<String>, Fault> {
         for (name, _) in files {
             let path = self.folder.join(name);
             if path.is_dir() {
                 return Err(Fault::file(&path, "it is a folder"));
             }
         }
+        let old = self.stamped();
+        let new = self.next(&old, files, made);
+        let stamp = (self.stamp(), new.bytes());
         if self.has(files) {
+            self.renew(&new);
             return Ok(Vec::new());
         }
-        let written = files.iter().map(|(name, bytes)| Written {
-            name: name.clone(),
-            sum: sums::of(bytes),
-        });
-        let old = Stamp::read(&self.folder.join(self.stamp()));
-        let new = old.next(written.collect());
-        let stamp = (self.stamp(), new.bytes());
         let changed: Vec<&File> = files
             .iter()
             .filter(|file| !is_picture(&file.0) || !self.has_one(file))

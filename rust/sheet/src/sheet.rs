@@ -18,6 +18,7 @@ use crate::words::{Names, Words};
 use guillotiere::sheet::SheetError;
 use guillotiere::Size;
 use std::collections::{HashMap, HashSet};
+use std::sync::Arc;
 
 /// A sprite in a sheet. Sides and corners are in pixels.
 #[derive(Clone, Debug, PartialEq)]
@@ -106,7 +107,7 @@ impl Sheet {
 /// A picture that becomes a sprite.
 pub struct Sprite {
     pub name: String,
-    pub picture: Picture,
+    pub picture: Arc<Picture>,
     pub anchor: Option<Anchor>,
     pub nine: Option<Nine>,
 }
@@ -121,6 +122,7 @@ pub struct Built {
 }
 
 /// What is known of a sprite before it has a place: the number of the picture that it shows, among those that differ.
+#[derive(Clone, Copy)]
 struct Known {
     picture: usize,
     kept: Part,
@@ -134,20 +136,29 @@ struct Laid {
     drawn: Vec<(usize, Place)>,
 }
 
-// What is kept of each picture, each different one once.
+// What is kept of each picture, each different one once. What several names share is looked at once.
 fn kept(found: &[Sprite], scale: Scale, words: &Words) -> (Vec<Known>, Vec<Picture>) {
-    let mut known = Vec::new();
+    let mut known: Vec<Known> = Vec::new();
     let mut numbers: HashMap<Picture, usize> = HashMap::new();
-    for one in found {
+    let mut shared: HashMap<(*const Picture, bool), usize> = HashMap::new();
+    for (place, one) in found.iter().enumerate() {
+        let is_whole = one.nine.is_some();
+        let first = *shared
+            .entry((Arc::as_ptr(&one.picture), is_whole))
+            .or_insert(place);
+        if first < place {
+            known.push(known[first]);
+            continue;
+        }
         let smaller;
         let picture = if scale.is_one() {
-            &one.picture
+            &*one.picture
         } else {
             smaller = one.picture.scaled(scale);
             &smaller
         };
         let whole = (picture.width, picture.height);
-        let kept = if words.trim && one.nine.is_none() {
+        let kept = if words.trim && !is_whole {
             picture.visible()
         } else {
             picture.whole()

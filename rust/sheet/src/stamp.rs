@@ -1,4 +1,5 @@
-//! What a run wrote, in a hidden file beside its files: so that the next one knows what is its own.
+//! What a run read and wrote, in a hidden file beside its files: so that the next one knows what is up to date, and what is its own.
+use crate::inputs::{self, Input};
 use crate::sums;
 use serde::{Deserialize, Serialize};
 use std::collections::HashSet;
@@ -24,9 +25,25 @@ impl Written {
     }
 }
 
+/// What a run is made from, and what it tells.
+#[derive(Clone, Debug, Default, PartialEq, Serialize, Deserialize)]
+pub struct Made {
+    /// Of the program, the words, and which files there are.
+    pub asked: String,
+    pub inputs: Vec<Input>,
+    /// When they were looked at.
+    pub seen: i64,
+    pub lines: Vec<String>,
+    pub notes: Vec<String>,
+    pub has_left_out: bool,
+}
+
 #[derive(Clone, Debug, Default, PartialEq, Serialize, Deserialize)]
 pub struct Stamp {
+    pub made: Made,
     pub outputs: Vec<Written>,
+    /// The same, as they lay there.
+    pub placed: Vec<Input>,
     /// Files of the set before that are called by what they have, and stay for those who read its record.
     pub before: Vec<Written>,
 }
@@ -41,18 +58,20 @@ impl Stamp {
     }
 
     pub fn bytes(&self) -> Vec<u8> {
-        let mut text = serde_json::to_vec_pretty(self).expect("text alone is written");
+        let mut text = serde_json::to_vec(self).expect("text alone is written");
         text.push(b'\n');
         text
     }
 
     /// That of a run which writes these files after this one.
-    pub fn next(&self, outputs: Vec<Written>) -> Stamp {
+    pub fn next(&self, made: &Made, outputs: Vec<Written>) -> Stamp {
         let names: HashSet<&str> = outputs.iter().map(|one| one.name.as_str()).collect();
         let is_left = |one: &&Written| !names.contains(one.name.as_str());
         let left = self.outputs.iter().filter(is_left);
         Stamp {
             before: left.filter(|one| one.is_by_content()).cloned().collect(),
+            made: made.clone(),
+            placed: Vec::new(),
             outputs,
         }
     }
@@ -63,5 +82,28 @@ impl Stamp {
             .iter()
             .chain(&self.before)
             .any(|one| one.name == name)
+    }
+
+    /// How it would be written now, if all that was read and written has what it had.
+    pub fn fresh(&self, asked: &str) -> Option<Stamp> {
+        if self.made.asked != asked || self.placed.is_empty() {
+            return None;
+        }
+        let seen = inputs::now();
+        let same = |all: &[Input]| -> Option<Vec<Input>> {
+            all.iter().map(|one| one.same(self.made.seen)).collect()
+        };
+        let (placed, inputs) = (same(&self.placed)?, same(&self.made.inputs)?);
+        let is_seen = placed == self.placed && inputs == self.made.inputs;
+        let made = Made {
+            inputs,
+            seen: if is_seen { self.made.seen } else { seen },
+            ..self.made.clone()
+        };
+        Some(Stamp {
+            made,
+            placed,
+            ..self.clone()
+        })
     }
 }

@@ -37,7 +37,7 @@ pub enum Names {
 }
 
 /// Packs the pictures of a folder into sheets that engines load.
-#[derive(Parser, Debug)]
+#[derive(Parser, Clone, Debug)]
 #[command(name = "guillotiere-sheet", version, override_usage = USAGE, after_help = AFTER)]
 pub struct Words {
     /// The folder whose pictures (.png, .jpg, .jpeg, .webp, .gif, .bmp, .tif, .tiff, .tga), with those of its subfolders, are the sprites;
@@ -167,6 +167,9 @@ pub struct Words {
     /// Keeps running, and writes the sheets again whenever the folder changes
     #[arg(long)]
     pub watch: bool,
+    /// Writes to FILE, for make and ninja, which files and folders the record is made from
+    #[arg(long, value_name = "FILE", conflicts_with = "check")]
+    pub depfile: Option<PathBuf>,
     /// Prints the manual page, for man(1)
     #[arg(long, exclusive = true)]
     pub man: bool,
