@@ -1,6 +1,7 @@
 #!/usr/bin/env python3
 """What a build asks of guillotiere-sheet: that no picture vanishes in silence, that a reader never finds a picture of another set,
-and that nothing is done twice.
+that nothing is done twice, and
+that what is left of earlier runs is named.
 
     rust/sheet/seen/pipelines.py PROGRAM
 
@@ -332,6 +333,39 @@ def watched_files():
         check('watched files: ended', running.wait(timeout=20) == 130)
 
 
+def left_over():
+    """Files of earlier runs of the same form that a run doesn't write are named, --check says 5 of them, and --clean removes them, if they
+    are as they were written."""
+    with tempfile.TemporaryDirectory() as room:
+        put(room + '/in', {'%s.png' % letter: png(30, 30, ord(letter)) for letter in 'abcdefghi'})
+        put(room + '/out', {'sheet-9.json': b'mine', 'other.png': b'mine'})
+        mine = ['other.png', 'sheet-9.json']
+
+        def turn(what, status, lines, names, *more):
+            done = ended([room + '/in', room + '/out/sheet', *more])
+            line = "guillotiere-sheet: %s/out/%%s: it is of an earlier run and isn't written any more; --clean removes it" % room
+            told = [line % name for name in lines]
+            check('left over: ' + what, (done.returncode, sorted(done.stderr.splitlines()), written(room + '/out'))
+                  == (status, told, sorted(mine + names)), (done.returncode, done.stderr, written(room + '/out')))
+        three = ['sheet-%d.%s' % (number, ending) for number in (0, 1, 2) for ending in ('json', 'png')]
+        turn('three', 0, [], three, '--size', '64', '64', '--pages', '9')
+        both = ['--size', '128', '128', '--pages', '9']
+        turn('fewer', 0, three[2:], three, *both)
+        turn('unchanged', 0, three[2:], three, *both)
+        turn('checked', 5, three[2:], three, *both, '--check')
+        with open(room + '/out/sheet-2.json', 'a') as file:
+            file.write('mine')
+        turn('changed by hand', 0, three[2:4] + three[5:], three, *both)
+        turn('cleaned', 0, [], three[:2] + ['sheet-2.json'], *both, '--clean')
+        turn('checked again', 0, [], three[:2] + ['sheet-2.json'], *both, '--check')
+        turn('without numbers', 0, three[:2], three[:2] + ['sheet-2.json', 'sheet.json', 'sheet.png'])
+        # Another form has these.
+        done = ended([room + '/in', room + '/out/sheet', *both, '--form', 'libgdx'])
+        check('left over: another form', (done.returncode, done.stderr) == (0, ''), done.stderr)
+        turn('of another form', 0, three[:1], three[:2] + ['sheet-2.json', 'sheet.atlas', 'sheet.json', 'sheet.png'])
+        turn('not of another form', 0, [], three[1:2] + ['sheet-2.json', 'sheet.atlas', 'sheet.json', 'sheet.png'], '--clean')
+
+
 MAKEFILE = """out/sheet.json:
 \t"$(PROGRAM)" in out/sheet --depfile dep
 -include dep
@@ -376,6 +410,6 @@ def built():
             is_run('anchors', True, False)
 
 
-for each in (unreachable, sums, by_content, once, many_names, unwritable, watched_files, built, beside_a_reader):
+for each in (unreachable, sums, by_content, once, many_names, unwritable, watched_files, left_over, built, beside_a_reader):
     each()
 sys.exit(SUITE.end())

@@ -21,6 +21,7 @@ pub fn asked(words: &Words, listed: &Listed) -> String {
     let words = Words {
         watch: false,
         check: false,
+        clean: false,
         depfile: None,
         ..words.clone()
     };

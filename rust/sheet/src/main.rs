@@ -35,13 +35,13 @@ mod words;
 
 use animation::{animations, Animation};
 use colour::Settled;
-use fault::{Fault, FILES, LEFT_OUT, WORDS};
+use fault::{Fault, FILES, LEFT_OUT, STALE, WORDS};
 use folder::{Listed, Named, Patterns};
 use inputs::Input;
 use progress::Progress;
 use set::Target;
 use sheet::{Built, Sprite};
-use stamp::Made;
+use stamp::{Made, Written};
 use std::path::{Path, PathBuf};
 use std::process::ExitCode;
 use std::sync::Arc;
@@ -57,6 +57,8 @@ pub struct Done {
     /// For standard error.
     pub notes: Vec<String>,
     pub has_left_out: bool,
+    /// Files of earlier runs.
+    pub left: Vec<Written>,
     /// The files and folders that it is made from.
     pub from: Vec<PathBuf>,
 }
@@ -70,6 +72,7 @@ impl Done {
             lines: Vec::new(),
             notes: Vec::new(),
             has_left_out: false,
+            left: Vec::new(),
             from: listed
                 .folders
                 .iter()
@@ -169,6 +172,7 @@ fn up_to_date(words: &Words, target: &Target, is_alone: bool) -> Option<Done> {
         .iter()
         .map(|one| words.target().join(&one.name))
         .collect();
+    done.left = target.left(&stamp);
     done.notes = stamp.made.notes;
     done.has_left_out = stamp.made.has_left_out;
     if !words.check {
@@ -190,11 +194,23 @@ pub fn run(words: &Words) -> Result<Done, Fault> {
         Some(done) => Ok(done),
         None => run_alone(words, &target),
     };
-    let done = match early {
+    let mut done = match early {
+        Some(done) if words.check && !done.left.is_empty() => {
+            let lines = target.lines_of(&done.left);
+            return Err(Fault {
+                status: STALE,
+                lines,
+            });
+        }
         Some(done) => done,
         None if words.check => run_alone(words, &target)?,
         None => target.alone(alone)?,
     };
+    if words.clean || words.watch {
+        target.clean(&done.left)?;
+    } else {
+        done.notes.extend(target.lines_of(&done.left));
+    }
     if let (Some(path), Some(record)) = (&words.depfile, done.files.last()) {
         fresh::write_rule(path, record.strip_prefix(".").unwrap_or(record), &done.from)?;
         fresh::renew(record, &done.from, &target)?;
@@ -365,7 +381,9 @@ fn run_alone(words: &Words, target: &Target) -> Result<Done, Fault> {
         notes: done.notes.clone(),
         has_left_out: done.has_left_out,
     };
-    done.notes.extend(target.write(&files, &made)?);
+    let (notes, stamp) = target.write(&files, &made)?;
+    done.notes.extend(notes);
+    done.left = target.left(&stamp);
     let folder = words.target();
     done.files = files.iter().map(|(name, _)| folder.join(name)).collect();
     Ok(done)

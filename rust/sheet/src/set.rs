@@ -68,7 +68,8 @@ impl Target {
             written.push(Written { name, sum });
         }
         let is_same = written == old.outputs;
-        let new = old.next(made, written);
+        let mut new = old.next(made, written);
+        new.left.retain(|one| one.is_in(&self.folder));
         Stamp {
             placed,
             before: if is_same {
@@ -243,7 +244,40 @@ impl Target {
         files.iter().all(|file| self.has_one(file))
     }
 
-    /// Names each file that isn't there with these bytes.
+    /// The files of earlier runs that are there as they were written, and that neither the run of this stamp nor another form has.
+    pub fn left(&self, stamp: &Stamp) -> Vec<Written> {
+        if stamp.left.is_empty() {
+            return Vec::new();
+        }
+        let others = self.other_stamps();
+        let is_ours = |one: &&Written| {
+            let is_theirs = others.iter().any(|stamp| stamp.has(&one.name));
+            !is_theirs && one.is_in(&self.folder)
+        };
+        stamp.left.iter().filter(is_ours).cloned().collect()
+    }
+
+    /// Removes these.
+    pub fn clean(&self, left: &[Written]) -> Result<(), Fault> {
+        let folder = &self.folder;
+        for path in left.iter().map(|one| folder.join(&one.name)) {
+            remove(&path).map_err(|error| Fault::file(&path, error))?;
+        }
+        Ok(())
+    }
+
+    /// What is told of each of these.
+    pub fn lines_of(&self, left: &[Written]) -> Vec<String> {
+        let line = |one: &Written| {
+            format!(
+                "{}: it is of an earlier run and isn't written any more; --clean removes it",
+                self.folder.join(&one.name).display()
+            )
+        };
+        left.iter().map(line).collect()
+    }
+
+    /// Names each file that isn't there with these bytes, and each that a run would leave.
     pub fn check(&self, files: &[File]) -> Result<(), Fault> {
         let differ = files.iter().filter(|file| !self.has_one(file));
         let line =
@@ -252,6 +286,8 @@ impl Target {
         if lines.is_empty() && self.is_in_part() {
             lines.push(format!("{}: it was written in part", self.stem));
         }
+        let next = self.next(&self.stamped(), files, &Made::default());
+        lines.extend(self.lines_of(&self.left(&next)));
         if lines.is_empty() {
             return Ok(());
         }
@@ -269,8 +305,8 @@ impl Target {
     }
 
     /// Writes the pictures that differ from those that are there, and all records if one file differs. `files` has the pictures first, and
-    /// the record that names others last. What is told then: of each record that doesn't fit its picture any more.
-    pub fn write(&self, files: &[File], made: &Made) -> Result<Vec<String>, Fault> {
+    /// the record that names others last. What is told then, of each record that doesn't fit its picture any more, and the stamp.
+    pub fn write(&self, files: &[File], made: &Made) -> Result<(Vec<String>, Stamp), Fault> {
         for (name, _) in files {
             let path = self.folder.join(name);
             if path.is_dir() {
@@ -282,7 +318,7 @@ impl Target {
         let stamp = (self.stamp(), new.bytes());
         if self.has(files) {
             self.renew(&new);
-            return Ok(Vec::new());
+            return Ok((Vec::new(), new));
         }
         let changed: Vec<&File> = files
             .iter()
@@ -313,7 +349,7 @@ impl Target {
                 .map_err(failed)?;
             self.place()
         })?;
-        Ok(notes)
+        Ok((notes, new))
     }
 
     // Renames what is ready in the order of its numbers. Where a picture is replaced the records go first: without its record nobody takes a

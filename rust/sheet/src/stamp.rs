@@ -46,6 +46,8 @@ pub struct Stamp {
     pub placed: Vec<Input>,
     /// Files of the set before that are called by what they have, and stay for those who read its record.
     pub before: Vec<Written>,
+    /// Other files of earlier runs, which this one doesn't write.
+    pub left: Vec<Written>,
 }
 
 impl Stamp {
@@ -67,9 +69,16 @@ impl Stamp {
     pub fn next(&self, made: &Made, outputs: Vec<Written>) -> Stamp {
         let names: HashSet<&str> = outputs.iter().map(|one| one.name.as_str()).collect();
         let is_left = |one: &&Written| !names.contains(one.name.as_str());
-        let left = self.outputs.iter().filter(is_left);
+        let (before, mut left): (Vec<Written>, Vec<Written>) = self
+            .outputs
+            .iter()
+            .filter(is_left)
+            .cloned()
+            .partition(Written::is_by_content);
+        left.extend(self.left.iter().filter(is_left).cloned());
         Stamp {
-            before: left.filter(|one| one.is_by_content()).cloned().collect(),
+            before,
+            left,
             made: made.clone(),
             placed: Vec::new(),
             outputs,

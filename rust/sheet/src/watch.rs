@@ -4,7 +4,7 @@ use crate::animation;
 use crate::fault::{Fault, FILES};
 use crate::folder::{self, Patterns};
 use crate::inputs::Input;
-use crate::words::{Names, Words};
+use crate::words::Words;
 use crate::{run, told, Done};
 use notify::event::{AccessKind, AccessMode, EventKind};
 use notify::{Event, RecommendedWatcher, RecursiveMode, Watcher};
@@ -113,7 +113,7 @@ fn seen(words: &Words) -> Seen {
     (paths.iter().map(|path| Input::look(path)).collect(), lines)
 }
 
-/// Writes the sheets, and anew after each change of what is read, until the program is ended. Files of an earlier time that aren't written
+/// Writes the sheets, and anew after each change of what is read, until the program is ended. Files of earlier runs that aren't written
 /// any more are removed, and one that is taken away is written again. A fault is told, and the last sheets stay; where the folder is removed, they follow the next one of its name.
 pub fn watch(words: &Words) -> Result<Done, Fault> {
     let mut watched = Watched::new(&words.folder);
@@ -129,14 +129,6 @@ pub fn watch(words: &Words) -> Result<Done, Fault> {
         let done = run(words);
         told(&done);
         if let Ok(done) = done {
-            // Those that are called by what they have stay for a while.
-            let is_fixed = words.names == Names::Fixed;
-            let left = earlier
-                .iter()
-                .filter(|path| is_fixed && !done.files.contains(path));
-            for path in left {
-                let _ = std::fs::remove_file(path);
-            }
             earlier = done.files;
         }
         let there = held(&earlier, words);

@@ -167,6 +167,9 @@ pub struct Words {
     /// Keeps running, and writes the sheets again whenever the folder changes
     #[arg(long)]
     pub watch: bool,
+    /// Removes the files of earlier runs of the same OUT and form that aren't written any more
+    #[arg(long, conflicts_with = "check")]
+    pub clean: bool,
     /// Writes to FILE, for make and ninja, which files and folders the record is made from
     #[arg(long, value_name = "FILE", conflicts_with = "check")]
     pub depfile: Option<PathBuf>,
