@@ -2,6 +2,7 @@
 use crate::fault::{Fault, FILES};
 use crate::nine;
 use globset::{Glob, GlobBuilder, GlobSet, GlobSetBuilder};
+use std::collections::{BTreeMap, HashSet};
 use std::io::ErrorKind;
 use std::path::{Path, PathBuf};
 use walkdir::{DirEntry, WalkDir};
@@ -26,29 +27,51 @@ pub struct Listed {
     pub notes: Vec<String>,
     /// All folders that were looked at.
     pub folders: Vec<PathBuf>,
+    /// The numbers of the patterns that were like something.
+    pub used: HashSet<usize>,
 }
 
 /// Files and folders by patterns like those of a shell.
 pub struct Patterns {
     names: GlobSet,
     paths: GlobSet,
+    // Which of all patterns these are.
+    of_names: Vec<usize>,
+    of_paths: Vec<usize>,
 }
 
 impl Patterns {
     /// A pattern without `/` is that of a file's or a folder's own name, wherever it lies; another one that of its path in the folder.
     pub fn new(patterns: &[String]) -> Result<Patterns, globset::Error> {
-        let (paths, names): (Vec<&String>, Vec<&String>) =
-            patterns.iter().partition(|pattern| pattern.contains('/'));
+        let (of_paths, of_names): (Vec<usize>, Vec<usize>) =
+            (0..patterns.len()).partition(|number| patterns[*number].contains('/'));
+        let those = |numbers: &[usize]| {
+            numbers
+                .iter()
+                .map(|one| &patterns[*one])
+                .collect::<Vec<_>>()
+        };
         Ok(Patterns {
-            names: set(&names)?,
-            paths: set(&paths)?,
+            names: set(&those(&of_names))?,
+            paths: set(&those(&of_paths))?,
+            of_names,
+            of_paths,
         })
     }
 
     /// Whether one is like the path in the folder.
     pub fn has(&self, inside: &Path) -> bool {
+        !self.like(inside).is_empty()
+    }
+
+    // The numbers of those that are like it.
+    fn like(&self, inside: &Path) -> Vec<usize> {
         let name = inside.file_name().map(Path::new).unwrap_or(inside);
-        self.names.is_match(name) || self.paths.is_match(inside)
+        let (names, paths) = (self.names.matches(name), self.paths.matches(inside));
+        let names = names.into_iter().map(|one| self.of_names[one]);
+        names
+            .chain(paths.into_iter().map(|one| self.of_paths[one]))
+            .collect()
     }
 }
 
@@ -123,6 +146,10 @@ struct Walk<'a> {
     target: &'a Path,
     excluded: &'a Patterns,
     drop_extension: bool,
+    // The patterns that were like something.
+    used: HashSet<usize>,
+    // Files of each ending of pictures that aren't read.
+    others: BTreeMap<String, Vec<PathBuf>>,
     // The folder that is listed, and those in which it lies.
     inside: Vec<PathBuf>,
     files: Vec<Named>,
@@ -133,9 +160,27 @@ struct Walk<'a> {
 
 impl Walk<'_> {
     // What isn't looked at.
-    fn is_passed_over(&self, path: &Path, depth: usize) -> bool {
+    fn is_passed_over(&mut self, path: &Path, depth: usize) -> bool {
         let inside = path.strip_prefix(self.folder).unwrap_or(path);
-        depth > 0 && is_hidden(path) || self.excluded.has(inside)
+        let like = self.excluded.like(inside);
+        self.used.extend(&like);
+        depth > 0 && is_hidden(path) || !like.is_empty()
+    }
+
+    // A line for each kind of picture that isn't read.
+    fn tell_others(&mut self) {
+        for (ending, mut paths) in std::mem::take(&mut self.others) {
+            paths.sort();
+            let more = match paths.len() {
+                1 => String::new(),
+                count => format!(" and {} more .{}", count - 1, ending),
+            };
+            self.notes.push(format!(
+                "{}{}: pictures of this kind aren't read; left out",
+                paths[0].display(),
+                more
+            ));
+        }
     }
 
     fn leave_out(&mut self, path: &Path, why: &str) {
@@ -157,7 +202,12 @@ impl Walk<'_> {
             return true;
         }
         if has_ending(path, &OTHERS) {
-            self.leave_out(path, "pictures of this kind aren't read");
+            let ending = path.extension().unwrap_or_default();
+            let ending = ending.to_string_lossy().to_ascii_lowercase();
+            self.others
+                .entry(ending)
+                .or_default()
+                .push(path.to_path_buf());
         } else if is_picture(path) && !entry.file_type().is_file() {
             self.leave_out(path, "it isn't a file");
         } else if is_picture(path) {
@@ -210,6 +260,7 @@ impl Walk<'_> {
                 .push(format!("{} and {} {}", first, second, what));
         }
         self.faults.sort();
+        self.tell_others();
         self.notes.sort();
     }
 }
@@ -229,6 +280,8 @@ pub fn files(
         target,
         excluded,
         drop_extension,
+        used: HashSet::new(),
+        others: BTreeMap::new(),
         inside: Vec::new(),
         files: Vec::new(),
         notes: Vec::new(),
@@ -248,6 +301,7 @@ pub fn files(
             files: walk.files,
             notes: walk.notes,
             folders: walk.folders,
+            used: walk.used,
         });
     }
     Err(Fault {

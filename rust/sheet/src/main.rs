@@ -3,6 +3,7 @@ mod anchor;
 mod animation;
 mod colour;
 mod decode;
+mod dropped;
 mod fault;
 mod folder;
 mod forms;
@@ -267,7 +268,8 @@ fn sprites(
         );
         return Err(Fault::new(WORDS, line));
     }
-    let (mut found, inputs) = reading::pictures(files, words)?;
+    let (mut found, inputs, dropped) = reading::pictures(files, words)?;
+    notes.extend(dropped);
     let settled = if words.manage_colours {
         colour::settle(&mut found)
     } else {
@@ -295,7 +297,13 @@ fn listed(words: &Words) -> Result<Listed, Fault> {
     let excluded = Patterns::new(&words.exclude).map_err(refused)?;
     let to = words.target();
     let to = to.canonicalize().map_err(|error| Fault::file(&to, error))?;
-    folder::files(&words.folder, &to, &excluded, words.drop_extension)
+    let mut listed = folder::files(&words.folder, &to, &excluded, words.drop_extension)?;
+    let unused = (0..)
+        .zip(&words.exclude)
+        .filter(|(number, _)| !listed.used.contains(number));
+    let lines = unused.map(|(_, pattern)| format!("--exclude {}: nothing is like it", pattern));
+    listed.notes.extend(lines.collect::<Vec<_>>());
+    Ok(listed)
 }
 
 fn read(words: &Words) -> Result<Read, Fault> {

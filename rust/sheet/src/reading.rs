@@ -1,6 +1,7 @@
 //! Reads pictures, after their sizes: what is too large is known before it takes memory.
 use crate::colour::Colour;
 use crate::decode::{decoded, is_targa, GREATEST, TOO_LARGE};
+use crate::dropped::{self, Dropped};
 use crate::fault::{Fault, FILES};
 use crate::folder::Named;
 use crate::head;
@@ -87,7 +88,7 @@ fn of_each<T: Send>(
     results
 }
 
-type Decoded = Result<(Arc<Picture>, Colour), String>;
+type Decoded = Result<(Arc<Picture>, Colour, Dropped), String>;
 
 fn read(path: &Path, most: u64) -> (Input, Decoded) {
     let look = Input::look(path);
@@ -95,7 +96,8 @@ fn read(path: &Path, most: u64) -> (Input, Decoded) {
         Ok(bytes) => {
             let sum = sums::of(&bytes);
             let picture = decoded(path, &bytes, most);
-            let shared = picture.map(|(picture, colour)| (Arc::new(picture), colour));
+            let shared =
+                picture.map(|(picture, colour)| (Arc::new(picture), colour, dropped::of(&bytes)));
             (look.with(sum), shared)
         }
         Err(error) => (look, Err(error.to_string())),
@@ -135,7 +137,7 @@ pub fn checked(files: Vec<Named>, words: &Words) -> Result<(Vec<Named>, Vec<Name
     let mut counted = vec![false; once.files.len()];
     for ((file, size), number) in files.into_iter().zip(sizes).zip(once.of_names) {
         let great = is_great(&size).then(|| told(&file.1, TOO_LARGE));
-        let no_place = size.and_then(|size| room::no_place(&file.0, size, words));
+        let no_place = size.and_then(|size| room::no_place(&file, size, words));
         match great.or(no_place) {
             Some(line) => {
                 too_large.push(line);
@@ -160,17 +162,22 @@ pub fn checked(files: Vec<Named>, words: &Words) -> Result<(Vec<Named>, Vec<Name
     Ok((kept, left_out))
 }
 
-/// All pictures, and the files as they were read. All that can't be read are named.
-pub fn pictures(files: Vec<Named>, words: &Words) -> Result<(Vec<Found>, Vec<Input>), Fault> {
+/// Pictures, the files as they were read, and what is told of what isn't taken of them.
+pub type Read = (Vec<Found>, Vec<Input>, Vec<String>);
+
+/// All pictures. All that can't be read are named.
+pub fn pictures(files: Vec<Named>, words: &Words) -> Result<Read, Fault> {
     // Samples of sixteen bits take twice what is counted.
     let most = words.memory().0.saturating_mul(2);
     let most = most.clamp(1 << 20, GREATEST as u64);
     let once = different(&files);
     let results = of_each("reading", &once.files, |path| read(path, most));
     let (mut found, mut inputs, mut lines) = (Vec::new(), Vec::new(), Vec::new());
+    let mut dropped = Vec::new();
     for ((name, path), number) in files.into_iter().zip(once.of_names) {
         match &results[number] {
-            Some((input, Ok((picture, colour)))) => {
+            Some((input, Ok((picture, colour, of_file)))) => {
+                dropped.push(*of_file);
                 found.push((name, picture.clone(), colour.clone()));
                 inputs.push(input.of(&path));
             }
@@ -179,5 +186,7 @@ pub fn pictures(files: Vec<Named>, words: &Words) -> Result<(Vec<Found>, Vec<Inp
         }
     }
     bad_files(lines)?;
-    Ok((found, inputs))
+    let names = found.iter().map(|one: &Found| one.0.as_str());
+    let notes = dropped::lines(&names.zip(dropped).collect::<Vec<_>>());
+    Ok((found, inputs, notes))
 }
