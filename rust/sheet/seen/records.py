@@ -226,6 +226,29 @@ def pivots(room):
         assert (told['rect']['width'], told['rect']['height']) == (10, 8)
 
 
+def trimmed(room):
+    """A border of an alpha up to the threshold is left out, and nothing else."""
+    folder = os.path.join(room, 'trimmed')
+    square = Image.new('RGBA', (100, 100), (9, 9, 9, 1))
+    square.paste((200, 9, 9, 3), (30, 40, 60, 70))
+    square.paste((0, 0, 0, 0), (35, 45, 40, 50))
+    icons.save(folder, 'a.png', square)
+    inner = {side: Image.new('RGBA', (100, 100)) for side in (0, 1, 2, 3)}
+    inner[0].paste(square)
+    for most in (1, 2):
+        inner[most].paste(square.crop((30, 40, 60, 70)), (30, 40))
+    for most, kept in ((0, (0, 0, 100, 100)), (1, (30, 40, 30, 30)), (2, (30, 40, 30, 30)), (3, (0, 0, 1, 1))):
+        for form in readers.READERS:
+            out = os.path.join(room, 'trimmed %d %s' % (most, form))
+            run(folder, out, '--trim', '--trim-threshold', str(most), '--form', form, '--bleed', '0')
+            if most < 3:
+                icons.compare(readers.read(form, out), {'a.png': inner[most]}, False)
+            if form == 'json-hash':
+                assert tuple(frames(out)['a.png']['spriteSourceSize'].values()) == kept
+    run(folder, out, '--trim-threshold', '1', status=2)
+    run(folder, out, '--trim', '--trim-threshold', '256', status=2)
+
+
 def nine_patches(room):
     """The lines of a nine-patch are told and taken away, at each scale; it is neither trimmed nor turned."""
     folder = os.path.join(room, 'nine')
@@ -268,6 +291,7 @@ def all_tests(room):
     icons.fill(folder)
     test('walking', walking, room)
     test('nine-patches', nine_patches, room)
+    test('trimmed', trimmed, room)
     test('filters', filters, folder, room)
     test('Godot 3', by_godot, folder, room)
     test('templates', templates, folder, room)

@@ -159,7 +159,7 @@ fn kept(found: &[Sprite], scale: Scale, words: &Words) -> (Vec<Known>, Vec<Pictu
         };
         let whole = (picture.width, picture.height);
         let kept = if words.trim && !is_whole {
-            picture.visible()
+            picture.visible(words.trim_threshold)
         } else {
             picture.whole()
         };

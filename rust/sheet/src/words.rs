@@ -63,6 +63,9 @@ pub struct Words {
     /// Leaves out the transparent borders of the pictures
     #[arg(long)]
     pub trim: bool,
+    /// With --trim: pixels with an alpha up to N, of 255, count as transparent
+    #[arg(long, value_name = "N", default_value_t = 0, requires = "trim")]
+    pub trim_threshold: u8,
     /// Repeats the outermost pixels of each sprite N times around it
     #[arg(long, value_name = "N", default_value_t = 0)]
     pub extrude: u16,
