@@ -190,7 +190,7 @@ def templates(folder, room):
                 found[told['name']] = sheet.crop((x, sheet.height - y - high, x + wide, sheet.height - y))
         icons.compare(found, originals, False)
     by_hand = os.path.join(HERE, '..', 'templates')
-    assert sorted(os.listdir(by_hand)) == ['cocos.each.plist.tera', 'love.lua.tera', 'unity.json.tera']
+    assert sorted(os.listdir(by_hand)) == ['cocos.each.plist.tera', 'godot_texture.sprite.tres.tera', 'love.lua.tera', 'unity.json.tera']
     out = os.path.join(room, 'own')
     for name, form, ending in (('cocos.each.plist.tera', 'cocos', '-0.plist'), ('unity.json.tera', 'unity', '.json')):
         texts = []
@@ -210,6 +210,45 @@ def templates(folder, room):
         assert (left, top) == (0, 0)
         found[json.loads(name)] = sheet.crop((x, y, x + wide, y + high))
     icons.compare(found, originals, False)
+
+
+def small_files(room):
+    """A file for each sprite, as Godot's AtlasTexture, and for each animation, of all sheets."""
+    folder, out = os.path.join(room, 'small'), os.path.join(room, 'small out', 'sheet')
+    icons.fill(folder, count=40)
+    for number in (1, 2, 3):
+        icons.save(folder, 'hero/walk_%d.png' % number, Image.new('RGBA', (20 + number, 10), (number, 1, 2, 255)))
+    os.mkdir(os.path.dirname(out))
+    words = ['--trim', '--size', '128', '128', '--pages', '20', '--drop-extension']
+    done = run(folder, out, *words, '--template', os.path.join(HERE, '..', 'templates', 'godot_texture.sprite.tres.tera'))
+    originals = {name[:-4]: picture for name, picture in icons.originals(folder).items()}
+    found = {}
+    for name in originals:
+        path = '%s-%s.tres' % (out, name.replace('/', '-'))
+        with open(path, encoding='utf-8') as file:
+            parts = {kind: (heads, body) for kind, heads, body in readers.sections(file.read())}
+        assert parts['gd_resource'][0] == {'type': 'AtlasTexture', 'load_steps': 2, 'format': 3}
+        body, page = parts['resource'][1], parts['ext_resource'][0]
+        x, y, wide, high = (int(value) for value in body['region'][1])
+        left, top, wider, higher = (int(value) for value in body.get('margin', ('Rect2', [0, 0, 0, 0]))[1])
+        assert body['atlas'] == ('ExtResource', [page['id']])
+        part = readers.opened(path, page['path']).crop((x, y, x + wide, y + high))
+        found[name] = readers.put(part, (wide + wider, high + higher), (left, top))
+    icons.compare(found, originals, True)
+    assert len(done.stdout.splitlines()) > 1 and len([name for name in os.listdir(os.path.dirname(out)) if name.endswith('.tres')]) == len(found)
+    template = os.path.join(room, 'own.animation.txt.tera')
+    with open(template, 'w') as file:
+        file.write('{{ animation.name }} {{ animation.loop }}{% for one in animation.frames %} {{ one.image }}:{{ one.name }}:'
+                   '{{ one.source.width }}{% endfor %}')
+    run(folder, out, *words, '--template', template)
+    with open(out + '-hero-walk.txt') as file:
+        told = file.read().split(' ')
+    sheet = told[2].split(':')[0]
+    assert told == ['hero/walk', 'true', *('%s:hero/walk_%d:%d' % (sheet, number, 20 + number) for number in (1, 2, 3))], told
+    icons.save(folder, 'hero-walk_1.png', Image.new('RGBA', (9, 9)))
+    template = os.path.join(HERE, '..', 'templates', 'godot_texture.sprite.tres.tera')
+    told = run(folder, out, *words, '--template', template, status=2).stderr
+    assert told == 'guillotiere-sheet: sheet-hero-walk_1.tres: two files would have this name\n', told
 
 
 def pivots(room):
@@ -295,6 +334,7 @@ def all_tests(room):
     test('filters', filters, folder, room)
     test('Godot 3', by_godot, folder, room)
     test('templates', templates, folder, room)
+    test('small files', small_files, room)
     test('pivots', pivots, room)
 
 

@@ -48,7 +48,8 @@ pub struct Words {
     /// What is written next to the pictures
     #[arg(long, value_enum, default_value_t = Form::JsonHash)]
     pub form: Form,
-    /// Writes what a template of Tera says: FILE is NAME.ENDING.tera, or NAME.each.ENDING.tera for a file for each sheet
+    /// Writes what a template of Tera says: FILE is NAME.ENDING.tera, or NAME.each.ENDING.tera for a file for each sheet, or has sprite or
+    /// animation in place of each
     #[arg(long, value_name = "FILE", conflicts_with = "form")]
     pub template: Option<PathBuf>,
     /// With --form libgdx and libgdx-new: how the engine reads between pixels; nearest for pixel art
