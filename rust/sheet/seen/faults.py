@@ -58,6 +58,7 @@ CASES = [
     ('turn', GOOD, ['F', 'O', '--turn', '--form', 'godot'], 2, [r"--turn can't be used with --form godot or godot3: .*"]),
     *(('turn ' + form, GOOD, ['F', 'O', '--turn', '--form', form], 2, [r"--turn can't be used with --form " + line])
       for form, line in (('godot3', 'godot or godot3: .*'), ('unity', 'unity: .*'))),
+    ('turn in several scales', GOOD, ['F', 'O', '--turn', '--form', 'css', '--scale', '1,0.5'], 2, [r'--turn with --form css and .*']),
     ('filter', GOOD, ['F', 'O', '--filter', 'nearest'], 2, [r'--filter and --wrap need --form libgdx or libgdx-new']),
     ('no template', GOOD, ['F', 'O', '--template', 'none.json.tera'], 1, [r'none\.json\.tera: ' + NOT_THERE]),
     ('template and form', GOOD, ['F', 'O', '--template', 'x.json.tera', '--form', 'css'], 2, [r'.*cannot be used with.*']),

@@ -371,11 +371,9 @@ fn run_alone(words: &Words, target: &Target) -> Result<Done, Fault> {
         page.take(bytes, words.names);
         *name = page.image.clone();
     }
-    for built in &all {
-        done.lines.extend(lines(built));
-        // The first file of several may name the others.
-        files.extend(forms::files(&style, &built.sheet)?.into_iter().rev());
-    }
+    done.lines.extend(all.iter().flat_map(lines));
+    let sheets: Vec<&sheet::Sheet> = all.iter().map(|one| &one.sheet).collect();
+    files.extend(forms::all_files(&style, words.stem(), &sheets)?);
     if words.check {
         target.check(&files)?;
         done.lines.clear();

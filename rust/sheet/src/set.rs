@@ -352,8 +352,8 @@ impl Target {
         Ok((notes, new))
     }
 
-    // Renames what is ready in the order of its numbers. Where a picture is replaced the records go first: without its record nobody takes a
-    // picture for one of the set.
+    // Renames what is ready in the order of its numbers. Where a picture is replaced the records go first: without its record nobody takes
+    // a picture for one of the set.
     fn place(&self) -> Result<(), Fault> {
         let ready = self.hidden("ready");
         let failed = |error: io::Error| self.unwritten(&self.sheet(), error);

@@ -105,8 +105,8 @@ pub fn clear() {
     }
 }
 
-/// From now on a signal removes what is held, and ends the program. A hangup that was ignored still is, and a file that grows beyond a limit
-/// is a failed write.
+/// From now on a signal removes what is held, and ends the program. A hangup that was ignored still is, and a file that grows beyond a
+/// limit is a failed write.
 pub fn listen() {
     let outlives = is_hangup_ignored();
     let end = || {

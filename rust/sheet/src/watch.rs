@@ -114,7 +114,8 @@ fn seen(words: &Words) -> Seen {
 }
 
 /// Writes the sheets, and anew after each change of what is read, until the program is ended. Files of earlier runs that aren't written
-/// any more are removed, and one that is taken away is written again. A fault is told, and the last sheets stay; where the folder is removed, they follow the next one of its name.
+/// any more are removed, and one that is taken away is written again. A fault is told, and the last sheets stay; where the folder is
+/// removed, they follow the next one of its name.
 pub fn watch(words: &Words) -> Result<Done, Fault> {
     let mut watched = Watched::new(&words.folder);
     if watched.folder.is_none() {

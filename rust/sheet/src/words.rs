@@ -32,7 +32,7 @@ Status: 0 written; 1 a file can't be read or written; 2 wrong usage; 3 the pictu
 pub enum Names {
     /// OUT.png, or OUT-0.png, OUT-1.png ..
     Fixed,
-    /// By what they have, as OUT.0123456789abcdef.png: a new one never takes the place of an old one, which stays until the run after the next
+    /// By what they have, as OUT.0123456789abcdef.png: none takes the place of an old one, which stays until the run after the next
     Content,
 }
 
@@ -317,6 +317,9 @@ impl Words {
             Some("--page needs --form css")
         } else if !self.has_filter() && (self.filter, self.wrap) != (Filter::Linear, Wrap::None) {
             Some("--filter and --wrap need --form libgdx or libgdx-new")
+        } else if self.turn && self.form == Form::Css && self.scale.len() > 1 && !self.power_of_two
+        {
+            Some("--turn with --form css and several scales needs --power-of-two: browsers blur turned sprites of other sheets")
         } else if self.turn && forms::no_turn(self.form).is_some() {
             forms::no_turn(self.form)
         } else {

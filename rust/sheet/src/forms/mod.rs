@@ -62,6 +62,20 @@ pub struct Style {
 /// The name of a file, and what it has.
 pub type File = (String, Vec<u8>);
 
+/// The files of all scales beside their pictures, of each scale the first one last, since it may name the others. CSS has one for all.
+pub fn all_files(style: &Style, stem: &str, sheets: &[&Sheet]) -> Result<Vec<File>, Fault> {
+    let mut all = Vec::new();
+    match sheets {
+        _ if style.form != Form::Css => {}
+        [sheet] => return Ok(css_files(style, &sheet.stem, sheets)),
+        _ => return Ok(css_files(style, stem, sheets)),
+    }
+    for sheet in sheets {
+        all.extend(files(style, sheet)?.into_iter().rev());
+    }
+    Ok(all)
+}
+
 /// The files of one scale beside its pictures.
 pub fn files(style: &Style, sheet: &Sheet) -> Result<Vec<File>, Fault> {
     let one =
@@ -82,14 +96,21 @@ pub fn files(style: &Style, sheet: &Sheet) -> Result<Vec<File>, Fault> {
             Some(template) => template.files(sheet)?,
             None => Vec::new(),
         },
-        Form::Css => {
-            let mut files = one(".css", css::text(sheet));
-            if style.with_page {
-                files.extend(one(".html", css::page(sheet)));
-            }
-            files
-        }
+        Form::Css => css_files(style, &sheet.stem, &[sheet]),
     })
+}
+
+fn css_files(style: &Style, stem: &str, sheets: &[&Sheet]) -> Vec<File> {
+    let mut files = Vec::new();
+    if let Some(sheet) = sheets.first().filter(|_| style.with_page) {
+        files.push((
+            format!("{}.html", stem),
+            css::page(stem, sheet).into_bytes(),
+        ));
+    }
+    let text = css::text(stem, sheets);
+    files.push((format!("{}.css", stem), text.into_bytes()));
+    files
 }
 
 /// Why sprites can't lie turned in a form; none where they can.
