@@ -142,7 +142,7 @@ def by_names(room):
 def timed(room):
     """Frames a second and looping of single animations, where the form has a place for them."""
     folder = os.path.join(room, 'timed')
-    draw(folder, ['hero/%s_%d.png' % (name, number) for name in ('die', 'walk') for number in (1, 2)] + ['coin_1.png', 'coin_2.png', 'a.png'])
+    draw(folder, ['hero/die_1.png', 'hero/die_2.png', 'hero/walk_1.png', 'hero/walk_2.png', 'coin_1.png', 'coin_2.png', 'a.png'])
 
     def tell(text):
         with open(os.path.join(folder, 'animations.txt'), 'w') as file:
@@ -159,7 +159,8 @@ def timed(room):
             listed = data['frames'].items() if form == 'json-hash' else [(each['filename'], each) for each in data['frames']]
             times = {name: each.get('duration') for name, each in listed}
             assert (times['hero/walk_2.png'], times['hero/die_1.png'], times['coin_1.png'], times['a.png']) == (80, 250, 50, None)
-            assert {tag['name']: tag.get('repeat') for tag in data['meta']['frameTags']} == {'coin': None, 'hero/walk': None, 'hero/die': '1'}
+            repeats = {tag['name']: tag.get('repeat') for tag in data['meta']['frameTags']}
+            assert repeats == {'coin': None, 'hero/walk': None, 'hero/die': '1'}, repeats
         if form == 'unity':
             found = {each['name']: (each['frameRate'], each['loop']) for each in readers.read_json(out + '.json')['animations']}
             assert found == wanted, found

@@ -103,7 +103,8 @@ def sum_of(path):
 
 
 def sums():
-    """The records name the sums of their pictures, so that a reader can tell a picture of another set. The old .atlas has no place for it."""
+    """The records name the sums of their pictures, so that a reader can tell a picture of another set. The old .atlas has no place for
+    it."""
     for form, ending in (('json-hash', 'json'), ('json-array', 'json'), ('phaser', 'json'), ('libgdx-new', 'atlas'), ('godot', 'tres'),
                          ('godot3', 'tres'), ('starling', 'xml'), ('css', 'css'), ('unity', 'json'), ('cocos', 'plist')):
         with tempfile.TemporaryDirectory() as room:
@@ -314,7 +315,8 @@ def watched_files():
     with tempfile.TemporaryDirectory() as room:
         put(room + '/in', GOOD)
         os.mkdir(room + '/out')
-        running = common.begun([PROGRAM, room + '/in', room + '/out/sheet', '--watch'], stdout=subprocess.DEVNULL, stderr=subprocess.DEVNULL)
+        words = [PROGRAM, room + '/in', room + '/out/sheet', '--watch']
+        running = common.begun(words, stdout=subprocess.DEVNULL, stderr=subprocess.DEVNULL)
 
         def is_whole():
             return all(os.path.exists(room + '/out/' + name) for name in ('sheet.json', 'sheet.png'))
@@ -363,7 +365,17 @@ def left_over():
         done = ended([room + '/in', room + '/out/sheet', *both, '--form', 'libgdx'])
         check('left over: another form', (done.returncode, done.stderr) == (0, ''), done.stderr)
         turn('of another form', 0, three[:1], three[:2] + ['sheet-2.json', 'sheet.atlas', 'sheet.json', 'sheet.png'])
+        # What a stamp says of files elsewhere, or of others here, counts for nothing.
+        put(room, {'sheet-mine.png': b'mine'})
+        stamp = room + '/out/.sheet.json-hash.stamp'
+        with open(stamp) as file:
+            told = json.load(file)
+        elsewhere = ['../sheet-mine.png', 'other.png', room + '/sheet-mine.png']
+        more = [{'name': name, 'sum': hashlib.sha256(b'mine').hexdigest()} for name in elsewhere]
+        with open(stamp, 'w') as file:
+            json.dump({**told, 'left': told['left'] + more}, file)
         turn('not of another form', 0, [], three[1:2] + ['sheet-2.json', 'sheet.atlas', 'sheet.json', 'sheet.png'], '--clean')
+        check('left over: elsewhere', os.path.exists(room + '/sheet-mine.png'), written(room))
 
 
 MAKEFILE = """out/sheet.json:

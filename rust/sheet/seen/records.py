@@ -235,7 +235,8 @@ def small_files(room):
         part = readers.opened(path, page['path']).crop((x, y, x + wide, y + high))
         found[name] = readers.put(part, (wide + wider, high + higher), (left, top))
     icons.compare(found, originals, True)
-    assert len(done.stdout.splitlines()) > 1 and len([name for name in os.listdir(os.path.dirname(out)) if name.endswith('.tres')]) == len(found)
+    written = [name for name in os.listdir(os.path.dirname(out)) if name.endswith('.tres')]
+    assert len(done.stdout.splitlines()) > 1 and len(written) == len(found), written
     template = os.path.join(room, 'own.animation.txt.tera')
     with open(template, 'w') as file:
         file.write('{{ animation.name }} {{ animation.loop }}{% for one in animation.frames %} {{ one.image }}:{{ one.name }}:'

@@ -349,7 +349,8 @@ def css(chromium, folder, way, room, most=0, more=()):
 
 
 def retina(chromium, room):
-    """Of two scales the smaller one is that of the page, and a screen with twice as many pixels shows the larger one, by the same classes."""
+    """Of two scales the smaller one is that of the page, and a screen with twice as many pixels shows the larger one, by the same
+    classes."""
     folder, half, both = (os.path.join(room, 'retina' + name) for name in ('', ' half', ' both'))
     for number in range(60):
         side = 16 + number % 9 * 2
@@ -367,7 +368,8 @@ def retina(chromium, room):
             Image.open(os.path.join(folder, match.group(1))).width / 2, urllib.parse.quote(os.path.join(folder, match.group(1)))), text)
         with open(os.path.join(room, 'retina pictures.html'), 'w', encoding='utf-8') as file:
             file.write(shown)
-        for factor, pages in ((1, (half + '@0.5x.html', both + '.html')), (2, (os.path.join(room, 'retina pictures.html'), both + '.html'))):
+        by_hand = os.path.join(room, 'retina pictures.html')
+        for factor, pages in ((1, (half + '@0.5x.html', both + '.html')), (2, (by_hand, both + '.html'))):
             shots = [screenshot(chromium, page, (500, 400), room, factor) for page in pages]
             assert shots[0].size == (500 * factor, 400 * factor) and len(set(shots[0].getdata())) > 100
             assert icons.difference(*shots) == 0, (way, factor, icons.difference(*shots))

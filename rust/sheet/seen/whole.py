@@ -146,8 +146,8 @@ def stopped(library, room):
 
 
 def to_the_disk(library, room):
-    """All files and both folders are on the disk before the first one gets its place; then the record goes, where a picture is replaced, and
-    comes after the pictures, and the stamp last."""
+    """All files and both folders are on the disk before the first one gets its place; then the record goes, where a picture is replaced,
+    and comes after the pictures, and the stamp last."""
     folder, _ = pictures(room, 'disk', 9, 20)
     inside = os.path.join(room, 'on disk')
     os.mkdir(inside)
@@ -180,8 +180,8 @@ def hung_up(room):
 
 
 def asked_to_end(room):
-    """Where a hangup is ignored, as by nohup, other signals do what they do otherwise: nothing is left half done, and with --keep-best the best
-    sheet is written."""
+    """Where a hangup is ignored, as by nohup, other signals do what they do otherwise: nothing is left half done, and with --keep-best the
+    best sheet is written."""
     folder, originals = pictures(room, 'asked', 40, 20)
     for how in (signal.SIGTERM, signal.SIGINT):
         for more, status in (([], 130), (['--keep-best'], 0)):

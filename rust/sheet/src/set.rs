@@ -121,12 +121,17 @@ impl Target {
             .collect()
     }
 
+    // Whether a file is called as those of this OUT, and is as it was written.
+    fn is_own(&self, one: &Written) -> bool {
+        one.name.starts_with(&self.stem) && one.is_in(&self.folder)
+    }
+
     // Takes away what the stamp says is of the set before the one that is there, but what is written anew or another form has.
     fn prune(&self, old: &Stamp, new: &Stamp) {
         let others = self.other_stamps();
         let is_needed = |name: &str| new.has(name) || others.iter().any(|stamp| stamp.has(name));
         for one in old.before.iter().filter(|one| !is_needed(&one.name)) {
-            if one.is_by_content() && one.is_in(&self.folder) {
+            if one.is_by_content() && self.is_own(one) {
                 let _ = fs::remove_file(self.folder.join(&one.name));
             }
         }
@@ -252,7 +257,7 @@ impl Target {
         let others = self.other_stamps();
         let is_ours = |one: &&Written| {
             let is_theirs = others.iter().any(|stamp| stamp.has(&one.name));
-            !is_theirs && one.is_in(&self.folder)
+            !is_theirs && self.is_own(one)
         };
         stamp.left.iter().filter(is_ours).cloned().collect()
     }

@@ -19,9 +19,13 @@ impl Written {
         self.name.contains(sums::short(&self.sum))
     }
 
-    /// Whether it is there as it was written.
+    /// Whether it lies there as it was written. A stamp may come from elsewhere.
     pub fn is_in(&self, folder: &Path) -> bool {
-        fs::read(folder.join(&self.name)).map_or(false, |bytes| sums::of(&bytes) == self.sum)
+        let is_plain = Path::new(&self.name)
+            .file_name()
+            .map_or(false, |name| name == self.name.as_str());
+        is_plain
+            && fs::read(folder.join(&self.name)).map_or(false, |bytes| sums::of(&bytes) == self.sum)
     }
 }
 
