@@ -306,15 +306,11 @@ fn listed(words: &Words) -> Result<Listed, Fault> {
     Ok(listed)
 }
 
-fn read(words: &Words) -> Result<Read, Fault> {
+// `inputs` has the texts as they were when this was seen, before one of them was taken.
+fn read(words: &Words, seen: i64, mut inputs: Vec<Input>) -> Result<Read, Fault> {
     room::check_size(words)?;
-    let seen = inputs::now();
     let listed = listed(words)?;
     let (asked, done) = (fresh::asked(words, &listed), Done::new(words, &listed));
-    let mut inputs: Vec<Input> = fresh::texts(words)
-        .iter()
-        .map(|path| Input::read(path))
-        .collect();
     let names: Vec<&str> = listed.files.iter().map(|one| one.0.as_str()).collect();
     forms::check_names(words.form, words.stem(), &names)?;
     let played = animations(&listed.files, words)?;
@@ -343,8 +339,10 @@ fn read(words: &Words) -> Result<Read, Fault> {
 }
 
 fn run_alone(words: &Words, target: &Target) -> Result<Done, Fault> {
+    let (seen, texts) = (inputs::now(), fresh::texts(words));
+    let texts = texts.iter().map(|path| Input::read(path)).collect();
     let style = words.style()?;
-    let read = read(words)?;
+    let read = read(words, seen, texts)?;
     let mut done = Done {
         notes: read.notes,
         has_left_out: !read.left_out.is_empty(),
