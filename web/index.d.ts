@@ -38,7 +38,7 @@ export interface AnswerLike {
 }
 
 /** A `WebAssembly.Module`, where the types of the DOM or of Node know that; else any object without properties of its own. */
-export type ModuleLike = typeof globalThis extends { WebAssembly: { Module: { prototype: infer M } } } ? M : object;
+export type ModuleLike = object & (typeof globalThis extends { WebAssembly: { Module: { prototype: infer M } } } ? M : object);
 
 /** Why a call did nothing. */
 export type ErrorCode =
@@ -48,6 +48,8 @@ export type ErrorCode =
   | 'BAD_KEY'
   /** An option has a name that is not known, or isn't of its type; or options or a list can't be read: then `cause` is what was thrown. */
   | 'BAD_OPTION'
+  /** More arguments were given than the call takes. */
+  | 'SURPLUS'
   /** `load` hasn't ended yet. */
   | 'NOT_LOADED'
   | 'LOAD_FAILED'
@@ -261,7 +263,7 @@ export class Atlas {
   /** The live boxes, by rising slot, which is the low 24 bits of the id. Throws `MEMORY`. */
   allocated(): Allocation[];
   /** The free boxes, in an order that is left open. Throws `MEMORY`. */
-  free(): Rectangle[];
+  freeBoxes(): Rectangle[];
   /**
    * The tree of cuts: how the atlas is divided into its live and its free boxes, as a container that is the whole atlas. No two
    * members of a container that are next to each other are free. Containers may be nested as deeply as there are boxes,
@@ -417,7 +419,8 @@ export class TextureCache {
    * As `insert` of each key in turn, without objects for each. `sizes` has a width and a height for each key. Of each key that is placed
    * 11 numbers are written into `out`, from 11 times its index on: 1 where it is new, else 0; its number and its page, as unsigned numbers
    * of 32 bits; then `x`, `y`, `width` and `height` of `rectangle`, and those of `inner`. Answers how many were placed: fewer than all where
-   * this frame uses all that the pages have room for, at the first for which there is none.
+   * this frame uses all that the pages have room for, at the first for which there is none. What is written may not lie over `keys` or
+   * `sizes`: that is `BAD_OPTION`.
    *
    * Throws as `insert` at the first key that is refused, whose index is the error's `index`; those before it are placed, and written.
    */

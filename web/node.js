@@ -12,7 +12,7 @@ function bytes(place) {
 }
 
 export function load(source) {
-  return start(async () => {
+  return start(arguments.length, async () => {
     const given = await (source === undefined ? beside(() => new URL('./wollemigo.wasm', import.meta.url)) : source);
     return content(typeof given === 'string' || given instanceof URL ? await readAt(given, bytes) : given);
   });

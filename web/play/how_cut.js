@@ -30,7 +30,7 @@ function states() {
   const atlas = new Atlas(128, 96);
   const named = new Map();
   const found = [];
-  const keep = () => found.push({ free: atlas.free(), live: [...named].map(([name, box]) => ({ name, ...box })) });
+  const keep = () => found.push({ free: atlas.freeBoxes(), live: [...named].map(([name, box]) => ({ name, ...box })) });
   keep();
   for (const [name, width, height] of CALLS) {
     if (width === undefined) {

@@ -23,7 +23,7 @@ export function growFigure(figure) {
     const { width, height } = asked;
     const grown = atlas.clone();
     if (width > WIDTH || height > HEIGHT) grown.grow(width, height);
-    Object.assign(shown, { live: grown.allocated(), free: grown.free() });
+    Object.assign(shown, { live: grown.allocated(), free: grown.freeBoxes() });
     grown.dispose();
     const isNew = (box) => box.x + box.width > WIDTH || box.y + box.height > HEIGHT;
     view.show([

@@ -44,9 +44,9 @@ const largest = (boxes) => boxes.reduce((best, box) => (box.width * box.height >
 
 export function moveFigure(figure) {
   const { atlas, lines } = worn();
-  const before = atlas.free();
+  const before = atlas.freeBoxes();
   const { changes } = atlas.rearrange();
-  const after = atlas.free();
+  const after = atlas.freeBoxes();
   changes.sort((a, b) => b.before.width * b.before.height - a.before.width * a.before.height);
   const view = new View(SIDE, SIDE, 'An atlas that is rearranged');
   const [code, caption] = [new Code(CODE), make('p', { className: 'caption' })];

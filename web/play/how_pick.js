@@ -42,7 +42,7 @@ function verdicts(holes, width, height, picked, options) {
 
 export function pickFigure(figure) {
   const [atlas, view, table] = [prepared(), new View(WIDTH, HEIGHT, 'An atlas with live and free boxes'), make('table')];
-  const [holes, live, { options }] = [atlas.free().sort((a, b) => a.y - b.y || a.x - b.x), atlas.allocated(), atlas];
+  const [holes, live, { options }] = [atlas.freeBoxes().sort((a, b) => a.y - b.y || a.x - b.x), atlas.allocated(), atlas];
   const asked = { width: 20, height: 20 };
   const code = new Code(codeOf(20, 20));
   const caption = make('p', { className: 'caption' });

@@ -1,4 +1,4 @@
-import { DONE, NO_ROOM, NOT_LIVE, STATUSES, WollemigoError, failure, require } from './errors.js';
+import { DONE, NO_ROOM, NOT_LIVE, STATUSES, WollemigoError, atMost, close, failure, require } from './errors.js';
 import { MOST_SLOTS, allocationAt, changeAt, rectangleAt } from './interface.js';
 import * as reading from './reading.js';
 import { ATLAS, Owner, handle, isOf, runtimeOf } from './runtime.js';
@@ -64,10 +64,15 @@ function atlasSlots(atlas) {
 }
 
 export class Atlas extends Owner {
-  /** How often all ids became void, after which one may come again for another box. */
-  #starts = 0;
+  /** The ids of boxes that are being written into an object of the caller's, whose setters may free them; null of one that was. */
+  #written = [];
+
+  static {
+    close(this, 'allocate', 'allocateInto', 'deallocate', 'get');
+  }
 
   constructor(width, height, options, slotLimit = MOST_SLOTS) {
+    atMost(4, arguments.length);
     if (width === COPY) {
       super(ATLAS, height);
       return;
@@ -86,6 +91,7 @@ export class Atlas extends Owner {
   }
 
   allocate(width, height) {
+    atMost(2, arguments.length);
     const w = length(width, 'width');
     const h = length(height, 'height');
     const runtime = runtimeOf(this, ATLAS);
@@ -93,23 +99,33 @@ export class Atlas extends Owner {
   }
 
   allocateInto(width, height, box) {
+    atMost(3, arguments.length);
     const w = length(width, 'width');
     const h = length(height, 'height');
     target(box, 'box');
     const runtime = runtimeOf(this, ATLAS);
     if (!isGranted(this, runtime, w, h)) return false;
-    const [id, starts] = [runtime.words()[runtime.word] >>> 0, this.#starts];
+    const at = this.#written.push(runtime.words()[runtime.word] >>> 0) - 1;
     try {
       reading.allocationInto(runtime.words(), runtime.word, box);
     } catch (cause) {
       // Nobody knows the box, so it is given back, unless the caller's setter made an end of it.
-      if (handle(this) !== 0 && starts === this.#starts) runtime.calls.atlas_deallocate(handle(this), id);
+      const id = this.#written[at];
+      if (handle(this) !== 0 && id !== null) runtime.calls.atlas_deallocate(handle(this), id);
       throw unwritable('box', cause);
+    } finally {
+      this.#written.length = at;
     }
     return true;
   }
 
+  /** These ids, or all, aren't live any more; they may come again for other boxes. */
+  #end(isOver) {
+    this.#written = this.#written.map((id) => (isOver(id) ? null : id));
+  }
+
   deallocate(id) {
+    atMost(1, arguments.length);
     const number = count(id, 'id');
     const runtime = runtimeOf(this, ATLAS);
     let status;
@@ -119,6 +135,7 @@ export class Atlas extends Owner {
       throw runtime.trap(error);
     }
     require(status);
+    if (this.#written.length > 0) this.#end((each) => each === number);
   }
 
   deallocateAll(ids) {
@@ -127,9 +144,11 @@ export class Atlas extends Owner {
     const at = runtime.room(4 * numbers.length);
     runtime.write(at, numbers);
     require(runtime.calls.atlas_deallocate_all(handle(this), at, numbers.length));
+    this.#end((each) => numbers.includes(each));
   }
 
   get(id) {
+    atMost(1, arguments.length);
     const number = count(id, 'id');
     const runtime = runtimeOf(this, ATLAS);
     const status = runtime.calls.atlas_get(handle(this), number, runtime.at);
@@ -160,20 +179,20 @@ export class Atlas extends Owner {
 
   rearrange() {
     const told = rearranged(this, (calls, ...all) => calls.atlas_rearrange(handle(this), ...all));
-    this.#starts += 1;
+    this.#end(() => true);
     return told;
   }
 
   resizeAndRearrange(width, height) {
     const [w, h] = [length(width, 'width'), length(height, 'height')];
     const told = rearranged(this, (calls, ...all) => calls.atlas_resize_and_rearrange(handle(this), w, h, ...all), () => whyNoAtlas(w, h));
-    this.#starts += 1;
+    this.#end(() => true);
     return told;
   }
 
   clear() {
     require(runtimeOf(this, ATLAS).calls.atlas_clear(handle(this)));
-    this.#starts += 1;
+    this.#end(() => true);
   }
 
   reset(width, height, options) {
@@ -182,7 +201,7 @@ export class Atlas extends Owner {
     const runtime = runtimeOf(this, ATLAS);
     runtime.write(runtime.at, words);
     require(runtime.calls.atlas_reset(handle(this), w, h, runtime.at), () => whyNoAtlas(w, h, words));
-    this.#starts += 1;
+    this.#end(() => true);
   }
 
   get size() {
@@ -216,7 +235,7 @@ export class Atlas extends Owner {
     return listed(this, 'atlas_live', allocationAt.words, reading.allocation);
   }
 
-  free() {
+  freeBoxes() {
     return listed(this, 'atlas_free_boxes', rectangleAt.words, reading.rectangle);
   }
 

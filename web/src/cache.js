@@ -1,11 +1,11 @@
 import { found } from './atlas.js';
-import { DONE, FRAME_FULL, HELD, NOT_HELD, STATUSES, WollemigoError, failure, isOurs, require } from './errors.js';
+import { DONE, FRAME_FULL, HELD, NOT_HELD, STATUSES, WollemigoError, atMost, close, failure, isOurs, require } from './errors.js';
 import { EVICTED, PAGE_ADDED, PAGE_GROWN, PAGE_REMOVED, cacheChangeAt, cacheOptionsAt, countsAt, placeAt } from './interface.js';
 import { Keys } from './keys.js';
 import * as reading from './reading.js';
 import { CACHE, Owner, handle, runtimeOf } from './runtime.js';
 import {
-  atlasOptions, count, length, lengthOf, numbers, options, room, shownState, size, target, unwritable, whyNoAtlas, wide,
+  atlasOptions, count, length, lengthOf, numbers, options, requireApart, room, shownState, size, target, unwritable, whyNoAtlas, wide,
 } from './values.js';
 
 const OPTIONS = {
@@ -50,7 +50,12 @@ export class TextureCache extends Owner {
   #waiting = [];
   #handed = 0;
 
+  static {
+    close(this, 'get', 'touch', 'getInto', 'insert');
+  }
+
   constructor(given) {
+    atMost(1, arguments.length);
     const { page, largestPage, pages, padding, atlas } = options(given, 'options', OPTIONS);
     const largest = largestPage ?? page;
     super(CACHE, (runtime, cell) => {
@@ -64,16 +69,19 @@ export class TextureCache extends Owner {
   }
 
   get(key) {
+    atMost(1, arguments.length);
     const runtime = runtimeOf(this, CACHE);
     return this.#isFound(runtime, key) ? reading.place(runtime.words(), runtime.word) : null;
   }
 
   touch(key) {
+    atMost(1, arguments.length);
     const runtime = runtimeOf(this, CACHE);
     return this.#isFound(runtime, key);
   }
 
   getInto(key, place) {
+    atMost(2, arguments.length);
     const runtime = runtimeOf(this, CACHE);
     target(place, 'place');
     if (!this.#isFound(runtime, key)) return false;
@@ -115,6 +123,7 @@ export class TextureCache extends Owner {
   }
 
   insert(key, width, height) {
+    atMost(3, arguments.length);
     const runtime = runtimeOf(this, CACHE);
     const [w, h] = [length(width, 'width'), length(height, 'height')];
     const status = this.#inserted(runtime, key, w, h);
@@ -130,6 +139,8 @@ export class TextureCache extends Owner {
     const many = lengthOf(all);
     if (lengthOf(sides) < 2 * many) throw new WollemigoError('BAD_OPTION', `sizes has ${lengthOf(sides)} numbers, and not ${2 * many}`);
     room(out, 'out', WORDS * many);
+    requireApart(out, WORDS * many, all, 'keys');
+    requireApart(out, WORDS * many, sides, 'sizes');
     const runtime = runtimeOf(this, CACHE);
     for (let i = 0; i < many; i++) {
       const status = this.#insertedInto(runtime, all[i], sides[2 * i], sides[2 * i + 1], out, WORDS * i, i);

@@ -62,6 +62,27 @@ export function require(status, why) {
   throw words === undefined ? failure(code) : new WollemigoError(code, words);
 }
 
+/** Refuses arguments beyond those that a call takes. */
+export function atMost(many, given) {
+  if (given > many) throw new WollemigoError('SURPLUS', `the call takes ${many} arguments, and was given ${given}`);
+}
+
+/** Has the methods of a class, and those that are called on the class itself, refuse arguments beyond theirs, but for these: they do so
+ * by themselves, since they are called often, or are called by JavaScript. */
+export function close(made, ...others) {
+  for (const of of [made, made.prototype]) {
+    for (const [name, { value, ...more }] of Object.entries(Object.getOwnPropertyDescriptors(of))) {
+      if (typeof value !== 'function' || ['constructor', 'toJSON', ...others].includes(name)) continue;
+      const { [name]: closed } = { [name](...given) {
+        atMost(value.length, given.length);
+        return value.apply(this, given);
+      } };
+      Object.defineProperty(closed, 'length', { value: value.length });
+      Object.defineProperty(of, name, { value: closed, ...more });
+    }
+  }
+}
+
 /** The message of what was thrown, which may be anything. */
 export function told(cause) {
   try {

@@ -1,5 +1,5 @@
 /** A running module: its calls, its memory, and places in it for handles and for what is passed by pointer. */
-import { WollemigoError, failure, require, told } from './errors.js';
+import { WollemigoError, atMost, failure, require, told } from './errors.js';
 import { EXPORTS } from './interface.js';
 
 const PAGE = 65536;
@@ -126,6 +126,7 @@ export function running() {
 
 /** How much memory the module has, and what takes it. */
 export function memory() {
+  atMost(0, arguments.length);
   const { bytes, owners } = running();
   return { bytes, atlases: owners.Atlas, simpleAtlases: owners.SimpleAtlas, caches: owners.TextureCache };
 }
@@ -150,8 +151,9 @@ async function started(module) {
   }
 }
 
-/** Starts the module that a function gives, unless one runs or is being started. */
-export function start(module) {
+/** Starts the module that a function gives, unless one runs or is being started; `given` is how many arguments `load` was given. */
+export function start(given, module) {
+  if (given > 1) return Promise.resolve().then(() => atMost(1, given));
   if (current !== null && !current.hasTrapped) return Promise.resolve();
   starting ??= started(module);
   return starting;
@@ -253,6 +255,7 @@ export class Owner {
   }
 
   dispose() {
+    atMost(0, arguments.length);
     if (!isOwner(this)) {
       throw new WollemigoError('BAD_THIS', 'dispose was called on what has no memory of the module');
     }

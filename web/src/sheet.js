@@ -1,4 +1,4 @@
-import { DONE, NO_ROOM, STATUSES, WollemigoError, failure } from './errors.js';
+import { DONE, NO_ROOM, STATUSES, WollemigoError, atMost, failure } from './errors.js';
 import { HEIGHTS, ONE_SIZE, POWERS, SQUARES, placedAt, sizeAt } from './interface.js';
 import * as reading from './reading.js';
 import { running } from './runtime.js';
@@ -73,5 +73,6 @@ export function packedBy(call, sprites, given) {
 }
 
 export function pack(sprites, given) {
+  atMost(2, arguments.length);
   return packedBy('pack', sprites, given);
 }

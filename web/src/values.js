@@ -61,6 +61,17 @@ export function lengthOf(given) {
   return kindOfArray.call(given) === undefined ? given.length : lengthOfTyped.call(given);
 }
 
+const [bufferOf, startOf, bytesOf] = ['buffer', 'byteOffset', 'byteLength'].map((name) => Object.getOwnPropertyDescriptor(typed, name).get);
+
+/** Refuses what would be written, so many numbers of `out`, over a list while that is read. */
+export function requireApart(out, many, given, name) {
+  if (kindOfArray.call(given) === undefined || bufferOf.call(out) !== bufferOf.call(given)) return;
+  const [to, from] = [startOf.call(out), startOf.call(given)];
+  if (to < from + bytesOf.call(given) && from < to + 4 * many) {
+    throw new WollemigoError('BAD_OPTION', `out lies over ${name}, which would be written over while it is read`);
+  }
+}
+
 /** An Int32Array that has room for so many numbers. */
 export function room(given, name, least) {
   if (kindOfArray.call(given) !== 'Int32Array' || lengthOfTyped.call(given) < least) {
@@ -79,9 +90,10 @@ export function unwritable(name, cause) {
   return isOurs(cause) ? cause : new WollemigoError('BAD_OPTION', `${name} can't be written to`, { cause });
 }
 
-/** Whether a value is an object as a literal makes it, in this realm or another, or one without a prototype. */
+/** Whether a value is an object as a literal makes it, in this realm or another, or one without a prototype. `Math` and the arguments of a
+ * function have the prototype of a literal, but not its name. */
 function isPlain(value) {
-  if (typeof value !== 'object' || value === null) return false;
+  if (typeof value !== 'object' || value === null || Object.prototype.toString.call(value) !== '[object Object]') return false;
   const above = Object.getPrototypeOf(value);
   return above === null || Object.getPrototypeOf(above) === null;
 }

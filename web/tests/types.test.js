@@ -49,8 +49,8 @@ test('a program by the types', { skip: tsc.error !== undefined && 'there is no t
 test('the types refuse what the package refuses, also without those of the DOM', { skip: tsc.error !== undefined && 'there is no tsc' }, () => {
   const refusing = fileURLToPath(new URL('refused.ts', import.meta.url));
   const wanted = readFileSync(refusing, 'utf8').split('\n').flatMap((line, at) => (line.endsWith('// refused') ? [at + 1] : []));
-  const words = ['--noEmit', '--strict', '--target', 'es2022', '--module', 'es2022', '--lib', 'es2022'];
-  for (const more of [[], ['--exactOptionalPropertyTypes']]) {
+  const words = ['--noEmit', '--strict', '--target', 'es2022', '--module', 'es2022', '--lib'];
+  for (const more of [['es2022'], ['es2022', '--exactOptionalPropertyTypes'], ['es2022,dom']]) {
     const { stdout } = spawnSync('tsc', [...words, ...more, refusing], { encoding: 'utf8' });
     const found = new Set([...stdout.matchAll(/refused\.ts\((\d+),/g)].map((each) => Number(each[1])));
     assert.deepEqual([...found].sort((a, b) => a - b), wanted, stdout);

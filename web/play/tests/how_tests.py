@@ -145,7 +145,7 @@ def test_lines_of_the_other_figures_do_it(page):
     assert page.run('''const { grow } = how, atlas = grow.atlas.clone();
         const [before, after] = new Function('atlas', `${grow.code.text}\\nreturn [before, after]`)(atlas);
         const { width, height } = atlas.size, same = (one, other) => JSON.stringify(one) === JSON.stringify(other);
-        return [width, height, before.length, same(before, after), same(after, grow.shown.live), same(atlas.free(), grow.shown.free)]
+        return [width, height, before.length, same(before, after), same(after, grow.shown.live), same(atlas.freeBoxes(), grow.shown.free)]
         ''') == [200, 130, 6, True, True, True]
     assert page.run('''const { move, api } = how, atlas = new api.Atlas(160, 160);
         const [texture, old, copied, named] = ['now', 'before', [], []];
