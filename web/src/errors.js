@@ -68,8 +68,9 @@ export function atMost(many, given) {
 }
 
 /** Has the methods of a class, and those that are called on the class itself, refuse arguments beyond theirs, but for these: they do so
- * by themselves, since they are called often, or are called by JavaScript. */
+ * by themselves, since they are called often, or are called by JavaScript. The pages that web/play/build makes leave this out. */
 export function close(made, ...others) {
+  if (import.meta.cut) return;
   for (const of of [made, made.prototype]) {
     for (const [name, { value, ...more }] of Object.entries(Object.getOwnPropertyDescriptors(of))) {
       if (typeof value !== 'function' || ['constructor', 'toJSON', ...others].includes(name)) continue;
