@@ -241,10 +241,12 @@ export class Atlas {
   grow(width: number, height: number): void;
   /** Whether the atlas may be grown to this size: no side shrinks. */
   canGrowTo(width: number, height: number): boolean;
-  /** `resizeAndRearrange` at the present size. */
+  /** `resizeAndRearrange` at the present size, at which boxes may be lost as well: `failures` names them. */
   rearrange(): ChangeList;
   /** Repacks what is live into an empty atlas of this size, the largest first; options and limit stay. All former ids are
-   * void. Throws `BAD_CALL`, `SLOTS`, `MEMORY`. */
+   * void. **What finds no room when its turn comes is lost**, even where all had room before: it is live no more, and `failures` lists it.
+   * To lose nothing, rearrange a `clone`, which takes the place of this atlas where `failures` is empty. Throws `BAD_CALL`, `SLOTS`,
+   * `MEMORY`. */
   resizeAndRearrange(width: number, height: number): ChangeList;
   /** Starts again: no id is live. */
   clear(): void;
@@ -364,7 +366,7 @@ export type CacheChange =
   /** A page has this size now, and nothing on it moved: make its texture larger, and copy what it had. It may come while quads of this page
    * are batched: those keep their pixels, but coordinates that were divided by the former size are wrong. */
   | { kind: 'pageGrown'; page: number; width: number; height: number }
-  /** A key is gone; its place was `from`. */
+  /** A key is gone, by an insertion, a trim or a repacking; its place was `from`. */
   | { kind: 'evicted'; key: Key; from: Place }
   /** A key moved, by a repacking: copy `from.rectangle` to `to.rectangle`, out of a copy of the page as it was before. */
   | { kind: 'moved'; key: Key; from: Place; to: Place }
@@ -438,8 +440,9 @@ export class TextureCache {
   trim(frames: number | bigint): void;
   /** Removes the pages after the last one with a key, each reported as removed, the last one first; after `clear` all. Throws `MEMORY`. */
   shrink(): void;
-  /** Repacks the keys of a page, so that what is free comes together; each key is reported by a change. Follow the changes that wait, copy
-   * the page, then call this, and copy all pixels from that copy. Throws `NO_PAGE`, `SLOTS`, `MEMORY`. */
+  /** Repacks the keys of a page, the largest first, so that what is free comes together. Each key is reported by a change: as moved, also
+   * where it stays; or as **evicted**, where it found no room when its turn came, which may be though all had room before. Follow the changes
+   * that wait, copy the page, then call this, and copy all pixels from that copy. Throws `NO_PAGE`, `SLOTS`, `MEMORY`. */
   repack(page: number): void;
 
   /** Takes memory for this many more keys. Throws `MEMORY`. */

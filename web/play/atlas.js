@@ -83,7 +83,7 @@ const ACTIONS = {
   'add-many': addMany,
   free: () => player.freeAny() ?? 'Nothing is live.',
   grow: () => player.grow(),
-  rearrange: () => player.rearrange(),
+  rearrange: () => lost(player.rearrange()),
   undo: () => undone(player.undo(), 'Undone'),
   redo: () => undone(player.redo(), 'Done again'),
   run: () => run(!player.isRunning),
@@ -93,6 +93,13 @@ const undone = (line, word) => (line ? `${word}: ${line}` : 'There is nothing mo
 
 function told(reply) {
   if (reply[0] === 'none') trouble('There was no room: no free box is large enough. Free some, grow or rearrange.');
+  return reply;
+}
+
+/** Says which boxes a rearrangement lost. */
+function lost(reply) {
+  const many = reply.filter((line) => line.startsWith('lost')).length;
+  if (many > 0) trouble(`${many === 1 ? 'A box' : `${many} boxes`} found no room in the new order, and ${many === 1 ? 'is' : 'are'} lost. Undo brings all back.`);
   return reply;
 }
 

@@ -4,28 +4,54 @@ import { Code, Steps, View, draw, fill } from './how_figure.js';
 import { make } from './page.js';
 
 const TEXT = 'the quick brown fox jumps over the lazy dog, pack my box with five dozen liquor jugs, how vexingly quick daft zebras jump';
+// In lines of at most 44 letters.
+const TEXT_OF_CODE = TEXT.match(/.{1,44}(?: |$)/g).map((part) => `'${part}'`).join('\n  + ');
 const [WINDOW, FRAMES, BEFORE] = [16, 100, 8];
 const HIGH = 3; // new letters that make a bar of the full height
-const CODE = `const cache = new TextureCache({
-  page: { width: 72, height: 56 },
+const codeOf = (width, height) => `const cache = new TextureCache({
+  page: { width: ${width}, height: ${height} },
 });
+
+// As a letter of a font may have it.
+function sizeOf(letter) {
+  const width = 'ijlt,'.includes(letter) ? 7
+    : 'mw'.includes(letter) ? 17 : 12;
+  return [width, 'bdfhklt'.includes(letter) ? 16
+    : 'gjpqy'.includes(letter) ? 15 : 11];
+}
+
+function placeOf(letter) {
+  const held = cache.get(letter);
+  if (held !== null) return held;
+  const place = cache.insert(letter, ...sizeOf(letter));
+  for (const { kind, key, page } of cache.changes())
+    console.log(kind, key ?? page); // follow it here
+  return place; // null: this frame uses all room
+}
 
 function drawFrame(letters) {
   cache.beginFrame();
   for (const it of letters) {
-    const place = cache.get(it)
-      ?? cache.insert(it, ...sizeOf(it));
-    for (const change of cache.changes())
-      follow(change);
-    if (place.isNew) write(it, place);
-    draw(place);
+    let place = placeOf(it);
+    if (place === null) {
+      console.log('flush'); // draw what is batched
+      cache.beginFrame();
+      place = placeOf(it);
+    }
+    if (place.isNew) console.log('write', it);
   }
+}
+
+const text = ${TEXT_OF_CODE};
+for (let at = 0; at < ${FRAMES}; at += 1) {
+  const seen = text.slice(at, at + ${WINDOW});
+  drawFrame(new Set(seen.replaceAll(' ', '')));
 }`;
 
-/** As a letter of a font may have it: wide and narrow ones, high and low ones. */
+/** As the lines have it. */
 function sizeOf(letter) {
-  const width = /[ijlt,]/.test(letter) ? 7 : /[mw]/.test(letter) ? 17 : 12;
-  return [width, /[bdfhklt]/.test(letter) ? 16 : /[gjpqy]/.test(letter) ? 15 : 11];
+  const width = 'ijlt,'.includes(letter) ? 7 : 'mw'.includes(letter) ? 17 : 12;
+  return [width, 'bdfhklt'.includes(letter) ? 16 : 'gjpqy'.includes(letter) ? 15 : 11];
 }
 
 const lettersOf = (frame) => [...new Set(TEXT.slice(frame, frame + WINDOW).replaceAll(' ', ''))];
@@ -73,7 +99,7 @@ function captionOf({ fresh, evicted, held }) {
 }
 
 export function cacheFigure(figure) {
-  const [{ found, statistics }, code] = [frames(), new Code(CODE)];
+  const [{ found, statistics }, code] = [frames(), new Code(codeOf(72, 56), 'TextureCache')];
   const view = new View(72, 56, 'A page of 72 by 56 pixels with letters');
   const { strip, cursor } = stripOf(found);
   const text = make('p', { className: 'text' });
@@ -85,10 +111,10 @@ export function cacheFigure(figure) {
     const seen = make('b', { textContent: TEXT.slice(at, at + WINDOW) });
     text.replaceChildren(TEXT.slice(Math.max(0, at - BEFORE), at).padStart(BEFORE), seen, TEXT.slice(at + WINDOW, at + WINDOW + 24));
     cursor.setAttribute('x', at);
-    code.point(fresh.length === 0 ? 7 : evicted.length === 0 ? 8 : 10);
+    code.point(fresh.length === 0 ? 'if (held' : evicted.length === 0 ? 'const place = cache.insert' : 'console.log(kind');
   };
   const steps = new Steps({ name: 'Frame', many: FRAMES, captions: (at) => captionOf(found[at]), show, pause: 420 });
   fill(figure, [text, view.svg, strip, steps.element], code.element);
   steps.slider.set(24);
-  return { steps, frames: found, statistics, lettersOf, sizeOf, code: CODE };
+  return { steps, frames: found, statistics, lettersOf, code };
 }

@@ -8,7 +8,8 @@ const b = atlas.allocate(44, 40);
 const c = atlas.allocate(30, 30);
 atlas.deallocate(b.id);
 atlas.deallocate(a.id);
-atlas.deallocate(c.id);`;
+atlas.deallocate(c.id);
+console.log(atlas.freeBoxes());`;
 const CALLS = [['a', 48, 60], ['b', 44, 40], ['c', 30, 30], ['b'], ['a'], ['c']];
 
 const CAPTIONS = [
@@ -62,10 +63,10 @@ export function cutFigure(figure) {
     const gone = [...before.free.filter((box) => !free.some((each) => keyOf(each) === keyOf(box))),
       ...before.live.filter(({ name }) => !live.some((each) => each.name === name))];
     view.mark(...(at > 3 ? gone.filter((box) => fresh.some((each) => isWithin(box, each))).map((box) => frame(box, 'was')) : []));
-    code.point(at);
+    code.point(CODE.split('\n')[at]);
   };
   const steps = new Steps({ name: 'Step', many: all.length, captions: (at) => CAPTIONS[at], show, pause: 1900 });
   fill(figure, [view.svg, steps.element], code.element);
   steps.slider.set(1);
-  return { steps, states: all, code: CODE };
+  return { steps, states: all, code };
 }

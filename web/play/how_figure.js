@@ -80,11 +80,13 @@ export class View {
 
 export const frame = ({ x, y, width, height }, name) => draw('rect', { x, y, width, height, class: name });
 
-/** Lines of code beside a figure, one of which may be the one that is carried out now; and a button that copies them. */
+/** Lines of a module beside a figure, one of which may be the one that is carried out now; and a button that copies them. They begin with
+ * the import of these names, and run as they stand. */
 export class Code {
-  constructor(text) {
-    this.text = text;
-    this.lines = text.split('\n').map((line) => make('span', { textContent: line }));
+  constructor(text, names = 'Atlas') {
+    this.head = `import { ${names}, load } from 'wollemigo';\nawait load();\n\n`;
+    this.text = this.head + text;
+    this.lines = this.text.split('\n').map((line) => make('span', { textContent: line }));
     const button = make('button', { className: 'copy', textContent: 'Copy these lines' });
     button.addEventListener('click', async () => {
       button.textContent = (await copy(this.text, 'The lines')) ? 'Copied' : 'Copy them by hand';
@@ -94,8 +96,19 @@ export class Code {
     this.element.querySelector('pre').setAttribute('aria-label', 'The lines of JavaScript that do this');
   }
 
-  point(number) {
-    this.lines.forEach((line, at) => line.classList.toggle('now', at === number));
+  /** Shows other lines below the import. There are as many of them. */
+  show(text) {
+    this.text = this.head + text;
+    this.text.split('\n').forEach((line, at) => { this.lines[at].textContent = line; });
+  }
+
+  /** Marks the first line that begins with these words, and brings it into sight. */
+  point(words) {
+    const now = this.lines.find((line) => line.textContent.trimStart().startsWith(words));
+    for (const line of this.lines) line.classList.toggle('now', line === now);
+    if (now === undefined) return;
+    const frame = now.closest('pre');
+    frame.scrollTop = Math.max(0, now.offsetTop - frame.offsetTop - frame.clientHeight / 2);
   }
 }
 

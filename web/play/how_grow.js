@@ -5,10 +5,16 @@ import { count, make } from './page.js';
 
 const [WIDTH, HEIGHT, WIDEST, HIGHEST] = [128, 96, 224, 160];
 const SIZES = [[48, 64], [30, 40], [50, 24], [30, 20], [20, 36], [34, 30]];
-const codeOf = (width, height) => `const before = atlas.allocated();
+const codeOf = (width, height) => `const atlas = new Atlas(${WIDTH}, ${HEIGHT});
+const sizes = [
+  ${SIZES.slice(0, 3).map((each) => `[${each.join(', ')}]`).join(', ')},
+  ${SIZES.slice(3).map((each) => `[${each.join(', ')}]`).join(', ')},
+];
+for (const [w, h] of sizes) atlas.allocate(w, h);
+const before = atlas.allocated();
 atlas.grow(${width}, ${height}); // no side shrinks
 const after = atlas.allocated();
-// before and after are the same`;
+console.log(before, after); // the same`;
 
 export function growFigure(figure) {
   const atlas = new Atlas(WIDTH, HEIGHT);
@@ -35,8 +41,8 @@ export function growFigure(figure) {
     const added = shown.free.filter(isNew).length;
     caption.textContent = `${width} × ${height}: ${count(area)} pixels are free, in ${shown.free.length} boxes${
       added === 0 ? '' : `, ${added === 1 ? 'one' : 'two'} of which ${added === 1 ? 'is' : 'are'} new`}.`;
-    code.text = codeOf(width, height);
-    code.lines[1].textContent = code.text.split('\n')[1];
+    code.show(codeOf(width, height));
+    code.point('atlas.grow');
   }
 
   const sides = [['width', WIDTH, WIDEST], ['height', HEIGHT, HIGHEST]].map(([side, least, greatest]) => slider(side, {

@@ -56,3 +56,10 @@ test('the lines of README.md', () => {
   const [, program] = /^```js\n([^]*?)^```$/m.exec(readFileSync(join(web, 'README.md'), 'utf8'));
   assert.equal(told(program), '0 0 20 60\ncontainer 1024 1024\npageAdded 0\n0 1 1 true\n43 43 2\n');
 });
+
+test('the lines of README.md about a rearrangement', () => {
+  const [, program] = /^```js rearranging\n([^]*?)^```$/m.exec(readFileSync(join(web, 'README.md'), 'utf8'));
+  const count = '\nconsole.log(atlas.allocated().length);\n';
+  assert.match(told(program + count), /^would be lost \d+ 48 8\n4\n$/);
+  assert.match(told(program.replace('new Atlas(64, 64)', 'new Atlas(80, 80)') + count), /^(?:moved(?: \d+){6}\n){4}4\n$/);
+});

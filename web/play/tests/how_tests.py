@@ -4,7 +4,8 @@ import time
 
 from page_tests import CONTRAST, NAMELESS
 
-SIZES = [(64, 52), (64, 24), (80, 64), (60, 44), (72, 28), (28, 24), (28, 40), (80, 28), (56, 64), (72, 16), (20, 48), (48, 64), (24, 48)]
+SIZES = [(44, 24), (28, 48), (108, 20), (36, 44), (44, 52), (108, 16), (108, 24), (100, 40), (112, 32), (108, 12), (28, 56), (20, 56),
+         (44, 20), (32, 28), (60, 24)]
 GROWING = [(48, 64), (30, 40), (50, 24), (30, 20), (20, 36), (34, 30)]
 CUTTING = ['alloc 48 60', 'alloc 44 40', 'alloc 30 30', 'free 7', 'free 3', 'free 11']
 # The boxes of a figure that aren't fading: whether each is live, and its corners.
@@ -20,6 +21,12 @@ def open_page(page):
     page.browser.open('about:blank')
     page.browser.open(page.address + 'how.html')
     page.wait('!!window.how')
+
+
+def kind_of(width, height):
+    """The class of a box, or of a request, in the second figure."""
+    longer = max(width, height)
+    return 'large' if longer >= 96 else 'medium' if longer >= 32 else 'small'
 
 
 def boxes(page, figure):
@@ -38,18 +45,25 @@ def test_cuts(page):
     for at in [*range(7), *range(5, -1, -1)]:
         page.run('how.cut.steps.slider.set(arguments[0])', at)
         assert boxes(page, 'cut') == told_by_tool(page, ['atlas 128 96'] + CUTTING[:at]), at
-        assert page.run('return [...document.querySelectorAll("#cut pre span")].findIndex((each) => each.classList.contains("now"))') == at
+        assert page.run('return [...document.querySelectorAll("#cut pre span")].findIndex((each) => each.classList.contains("now"))') == at + 3
     assert page.run('how.cut.steps.slider.set(5); return document.querySelectorAll("#cut .was").length') == 2
+
+
+def picking(page):
+    """The lines that lead to the second figure's atlas, and its free boxes."""
+    lines = ['atlas 240 150 1 1 32 96'] + ['alloc %d %d' % size for size in SIZES]
+    ids = [int(line.split()[1]) for line in page.tool.replies(lines)[1:]]
+    lines += ['free %d' % number for number in ids[1::2]]
+    return lines, page.tool.boxes(lines)[3]
 
 
 def test_picks(page):
     """The free box that is picked is the tool's, and each free box is told of as the rule has it."""
     open_page(page)
-    lines = ['atlas 240 150'] + ['alloc %d %d' % size for size in SIZES]
-    ids = [int(line.split()[1]) for line in page.tool.replies(lines)[1:]]
-    lines += ['free %d' % number for number in ids[1::2]]
-    _, _, _, holes = page.tool.boxes(lines)
-    for width, height in [(20, 20), (25, 20), (24, 22), (4, 4), (60, 60), (110, 110), (90, 10), (30, 96), (50, 65)]:
+    lines, holes = picking(page)
+    kinds = set()
+    for width, height in [(20, 20), (30, 20), (24, 22), (4, 4), (60, 60), (110, 110), (90, 10), (30, 96), (50, 65), (100, 16), (104, 16),
+                          (96, 10), (132, 20), (140, 140)]:
         page.run('how.pick.set(arguments[0], arguments[1])', width, height)
         reply = page.tool.replies(lines + ['alloc %d %d' % (width, height)])[-1]
         assert sorted(boxes(page, 'pick')[1]) == sorted(holes)
@@ -63,10 +77,15 @@ def test_picks(page):
         corner = tuple(int(word) for word in re.findall(r'\d+', reply)[1:3])
         assert len(picked) == 1 and places[rows.index(picked[0])][:2] == corner, (width, height)
         for (looks, _, sides, kind, words), (x0, y0, x1, y1) in zip(rows, places):
-            assert sides == '%d × %d' % (x1 - x0, y1 - y0) and kind == ('medium' if max(x1 - x0, y1 - y0) >= 32 else 'small')
+            assert sides == '%d × %d' % (x1 - x0, y1 - y0) and kind == kind_of(x1 - x0, y1 - y0)
             has_room = x1 - x0 >= width and y1 - y0 >= height
             assert ('dim' in looks) != has_room and words.startswith('too ') != has_room
-        assert page.run('return document.querySelector("#pick pre").textContent').startswith('const box = atlas.allocate(%d, %d);' % (width, height))
+        _, _, row_sides, kind, _ = picked[0]
+        sides = [int(side) for side in row_sides.split(' × ')]
+        kinds.add((kind_of(width, height), kind, (width in sides[:1]) or (height in sides[1:])))
+        assert 'const box = atlas.allocate(%d, %d);' % (width, height) in page.run('return document.querySelector("#pick pre").textContent')
+    # Of large requests, one took a box with a side of just its length, another one none.
+    assert {('large', 'large', True), ('large', 'large', False)} <= kinds, kinds
 
 
 def test_grows(page):
@@ -108,59 +127,22 @@ def test_moves(page):
     lines = page.run('return how.move.lines')
     replies = page.tool.replies(lines + ['rearrange'])
     moved = [[int(word) for word in re.findall(r'\d+', reply)] for reply in replies if reply.startswith('moved')]
-    assert len(moved) == 24 and replies[-1] == 'changes 24 failures 0'
+    lost = [tuple(int(word) for word in re.findall(r'\d+', reply)[1:]) for reply in replies if reply.startswith('lost')]
+    assert replies[-1] == 'changes 20 failures 1' and len(moved) == 20 and len(lost) == 1
     before, after = ([tuple(each[at:at + 4]) for each in moved] for at in (1, 6))
     page.run('how.move.set(0)')
-    assert boxes(page, 'move')[0] == sorted(before) == told_by_tool(page, lines)[0]
+    assert boxes(page, 'move')[0] == sorted(before + lost) == told_by_tool(page, lines)[0]
+    assert 'will find no room' in page.run('return document.querySelector("#move .caption").textContent')
     page.run('how.move.set(0.5)')
+    assert 'A drawing' in page.run('return document.querySelector("#move .caption").textContent')
     middle = boxes(page, 'move')[0]
     assert middle != sorted(before) and middle != sorted(after)
     page.run('how.move.set(1)')
     assert boxes(page, 'move')[0] == sorted(after) == told_by_tool(page, lines + ['rearrange'])[0]
-
-
-def test_lines_do_it(page):
-    """The lines beside a figure, carried out as they stand, do what it shows."""
-    open_page(page)
-    assert page.run('''const { api, cut, cache } = how;
-        const [a, b, c] = new Function('Atlas', `${cut.code}; return [a, b, c]`)(api.Atlas);
-        const live = cut.states[3].live.map(({ name, ...box }) => box);
-        const [written, frames] = [[], cache.frames];
-        const drawFrame = new Function('TextureCache', 'sizeOf', 'follow', 'write', 'draw', `${cache.code}; return drawFrame`)(
-          api.TextureCache, cache.sizeOf, () => {}, (it) => written.push(it), () => {});
-        frames.forEach((_, at) => drawFrame(cache.lettersOf(at)));
-        return [JSON.stringify([a, b, c]) === JSON.stringify(live), written.join('') === frames.flatMap(({ fresh }) => fresh).join('')]''') == [True, True]
-
-
-def test_lines_of_the_other_figures_do_it(page):
-    """As above, on an atlas as the figure has it before; what else the lines name is given to them."""
-    open_page(page)
-    for width, height, is_granted in [(20, 20, True), (25, 20, True), (110, 110, False)]:
-        page.run('how.pick.set(arguments[0], arguments[1])', width, height)
-        logged, picked = page.run('''const { pick } = how, logged = [], atlas = pick.atlas.clone();
-            new Function('atlas', 'console', pick.code.text)(atlas, { log: (...words) => logged.push(words) });
-            return [logged, pick.shown.picked && [pick.shown.picked.x, pick.shown.picked.y]]''')
-        assert logged == ([picked] if is_granted else [['no room']]), (width, height, logged)
-    page.run('how.grow.set(200, 130)')
-    assert page.run('''const { grow } = how, atlas = grow.atlas.clone();
-        const [before, after] = new Function('atlas', `${grow.code.text}\\nreturn [before, after]`)(atlas);
-        const { width, height } = atlas.size, same = (one, other) => JSON.stringify(one) === JSON.stringify(other);
-        return [width, height, before.length, same(before, after), same(after, grow.shown.live), same(atlas.freeBoxes(), grow.shown.free)]
-        ''') == [200, 130, 6, True, True, True]
-    assert page.run('''const { move, api } = how, atlas = new api.Atlas(160, 160);
-        const [texture, old, copied, named] = ['now', 'before', [], []];
-        for (const line of move.lines.slice(1)) {
-          const [word, ...numbers] = line.split(' ');
-          if (word === 'alloc') atlas.allocate(...numbers.map(Number));
-          else atlas.deallocate(Number(numbers[0]));
-        }
-        new Function('atlas', 'texture', 'copyOf', 'copy', 'moved', move.code)(atlas, texture, (it) => (it === texture ? old : null),
-          (from, before, to, after) => copied.push(from === old && to === texture ? { before, after } : null),
-          (before, after) => named.push([before, after]));
-        const sorted = (changes) => JSON.stringify(changes.map((each) => JSON.stringify(each)).sort());
-        const ids = move.changes.map(({ before, after }) => [before.id, after.id]);
-        return [sorted(copied) === sorted(move.changes), sorted(named) === sorted(ids)]
-        ''') == [True, True]
+    x0, y0, x1, y1 = lost[0]
+    assert 'the box of %d × %d, dashed where it was, is lost' % (x1 - x0, y1 - y0) in page.run('return document.querySelector("#move .caption").textContent')
+    assert page.run('const { x, y, width, height } = document.querySelector("#move .was").attributes;'
+                    'return [x, y, width, height].map((each) => Number(each.value))') == [x0, y0, x1 - x0, y1 - y0]
 
 
 def test_lines_are_copied(page):
@@ -237,7 +219,7 @@ def test_can_be_read(page):
     names = page.run('return performance.getEntriesByType("resource").map((each) => each.name.split("/").at(-1))')
     assert names == ['wollemigo.wasm'], names
     plain, packed = page.measure([page.address + 'how.html', page.address + 'wollemigo.wasm'])
-    assert plain < 230000 and packed < 90000, (plain, packed)
+    assert plain < 250000 and packed < 95000, (plain, packed)
     for colour in ('dark', 'light'):
         if page.run('return document.documentElement.dataset.theme') != colour:
             page.click('#theme')
