@@ -19,12 +19,21 @@ declare global {
 
 /**
  * Fetches and starts the WebAssembly module; nothing else works before that. It may be called any number of times: once the module
- * runs, later calls do nothing. After a trap it starts a new module; objects that were made before stay out of use.
+ * runs, later calls do nothing. After a trap it starts a new module; objects that were made before stay out of use. Where a smaller entry of
+ * the package has started its own module, `load` of the whole starts another one, for all that is made from then on.
  *
  * @param source where the module is: `wollemigo.wasm` next to this script where nothing is given. Node reads it from the disk.
  * @throws {WollemigoError} `LOAD_FAILED`, with what was wrong as its `cause`.
  */
 export function load(source?: Source | PromiseLike<Source>): Promise<void>;
+
+/**
+ * The same at once, of bytes or of a module that is compiled already. A page may ask this only of so many bytes as its browser compiles at
+ * once; in a worker there is no bound.
+ *
+ * @throws {WollemigoError} `LOAD_FAILED`, with what was wrong as its `cause`.
+ */
+export function loadSync(source: ArrayBuffer | ArrayBufferView | ModuleLike): void;
 
 /** Where a module is: an address as text, a `URL`, a `Response`, bytes, or a `WebAssembly.Module`. */
 export type Source = string | { readonly href: string } | AnswerLike | ArrayBuffer | ArrayBufferView | ModuleLike;

@@ -1,20 +1,13 @@
 import { DONE, NO_ROOM, NOT_LIVE, STATUSES, WollemigoError, atMost, close, failure, require } from './errors.js';
 import { MOST_SLOTS, allocationAt, changeAt, rectangleAt } from './interface.js';
 import * as reading from './reading.js';
-import { ATLAS, Owner, handle, isOf, runtimeOf } from './runtime.js';
+import { ATLAS, Owner, found, handle, isOf, runtimeOf } from './runtime.js';
 import { atlasOptions, count, length, list, shownState, target, unwritable, whyNoAtlas, whyNoGrowth } from './values.js';
 
 export { MOST_SLOTS };
 export const GLYPHS = Object.freeze({ smallSizeThreshold: 0, largeSizeThreshold: 5000 });
 
 const COPY = Symbol('copy');
-
-/** What a call of an atlas or a simple atlas writes at `runtime.at`, as the reader reads it. */
-export function found(owner, kind, call, reader) {
-  const runtime = runtimeOf(owner, kind);
-  require(runtime.calls[call](handle(owner), runtime.at));
-  return reader(runtime.words(), runtime.word);
-}
 
 /** What a call that places boxes anew tells. */
 function rearranged(atlas, call, why) {
@@ -74,7 +67,7 @@ export class Atlas extends Owner {
   constructor(width, height, options, slotLimit = MOST_SLOTS) {
     atMost(4, arguments.length);
     if (width === COPY) {
-      super(ATLAS, height);
+      super(ATLAS, height, undefined, options);
       return;
     }
     const [w, h] = [length(width, 'width'), length(height, 'height')];
@@ -87,7 +80,7 @@ export class Atlas extends Owner {
 
   clone() {
     const runtime = runtimeOf(this, ATLAS);
-    return new Atlas(COPY, (current, cell) => runtime.calls.atlas_clone(handle(this), cell));
+    return new Atlas(COPY, (_, cell) => runtime.calls.atlas_clone(handle(this), cell), runtime);
   }
 
   allocate(width, height) {
@@ -253,6 +246,6 @@ export class Atlas extends Owner {
 /** An atlas that isn't out of use, and none of another kind. */
 export function requireAtlas(value, runtime) {
   if (!isOf(value, ATLAS)) throw new WollemigoError('BAD_OPTION', 'atlas is not an Atlas');
-  if (runtimeOf(value, ATLAS) !== runtime) throw failure('TRAPPED');
+  if (runtimeOf(value, ATLAS) !== runtime) throw new WollemigoError('BAD_OPTION', 'atlas is in another module');
   return handle(value);
 }

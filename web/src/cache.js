@@ -1,12 +1,10 @@
-import { found } from './atlas.js';
-import { DONE, FRAME_FULL, HELD, NOT_HELD, STATUSES, WollemigoError, atMost, close, failure, isOurs, require } from './errors.js';
+import { lengthOf, numbers, requireApart, room } from './arrays.js';
+import { DONE, FRAME_FULL, HELD, NOT_HELD, STATUSES, WollemigoError, atMost, close, failure, isOurs, require, say } from './errors.js';
 import { EVICTED, PAGE_ADDED, PAGE_GROWN, PAGE_REMOVED, cacheChangeAt, cacheOptionsAt, countsAt, placeAt } from './interface.js';
 import { Keys } from './keys.js';
 import * as reading from './reading.js';
-import { CACHE, Owner, handle, runtimeOf } from './runtime.js';
-import {
-  atlasOptions, count, length, lengthOf, numbers, options, requireApart, room, shownState, size, target, unwritable, whyNoAtlas, wide,
-} from './values.js';
+import { CACHE, Owner, found, handle, runtimeOf } from './runtime.js';
+import { atlasOptions, count, length, options, shownState, size, target, unwritable, whyNoAtlas, wide } from './values.js';
 
 const OPTIONS = {
   page: [size],
@@ -52,6 +50,18 @@ export class TextureCache extends Owner {
 
   static {
     close(this, 'get', 'touch', 'getInto', 'insert');
+    say({
+      OTHER_SIZE: 'a key is held with another size',
+      NUMBERS: 'a cache holds 4294967295 keys, and can hold no more',
+      EMPTY_PAGE: 'a side of a new page is below 1',
+      LARGEST_PAGE: 'a side of the largest page is less than that of a new one',
+      NO_PAGES: 'no pages are allowed',
+      BAD_PADDING: 'the padding is below 0',
+      BAD_ATLAS: "the options of the pages' atlases aren't valid",
+      NO_PAGE: 'there is no such page',
+      NEVER_FITS: 'with the padding, rounded up to the alignment, a size exceeds the largest page',
+      NOTHING_FITS: 'with the padding and rounded up, not even 1 by 1 fits the largest page',
+    });
   }
 
   constructor(given) {

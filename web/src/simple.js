@@ -1,7 +1,7 @@
-import { found, requireAtlas } from './atlas.js';
+import { requireAtlas } from './atlas.js';
 import { DONE, NO_ROOM, STATUSES, atMost, close, failure, require } from './errors.js';
 import * as reading from './reading.js';
-import { Owner, SIMPLE, handle, runtimeOf } from './runtime.js';
+import { Owner, SIMPLE, found, handle, runtimeOf } from './runtime.js';
 import { atlasOptions, length, shownState, whyNoAtlas, whyNoGrowth } from './values.js';
 
 function simpleSize(simple) {

@@ -80,15 +80,6 @@ test('the class that the others have in common', () => {
   refused(() => atlas.isEmpty, 'DISPOSED', 'disposed');
 });
 
-test('a console shows what is none of them', () => {
-  const { [Symbol.for('nodejs.util.inspect.custom')]: shown } = Object.getPrototypeOf(Atlas).prototype;
-  const gone = Proxy.revocable({}, {});
-  gone.revoke();
-  const values = [null, undefined, 5, {}, Object.create(null), gone.proxy, { get constructor() { throw new Error('of the caller'); } },
-    { constructor: { name: Symbol('name') } }, Object.create(Atlas.prototype), new Proxy(new Atlas(5, 5), {}), Atlas.prototype];
-  for (const value of values) assert.match(shown.call(value, 2, {}, () => 'read'), /^[\w()]+ \{\}$/);
-});
-
 test('a class of a caller', () => {
   class Glyphs extends Atlas {
     get slots() { return { used: 1e9 }; }

@@ -65,7 +65,7 @@ test('an argument more than other calls take', async () => {
     packGroups: () => wollemigo.packGroups(sprites, [0], {}, 5), fill: () => wollemigo.fill(sprites, {}, 5),
   };
   for (const [name, call] of Object.entries(cases)) refused(call, 'SURPLUS', name);
-  await assert.rejects(wollemigo.load(undefined, 5), { code: 'SURPLUS' });
+  await assert.rejects(() => wollemigo.load(undefined, 5), (error) => error.code === 'SURPLUS');
 });
 
 test('the box that the id of a former call names is listed by freeBoxes, and free is no call', () => {

@@ -5,16 +5,24 @@ import { readFileSync } from 'node:fs';
 import { test } from 'node:test';
 import { fileURLToPath } from 'node:url';
 
+import * as atlas from '../atlas.js';
+import * as cache from '../cache.js';
 import * as browser from '../index.js';
 import * as node from '../node.js';
+import * as nodeAtlas from '../node_atlas.js';
+import * as nodeCache from '../node_cache.js';
 
 const types = readFileSync(new URL('../index.d.ts', import.meta.url), 'utf8');
-const sources = ['interface', 'errors', 'values', 'runtime', 'sheet', 'keys', 'atlas', 'cache', 'simple']
+const sources = ['interface', 'errors', 'values', 'arrays', 'runtime', 'sheet', 'keys', 'atlas', 'cache', 'simple']
   .map((name) => readFileSync(new URL(`../src/${name}.js`, import.meta.url), 'utf8')).join('\n');
 
 test('what is exported is what the types name', () => {
   const named = [...types.matchAll(/^export (?:class|const|function) (\w+)/gm)].map((found) => found[1]);
   for (const api of [browser, node]) assert.deepEqual(Object.keys(api).sort(), named.sort());
+  for (const [name, apis] of [['atlas', [atlas, nodeAtlas]], ['cache', [cache, nodeCache]]]) {
+    const part = readFileSync(new URL(`../${name}.d.ts`, import.meta.url), 'utf8').match(/^export \{ (.*) \} from/m)[1].split(', ');
+    for (const api of apis) assert.deepEqual(Object.keys(api).sort(), part);
+  }
 });
 
 test('what a class has is what the types name', () => {
