@@ -6,15 +6,16 @@ import { cutFigure } from './how_cut.js';
 import { growFigure } from './how_grow.js';
 import { moveFigure } from './how_move.js';
 import { pickFigure } from './how_pick.js';
-import { find, trouble } from './page.js';
+import { begun, find, trouble } from './page.js';
 
 const FIGURES = { cut: cutFigure, pick: pickFigure, grow: growFigure, cache: cacheFigure, move: moveFigure };
 
 async function begin() {
+  const held = begun();
   setColours();
   wireColours(() => {});
   try {
-    await load();
+    await load(held);
   } catch (error) {
     trouble(`The figures can't be shown, since the library could not be loaded: ${error.message}.`);
     return;
