@@ -198,7 +198,7 @@ def test_what_stands_still_says_why(page):
         for address in ('file://' + os.path.join(sources, name), page.address.replace('/built/', '/policy/') + name):
             page.browser.open('about:blank')
             page.browser.open(address)
-            page.wait("window.how || window.play || document.getElementById('still')"
+            page.wait("!!window.how || !!window.play || document.getElementById('still')"
                       " && getComputedStyle(document.getElementById('still')).visibility === 'visible'", 20)
             note = page.run(STILL)
             assert note is None and address.startswith('file:') and page.browser.name == 'Firefox' \
