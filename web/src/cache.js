@@ -29,6 +29,11 @@ function change(words, at, keys) {
 /** How many numbers `insertAll` writes of a key: whether it is new, and those of its place. */
 const WORDS = 1 + placeAt.words;
 
+/** What of an insertion's answer is its status. */
+const STATUS = 255;
+/** Where a change is written, in bytes behind the place. */
+const CHANGE = 64;
+
 const first = (words, at) => words[at] >>> 0;
 
 function optionsRead(words, at) {
@@ -136,10 +141,11 @@ export class TextureCache extends Owner {
     atMost(3, arguments.length);
     const runtime = runtimeOf(this, CACHE);
     const [w, h] = [length(width, 'width'), length(height, 'height')];
-    const status = this.#inserted(runtime, key, w, h);
+    const answer = this.#inserted(runtime, key, w, h);
+    const status = answer & STATUS;
     const isPlaced = status === DONE || status === HELD;
     const entry = isPlaced ? reading.entry(runtime.words(), runtime.word, status === DONE) : null;
-    this.#follow(runtime);
+    if (answer !== status) this.#follow(runtime, true);
     if (isPlaced || status === FRAME_FULL) return entry;
     throw failure(STATUSES[status]);
   }
@@ -163,12 +169,13 @@ export class TextureCache extends Owner {
   #insertedInto(runtime, key, width, height, out, to, index) {
     let code;
     try {
-      const status = this.#inserted(runtime, key, length(width, 'width'), length(height, 'height'));
+      const answer = this.#inserted(runtime, key, length(width, 'width'), length(height, 'height'));
+      const status = answer & STATUS;
       if (status === DONE || status === HELD) {
         out[to] = status === DONE ? 1 : 0;
         reading.placeWords(runtime.words(), runtime.word, out, to + 1);
       }
-      this.#follow(runtime);
+      if (answer !== status) this.#follow(runtime, true);
       if (status === DONE || status === HELD || status === FRAME_FULL) return status;
       code = STATUSES[status];
     } catch (error) {
@@ -178,16 +185,16 @@ export class TextureCache extends Owner {
     throw failure(code, { index });
   }
 
-  /** The status of an insertion; the place is at `runtime.at`. */
+  /** The status of an insertion, and more than that where a change was written; the place is at `runtime.at`, the change at `CHANGE`. */
   #inserted(runtime, key, width, height) {
     const lower = this.#keys.next(key);
     let status;
     try {
-      status = runtime.insert(handle(this), lower, this.#keys.upper, width, height, runtime.at);
+      status = runtime.insert(handle(this), lower, this.#keys.upper, width, height, runtime.at, runtime.at + CHANGE);
     } catch (error) {
       throw runtime.trap(error);
     }
-    if (status === DONE) this.#keys.keep(key);
+    if ((status & STATUS) === DONE) this.#keys.keep(key);
     return status;
   }
 
@@ -206,12 +213,12 @@ export class TextureCache extends Owner {
     throw failure(STATUSES[status]);
   }
 
-  /** Takes over what a call did, so that each key that went is read while its name is known. */
-  #follow(runtime) {
-    const cell = handle(this);
+  /** Takes over what a call did, so that each key that went is read while its name is known. The first change may be there already. */
+  #follow(runtime, isThere = false) {
+    const [cell, at] = [handle(this), runtime.at + CHANGE];
     try {
-      while (runtime.nextChange(cell, runtime.at) === DONE) {
-        const made = change(runtime.words(), runtime.word, this.#keys);
+      for (let isNext = isThere; isNext || runtime.nextChange(cell, at) === DONE; isNext = false) {
+        const made = change(runtime.words(), at >>> 2, this.#keys);
         if (made.kind === 'evicted') this.#keys.forget(made.key);
         this.#waiting.push(made);
       }
