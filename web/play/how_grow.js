@@ -1,6 +1,6 @@
 // Figure 3: an atlas grows, and nothing in it moves.
 import { Atlas } from '../index.js';
-import { Code, View, draw, fill, slider } from './how_figure.js';
+import { Caption, Code, View, draw, fill, slider } from './how_figure.js';
 import { count, make } from './page.js';
 
 const [WIDTH, HEIGHT, WIDEST, HIGHEST] = [128, 96, 224, 160];
@@ -20,7 +20,7 @@ export function growFigure(figure) {
   const atlas = new Atlas(WIDTH, HEIGHT);
   for (const [width, height] of SIZES) atlas.allocate(width, height);
   const view = new View(WIDEST, HIGHEST, 'An atlas that grows');
-  const [outline, caption] = [draw('rect', { class: 'outline' }), make('p', { className: 'caption' })];
+  const [outline, caption] = [draw('rect', { class: 'outline' }), new Caption()];
   const [asked, shown] = [{ width: WIDTH, height: HEIGHT }, { live: [], free: [] }];
   const code = new Code(codeOf(WIDTH, HEIGHT));
   view.mark(outline, draw('rect', { width: WIDTH, height: HEIGHT, class: 'was' }));
@@ -39,8 +39,8 @@ export function growFigure(figure) {
     Object.assign(outline.style, { width: `${width}px`, height: `${height}px` });
     const area = shown.free.reduce((sum, box) => sum + box.width * box.height, 0);
     const added = shown.free.filter(isNew).length;
-    caption.textContent = `${width} × ${height}: ${count(area)} pixels are free, in ${shown.free.length} boxes${
-      added === 0 ? '' : `, ${added === 1 ? 'one' : 'two'} of which ${added === 1 ? 'is' : 'are'} new`}.`;
+    caption.tell(`${width} × ${height}: ${count(area)} pixels are free, in ${shown.free.length} boxes${
+      added === 0 ? '' : `, ${added === 1 ? 'one' : 'two'} of which ${added === 1 ? 'is' : 'are'} new`}.`);
     code.show(codeOf(width, height));
     code.point('atlas.grow');
   }
@@ -52,7 +52,7 @@ export function growFigure(figure) {
       update();
     },
   }));
-  fill(figure, [view.svg, make('div', { className: 'controls' }, ...sides.map(({ element }) => element)), caption], code.element);
+  fill(figure, [view.svg, make('div', { className: 'controls' }, ...sides.map(({ element }) => element)), caption.element], code.element);
   sides[0].set(176);
   return { set: (width, height) => [width, height].forEach((value, at) => sides[at].set(value)), shown, atlas, code };
 }

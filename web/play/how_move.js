@@ -1,6 +1,6 @@
 // Figure 5: boxes are placed anew, and one finds no room. A slider moves them from where they were to where they are, one after another.
 import { Atlas } from '../index.js';
-import { Code, View, fill, frame, slider } from './how_figure.js';
+import { Caption, Code, View, fill, frame, slider } from './how_figure.js';
 import { count, isStill, make } from './page.js';
 
 const SIDE = 160;
@@ -68,7 +68,7 @@ export function moveFigure(figure) {
   const answers = { before, after: atlas.freeBoxes(), failures };
   changes.sort((a, b) => areaOf(b.before) - areaOf(a.before));
   const view = new View(SIDE, SIDE, 'An atlas that is rearranged');
-  const [code, caption] = [new Code(CODE), make('p', { className: 'caption' })];
+  const [code, caption] = [new Code(CODE), new Caption()];
   view.svg.classList.add('still');
   const ease = (part) => part * part * (3 - 2 * part);
   const placed = ({ before: from, after: to }, at, part) => {
@@ -87,12 +87,12 @@ export function moveFigure(figure) {
       ...(part === 0 ? failures.map((box) => ({ key: box.id, ...box, looks: 'live' })) : []),
       ...changes.map((change, at) => placed(change, at, part)).sort((a, b) => a.looks.length - b.looks.length)]);
     view.mark(...(part === 0 || isEnd ? failures.map((box) => frame(box, 'was')) : []));
-    caption.textContent = captionOf(part, answers);
+    caption.tell(captionOf(part, answers));
     code.point(part === 0 ? 'const copy' : isEnd ? 'copy.dispose' : 'const { changes');
   }
 
   const { control, button } = moving(show);
-  fill(figure, [view.svg, make('div', { className: 'controls' }, button, control.element), caption], code.element);
+  fill(figure, [view.svg, make('div', { className: 'controls' }, button, control.element), caption.element], code.element);
   show(0);
   return { set: (part) => control.set(Math.round(200 * part)), lines, changes, ...answers, code };
 }

@@ -1,6 +1,6 @@
 // Figure 2: which free box a request takes, and why not another.
 import { Atlas } from '../index.js';
-import { Code, View, fill, frame, slider } from './how_figure.js';
+import { Caption, Code, View, fill, frame, slider } from './how_figure.js';
 import { make } from './page.js';
 
 const [WIDTH, HEIGHT, LARGE] = [240, 150, 96];
@@ -51,11 +51,11 @@ function verdicts(holes, width, height, picked, options) {
 }
 
 export function pickFigure(figure) {
-  const [atlas, view, table] = [prepared(), new View(WIDTH, HEIGHT, 'An atlas with live and free boxes'), make('table')];
+  const [atlas, view, table] = [prepared(), new View(WIDTH, HEIGHT, 'An atlas with live and free boxes'), make('table', { ariaLabel: 'The free boxes, and what the rule says of each' })];
   const [holes, live, { options }] = [atlas.freeBoxes().sort((a, b) => a.y - b.y || a.x - b.x), atlas.allocated(), atlas];
   const asked = { width: 20, height: 20 };
   const code = new Code(codeOf(20, 20));
-  const caption = make('p', { className: 'caption' });
+  const caption = new Caption();
   const shown = { picked: null, verdicts: [] };
 
   function update() {
@@ -71,14 +71,14 @@ export function pickFigure(figure) {
       ...holes.map((hole, at) => ({ key: `free ${at}`, ...hole, label: letter(at), looks: `free ${told[at].looks}` })),
     ]);
     view.mark(...(picked ? [frame({ ...picked, width, height }, 'request')] : []));
-    table.replaceChildren(make('tr', {}, ...['', 'free box', 'class', ''].map((textContent) => make('th', { textContent }))),
+    table.replaceChildren(make('tr', {}, ...['box', 'sides', 'class', 'rule'].map((textContent) => make('th', { textContent, scope: 'col' }))),
       ...holes.map((hole, at) => {
         const words = [letter(at), `${hole.width} × ${hole.height}`, CLASSES[classOf(hole, options)], told[at].words];
         return make('tr', { className: told[at].looks }, ...words.map((textContent) => make('td', { textContent })));
       }));
     const number = told.filter(({ looks }) => looks.startsWith('candidate')).length;
-    caption.textContent = picked === null ? `No free box has room for ${width} × ${height}.`
-      : `${width} × ${height} lies at ${picked.x}, ${picked.y}. ${number === 1 ? 'One box was' : `${number} boxes were`} in question.`;
+    caption.tell(picked === null ? `No free box has room for ${width} × ${height}.`
+      : `${width} × ${height} lies at ${picked.x}, ${picked.y}. ${number === 1 ? 'One box was' : `${number} boxes were`} in question.`);
     code.show(codeOf(width, height));
     code.point('const box = ');
   }
@@ -90,7 +90,7 @@ export function pickFigure(figure) {
       update();
     },
   }));
-  fill(figure, [view.svg, make('div', { className: 'controls' }, ...sides.map(({ element }) => element)), caption], table, code.element);
+  fill(figure, [view.svg, make('div', { className: 'controls' }, ...sides.map(({ element }) => element)), caption.element], table, code.element);
   update();
   return { set: (width, height) => [width, height].forEach((value, at) => sides[at].set(value)), shown, holes, atlas, code };
 }

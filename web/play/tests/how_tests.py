@@ -121,6 +121,50 @@ def test_cache(page):
         assert boxes(page, 'cache')[0] == places
 
 
+def test_more_room_evicts_less(page):
+    """The control for room: live and free boxes tile the page in each frame, and with more room fewer letters go."""
+    open_page(page)
+    counts = []
+    for height in (56, 64, 80, 96):
+        page.run('how.cache.room.set(arguments[0])', height)
+        frames = page.run('return how.cache.frames')
+        for frame in frames:
+            parts = [each['box'] for each in frame['held']] + frame['free']
+            assert sum(part['width'] * part['height'] for part in parts) == 72 * height
+            corners = [(part['x'], part['y'], part['x'] + part['width'], part['y'] + part['height']) for part in parts]
+            assert all(x1 <= u0 or u1 <= x0 or y1 <= v0 or v1 <= y0
+                       for at, (x0, y0, x1, y1) in enumerate(corners) for u0, v0, u1, v1 in corners[at + 1:])
+        counts.append(sum(len(frame['evicted']) for frame in frames))
+        page.run('how.cache.steps.slider.set(40)')
+        shown = boxes(page, 'cache')
+        assert [len(each) for each in shown] == [len(frames[40]['held']), len(frames[40]['free'])]
+        assert 'height: %d' % height in page.run('return how.cache.code.text')
+        orange = page.run('return document.querySelectorAll("#cache .evicts").length')
+        assert orange == sum(bool(frame['evicted']) for frame in frames)
+    assert counts == sorted(counts, reverse=True) and counts[0] > 20 and counts[-1] < counts[0] / 2, counts
+
+
+def test_figures_are_told(page):
+    """Each figure and table has a name, each head of a column words; what a drawing shows is in its name, and said once it stays."""
+    open_page(page)
+    assert page.run('''return [...document.querySelectorAll('figure')].map((each) =>
+        document.getElementById(each.getAttribute('aria-labelledby'))?.textContent)''') == page.run(
+            'return [...document.querySelectorAll("figure")].map((each) => each.closest("section").querySelector("h2").textContent)')
+    assert page.run('return [...document.querySelectorAll("th")].every((each) => each.textContent && each.scope === "col")')
+    assert page.run('return [...document.querySelectorAll("table")].every((each) => each.getAttribute("aria-label"))')
+    page.run('how.cut.steps.slider.set(1)')
+    label = page.run('return document.querySelector("#cut .view svg").getAttribute("aria-label")')
+    assert 'live a 48 by 60 at 0, 0' in label and 'free 80 by 96 at 48, 0' in label, label
+    page.run('''window.said = []; new MutationObserver(() => said.push(document.getElementById('said').textContent))
+        .observe(document.getElementById('said'), { childList: true, characterData: true, subtree: true });
+        how.cache.steps.pause = 60; how.cache.steps.slider.set(80)''')
+    page.click('#cache button.main')
+    page.wait('how.cache.steps.at === 99')
+    page.wait('said.length > 0')
+    last = page.run('return document.querySelector("#cache .caption").textContent')
+    assert page.run('return said') == [last], page.run('return said')
+
+
 def test_moves(page):
     """Where boxes were and where they are is what the tool tells of the same calls; in between each is on its way."""
     open_page(page)
@@ -176,7 +220,7 @@ def test_keys_move_each_slider(page):
     """By arrows, Home and End; and a figure that plays by itself stops."""
     open_page(page)
     seen = 'return document.querySelector("#%s .view").innerHTML'
-    for name, sliders in {'cut': 1, 'pick': 2, 'grow': 2, 'cache': 1, 'move': 1}.items():
+    for name, sliders in {'cut': 1, 'pick': 2, 'grow': 2, 'cache': 2, 'move': 1}.items():
         assert page.run('return document.querySelectorAll("#%s input[type=range]").length' % name) == sliders
         for at in range(sliders):
             field = 'document.querySelectorAll("#%s input[type=range]")[%d]' % (name, at)
