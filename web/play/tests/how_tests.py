@@ -49,6 +49,35 @@ def test_cuts(page):
     assert page.run('how.cut.steps.slider.set(5); return document.querySelectorAll("#cut .was").length') == 2
 
 
+def test_a_size_of_ones_own_is_cut(page):
+    """Of any size of box a the boxes are the tool's; the other way to cut is drawn, and called a drawing."""
+    open_page(page)
+    for width, height in [(48, 60), (100, 20), (20, 90), (128, 96), (128, 40), (90, 90), (4, 4)]:
+        page.run('how.cut.set(arguments[0], arguments[1])', width, height)
+        lines, ids = ['atlas 128 96'], {}
+        for at, (name, size) in enumerate([('a', (width, height)), ('b', (44, 40)), ('c', (30, 30)), ('b', None), ('a', None), ('c', None)], 1):
+            if size:
+                lines.append('alloc %d %d' % size)
+                reply = page.tool.replies(lines)[-1].split()
+                ids[name] = reply[1] if reply[0] == 'id' else None
+            elif ids[name]:
+                lines.append('free ' + ids[name])
+            page.run('how.cut.steps.slider.set(arguments[0])', at)
+            assert boxes(page, 'cut') == told_by_tool(page, lines), (width, height, at)
+            caption = page.run('return document.querySelector("#cut .caption").textContent')
+            assert ('no room' in caption or 'There is no box' in caption) == (ids[name] is None), caption
+        assert boxes(page, 'cut')[1] == [(0, 0, 128, 96)]
+    page.run('how.cut.set(48, 60); how.cut.steps.slider.set(1)')
+    (box,), free = boxes(page, 'cut')
+    page.click('#cut button[aria-pressed]')
+    # 48x60 leaves 80 across and 36 down of 128x96: beside it 80x96 and below 48x36, or else 80x60 and 128x36.
+    assert free == [(0, 60, 48, 96), (48, 0, 128, 96)] and boxes(page, 'cut') == [[box], [(0, 60, 128, 96), (48, 0, 128, 60)]]
+    caption = page.run('return document.querySelector("#cut .caption").textContent')
+    assert caption.startswith('A drawing of the other way') and '4,800 pixels in place of 7,680' in caption, caption
+    page.click('#cut button[aria-pressed]')
+    assert boxes(page, 'cut')[1] == free
+
+
 def picking(page):
     """The lines that lead to the second figure's atlas, and its free boxes."""
     lines = ['atlas 240 150 1 1 32 96'] + ['alloc %d %d' % size for size in SIZES]
@@ -220,7 +249,7 @@ def test_keys_move_each_slider(page):
     """By arrows, Home and End; and a figure that plays by itself stops."""
     open_page(page)
     seen = 'return document.querySelector("#%s .view").innerHTML'
-    for name, sliders in {'cut': 1, 'pick': 2, 'grow': 2, 'cache': 2, 'move': 1}.items():
+    for name, sliders in {'cut': 3, 'pick': 2, 'grow': 2, 'cache': 2, 'move': 1}.items():
         assert page.run('return document.querySelectorAll("#%s input[type=range]").length' % name) == sliders
         for at in range(sliders):
             field = 'document.querySelectorAll("#%s input[type=range]")[%d]' % (name, at)
