@@ -173,6 +173,34 @@ def test_more_room_evicts_less(page):
     assert counts == sorted(counts, reverse=True) and counts[0] > 20 and counts[-1] < counts[0] / 2, counts
 
 
+def test_shelves_are_beside_the_atlas(page):
+    """The atlas holds what the tool tells of the same calls; the shelves' boxes are of the same requests, and lie apart."""
+    open_page(page)
+    calls, found = page.run('return [how.shelf.calls, how.shelf.found]')
+    lines, ids = ['atlas 160 160'], {}
+    for number, call in enumerate(calls):
+        if 'freed' in call:
+            replies = page.tool.replies(lines)
+            held = [(at, reply.split()) for at, reply in enumerate(replies) if at in ids]
+            name = next((reply[1] for at, reply in held if ids[at] == call['freed'] and reply[0] == 'id'), None)
+            lines += ['free ' + name] if name else []
+        else:
+            ids[len(lines)] = number
+            lines.append('alloc %d %d' % (call['width'], call['height']))
+    replies = page.tool.replies(lines)
+    sides = {number: (call['width'], call['height']) for number, call in enumerate(calls) if 'freed' not in call}
+    last = {name: states[-1] for name, states in found.items()}
+    corners = {name: sorted((b['x'], b['y'], b['x'] + b['width'], b['y'] + b['height']) for b in state['boxes']) for name, state in last.items()}
+    assert corners['atlas'] == told_by_tool(page, lines)[0] and last['atlas']['refused'] == replies.count('none')
+    assert last['shelves']['refused'] > last['atlas']['refused'] and len(last['shelves']['boxes']) < len(last['atlas']['boxes'])
+    for states in found.values():
+        for state in states[::40]:
+            assert all((box['width'], box['height']) == sides[box['key']] for box in state['boxes'])
+    for at, (x0, y0, x1, y1) in enumerate(corners['shelves']):
+        assert x1 <= 160 and y1 <= 160 and all(x1 <= u0 or u1 <= x0 or y1 <= v0 or v1 <= y0 for u0, v0, u1, v1 in corners['shelves'][at + 1:])
+    assert boxes(page, 'shelf')[0] == sorted(corners['atlas'] + corners['shelves'])
+
+
 def test_figures_are_told(page):
     """Each figure and table has a name, each head of a column words; what a drawing shows is in its name, and said once it stays."""
     open_page(page)
@@ -223,7 +251,7 @@ def test_lines_are_copied(page):
     open_page(page)
     page.run('navigator.clipboard.writeText = (text) => { window.copied = text; return Promise.resolve(); }')
     seen = page.run('return [...document.querySelectorAll("figure")].map((each) => [...each.querySelectorAll("pre span")].map((line) => line.textContent).join("\\n"))')
-    assert len(seen) == 5 and all(seen)
+    assert len(seen) == 6 and all(seen)
     for at, lines in enumerate(seen):
         page.run('window.copied = null; document.querySelectorAll("figure button.copy")[arguments[0]].click()', at)
         assert page.wait('window.copied').strip() == lines.strip()
@@ -249,7 +277,7 @@ def test_keys_move_each_slider(page):
     """By arrows, Home and End; and a figure that plays by itself stops."""
     open_page(page)
     seen = 'return document.querySelector("#%s .view").innerHTML'
-    for name, sliders in {'cut': 3, 'pick': 2, 'grow': 2, 'cache': 2, 'move': 1}.items():
+    for name, sliders in {'cut': 3, 'pick': 2, 'grow': 2, 'cache': 2, 'move': 1, 'shelf': 1}.items():
         assert page.run('return document.querySelectorAll("#%s input[type=range]").length' % name) == sliders
         for at in range(sliders):
             field = 'document.querySelectorAll("#%s input[type=range]")[%d]' % (name, at)
@@ -304,7 +332,7 @@ def test_can_be_read(page):
     wide, screen = page.run('return [document.documentElement.scrollWidth, window.innerWidth]')
     assert wide <= screen, (wide, screen)
     text = page.run('return document.querySelector("main").innerText')
-    assert not re.search(r'undefined|NaN|\[object', text) and len(page.run('return [...document.querySelectorAll("figure")]')) == 5
+    assert not re.search(r'undefined|NaN|\[object', text) and len(page.run('return [...document.querySelectorAll("figure")]')) == 6
 
 
 def test_pages_lead_to_one_another(page):
@@ -323,7 +351,7 @@ def shots(page, colour, path):
     page.run('scrollTo(0, 0)')
     page.browser.shot(path % 'top')
     page.run('how.cut.steps.slider.set(5); how.pick.set(20, 20); how.grow.set(176, 120); how.cache.steps.slider.set(40); how.move.set(0.45)')
-    for name in ['cut', 'pick', 'grow', 'cache', 'move']:
+    for name in ['cut', 'pick', 'grow', 'cache', 'move', 'shelf']:
         page.run('document.querySelector("#%s figure").scrollIntoView({ block: "center" })' % name)
         time.sleep(1)
         page.browser.shot(path % name)

@@ -105,4 +105,11 @@ def test_lines_of_the_rearrangement(page):
     assert len(told) == 22 and all(kind == 'moved' for kind, *_ in told[:-1]) and told[-1] == [21, 1]
 
 
+def test_lines_beside_the_shelves(page):
+    """They hold and refuse as many as the figure's atlas at its end."""
+    open_page(page)
+    held, refused = page.run('const { boxes, refused } = how.shelf.found.atlas.at(-1); return [boxes.length, refused]')
+    assert told_by(page, page.run(LINES, 'shelf')) == [[held, refused]]
+
+
 TESTS = [each for name, each in sorted(globals().items()) if name.startswith('test_')]
