@@ -19,8 +19,8 @@ declare global {
 
 /**
  * Fetches and starts the WebAssembly module; nothing else works before that. It may be called any number of times: once the module
- * runs, later calls do nothing. After a trap it starts a new module; objects that were made before stay out of use. Where a smaller entry of
- * the package has started its own module, `load` of the whole starts another one, for all that is made from then on.
+ * runs, later calls do nothing. After a trap it starts a new module; objects that were made before stay out of use. Where a smaller entry
+ * of the package has started its own module, `load` of the whole starts another one, for all that is made from then on.
  *
  * @param source where the module is: `wollemigo.wasm` next to this script where nothing is given. Node reads it from the disk.
  * @throws {WollemigoError} `LOAD_FAILED`, with what was wrong as its `cause`.
@@ -450,8 +450,8 @@ export class TextureCache {
   /** Removes the pages after the last one with a key, each reported as removed, the last one first; after `clear` all. Throws `MEMORY`. */
   shrink(): void;
   /** Repacks the keys of a page, the largest first, so that what is free comes together. Each key is reported by a change: as moved, also
-   * where it stays; or as **evicted**, where it found no room when its turn came, which may be though all had room before. Follow the changes
-   * that wait, copy the page, then call this, and copy all pixels from that copy. Throws `NO_PAGE`, `SLOTS`, `MEMORY`. */
+   * where it stays; or as **evicted**, where it found no room when its turn came, which may be though all had room before. Follow the
+   * changes that wait, copy the page, then call this, and copy all pixels from that copy. Throws `NO_PAGE`, `SLOTS`, `MEMORY`. */
   repack(page: number): void;
 
   /** Takes memory for this many more keys. Throws `MEMORY`. */

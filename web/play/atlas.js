@@ -108,7 +108,8 @@ function told(reply) {
 /** Says which boxes a rearrangement lost. */
 function lost(reply) {
   const many = reply.filter((line) => line.startsWith('lost')).length;
-  if (many > 0) trouble(`${many === 1 ? 'A box' : `${many} boxes`} found no room in the new order, and ${many === 1 ? 'is' : 'are'} lost. Undo brings all back.`);
+  const [which, are] = many === 1 ? ['A box', 'is'] : [`${many} boxes`, 'are'];
+  if (many > 0) trouble(`${which} found no room in the new order, and ${are} lost. Undo brings all back.`);
   return reply;
 }
 
@@ -194,7 +195,8 @@ function outcome() {
 /** Lines that ask for sizes, one after another, in a new atlas like this one. */
 function linesOf(sizes) {
   const { width, height, options: { alignX, alignY, small, large } } = player.session;
-  return [['atlas', width, height, alignX, alignY, small, large], ...sizes.map((size) => ['alloc', ...size])].map((words) => words.join(' ')).join('\n');
+  const all = [['atlas', width, height, alignX, alignY, small, large], ...sizes.map((size) => ['alloc', ...size])];
+  return all.map((words) => words.join(' ')).join('\n');
 }
 
 function playLines(text) {

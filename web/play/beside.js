@@ -169,7 +169,8 @@ function curvesOf(found) {
   const told = found.map(({ name, full }) => `${name} ${percent(full)}`).join(', ');
   const picture = draw('svg', { id: 'beside-curves', viewBox: '0 0 100 100', preserveAspectRatio: 'none', role: 'img',
     'aria-label': `How full each is after each of ${many} calls; at the end: ${told}` }, ...lines);
-  return make('figure', { className: 'wide' }, picture, make('figcaption', { textContent: `How full each was, from 0 to 100 %, over ${count(many)} calls` }));
+  const caption = make('figcaption', { textContent: `How full each was, from 0 to 100 %, over ${count(many)} calls` });
+  return make('figure', { className: 'wide' }, picture, caption);
 }
 
 /** What a curve looks like, before the name of what it is of. */

@@ -57,8 +57,8 @@ function sizeOf(letter) {
 
 const lettersOf = (frame) => [...new Set(TEXT.slice(frame, frame + WINDOW).replaceAll(' ', ''))];
 
-/** Of each frame the letters that are held, when each was last used, what came and went, and the free boxes of the page, whose cuts are those
- * of an atlas with the same calls. */
+/** Of each frame the letters that are held, when each was last used, what came and went, and the free boxes of the page, whose cuts are
+ * those of an atlas with the same calls. */
 function frames(height) {
   const [cache, twin, boxes] = [new TextureCache({ page: { width: WIDTH, height } }), new Atlas(WIDTH, height), new Map()];
   const [found, used] = [[], new Map()];
@@ -103,7 +103,8 @@ const listed = (letters) => letters.map((letter) => `“${letter}”`).join(', '
 function captionOf({ fresh, evicted, held }) {
   if (fresh.length === 0) return `All letters are held: there is nothing to write. ${held.length} letters are in the texture.`;
   const are = fresh.length === 1 ? 'is' : 'are';
-  const out = evicted.length ? `; no free box had room for ${fresh.length === 1 ? 'it' : 'them'} until ${listed(evicted)} ${evicted.length === 1 ? 'was' : 'were'} gone` : '';
+  const [it, were] = [fresh.length === 1 ? 'it' : 'them', evicted.length === 1 ? 'was' : 'were'];
+  const out = evicted.length ? `; no free box had room for ${it} until ${listed(evicted)} ${were} gone` : '';
   return `${listed(fresh)} ${are} new${out}. ${held.length} letters are in the texture.`;
 }
 

@@ -7,7 +7,8 @@ const [WIDTH, HEIGHT, LARGE] = [240, 150, 96];
 const SIZES = [[44, 24], [28, 48], [108, 20], [36, 44], [44, 52], [108, 16], [108, 24], [100, 40], [112, 32], [108, 12], [28, 56], [20, 56],
   [44, 20], [32, 28], [60, 24]];
 const CLASSES = ['small', 'medium', 'large'];
-const rows = (sizes) => sizes.map((_, at) => (at % 5 ? '' : `  ${sizes.slice(at, at + 5).map((each) => `[${each.join(', ')}]`).join(', ')},\n`)).join('');
+const row = (sizes) => `  ${sizes.map((each) => `[${each.join(', ')}]`).join(', ')},\n`;
+const rows = (sizes) => sizes.map((_, at) => (at % 5 ? '' : row(sizes.slice(at, at + 5)))).join('');
 const codeOf = (width, height) => `const atlas = new Atlas(${WIDTH}, ${HEIGHT}, {
   smallSizeThreshold: 32, largeSizeThreshold: ${LARGE},
 });
@@ -51,7 +52,8 @@ function verdicts(holes, width, height, picked, options) {
 }
 
 export function pickFigure(figure) {
-  const [atlas, view, table] = [prepared(), new View(WIDTH, HEIGHT, 'An atlas with live and free boxes'), make('table', { ariaLabel: 'The free boxes, and what the rule says of each' })];
+  const [atlas, view] = [prepared(), new View(WIDTH, HEIGHT, 'An atlas with live and free boxes')];
+  const table = make('table', { ariaLabel: 'The free boxes, and what the rule says of each' });
   const [holes, live, { options }] = [atlas.freeBoxes().sort((a, b) => a.y - b.y || a.x - b.x), atlas.allocated(), atlas];
   const asked = { width: 20, height: 20 };
   const code = new Code(codeOf(20, 20));

@@ -79,7 +79,8 @@ export function shelfFigure(figure) {
   const steps = new Steps({ name: 'Call', many: CALLS + 1, show, pause: 120, told: (at) => `${at} of ${CALLS}`,
     captions: (at) => `The atlas ${told(found.atlas[at])}; the shelf packer ${told(found.shelves[at])}.` });
   const named = (view, name) => make('div', {}, view.svg, make('p', { textContent: name }));
-  fill(figure, [make('div', { className: 'pair' }, named(views.atlas, 'An atlas'), named(views.shelves, 'A shelf packer')), steps.element], code.element);
+  const pair = make('div', { className: 'pair' }, named(views.atlas, 'An atlas'), named(views.shelves, 'A shelf packer'));
+  fill(figure, [pair, steps.element], code.element);
   steps.slider.set(CALLS);
   return { steps, calls, found, code };
 }

@@ -1,4 +1,5 @@
-// How often a call goes into the module: each goes there once, and an insertion once more for each change but the first, and where they end.
+// How often a call goes into the module: each goes there once, and an insertion once more for each change but the first, and where they
+// end.
 import assert from 'node:assert/strict';
 import { test } from 'node:test';
 

@@ -1,5 +1,5 @@
-//! Calls of a cache whose key comes in two halves: JavaScript would make a bigint of 64 bits for each. An insertion also hands over the first
-//! change, so that JavaScript asks for none where there is none.
+//! Calls of a cache whose key comes in two halves: JavaScript would make a bigint of 64 bits for each. An insertion also hands over the
+//! first change, so that JavaScript asks for none where there is none.
 
 use crate::cache::{guillotiere_cache_get, guillotiere_cache_insert, guillotiere_cache_next_change};
 use crate::cache_handle::CacheHandle;

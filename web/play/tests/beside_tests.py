@@ -6,7 +6,8 @@ import re
 # In 100 x 100, then 200 x 100. Shelf: 40x30 begins a shelf, 50x20 stands beside it, 60x30 begins a second one, 30x20 takes the place
 # that was freed, 100x45 has no shelf and only 40 below; after the growth 90x90 has none, and 100x15 stands behind 50x20: of two shelves of
 # one height the upper one is taken. Skyline: 60x30 lies on 50x20, at 40 20, 30x20 on 40x30, 100x45 on both, 90x90 to the right, and 100x15
-# has no room below that. Maximal rectangles: 50x20 and 60x30 fit where 60x100 is left, at 40 0 and at 40 20, 30x20 in 40x70 at 0 30, 100x45 in
+# has no room below that. Maximal rectangles: 50x20 and 60x30 fit where 60x100 is left, at 40 0 and at 40 20, 30x20 in 40x70 at 0 30, 100x45
+# in
 # 100x50 at 0 50, and 90x90 in the new 100x100.
 LINES = ['atlas 100 100', 'alloc 40 30', 'alloc 50 20', 'alloc 60 30', 'free FIRST', 'alloc 30 20', 'alloc 100 45', 'grow 200 100',
          'alloc 90 90', 'alloc 100 15']

@@ -186,7 +186,7 @@ def test_words(page):
 
 
 STILL = """const note = document.getElementById('still');
-    return note ? [getComputedStyle(note).visibility, note.textContent] : null"""
+    return note ? [getComputedStyle(note).visibility, note.textContent.replace(/\\s+/g, ' ')] : null"""
 
 
 def test_what_stands_still_says_why(page):
