@@ -1,4 +1,4 @@
-"""The program of bench/cliffs, which plays workloads, for bench/worst."""
+"""The program of bench/cliffs, which plays workloads, for bench/worst; and that of bench/uses, for bench/traces."""
 import hashlib
 import os
 import re
@@ -47,13 +47,13 @@ def write(path, text):
             file.write(text)
 
 
-def lay_out(here, core, crate):
+def lay_out(here, core, crate, sources):
     """Writes the package; `crate` has the two paths of the Rust crate's own code, or none."""
     support = os.path.join(os.path.dirname(core), 'support')
     write(os.path.join(here, 'Cargo.toml'), PACKAGE % (core, support, 'euclid = { path = "euclid" }\n' if crate else ''))
-    for name in os.listdir(SOURCES):
+    for name in os.listdir(sources):
         if name.endswith('.rs'):
-            write(os.path.join(here, 'src', name), read(os.path.join(SOURCES, name)))
+            write(os.path.join(here, 'src', name), read(os.path.join(sources, name)))
     if crate:
         write(os.path.join(here, 'euclid', 'Cargo.toml'), EUCLID)
         write(os.path.join(here, 'euclid', 'src', 'lib.rs'), read(os.path.join(crate[0], 'euclid_shim.rs')))
@@ -61,16 +61,16 @@ def lay_out(here, core, crate):
         write(os.path.join(here, 'src', 'cache.rs'), read(os.path.join(ROOT, 'bench', 'cache.rs')))
 
 
-def build(core, crate, has_steps):
-    """Builds it by cargo, in release; with steps if it is to count them. The plain one is as a user's program is."""
+def build(core, crate, has_steps, sources=SOURCES):
+    """Builds a program of bench/ by cargo, in release; with steps if it is to count them. The plain one is as a user's program is."""
     core = os.path.abspath(core)
-    name = hashlib.sha256('\n'.join([core] + list(crate)).encode()).hexdigest()[:12]
+    name = hashlib.sha256('\n'.join([core] + list(crate) + [sources] * (sources != SOURCES)).encode()).hexdigest()[:12]
     here = os.path.join(BUILDS, name)
-    lay_out(here, core, crate)
+    lay_out(here, core, crate, sources)
     flags = ['-A warnings'] + (['--cfg crates'] if crate else []) + (STEPS if has_steps else [])
     target = 'steps' if has_steps else 'plain'
     path = cargo_here.cargo()
-    say('building bench/cliffs over %s%s' % (core, ', with steps' if has_steps else ''))
+    say('building bench/%s over %s%s' % (os.path.basename(sources), core, ', with steps' if has_steps else ''))
     call([path] + (cargo_here.from_debian() or ['--offline']) + ['build', '--release', '-j2'], cwd=here,
          env=dict(cargo_here.environment(path), CARGO_TARGET_DIR=target, RUSTFLAGS=' '.join(flags)))
     return os.path.join(here, target, 'release', 'cliffs')

@@ -94,13 +94,14 @@ class Server:
 
 
 def answer(name, path, folder, page, pages=(), seconds=300, words=(), environment=None):
-    """What a page posts, as text, that a browser opened; `pages` are served from memory, and all else from the folder. `words` are
-    more ones for Chromium, and `environment` is that of a screen."""
+    """What a page posts, as text, that a browser opened; `pages` are served from memory, and all else from the folder. `page` is a path
+    on the server, or gives an address by the server. `words` are more ones for Chromium, and `environment` is that of a screen."""
     server = Server(folder, dict(pages))
+    address = page(server) if callable(page) else server.address(page)
     with tempfile.TemporaryDirectory(ignore_cleanup_errors=True) as profile:
         log = os.path.join(profile, 'log')
         with open(log, 'w') as file:
-            running = subprocess.Popen(command(name, path, profile, server.address(page), words, environment is not None), stdout=file,
+            running = subprocess.Popen(command(name, path, profile, address, words, environment is not None), stdout=file,
                                        stderr=file, env=dict(os.environ, HOME=profile, **(environment or {})))
         try:
             if not server.has_answer.wait(seconds):

@@ -19,12 +19,21 @@ declare global {
 
 /**
  * Fetches and starts the WebAssembly module; nothing else works before that. It may be called any number of times: once the module
- * runs, later calls do nothing. After a trap it starts a new module; objects that were made before stay out of use.
+ * runs, later calls do nothing. After a trap it starts a new module; objects that were made before stay out of use. Where a smaller entry
+ * of the package has started its own module, `load` of the whole starts another one, for all that is made from then on.
  *
  * @param source where the module is: `wollemigo.wasm` next to this script where nothing is given. Node reads it from the disk.
  * @throws {WollemigoError} `LOAD_FAILED`, with what was wrong as its `cause`.
  */
 export function load(source?: Source | PromiseLike<Source>): Promise<void>;
+
+/**
+ * The same at once, of bytes or of a module that is compiled already. A page may ask this only of so many bytes as its browser compiles at
+ * once; in a worker there is no bound.
+ *
+ * @throws {WollemigoError} `LOAD_FAILED`, with what was wrong as its `cause`.
+ */
+export function loadSync(source: ArrayBuffer | ArrayBufferView | ModuleLike): void;
 
 /** Where a module is: an address as text, a `URL`, a `Response`, bytes, or a `WebAssembly.Module`. */
 export type Source = string | { readonly href: string } | AnswerLike | ArrayBuffer | ArrayBufferView | ModuleLike;
@@ -38,7 +47,7 @@ export interface AnswerLike {
 }
 
 /** A `WebAssembly.Module`, where the types of the DOM or of Node know that; else any object without properties of its own. */
-export type ModuleLike = typeof globalThis extends { WebAssembly: { Module: { prototype: infer M } } } ? M : object;
+export type ModuleLike = object & (typeof globalThis extends { WebAssembly: { Module: { prototype: infer M } } } ? M : object);
 
 /** Why a call did nothing. */
 export type ErrorCode =
@@ -48,6 +57,8 @@ export type ErrorCode =
   | 'BAD_KEY'
   /** An option has a name that is not known, or isn't of its type; or options or a list can't be read: then `cause` is what was thrown. */
   | 'BAD_OPTION'
+  /** More arguments were given than the call takes. */
+  | 'SURPLUS'
   /** `load` hasn't ended yet. */
   | 'NOT_LOADED'
   | 'LOAD_FAILED'
@@ -239,10 +250,12 @@ export class Atlas {
   grow(width: number, height: number): void;
   /** Whether the atlas may be grown to this size: no side shrinks. */
   canGrowTo(width: number, height: number): boolean;
-  /** `resizeAndRearrange` at the present size. */
+  /** `resizeAndRearrange` at the present size, at which boxes may be lost as well: `failures` names them. */
   rearrange(): ChangeList;
   /** Repacks what is live into an empty atlas of this size, the largest first; options and limit stay. All former ids are
-   * void. Throws `BAD_CALL`, `SLOTS`, `MEMORY`. */
+   * void. **What finds no room when its turn comes is lost**, even where all had room before: it is live no more, and `failures` lists it.
+   * To lose nothing, rearrange a `clone`, which takes the place of this atlas where `failures` is empty. Throws `BAD_CALL`, `SLOTS`,
+   * `MEMORY`. */
   resizeAndRearrange(width: number, height: number): ChangeList;
   /** Starts again: no id is live. */
   clear(): void;
@@ -261,7 +274,7 @@ export class Atlas {
   /** The live boxes, by rising slot, which is the low 24 bits of the id. Throws `MEMORY`. */
   allocated(): Allocation[];
   /** The free boxes, in an order that is left open. Throws `MEMORY`. */
-  free(): Rectangle[];
+  freeBoxes(): Rectangle[];
   /**
    * The tree of cuts: how the atlas is divided into its live and its free boxes, as a container that is the whole atlas. No two
    * members of a container that are next to each other are free. Containers may be nested as deeply as there are boxes,
@@ -362,7 +375,7 @@ export type CacheChange =
   /** A page has this size now, and nothing on it moved: make its texture larger, and copy what it had. It may come while quads of this page
    * are batched: those keep their pixels, but coordinates that were divided by the former size are wrong. */
   | { kind: 'pageGrown'; page: number; width: number; height: number }
-  /** A key is gone; its place was `from`. */
+  /** A key is gone, by an insertion, a trim or a repacking; its place was `from`. */
   | { kind: 'evicted'; key: Key; from: Place }
   /** A key moved, by a repacking: copy `from.rectangle` to `to.rectangle`, out of a copy of the page as it was before. */
   | { kind: 'moved'; key: Key; from: Place; to: Place }
@@ -417,7 +430,8 @@ export class TextureCache {
    * As `insert` of each key in turn, without objects for each. `sizes` has a width and a height for each key. Of each key that is placed
    * 11 numbers are written into `out`, from 11 times its index on: 1 where it is new, else 0; its number and its page, as unsigned numbers
    * of 32 bits; then `x`, `y`, `width` and `height` of `rectangle`, and those of `inner`. Answers how many were placed: fewer than all where
-   * this frame uses all that the pages have room for, at the first for which there is none.
+   * this frame uses all that the pages have room for, at the first for which there is none. What is written may not lie over `keys` or
+   * `sizes`: that is `BAD_OPTION`.
    *
    * Throws as `insert` at the first key that is refused, whose index is the error's `index`; those before it are placed, and written.
    */
@@ -435,8 +449,9 @@ export class TextureCache {
   trim(frames: number | bigint): void;
   /** Removes the pages after the last one with a key, each reported as removed, the last one first; after `clear` all. Throws `MEMORY`. */
   shrink(): void;
-  /** Repacks the keys of a page, so that what is free comes together; each key is reported by a change. Follow the changes that wait, copy
-   * the page, then call this, and copy all pixels from that copy. Throws `NO_PAGE`, `SLOTS`, `MEMORY`. */
+  /** Repacks the keys of a page, the largest first, so that what is free comes together. Each key is reported by a change: as moved, also
+   * where it stays; or as **evicted**, where it found no room when its turn came, which may be though all had room before. Follow the
+   * changes that wait, copy the page, then call this, and copy all pixels from that copy. Throws `NO_PAGE`, `SLOTS`, `MEMORY`. */
   repack(page: number): void;
 
   /** Takes memory for this many more keys. Throws `MEMORY`. */

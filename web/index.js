@@ -1,11 +1,13 @@
 /** The package in browsers, and wherever `fetch` reads what lies beside a script. Its types are in index.d.ts. */
-import { beside, content, readAt, start } from './src/runtime.js';
+import { NAMES } from './src/names.js';
+import { sourceOf, start, startNow } from './src/runtime.js';
 
 export * from './src/api.js';
 
 export function load(source) {
-  return start(async () => {
-    const given = await (source === undefined ? beside(() => new URL('./wollemigo.wasm', import.meta.url)) : source);
-    return content(typeof given === 'string' || given instanceof URL ? await readAt(given, fetch) : given);
-  });
+  return start(arguments.length, NAMES, () => sourceOf(source, () => new URL('./wollemigo.wasm', import.meta.url), fetch));
+}
+
+export function loadSync(source) {
+  startNow(arguments.length, NAMES, source);
 }

@@ -1,19 +1,17 @@
 /** The package in Node: the module is read from the disk. */
-import { readFile } from 'node:fs/promises';
-
-import { beside, content, readAt, start } from './src/runtime.js';
+import { showInConsole } from './src/console.js';
+import { bytes } from './src/disk.js';
+import { NAMES } from './src/names.js';
+import { sourceOf, start, startNow } from './src/runtime.js';
 
 export * from './src/api.js';
 
-function bytes(place) {
-  const isFar = /^https?:/.test(String(place));
-  if (isFar) return fetch(place);
-  return readFile(typeof place === 'string' && place.startsWith('file:') ? new URL(place) : place);
-}
+showInConsole();
 
 export function load(source) {
-  return start(async () => {
-    const given = await (source === undefined ? beside(() => new URL('./wollemigo.wasm', import.meta.url)) : source);
-    return content(typeof given === 'string' || given instanceof URL ? await readAt(given, bytes) : given);
-  });
+  return start(arguments.length, NAMES, () => sourceOf(source, () => new URL('./wollemigo.wasm', import.meta.url), bytes));
+}
+
+export function loadSync(source) {
+  startNow(arguments.length, NAMES, source);
 }

@@ -96,17 +96,17 @@ public:
             draw_new(key, x, y, drawn());
     }
 
-    // Draws what is batched. Then, between two frames, it makes room and brings it together where that is due.
+    // Draws what is batched. Then, between two frames, it brings room together and makes some where that is due.
     void end_frame() {
         flush();
-        frame_++;
-        if (frame_ % 30 == 0) {
+        if (cache_.statistics().evictions > evictions_) repack_loose_pages();
+        if (++frame_ % 30 == 0) {
             const auto before = cache_.len();
             require(cache_.trim(30)); // what wasn't drawn for so many frames
             happened_.trimmed += int(before - cache_.len());
             follow();
         }
-        if (frame_ % 10 == 0) repack_if_fragmented();
+        evictions_ = cache_.statistics().evictions;
     }
 
     const happened &so_far() const { return happened_; }
@@ -162,7 +162,6 @@ private:
         if (is_blank(place)) return;
         if (place.number >= kept_.size()) kept_.resize(cache_.numbers());
         kept_[place.number] = {pixels.left, pixels.top};
-        usual_ = {pixels.width, pixels.height};
         const SDL_Rect all = area_of(place.rectangle);
         const auto made = pixels_of(pixels, all.w, all.h, place.inner.min_x - all.x, place.inner.min_y - all.y);
         SDL_UpdateTexture(page(place.page), &all, made.data(), all.w * int(sizeof made[0]));
@@ -230,18 +229,13 @@ private:
         return all;
     }
 
-    // Where glyphs made way though much of a page is free, that room lies in pieces too small for a glyph like the last one: the page
-    // that loses the most so is packed anew.
-    void repack_if_fragmented() {
-        const auto evictions = std::exchange(evictions_, cache_.statistics().evictions);
-        if (evictions == evictions_) return;
-        std::uint32_t most = 0;
-        for (std::uint32_t page = 1; page < cache_.page_count(); page++)
-            if (lost_on(page) > lost_on(most)) most = page;
-        if (lost_on(most) >= cache_.areas(most)->allocated / 8) repack(most);
+    // Where glyphs made way in a frame, what is free lies in pieces that were too small: pages with much of it are packed anew.
+    void repack_loose_pages() {
+        for (std::uint32_t page = 0; page < cache_.page_count(); page++) {
+            const auto areas = *cache_.areas(page);
+            if (areas.free > areas.allocated / 6) repack(page);
+        }
     }
-
-    std::uint64_t lost_on(std::uint32_t page) const { return *cache_.unusable_area(page, usual_); }
 
     // No quad may wait here: it would show what its glyph moved away from.
     void repack(std::uint32_t number) {
@@ -259,7 +253,6 @@ private:
     std::vector<texture> pages_;
     std::vector<kept> kept_;
     std::vector<quad> batch_;
-    guillotiere::size usual_{1, 1};
     std::uint64_t evictions_ = 0;
     int frame_ = 0;
     happened happened_{};

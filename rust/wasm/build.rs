@@ -1,6 +1,45 @@
 //! Lists the modules of the exports for C, so that they are modules of this crate.
 use std::{env, fs, path::Path};
 
+// What the names of modules begin with that only one part of the library needs, by the feature that leaves them out.
+const LEFT_OUT: [(&str, &[&str]); 2] = [
+    (
+        "CARGO_FEATURE_ONLY_ATLAS",
+        &[
+            "cache",
+            "dense",
+            "filled",
+            "followed",
+            "groups",
+            "pages",
+            "plain_cache",
+            "sheet",
+            "simple",
+        ],
+    ),
+    (
+        "CARGO_FEATURE_ONLY_CACHE",
+        &[
+            "atlas",
+            "dense",
+            "filled",
+            "groups",
+            "lifetimes",
+            "pages",
+            "plain_sheet",
+            "sheet",
+            "simple",
+            "writing",
+        ],
+    ),
+];
+
+fn is_left_out(name: &str) -> bool {
+    LEFT_OUT.iter().any(|(feature, words)| {
+        env::var_os(feature).is_some() && words.iter().any(|word| name.starts_with(word))
+    })
+}
+
 fn main() {
     let root = env::var("CARGO_MANIFEST_DIR").expect("cargo says where the crate is");
     let sources = Path::new(&root).join("../c/src");
@@ -9,6 +48,7 @@ fn main() {
         .lines()
         .filter_map(|line| line.strip_prefix("mod ")?.strip_suffix(';'));
     let modules: String = names
+        .filter(|name| !is_left_out(name))
         .map(|name| {
             let path = sources.join(format!("{}.rs", name));
             format!("#[path = {:?}]\nmod {};\n", path, name)

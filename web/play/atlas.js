@@ -8,6 +8,7 @@ import { fragmentOf, textOf } from './link.js';
 import { classOf } from './session.js';
 import { Tree } from './tree.js';
 import { sides } from './why.js';
+import { sizesOf, svgOf } from './sizes.js';
 
 const CLASSES = ['small', 'medium', 'large'];
 const LISTED = 40;
@@ -37,6 +38,14 @@ export async function start() {
   find('zoom').addEventListener('input', zoomed);
   wireHistory(player, () => run(false));
   find('save').addEventListener('click', () => find('base').toBlob((blob) => download(blob, 'atlas.png')));
+  find('save-svg').addEventListener('click', () => {
+    const { size, live, free } = outcome();
+    const boxes = [...free.map((box) => ({ ...box, label: 'free', isFree: true })), ...live.map((box) => ({ ...box, label: box.id }))];
+    download(new Blob([svgOf([{ ...size, boxes }])], { type: 'image/svg+xml' }), 'atlas.svg');
+  });
+  find('save-json').addEventListener('click', () => {
+    download(new Blob([`${JSON.stringify(outcome(), null, 1)}\n`], { type: 'application/json' }), 'atlas.json');
+  });
   new ResizeObserver(() => player.refit()).observe(find('stage'));
   player.play(FIRST);
   await fromLink();
@@ -83,7 +92,7 @@ const ACTIONS = {
   'add-many': addMany,
   free: () => player.freeAny() ?? 'Nothing is live.',
   grow: () => player.grow(),
-  rearrange: () => player.rearrange(),
+  rearrange: () => lost(player.rearrange()),
   undo: () => undone(player.undo(), 'Undone'),
   redo: () => undone(player.redo(), 'Done again'),
   run: () => run(!player.isRunning),
@@ -93,6 +102,14 @@ const undone = (line, word) => (line ? `${word}: ${line}` : 'There is nothing mo
 
 function told(reply) {
   if (reply[0] === 'none') trouble('There was no room: no free box is large enough. Free some, grow or rearrange.');
+  return reply;
+}
+
+/** Says which boxes a rearrangement lost. */
+function lost(reply) {
+  const many = reply.filter((line) => line.startsWith('lost')).length;
+  const [which, are] = many === 1 ? ['A box', 'is'] : [`${many} boxes`, 'are'];
+  if (many > 0) trouble(`${which} found no room in the new order, and ${are} lost. Undo brings all back.`);
   return reply;
 }
 
@@ -168,10 +185,25 @@ function wireSession() {
   find('copy-link').addEventListener('click', copyLink);
 }
 
+/** All that lies in the atlas, by the upper left corners and the sides. */
+function outcome() {
+  const { session: { width, height, live }, session } = player;
+  const sided = ({ x0, y0, x1, y1 }) => ({ x: x0, y: y0, width: x1 - x0, height: y1 - y0 });
+  return { size: { width, height }, live: [...live.values()].map((box) => ({ id: box.id, ...sided(box) })), free: session.free().map(sided) };
+}
+
+/** Lines that ask for sizes, one after another, in a new atlas like this one. */
+function linesOf(sizes) {
+  const { width, height, options: { alignX, alignY, small, large } } = player.session;
+  const all = [['atlas', width, height, alignX, alignY, small, large], ...sizes.map((size) => ['alloc', ...size])];
+  return all.map((words) => words.join(' ')).join('\n');
+}
+
 function playLines(text) {
   trouble(null);
   try {
-    player.play(text);
+    const sizes = sizesOf(text);
+    player.play(sizes ? linesOf(sizes) : text);
     isWritten = true;
     say('The lines were played.');
   } catch (error) {

@@ -1,7 +1,8 @@
-// The session's requests played to a shelf packer and a skyline packer as well: what each grants, how full it is, how long it takes.
+// The session's requests played to other packers as well: what each grants, how full it is after each call, how long it takes.
 import { Atlas } from '../index.js';
 import { colours } from './drawing.js';
-import { GrowingSkyline, Shelves } from './packers.js';
+import { draw } from './how_figure.js';
+import { GrowingSkyline, MaximalRectangles, Shelves } from './packers.js';
 import { count, find, make, time } from './page.js';
 import { isStart, parsed } from './session.js';
 
@@ -9,6 +10,7 @@ const QUICK = 20000; // lines: in a longer session nothing is compared until it 
 const LEAST = 30; // milliseconds that are measured at once, since a browser's clock may tick only each millisecond
 const TURNS = 5; // of which the shortest counts
 const SIDE = 220; // of a drawing, in pixels of the page
+const POINTS = 500; // of a curve, at most some more
 const CHANGING = ['grow', 'clear', 'rearrange', 'resize'];
 
 /** The library's atlas, which takes back the boxes that it handed out. */
@@ -52,6 +54,7 @@ const PACKERS = [
   { name: 'this atlas', kind: Ours },
   { name: 'a shelf packer', kind: Shelves },
   { name: 'a skyline packer', kind: GrowingSkyline },
+  { name: 'maximal rectangles', kind: MaximalRectangles },
 ];
 
 /** The calls of a session since its atlas was made. A request has the number of its line, and a freeing that of the box's request. */
@@ -109,7 +112,7 @@ function play(packer, { width, height, calls }, after) {
 /** What a packer makes of the calls: its boxes, how many requests it grants and refuses, and how full it is and was at most. */
 function outcome(kind, script) {
   const packer = new kind(script.width, script.height, script.options);
-  const found = { granted: 0, refused: 0, full: 0, most: 0, size: script };
+  const found = { granted: 0, refused: 0, full: 0, most: 0, size: script, curve: [0] };
   const sides = [];
   let area = 0;
   const held = play(packer, script, (call, boxes, now) => {
@@ -128,6 +131,7 @@ function outcome(kind, script) {
     found.size = now;
     found.full = area / (now.width * now.height);
     found.most = Math.max(found.most, found.full);
+    found.curve.push(found.full);
   });
   packer.atlas?.dispose();
   return { ...found, boxes: held.filter(Boolean) };
@@ -154,6 +158,25 @@ function measured(kind, script) {
 const cells = (...words) => words.map((word) => make('td', { textContent: word }));
 const percent = (share) => `${(100 * share).toFixed(1)} %`;
 
+/** How full each was after each call, as a curve for each. */
+function curvesOf(found) {
+  const many = Math.max(1, found[0].curve.length - 1);
+  const step = Math.ceil(many / POINTS);
+  const lines = found.map(({ curve }, number) => {
+    const points = curve.map((share, at) => (at % step === 0 || at === many ? `${100 * at / many},${100 * (1 - share)}` : '')).filter(Boolean);
+    return draw('polyline', { points: points.join(' '), class: `curve curve-${number}` });
+  });
+  const told = found.map(({ name, full }) => `${name} ${percent(full)}`).join(', ');
+  const picture = draw('svg', { id: 'beside-curves', viewBox: '0 0 100 100', preserveAspectRatio: 'none', role: 'img',
+    'aria-label': `How full each is after each of ${many} calls; at the end: ${told}` }, ...lines);
+  const caption = make('figcaption', { textContent: `How full each was, from 0 to 100 %, over ${count(many)} calls` });
+  return make('figure', { className: 'wide' }, picture, caption);
+}
+
+/** What a curve looks like, before the name of what it is of. */
+const sample = (number) => draw('svg', { class: 'sample', viewBox: '0 0 30 10', 'aria-hidden': 'true' },
+  draw('line', { x1: 0, y1: 5, x2: 30, y2: 5, class: `curve curve-${number}` }));
+
 export class Beside {
   constructor(player) {
     Object.assign(this, { player, found: [] });
@@ -170,7 +193,7 @@ export class Beside {
     const script = scriptOf(session);
     this.found = PACKERS.map(({ name, kind }) => ({ name, ...outcome(kind, script) }));
     if (isMeasured && script.calls.length > 0) PACKERS.forEach(({ kind }, at) => { this.found[at].time = measured(kind, script); });
-    find('beside-rows').replaceChildren(...this.found.map((each) => make('tr', {}, make('th', { scope: 'row', textContent: each.name }),
+    find('beside-rows').replaceChildren(...this.found.map((each, number) => make('tr', {}, make('th', { scope: 'row' }, sample(number), each.name),
       ...cells(count(each.granted), count(each.refused), percent(each.full), percent(each.most), each.time ? time(each.time) : '-'))));
     this.draw();
   }
@@ -191,6 +214,6 @@ export class Beside {
         on.strokeRect(...place);
       }
       return make('figure', {}, canvas, make('figcaption', { textContent: name }));
-    }));
+    }), curvesOf(this.found));
   }
 }

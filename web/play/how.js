@@ -1,4 +1,4 @@
-// The page that explains: five figures over the library, each in a file of its own.
+// The page that explains: six figures over the library, each in a file of its own.
 import { Atlas, TextureCache, load } from '../index.js';
 import { setColours, wireColours } from './colours.js';
 import { cacheFigure } from './how_cache.js';
@@ -6,15 +6,17 @@ import { cutFigure } from './how_cut.js';
 import { growFigure } from './how_grow.js';
 import { moveFigure } from './how_move.js';
 import { pickFigure } from './how_pick.js';
-import { find, trouble } from './page.js';
+import { shelfFigure } from './how_shelf.js';
+import { begun, find, trouble } from './page.js';
 
-const FIGURES = { cut: cutFigure, pick: pickFigure, grow: growFigure, cache: cacheFigure, move: moveFigure };
+const FIGURES = { cut: cutFigure, pick: pickFigure, grow: growFigure, cache: cacheFigure, move: moveFigure, shelf: shelfFigure };
 
 async function begin() {
+  const held = begun();
   setColours();
   wireColours(() => {});
   try {
-    await load();
+    await load(held);
   } catch (error) {
     trouble(`The figures can't be shown, since the library could not be loaded: ${error.message}.`);
     return;

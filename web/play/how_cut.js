@@ -1,59 +1,106 @@
 // Figure 1: a box is cut off, and what is freed joins again.
 import { Atlas } from '../index.js';
-import { Code, Steps, View, fill, frame } from './how_figure.js';
+import { Code, Steps, View, fill, frame, slider } from './how_figure.js';
+import { count, make } from './page.js';
 
-const CODE = `const atlas = new Atlas(128, 96);
-const a = atlas.allocate(48, 60);
-const b = atlas.allocate(44, 40);
+const [WIDTH, HEIGHT] = [128, 96];
+const codeOf = (width, height) => `const atlas = new Atlas(${WIDTH}, ${HEIGHT});
+const a = atlas.allocate(${width}, ${height});
+const b = atlas.allocate(44, 40); // null: no room
 const c = atlas.allocate(30, 30);
-atlas.deallocate(b.id);
-atlas.deallocate(a.id);
-atlas.deallocate(c.id);`;
-const CALLS = [['a', 48, 60], ['b', 44, 40], ['c', 30, 30], ['b'], ['a'], ['c']];
-
-const CAPTIONS = [
-  'One free box: the whole atlas.',
-  'Box a takes the corner. The piece beside it is larger than the piece below, so the far corner is given to it: it reaches down to the edge.',
-  'Box b lies in the piece at the right, which is cut in its turn: this time the lower piece is the larger one.',
-  'Box c fits the rest beside b, and leaves two slivers.',
-  'Box b is freed. Its row holds b and the piece with c. That piece isn\'t all free, so b stays a free box by itself.',
-  'Box a is freed, and the piece below it is free: they join.',
-  'Box c is freed. It joins its slivers; then all of that row is free and joins; then the piece below; then everything: one free box.',
-];
+if (b !== null) atlas.deallocate(b.id);
+if (a !== null) atlas.deallocate(a.id);
+if (c !== null) atlas.deallocate(c.id);
+console.log(atlas.freeBoxes());`;
+const callsOf = (width, height) => [['a', width, height], ['b', 44, 40], ['c', 30, 30], ['b'], ['a'], ['c']];
 
 const keyOf = ({ x, y, width, height }) => `free ${x} ${y} ${width} ${height}`;
 const isWithin = (inner, { x, y, width, height }) => inner.x >= x && inner.y >= y && inner.x + inner.width <= x + width
   && inner.y + inner.height <= y + height;
 
-/** What lies in the atlas after each call. */
-function states() {
-  const atlas = new Atlas(128, 96);
+/** What lies in the atlas after each call, and which call it was. */
+function states(calls) {
+  const atlas = new Atlas(WIDTH, HEIGHT);
   const named = new Map();
   const found = [];
-  const keep = () => found.push({ free: atlas.free(), live: [...named].map(([name, box]) => ({ name, ...box })) });
-  keep();
-  for (const [name, width, height] of CALLS) {
+  const keep = (call) => found.push({ call, free: atlas.freeBoxes(), live: [...named].map(([name, box]) => ({ name, ...box })) });
+  keep(null);
+  for (const [name, width, height] of calls) {
     if (width === undefined) {
-      atlas.deallocate(named.get(name).id);
+      if (named.has(name)) atlas.deallocate(named.get(name).id);
       named.delete(name);
     } else {
-      named.set(name, atlas.allocate(width, height));
+      const box = atlas.allocate(width, height);
+      if (box !== null) named.set(name, box);
     }
-    keep();
+    keep({ name, width, height });
   }
   atlas.dispose();
   return found;
 }
 
+const sides = ({ width, height }) => `${width} × ${height}`;
+const areaOf = ({ width, height }) => width * height;
+
+/** The free box that a request was cut out of, and the two pieces that there would be, were it cut the other way; null where there is one
+ * way only. */
+function otherCut(before, after, name) {
+  const box = after.live.find((each) => each.name === name);
+  const hole = box && before.free.find(({ x, y }) => x === box.x && y === box.y);
+  if (!hole || box.width === hole.width || box.height === hole.height) return null;
+  const beside = { x: box.x + box.width, y: box.y, width: hole.width - box.width };
+  const below = { x: box.x, y: box.y + box.height, height: hole.height - box.height };
+  const isBeside = after.free.some((free) => free.x === beside.x && free.y === beside.y && free.height === hole.height);
+  const pieces = isBeside ? [{ ...beside, height: box.height }, { ...below, width: hole.width }]
+    : [{ ...beside, height: hole.height }, { ...below, width: box.width }];
+  return { isBeside, pieces, taken: after.free.filter((free) => isWithin(free, hole)) };
+}
+
+/** What a request did, in words. */
+function grantWords(before, after, name, other) {
+  const box = after.live.find((each) => each.name === name);
+  if (!box) return `Box ${name} finds no room.`;
+  const hole = before.free.find(({ x, y }) => x === box.x && y === box.y);
+  const begun = `Box ${name} takes the corner of the free box of ${sides(hole)}.`;
+  if (other === null) return `${begun} ${areaOf(box) === areaOf(hole) ? 'It fills it' : 'A side is just as long, so one piece is left'}.`;
+  return `${begun} Of what is left the piece ${other.isBeside ? 'beside it' : 'below it'} is the larger one, and so the far corner is given to that: `
+    + `${other.taken.map(sides).join(' and ')}.`;
+}
+
+function freeingWords(before, after, name) {
+  const box = before.live.find((each) => each.name === name);
+  if (!box) return `There is no box ${name} to free.`;
+  const joined = before.free.filter((free) => !after.free.some((each) => keyOf(each) === keyOf(free))).length;
+  const begun = `Box ${name} is freed`;
+  if (joined === 0) return `${begun}. No free box is beside it in its row, so it stays a free box by itself.`;
+  const now = after.free.find((free) => isWithin(box, free));
+  return `${begun}, and ${joined === 1 ? 'a free box' : `${joined} free boxes`} with it ${joined === 1 ? 'becomes' : 'become'} one of ${sides(now)}${
+    after.live.length === 0 ? ': the whole atlas, in one piece' : ''}.`;
+}
+
+function captionOf(all, at, isOther) {
+  if (at === 0) return 'One free box: the whole atlas.';
+  const [before, after, { call }] = [all[at - 1], all[at], all[at]];
+  if (call.width === undefined) return freeingWords(before, after, call.name);
+  const other = otherCut(before, after, call.name);
+  if (!isOther || other === null) return grantWords(before, after, call.name, other);
+  const most = (pieces) => Math.max(...pieces.map(areaOf));
+  return `A drawing of the other way to cut: ${other.pieces.map(sides).join(' and ')} would be left, the larger of ${
+    count(most(other.pieces))} pixels in place of ${count(most(other.taken))}.`;
+}
+
 export function cutFigure(figure) {
-  const [all, code, view] = [states(), new Code(CODE), new View(128, 96, 'An atlas of 128 by 96 pixels')];
+  const [code, view] = [new Code(codeOf(48, 60)), new View(WIDTH, HEIGHT, `An atlas of ${WIDTH} by ${HEIGHT} pixels`)];
+  const shown = { all: states(callsOf(48, 60)), asked: { width: 48, height: 60 }, isOther: false };
   const show = (at) => {
-    const { free, live } = all[at];
-    const before = all[Math.max(0, at - 1)];
+    const { free, live, call } = shown.all[at];
+    const before = shown.all[Math.max(0, at - 1)];
     const known = new Set(before.free.map(keyOf));
     const names = new Set(before.live.map(({ name }) => name));
+    const other = shown.isOther && call?.width !== undefined ? otherCut(before, shown.all[at], call.name) : null;
+    const drawn = other === null ? free : [...free.filter((box) => !other.taken.includes(box)), ...other.pieces];
     view.show([
-      ...free.map((box) => (
+      ...drawn.map((box) => (
         { key: keyOf(box), ...box, label: `${box.width}×${box.height}`, looks: at > 0 && !known.has(keyOf(box)) ? 'free fresh' : 'free' })),
       ...live.map((box) => ({ key: box.name, ...box, label: box.name, looks: at > 0 && !names.has(box.name) ? 'live fresh' : 'live' })),
     ]);
@@ -62,10 +109,27 @@ export function cutFigure(figure) {
     const gone = [...before.free.filter((box) => !free.some((each) => keyOf(each) === keyOf(box))),
       ...before.live.filter(({ name }) => !live.some((each) => each.name === name))];
     view.mark(...(at > 3 ? gone.filter((box) => fresh.some((each) => isWithin(box, each))).map((box) => frame(box, 'was')) : []));
-    code.point(at);
+    code.point(codeOf(shown.asked.width, shown.asked.height).split('\n')[at]);
   };
-  const steps = new Steps({ name: 'Step', many: all.length, captions: (at) => CAPTIONS[at], show, pause: 1900 });
-  fill(figure, [view.svg, steps.element], code.element);
+  const steps = new Steps({ name: 'Step', many: shown.all.length, captions: (at) => captionOf(shown.all, at, shown.isOther), show, pause: 1900 });
+  const own = ['width', 'height'].map((side) => slider(`${side} of a`, {
+    least: 4, greatest: side === 'width' ? WIDTH : HEIGHT, value: shown.asked[side], told: (value) => `${value} pixels`,
+    onInput: (value) => {
+      shown.asked[side] = value;
+      const { width, height } = shown.asked;
+      shown.all = states(callsOf(width, height));
+      code.show(codeOf(width, height));
+      if (steps.at === 0) steps.slider.set(1);
+      else steps.go(steps.at);
+    },
+  }));
+  const other = make('button', { textContent: 'Cut the other way', ariaPressed: 'false' });
+  other.addEventListener('click', () => {
+    shown.isOther = !shown.isOther;
+    other.setAttribute('aria-pressed', String(shown.isOther));
+    steps.go(steps.at);
+  });
+  fill(figure, [view.svg, steps.element, make('div', { className: 'controls' }, ...own.map(({ element }) => element), other)], code.element);
   steps.slider.set(1);
-  return { steps, states: all, code: CODE };
+  return { steps, code, get states() { return shown.all; }, set: (width, height) => [width, height].forEach((value, at) => own[at].set(value)) };
 }

@@ -1,8 +1,10 @@
 // What the figures share: boxes that move, a slider with steps, and lines of code.
-import { copy, isStill, make } from './page.js';
+import { copy, isStill, make, say } from './page.js';
 
 const SPACE = 'http://www.w3.org/2000/svg';
 const LEAVE = 320; // milliseconds that a box takes to fade
+const QUIET = 700; // milliseconds after which a caption that stays is told to a screen reader
+const TOLD = 40; // boxes of a drawing that its name lists at most
 
 export function draw(name, attributes = {}, ...inside) {
   const made = document.createElementNS(SPACE, name);
@@ -20,9 +22,33 @@ function hatching(id, scale) {
     draw('rect', { width: 6, height: 6, fill: 'var(--sheet)' }), line));
 }
 
+/** The boxes in words: whether each is live or free, its label, its sides and its place. */
+function listed(boxes) {
+  const words = boxes.slice(0, TOLD).map(({ looks, label = '', x, y, width, height }) => [looks.split(' ')[0], /^[\d×]+$/.test(label) ? '' : label,
+    `${width} by ${height} at ${Math.round(x)}, ${Math.round(y)}`].filter(Boolean).join(' '));
+  return words.join('; ') + (boxes.length > TOLD ? `; and ${boxes.length - TOLD} more` : '');
+}
+
+/** A caption. It is told to a screen reader too, once it stays for a while: not each step of what plays by itself. */
+export class Caption {
+  constructor() {
+    this.element = make('p', { className: 'caption' });
+    this.later = null;
+  }
+
+  tell(text) {
+    if (text === this.element.textContent) return;
+    const isFirst = this.element.textContent === '';
+    this.element.textContent = text;
+    clearTimeout(this.later);
+    if (!isFirst) this.later = setTimeout(() => say(text), QUIET);
+  }
+}
+
 /** A view of an atlas. Boxes have keys: one that was there before moves to its new place, so that the eye can follow. */
 export class View {
   constructor(width, height, label) {
+    this.label = label;
     this.svg = draw('svg', { viewBox: `-1 -1 ${width + 2} ${height + 2}`, role: 'img', 'aria-label': label });
     const id = `hatching-${views}`;
     views += 1;
@@ -39,6 +65,7 @@ export class View {
     const keys = new Set(boxes.map(({ key }) => key));
     for (const [key, each] of this.boxes) if (!keys.has(key)) this.leave(key, each);
     for (const box of boxes) this.place(box);
+    this.svg.setAttribute('aria-label', `${this.label}: ${listed(boxes)}`);
   }
 
   place({ key, x, y, width, height, label = '', looks, pale = 1 }) {
@@ -80,11 +107,13 @@ export class View {
 
 export const frame = ({ x, y, width, height }, name) => draw('rect', { x, y, width, height, class: name });
 
-/** Lines of code beside a figure, one of which may be the one that is carried out now; and a button that copies them. */
+/** Lines of a module beside a figure, one of which may be the one that is carried out now; and a button that copies them. They begin with
+ * the import of these names, and run as they stand. */
 export class Code {
-  constructor(text) {
-    this.text = text;
-    this.lines = text.split('\n').map((line) => make('span', { textContent: line }));
+  constructor(text, names = 'Atlas') {
+    this.head = `import { ${names}, load } from 'wollemigo';\nawait load();\n\n`;
+    this.text = this.head + text;
+    this.lines = this.text.split('\n').map((line) => make('span', { textContent: line }));
     const button = make('button', { className: 'copy', textContent: 'Copy these lines' });
     button.addEventListener('click', async () => {
       button.textContent = (await copy(this.text, 'The lines')) ? 'Copied' : 'Copy them by hand';
@@ -94,8 +123,19 @@ export class Code {
     this.element.querySelector('pre').setAttribute('aria-label', 'The lines of JavaScript that do this');
   }
 
-  point(number) {
-    this.lines.forEach((line, at) => line.classList.toggle('now', at === number));
+  /** Shows other lines below the import. There are as many of them. */
+  show(text) {
+    this.text = this.head + text;
+    this.text.split('\n').forEach((line, at) => { this.lines[at].textContent = line; });
+  }
+
+  /** Marks the first line that begins with these words, and brings it into sight. */
+  point(words) {
+    const now = this.lines.find((line) => line.textContent.trimStart().startsWith(words));
+    for (const line of this.lines) line.classList.toggle('now', line === now);
+    if (now === undefined) return;
+    const frame = now.closest('pre');
+    frame.scrollTop = Math.max(0, now.offsetTop - frame.offsetTop - frame.clientHeight / 2);
   }
 }
 
@@ -116,19 +156,18 @@ export function slider(name, { least = 0, greatest, value, told, onInput }) {
 export class Steps {
   /** `show` is given the number of a step; `captions` has a sentence for each. */
   constructor({ name, many, captions, show, pause, told = (at) => `${at + 1} of ${many}` }) {
-    this.caption = make('p', { className: 'caption' });
-    this.caption.setAttribute('aria-live', 'polite');
+    this.caption = new Caption();
     Object.assign(this, { many, captions, show, pause, at: 0, timer: null });
     this.slider = slider(name, { greatest: many - 1, value: 0, told, onInput: (at) => this.go(at) });
     for (const kind of ['pointerdown', 'input']) this.slider.field.addEventListener(kind, () => this.stop());
     this.button = make('button', { className: 'main', textContent: 'Play' });
     this.button.addEventListener('click', () => (this.timer === null ? this.play() : this.stop()));
-    this.element = make('div', {}, make('div', { className: 'controls' }, this.button, this.slider.element), this.caption);
+    this.element = make('div', {}, make('div', { className: 'controls' }, this.button, this.slider.element), this.caption.element);
   }
 
   go(at) {
     this.at = at;
-    this.caption.textContent = this.captions(at);
+    this.caption.tell(this.captions(at));
     this.show(at);
   }
 
@@ -150,5 +189,8 @@ export class Steps {
 
 /** Puts a figure together: what is seen and what moves it, and beside it the code. */
 export function fill(figure, seen, ...beside) {
+  const name = figure.closest('section').querySelector('h2');
+  name.id = `${name.parentElement.id}-name`;
+  figure.setAttribute('aria-labelledby', name.id);
   figure.append(make('div', { className: 'view' }, ...seen), make('div', { className: 'side' }, ...beside));
 }

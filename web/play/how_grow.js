@@ -1,20 +1,26 @@
 // Figure 3: an atlas grows, and nothing in it moves.
 import { Atlas } from '../index.js';
-import { Code, View, draw, fill, slider } from './how_figure.js';
+import { Caption, Code, View, draw, fill, slider } from './how_figure.js';
 import { count, make } from './page.js';
 
 const [WIDTH, HEIGHT, WIDEST, HIGHEST] = [128, 96, 224, 160];
 const SIZES = [[48, 64], [30, 40], [50, 24], [30, 20], [20, 36], [34, 30]];
-const codeOf = (width, height) => `const before = atlas.allocated();
+const codeOf = (width, height) => `const atlas = new Atlas(${WIDTH}, ${HEIGHT});
+const sizes = [
+  ${SIZES.slice(0, 3).map((each) => `[${each.join(', ')}]`).join(', ')},
+  ${SIZES.slice(3).map((each) => `[${each.join(', ')}]`).join(', ')},
+];
+for (const [w, h] of sizes) atlas.allocate(w, h);
+const before = atlas.allocated();
 atlas.grow(${width}, ${height}); // no side shrinks
 const after = atlas.allocated();
-// before and after are the same`;
+console.log(before, after); // the same`;
 
 export function growFigure(figure) {
   const atlas = new Atlas(WIDTH, HEIGHT);
   for (const [width, height] of SIZES) atlas.allocate(width, height);
   const view = new View(WIDEST, HIGHEST, 'An atlas that grows');
-  const [outline, caption] = [draw('rect', { class: 'outline' }), make('p', { className: 'caption' })];
+  const [outline, caption] = [draw('rect', { class: 'outline' }), new Caption()];
   const [asked, shown] = [{ width: WIDTH, height: HEIGHT }, { live: [], free: [] }];
   const code = new Code(codeOf(WIDTH, HEIGHT));
   view.mark(outline, draw('rect', { width: WIDTH, height: HEIGHT, class: 'was' }));
@@ -23,7 +29,7 @@ export function growFigure(figure) {
     const { width, height } = asked;
     const grown = atlas.clone();
     if (width > WIDTH || height > HEIGHT) grown.grow(width, height);
-    Object.assign(shown, { live: grown.allocated(), free: grown.free() });
+    Object.assign(shown, { live: grown.allocated(), free: grown.freeBoxes() });
     grown.dispose();
     const isNew = (box) => box.x + box.width > WIDTH || box.y + box.height > HEIGHT;
     view.show([
@@ -33,10 +39,10 @@ export function growFigure(figure) {
     Object.assign(outline.style, { width: `${width}px`, height: `${height}px` });
     const area = shown.free.reduce((sum, box) => sum + box.width * box.height, 0);
     const added = shown.free.filter(isNew).length;
-    caption.textContent = `${width} × ${height}: ${count(area)} pixels are free, in ${shown.free.length} boxes${
-      added === 0 ? '' : `, ${added === 1 ? 'one' : 'two'} of which ${added === 1 ? 'is' : 'are'} new`}.`;
-    code.text = codeOf(width, height);
-    code.lines[1].textContent = code.text.split('\n')[1];
+    caption.tell(`${width} × ${height}: ${count(area)} pixels are free, in ${shown.free.length} boxes${
+      added === 0 ? '' : `, ${added === 1 ? 'one' : 'two'} of which ${added === 1 ? 'is' : 'are'} new`}.`);
+    code.show(codeOf(width, height));
+    code.point('atlas.grow');
   }
 
   const sides = [['width', WIDTH, WIDEST], ['height', HEIGHT, HIGHEST]].map(([side, least, greatest]) => slider(side, {
@@ -46,7 +52,7 @@ export function growFigure(figure) {
       update();
     },
   }));
-  fill(figure, [view.svg, make('div', { className: 'controls' }, ...sides.map(({ element }) => element)), caption], code.element);
+  fill(figure, [view.svg, make('div', { className: 'controls' }, ...sides.map(({ element }) => element)), caption.element], code.element);
   sides[0].set(176);
   return { set: (width, height) => [width, height].forEach((value, at) => sides[at].set(value)), shown, atlas, code };
 }

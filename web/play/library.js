@@ -50,7 +50,7 @@ export class Atlas {
   }
 
   holes() {
-    return this.atlas.free().map(boxOf);
+    return this.atlas.freeBoxes().map(boxOf);
   }
 
   cuts() {

@@ -24,6 +24,13 @@ export function say(text) {
   find('said').textContent = text;
 }
 
+/** The script runs: what says that it doesn't goes. Gives the module, where the page has it in itself. */
+export function begun() {
+  find('still').remove();
+  const held = find('module');
+  return held ? Uint8Array.from(atob(held.textContent), (letter) => letter.charCodeAt(0)) : undefined;
+}
+
 /** Shows what went wrong, at the top of the page; nothing hides it. */
 export function trouble(text) {
   const note = find('trouble');

@@ -1,7 +1,7 @@
 // The page: loads the library, and has tabs and the foot.
 import { load } from './library.js';
 import { setColours, wireColours } from './colours.js';
-import { find, trouble } from './page.js';
+import { begun, find, trouble } from './page.js';
 import * as atlas from './atlas.js';
 import * as cache from './cache.js';
 import * as sheet from './sheet.js';
@@ -47,10 +47,11 @@ function wireTabs() {
 }
 
 async function begin() {
+  const held = begun();
   setColours();
   wireTabs();
   try {
-    await load();
+    await load(held);
   } catch (error) {
     trouble(`The library could not be loaded: ${error.message}. The page needs a web server, and a browser with WebAssembly.`);
     return;

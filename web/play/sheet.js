@@ -1,6 +1,7 @@
 // The tab of sheets: pictures of a person are packed into one or several, which can be downloaded with where each lies.
 import { pack, packDense, packGroups, packPages } from './library.js';
 import { count, download, find, make, numberOf, say, time, trouble } from './page.js';
+import { sizesOf, svgOf } from './sizes.js';
 
 const MOST_PICTURES = 5000;
 const LISTED = 5; // of the files that are left out, by their names
@@ -72,7 +73,7 @@ class Packed {
 
   show() {
     const { sheet } = this;
-    find('sheet').hidden = find('sheet-png').disabled = find('sheet-json').disabled = !sheet;
+    find('sheet').hidden = find('sheet-png').disabled = find('sheet-json').disabled = find('sheet-svg').disabled = !sheet;
     find('sheet-png').hidden = Boolean(sheet) && sheet.sizes.length > 1;
     find('sheet-told').textContent = this.words();
     find('sheets').replaceChildren(find('sheet'));
@@ -131,6 +132,30 @@ class Packed {
 }
 
 const imageOf = (page) => `sheet-${page}.png`;
+
+/** The sheets beside one another, with the name of what lies at each place. */
+function drawingOf({ sizes, places }, pictures) {
+  return svgOf(sizes.map((size, page) => ({ ...size,
+    boxes: places.map((place, at) => ({ ...place, label: pictures[at].name })).filter((place) => place.page === page) })));
+}
+
+/** Packs sizes that were pasted, each as a picture of one colour. */
+function takeSizes(text) {
+  trouble(null);
+  const sizes = sizesOf(text);
+  if (!sizes) return trouble('These are no sizes: 20 60, 20x60 or 20,60 in each line, or JSON such as [[20, 60]] or [{ "w": 20, "h": 60 }].');
+  const pictures = sizes.map(([width, height], at) => {
+    const image = Object.assign(document.createElement('canvas'), { width: 1, height: 1 });
+    const on = image.getContext('2d');
+    on.fillStyle = `hsl(${at * 47 % 360} 60% 65%)`;
+    on.fillRect(0, 0, 1, 1);
+    return { name: `size ${String(at + 1).padStart(5, '0')}`, image, width, height };
+  });
+  shown.pictures = [];
+  shown.take(pictures);
+  leftOut([]);
+  return say(shown.words());
+}
 
 /** Paints a picture at its place. */
 function paint(on, { x, y, turned }, { image, width, height }) {
@@ -277,6 +302,10 @@ export function start() {
     });
   }
   find('sheet-png').addEventListener('click', () => find('sheet').toBlob((blob) => download(blob, 'sheet.png')));
+  find('sheet-take').addEventListener('click', () => takeSizes(find('sheet-sizes').value));
+  find('sheet-svg').addEventListener('click', () => {
+    download(new Blob([drawingOf(shown.sheet, shown.pictures)], { type: 'image/svg+xml' }), 'sheet.svg');
+  });
   find('sheet-json').addEventListener('click', () => {
     download(new Blob([shown.json()], { type: 'application/json' }), 'sheet.json');
   });

@@ -1,20 +1,13 @@
-import { DONE, NO_ROOM, NOT_LIVE, STATUSES, WollemigoError, failure, require } from './errors.js';
+import { DONE, NO_ROOM, NOT_LIVE, STATUSES, WollemigoError, atMost, close, failure, require } from './errors.js';
 import { MOST_SLOTS, allocationAt, changeAt, rectangleAt } from './interface.js';
 import * as reading from './reading.js';
-import { ATLAS, Owner, handle, isOf, runtimeOf } from './runtime.js';
+import { ATLAS, Owner, found, handle, isOf, runtimeOf } from './runtime.js';
 import { atlasOptions, count, length, list, shownState, target, unwritable, whyNoAtlas, whyNoGrowth } from './values.js';
 
 export { MOST_SLOTS };
 export const GLYPHS = Object.freeze({ smallSizeThreshold: 0, largeSizeThreshold: 5000 });
 
 const COPY = Symbol('copy');
-
-/** What a call of an atlas or a simple atlas writes at `runtime.at`, as the reader reads it. */
-export function found(owner, kind, call, reader) {
-  const runtime = runtimeOf(owner, kind);
-  require(runtime.calls[call](handle(owner), runtime.at));
-  return reader(runtime.words(), runtime.word);
-}
 
 /** What a call that places boxes anew tells. */
 function rearranged(atlas, call, why) {
@@ -64,12 +57,17 @@ function atlasSlots(atlas) {
 }
 
 export class Atlas extends Owner {
-  /** How often all ids became void, after which one may come again for another box. */
-  #starts = 0;
+  /** The ids of boxes that are being written into an object of the caller's, whose setters may free them; null of one that was. */
+  #written = [];
+
+  static {
+    close(this, 'allocate', 'allocateInto', 'deallocate', 'get');
+  }
 
   constructor(width, height, options, slotLimit = MOST_SLOTS) {
+    atMost(4, arguments.length);
     if (width === COPY) {
-      super(ATLAS, height);
+      super(ATLAS, height, undefined, options);
       return;
     }
     const [w, h] = [length(width, 'width'), length(height, 'height')];
@@ -82,10 +80,11 @@ export class Atlas extends Owner {
 
   clone() {
     const runtime = runtimeOf(this, ATLAS);
-    return new Atlas(COPY, (current, cell) => runtime.calls.atlas_clone(handle(this), cell));
+    return new Atlas(COPY, (_, cell) => runtime.calls.atlas_clone(handle(this), cell), runtime);
   }
 
   allocate(width, height) {
+    atMost(2, arguments.length);
     const w = length(width, 'width');
     const h = length(height, 'height');
     const runtime = runtimeOf(this, ATLAS);
@@ -93,23 +92,33 @@ export class Atlas extends Owner {
   }
 
   allocateInto(width, height, box) {
+    atMost(3, arguments.length);
     const w = length(width, 'width');
     const h = length(height, 'height');
     target(box, 'box');
     const runtime = runtimeOf(this, ATLAS);
     if (!isGranted(this, runtime, w, h)) return false;
-    const [id, starts] = [runtime.words()[runtime.word] >>> 0, this.#starts];
+    const at = this.#written.push(runtime.words()[runtime.word] >>> 0) - 1;
     try {
       reading.allocationInto(runtime.words(), runtime.word, box);
     } catch (cause) {
       // Nobody knows the box, so it is given back, unless the caller's setter made an end of it.
-      if (handle(this) !== 0 && starts === this.#starts) runtime.calls.atlas_deallocate(handle(this), id);
+      const id = this.#written[at];
+      if (handle(this) !== 0 && id !== null) runtime.calls.atlas_deallocate(handle(this), id);
       throw unwritable('box', cause);
+    } finally {
+      this.#written.length = at;
     }
     return true;
   }
 
+  /** These ids, or all, aren't live any more; they may come again for other boxes. */
+  #end(isOver) {
+    this.#written = this.#written.map((id) => (isOver(id) ? null : id));
+  }
+
   deallocate(id) {
+    atMost(1, arguments.length);
     const number = count(id, 'id');
     const runtime = runtimeOf(this, ATLAS);
     let status;
@@ -119,6 +128,7 @@ export class Atlas extends Owner {
       throw runtime.trap(error);
     }
     require(status);
+    if (this.#written.length > 0) this.#end((each) => each === number);
   }
 
   deallocateAll(ids) {
@@ -127,9 +137,11 @@ export class Atlas extends Owner {
     const at = runtime.room(4 * numbers.length);
     runtime.write(at, numbers);
     require(runtime.calls.atlas_deallocate_all(handle(this), at, numbers.length));
+    this.#end((each) => numbers.includes(each));
   }
 
   get(id) {
+    atMost(1, arguments.length);
     const number = count(id, 'id');
     const runtime = runtimeOf(this, ATLAS);
     const status = runtime.calls.atlas_get(handle(this), number, runtime.at);
@@ -160,20 +172,20 @@ export class Atlas extends Owner {
 
   rearrange() {
     const told = rearranged(this, (calls, ...all) => calls.atlas_rearrange(handle(this), ...all));
-    this.#starts += 1;
+    this.#end(() => true);
     return told;
   }
 
   resizeAndRearrange(width, height) {
     const [w, h] = [length(width, 'width'), length(height, 'height')];
     const told = rearranged(this, (calls, ...all) => calls.atlas_resize_and_rearrange(handle(this), w, h, ...all), () => whyNoAtlas(w, h));
-    this.#starts += 1;
+    this.#end(() => true);
     return told;
   }
 
   clear() {
     require(runtimeOf(this, ATLAS).calls.atlas_clear(handle(this)));
-    this.#starts += 1;
+    this.#end(() => true);
   }
 
   reset(width, height, options) {
@@ -182,7 +194,7 @@ export class Atlas extends Owner {
     const runtime = runtimeOf(this, ATLAS);
     runtime.write(runtime.at, words);
     require(runtime.calls.atlas_reset(handle(this), w, h, runtime.at), () => whyNoAtlas(w, h, words));
-    this.#starts += 1;
+    this.#end(() => true);
   }
 
   get size() {
@@ -216,7 +228,7 @@ export class Atlas extends Owner {
     return listed(this, 'atlas_live', allocationAt.words, reading.allocation);
   }
 
-  free() {
+  freeBoxes() {
     return listed(this, 'atlas_free_boxes', rectangleAt.words, reading.rectangle);
   }
 
@@ -234,6 +246,6 @@ export class Atlas extends Owner {
 /** An atlas that isn't out of use, and none of another kind. */
 export function requireAtlas(value, runtime) {
   if (!isOf(value, ATLAS)) throw new WollemigoError('BAD_OPTION', 'atlas is not an Atlas');
-  if (runtimeOf(value, ATLAS) !== runtime) throw failure('TRAPPED');
+  if (runtimeOf(value, ATLAS) !== runtime) throw new WollemigoError('BAD_OPTION', 'atlas is in another module');
   return handle(value);
 }

@@ -1,12 +1,10 @@
-import { found } from './atlas.js';
-import { DONE, FRAME_FULL, HELD, NOT_HELD, STATUSES, WollemigoError, failure, isOurs, require } from './errors.js';
+import { lengthOf, numbers, requireApart, room } from './arrays.js';
+import { DONE, FRAME_FULL, HELD, NOT_HELD, STATUSES, WollemigoError, atMost, close, failure, isOurs, require, say } from './errors.js';
 import { EVICTED, PAGE_ADDED, PAGE_GROWN, PAGE_REMOVED, cacheChangeAt, cacheOptionsAt, countsAt, placeAt } from './interface.js';
 import { Keys } from './keys.js';
 import * as reading from './reading.js';
-import { CACHE, Owner, handle, runtimeOf } from './runtime.js';
-import {
-  atlasOptions, count, length, lengthOf, numbers, options, room, shownState, size, target, unwritable, whyNoAtlas, wide,
-} from './values.js';
+import { CACHE, Owner, found, handle, runtimeOf } from './runtime.js';
+import { atlasOptions, count, length, options, shownState, size, target, unwritable, whyNoAtlas, wide } from './values.js';
 
 const OPTIONS = {
   page: [size],
@@ -31,6 +29,11 @@ function change(words, at, keys) {
 /** How many numbers `insertAll` writes of a key: whether it is new, and those of its place. */
 const WORDS = 1 + placeAt.words;
 
+/** What of an insertion's answer is its status. */
+const STATUS = 255;
+/** Where a change is written, in bytes behind the place. */
+const CHANGE = 64;
+
 const first = (words, at) => words[at] >>> 0;
 
 function optionsRead(words, at) {
@@ -50,7 +53,24 @@ export class TextureCache extends Owner {
   #waiting = [];
   #handed = 0;
 
+  static {
+    close(this, 'get', 'touch', 'getInto', 'insert');
+    say({
+      OTHER_SIZE: 'a key is held with another size',
+      NUMBERS: 'a cache holds 4294967295 keys, and can hold no more',
+      EMPTY_PAGE: 'a side of a new page is below 1',
+      LARGEST_PAGE: 'a side of the largest page is less than that of a new one',
+      NO_PAGES: 'no pages are allowed',
+      BAD_PADDING: 'the padding is below 0',
+      BAD_ATLAS: "the options of the pages' atlases aren't valid",
+      NO_PAGE: 'there is no such page',
+      NEVER_FITS: 'with the padding, rounded up to the alignment, a size exceeds the largest page',
+      NOTHING_FITS: 'with the padding and rounded up, not even 1 by 1 fits the largest page',
+    });
+  }
+
   constructor(given) {
+    atMost(1, arguments.length);
     const { page, largestPage, pages, padding, atlas } = options(given, 'options', OPTIONS);
     const largest = largestPage ?? page;
     super(CACHE, (runtime, cell) => {
@@ -64,16 +84,19 @@ export class TextureCache extends Owner {
   }
 
   get(key) {
+    atMost(1, arguments.length);
     const runtime = runtimeOf(this, CACHE);
     return this.#isFound(runtime, key) ? reading.place(runtime.words(), runtime.word) : null;
   }
 
   touch(key) {
+    atMost(1, arguments.length);
     const runtime = runtimeOf(this, CACHE);
     return this.#isFound(runtime, key);
   }
 
   getInto(key, place) {
+    atMost(2, arguments.length);
     const runtime = runtimeOf(this, CACHE);
     target(place, 'place');
     if (!this.#isFound(runtime, key)) return false;
@@ -115,12 +138,14 @@ export class TextureCache extends Owner {
   }
 
   insert(key, width, height) {
+    atMost(3, arguments.length);
     const runtime = runtimeOf(this, CACHE);
     const [w, h] = [length(width, 'width'), length(height, 'height')];
-    const status = this.#inserted(runtime, key, w, h);
+    const answer = this.#inserted(runtime, key, w, h);
+    const status = answer & STATUS;
     const isPlaced = status === DONE || status === HELD;
     const entry = isPlaced ? reading.entry(runtime.words(), runtime.word, status === DONE) : null;
-    this.#follow(runtime);
+    if (answer !== status) this.#follow(runtime, true);
     if (isPlaced || status === FRAME_FULL) return entry;
     throw failure(STATUSES[status]);
   }
@@ -130,6 +155,8 @@ export class TextureCache extends Owner {
     const many = lengthOf(all);
     if (lengthOf(sides) < 2 * many) throw new WollemigoError('BAD_OPTION', `sizes has ${lengthOf(sides)} numbers, and not ${2 * many}`);
     room(out, 'out', WORDS * many);
+    requireApart(out, WORDS * many, all, 'keys');
+    requireApart(out, WORDS * many, sides, 'sizes');
     const runtime = runtimeOf(this, CACHE);
     for (let i = 0; i < many; i++) {
       const status = this.#insertedInto(runtime, all[i], sides[2 * i], sides[2 * i + 1], out, WORDS * i, i);
@@ -142,12 +169,13 @@ export class TextureCache extends Owner {
   #insertedInto(runtime, key, width, height, out, to, index) {
     let code;
     try {
-      const status = this.#inserted(runtime, key, length(width, 'width'), length(height, 'height'));
+      const answer = this.#inserted(runtime, key, length(width, 'width'), length(height, 'height'));
+      const status = answer & STATUS;
       if (status === DONE || status === HELD) {
         out[to] = status === DONE ? 1 : 0;
         reading.placeWords(runtime.words(), runtime.word, out, to + 1);
       }
-      this.#follow(runtime);
+      if (answer !== status) this.#follow(runtime, true);
       if (status === DONE || status === HELD || status === FRAME_FULL) return status;
       code = STATUSES[status];
     } catch (error) {
@@ -157,16 +185,16 @@ export class TextureCache extends Owner {
     throw failure(code, { index });
   }
 
-  /** The status of an insertion; the place is at `runtime.at`. */
+  /** The status of an insertion, and more than that where a change was written; the place is at `runtime.at`, the change at `CHANGE`. */
   #inserted(runtime, key, width, height) {
     const lower = this.#keys.next(key);
     let status;
     try {
-      status = runtime.insert(handle(this), lower, this.#keys.upper, width, height, runtime.at);
+      status = runtime.insert(handle(this), lower, this.#keys.upper, width, height, runtime.at, runtime.at + CHANGE);
     } catch (error) {
       throw runtime.trap(error);
     }
-    if (status === DONE) this.#keys.keep(key);
+    if ((status & STATUS) === DONE) this.#keys.keep(key);
     return status;
   }
 
@@ -185,12 +213,12 @@ export class TextureCache extends Owner {
     throw failure(STATUSES[status]);
   }
 
-  /** Takes over what a call did, so that each key that went is read while its name is known. */
-  #follow(runtime) {
-    const cell = handle(this);
+  /** Takes over what a call did, so that each key that went is read while its name is known. The first change may be there already. */
+  #follow(runtime, isThere = false) {
+    const [cell, at] = [handle(this), runtime.at + CHANGE];
     try {
-      while (runtime.nextChange(cell, runtime.at) === DONE) {
-        const made = change(runtime.words(), runtime.word, this.#keys);
+      for (let isNext = isThere; isNext || runtime.nextChange(cell, at) === DONE; isNext = false) {
+        const made = change(runtime.words(), at >>> 2, this.#keys);
         if (made.kind === 'evicted') this.#keys.forget(made.key);
         this.#waiting.push(made);
       }

@@ -5,27 +5,13 @@ export { DONE, FRAME_FULL, HELD, NO_ROOM, NOT_HELD, NOT_LIVE } from './interface
 /** What each status of the library is called, by its number. A handle holds nothing where its owner was disposed of. */
 export const STATUSES = CALLED.map((name, status) => (status === EMPTY ? 'DISPOSED' : name));
 
+/** What the codes say that more than one class has; the others are beside what throws them. */
 const MESSAGES = {
   BAD_CALL: "an empty size, options that aren't valid, a growth that shrinks a side, or a bad limit",
   NOT_LIVE: "an id isn't live, or is listed twice",
   SLOTS: 'more slots would be used than the limit allows',
   MEMORY: 'memory was refused',
   DISPOSED: 'the object was disposed of',
-  EMPTY_SHEET: 'a side of the sheet, or the least that is allowed, is below 1',
-  EMPTY_RANGE: 'the greatest side of a sheet is below the least',
-  EMPTY_ALIGNMENT: 'a side of the alignment is below 1',
-  EMPTY_SPRITE: 'a sprite has a side below 1',
-  GREAT_SPRITE: 'a side of a sprite, with the padding at both its ends, exceeds 2147483647 pixels',
-  OTHER_SIZE: 'a key is held with another size',
-  NUMBERS: 'a cache holds 4294967295 keys, and can hold no more',
-  EMPTY_PAGE: 'a side of a new page is below 1',
-  LARGEST_PAGE: 'a side of the largest page is less than that of a new one',
-  NO_PAGES: 'no pages are allowed',
-  BAD_PADDING: 'the padding is below 0',
-  BAD_ATLAS: "the options of the pages' atlases aren't valid",
-  NO_PAGE: 'there is no such page',
-  NEVER_FITS: 'with the padding, rounded up to the alignment, a size exceeds the largest page',
-  NOTHING_FITS: 'with the padding and rounded up, not even 1 by 1 fits the largest page',
   TRAPPED: 'the WebAssembly module has trapped, and is used no more',
   NOT_LOADED: "the module isn't there yet: await load() first",
 };
@@ -50,6 +36,11 @@ export class WollemigoError extends Error {
 }
 Object.defineProperty(WollemigoError.prototype, 'name', { value: 'WollemigoError', configurable: true, writable: true });
 
+/** Adds what the codes of a class say. */
+export function say(messages) {
+  Object.assign(MESSAGES, messages);
+}
+
 export function failure(code, more) {
   return new WollemigoError(code, MESSAGES[code] ?? code, more);
 }
@@ -60,6 +51,28 @@ export function require(status, why) {
   const code = STATUSES[status];
   const words = code === 'BAD_CALL' || code === 'BAD_ATLAS' ? why?.() : undefined;
   throw words === undefined ? failure(code) : new WollemigoError(code, words);
+}
+
+/** Refuses arguments beyond those that a call takes. */
+export function atMost(many, given) {
+  if (given > many) throw new WollemigoError('SURPLUS', `the call takes ${many} arguments, and was given ${given}`);
+}
+
+/** Has the methods of a class, and those that are called on the class itself, refuse arguments beyond theirs, but for these: they do so
+ * by themselves, since they are called often, or are called by JavaScript. The pages that web/play/build makes leave this out. */
+export function close(made, ...others) {
+  if (import.meta.cut) return;
+  for (const of of [made, made.prototype]) {
+    for (const [name, { value, ...more }] of Object.entries(Object.getOwnPropertyDescriptors(of))) {
+      if (typeof value !== 'function' || ['constructor', 'toJSON', ...others].includes(name)) continue;
+      const { [name]: closed } = { [name](...given) {
+        atMost(value.length, given.length);
+        return value.apply(this, given);
+      } };
+      Object.defineProperty(closed, 'length', { value: value.length });
+      Object.defineProperty(of, name, { value: closed, ...more });
+    }
+  }
 }
 
 /** The message of what was thrown, which may be anything. */

@@ -1,4 +1,5 @@
 /** Sprites in groups on several sheets. */
+import { atMost } from './errors.js';
 import { NO_GROUP, onPageAt, sizeAt } from './interface.js';
 import { sheetsRead } from './pages.js';
 import { written } from './sheet.js';
@@ -12,6 +13,7 @@ function group(value, name) {
 }
 
 export function packGroups(sprites, groups, given) {
+  atMost(3, arguments.length);
   const all = list(groups, 'groups', group);
   const room = written(sprites, given, onPageAt.words + sizeAt.words + 1);
   const { runtime, many, at, places, told, bad } = room;

@@ -1,5 +1,5 @@
 /** Sprites on several sheets, and on one that doesn't take them all. */
-import { DONE, NO_ROOM } from './errors.js';
+import { DONE, NO_ROOM, atMost } from './errors.js';
 import { maybePlacedAt, onPageAt, sizeAt } from './interface.js';
 import * as reading from './reading.js';
 import { placed, refused, written } from './sheet.js';
@@ -17,6 +17,7 @@ export function sheetsRead(status, { runtime, many, places, told, bad }, sizes) 
 }
 
 export function packPages(sprites, given) {
+  atMost(2, arguments.length);
   const room = written(sprites, given, onPageAt.words + sizeAt.words);
   const { runtime, many, at, places, told, bad } = room;
   const sizes = places + 4 * onPageAt.words * many;
@@ -24,6 +25,7 @@ export function packPages(sprites, given) {
 }
 
 export function fill(sprites, given) {
+  atMost(2, arguments.length);
   const { runtime, many, at, places, told, bad } = written(sprites, given, maybePlacedAt.words);
   const status = runtime.calls.fill(at, many, runtime.at, places, many, told, told + 16, bad);
   const words = runtime.words();

@@ -1,14 +1,7 @@
 /** A running module: its calls, its memory, and places in it for handles and for what is passed by pointer. */
-import { WollemigoError, failure, require, told } from './errors.js';
-import { EXPORTS } from './interface.js';
+import { WollemigoError, atMost, failure, require, told } from './errors.js';
 
 const PAGE = 65536;
-/**
- * What a module has: the functions of the library, and those of rust/wasm beside them. web/play/build leaves the list out, since it leaves
- * out of the module what its pages don't call.
- */
-const NAMES = import.meta.cut ? [] : [...EXPORTS, 'atlas_members', 'cache_get_halves', 'cache_insert_halves'];
-
 /** The call of an export, of so many arguments; what it throws is a trap. */
 function guarded(call, trap) {
   switch (call.length) {
@@ -27,7 +20,12 @@ export class Runtime {
   #cells = [];
   #room;
 
-  constructor(exports) {
+  /** Of a module that has these functions, and maybe more. */
+  constructor({ exports }, names) {
+    const missing = names.filter((name) => typeof exports[`guillotiere_${name}`] !== 'function');
+    if (missing.length > 0 || !(exports.memory instanceof WebAssembly.Memory)) {
+      throw new TypeError(`the module has no ${missing[0] ?? 'memory'}`);
+    }
     this.hasTrapped = false;
     /** How many owners there are of each kind, by its name. */
     this.owners = { Atlas: 0, SimpleAtlas: 0, TextureCache: 0 };
@@ -49,6 +47,10 @@ export class Runtime {
     this.word = this.at >>> 2;
     this.#room = { at: this.at + 256, bytes: PAGE - 4096 - 256 };
     this.#addCells(this.at + PAGE - 4096, this.at + PAGE);
+  }
+
+  has(names) {
+    return names.every((name) => Object.hasOwn(this.calls, name));
   }
 
   /** What is told of a trap, after which nothing of this module is used. */
@@ -126,39 +128,54 @@ export function running() {
 
 /** How much memory the module has, and what takes it. */
 export function memory() {
+  atMost(0, arguments.length);
   const { bytes, owners } = running();
   return { bytes, atlases: owners.Atlas, simpleAtlases: owners.SimpleAtlas, caches: owners.TextureCache };
 }
 
-async function instance(module) {
-  const made = await WebAssembly.instantiate(module, {});
-  const { exports } = made instanceof WebAssembly.Instance ? made : made.instance;
-  const missing = NAMES.filter((name) => typeof exports[`guillotiere_${name}`] !== 'function');
-  if (missing.length > 0 || !(exports.memory instanceof WebAssembly.Memory)) {
-    throw new TypeError(`the module has no ${missing[0] ?? 'memory'}`);
-  }
-  return new Runtime(exports);
+/** Whether a module runs that has these functions. Another one may take its place, by a larger entry of the package: then what was made
+ * before stays where it is. */
+const isRunning = (names) => current !== null && !current.hasTrapped && current.has(names);
+
+function unstartable(cause) {
+  return new WollemigoError('LOAD_FAILED', `the module can't be started: ${told(cause)}`, { cause });
 }
 
-async function started(module) {
+async function started(names, module) {
   try {
-    current = await instance(await module());
+    const made = await WebAssembly.instantiate(await module(), {});
+    if (!isRunning(names)) current = new Runtime(made instanceof WebAssembly.Instance ? made : made.instance, names);
   } catch (cause) {
-    throw new WollemigoError('LOAD_FAILED', `the module can't be started: ${told(cause)}`, { cause });
+    throw unstartable(cause);
   } finally {
     starting = null;
   }
 }
 
-/** Starts the module that a function gives, unless one runs or is being started. */
-export function start(module) {
-  if (current !== null && !current.hasTrapped) return Promise.resolve();
-  starting ??= started(module);
-  return starting;
+/** Starts the module that a function gives, unless one with these functions runs or is being started; `given` is how many arguments `load`
+ * was given. */
+export async function start(given, names, module) {
+  atMost(1, given);
+  while (starting !== null && !isRunning(names)) await starting;
+  if (isRunning(names)) return;
+  starting = started(names, module);
+  await starting;
+}
+
+/** The same at once, of bytes or of a module. */
+export function startNow(given, names, source) {
+  atMost(1, given);
+  if (isRunning(names)) return;
+  try {
+    const isModule = !ArrayBuffer.isView(source) && !/ArrayBuffer\]$/.test(Object.prototype.toString.call(source));
+    current = new Runtime(new WebAssembly.Instance(isModule ? source : new WebAssembly.Module(source), {}), names);
+  } catch (cause) {
+    throw unstartable(cause);
+  }
 }
 
 /** What WebAssembly takes, of a response, of bytes or of a module. */
-export async function content(source) {
+async function content(source) {
   if (typeof source?.arrayBuffer !== 'function') return source;
   // A response of the right kind is compiled while it comes.
   const isStreamed = typeof WebAssembly.compileStreaming === 'function' && typeof Response === 'function' && source instanceof Response
@@ -167,20 +184,26 @@ export async function content(source) {
   throw new TypeError(`the server answered ${source.status} for ${source.url || 'it'}; ${REMEDY}`);
 }
 
-export const REMEDY = 'put wollemigo.wasm there, or pass load() its address or its bytes';
+const REMEDY = 'put the module there, or pass load() its address or its bytes';
+
+/** What `load` takes, as WebAssembly takes it; `address` gives the module's place where nothing is given. */
+export async function sourceOf(source, address, read) {
+  const given = await (source === undefined ? beside(address) : source);
+  return content(typeof given === 'string' || given instanceof URL ? await readAt(given, read) : given);
+}
 
 /** The address of the module next to a script, as a function gives it that bundlers know; a bundle for classic scripts or CommonJS has none. */
-export function beside(address) {
+function beside(address) {
   try {
     return address();
   } catch (cause) {
-    throw new TypeError('this bundle has no address of its own, next to which wollemigo.wasm could lie; pass load() its address or its bytes',
+    throw new TypeError('this bundle has no address of its own, next to which the module could lie; pass load() its address or its bytes',
       { cause });
   }
 }
 
 /** What `read` reads at an address, which is named where that fails. */
-export async function readAt(place, read) {
+async function readAt(place, read) {
   try {
     return await read(place);
   } catch (cause) {
@@ -216,7 +239,14 @@ export let runtimeOf;
 export let handle;
 
 /** Whether a value is an owner of any kind. Terser 5.16, which webpack brings, loses the parentheses of `!(#kind in value)`. */
-let isOwner;
+export let isOwner;
+
+/** What a call of an owner writes at `runtime.at`, as the reader reads it. */
+export function found(owner, kind, call, reader) {
+  const runtime = runtimeOf(owner, kind);
+  require(runtime.calls[call](handle(owner), runtime.at));
+  return reader(runtime.words(), runtime.word);
+}
 
 /** An object that owns what stands behind a handle. */
 export class Owner {
@@ -238,9 +268,8 @@ export class Owner {
   }
 
   /** `make` fills the handle at a cell and gives a status; of a bad call, `why` says what was wrong. */
-  constructor(kind, make, why) {
+  constructor(kind, make, why, runtime = running()) {
     if (!KINDS.has(kind)) throw new WollemigoError('BAD_THIS', 'the class that owners have in common makes none by itself');
-    const runtime = running();
     const cell = runtime.takeCell();
     const status = make(runtime, cell);
     if (status !== 0) runtime.giveCell(cell);
@@ -253,6 +282,7 @@ export class Owner {
   }
 
   dispose() {
+    atMost(0, arguments.length);
     if (!isOwner(this)) {
       throw new WollemigoError('BAD_THIS', 'dispose was called on what has no memory of the module');
     }
@@ -265,19 +295,4 @@ export class Owner {
 }
 if (Symbol.dispose !== undefined) {
   Object.defineProperty(Owner.prototype, Symbol.dispose, { value: Owner.prototype.dispose, writable: true, configurable: true });
-}
-
-/** What Node and others that follow it show in a console. The pages that web/play/build makes have no such one. */
-function inspected(depth, settings, inspect) {
-  let name = 'Object';
-  try {
-    name = String(this.constructor.name);
-  } catch {
-    // What has no name that can be read is an object.
-  }
-  if (typeof inspect !== 'function' || !isOwner(this) || typeof depth === 'number' && depth < 0) return `${name} {}`;
-  return `${name} ${inspect(this.toJSON(), settings)}`;
-}
-if (!import.meta.cut) {
-  Object.defineProperty(Owner.prototype, Symbol.for('nodejs.util.inspect.custom'), { value: inspected, writable: true, configurable: true });
 }

@@ -1,4 +1,4 @@
-import { DONE, NO_ROOM, STATUSES, WollemigoError, failure } from './errors.js';
+import { DONE, NO_ROOM, STATUSES, WollemigoError, atMost, failure } from './errors.js';
 import { HEIGHTS, ONE_SIZE, POWERS, SQUARES, placedAt, sizeAt } from './interface.js';
 import * as reading from './reading.js';
 import { running } from './runtime.js';
@@ -54,10 +54,19 @@ export function written(sprites, given, step) {
   return { runtime, many, at, places: at + 4 * sizeAt.words * many, told: runtime.at + 64, bad: runtime.at + 72 };
 }
 
+const MESSAGES = {
+  BAD_CALL: 'options.padding must be at most 65535',
+  EMPTY_SHEET: 'a side of the sheet, or the least that is allowed, is below 1',
+  EMPTY_RANGE: 'the greatest side of a sheet is below the least',
+  EMPTY_ALIGNMENT: 'a side of the alignment is below 1',
+  EMPTY_SPRITE: 'a sprite has a side below 1',
+  GREAT_SPRITE: 'a side of a sprite, with the padding at both its ends, exceeds 2147483647 pixels',
+};
+
 export function refused(status, words, bad) {
   const code = STATUSES[status];
-  if (code === 'BAD_CALL') return new WollemigoError(code, 'options.padding must be at most 65535');
-  return failure(code, code.endsWith('_SPRITE') ? { sprite: words[bad >>> 2] >>> 0 } : undefined);
+  if (!Object.hasOwn(MESSAGES, code)) return failure(code);
+  return new WollemigoError(code, MESSAGES[code], code.endsWith('_SPRITE') ? { sprite: words[bad >>> 2] >>> 0 } : undefined);
 }
 
 /** The sheet that a call finds. */
@@ -73,5 +82,6 @@ export function packedBy(call, sprites, given) {
 }
 
 export function pack(sprites, given) {
+  atMost(2, arguments.length);
   return packedBy('pack', sprites, given);
 }

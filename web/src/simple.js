@@ -1,7 +1,7 @@
-import { found, requireAtlas } from './atlas.js';
-import { DONE, NO_ROOM, STATUSES, failure, require } from './errors.js';
+import { requireAtlas } from './atlas.js';
+import { DONE, NO_ROOM, STATUSES, atMost, close, failure, require } from './errors.js';
 import * as reading from './reading.js';
-import { Owner, SIMPLE, handle, runtimeOf } from './runtime.js';
+import { Owner, SIMPLE, found, handle, runtimeOf } from './runtime.js';
 import { atlasOptions, length, shownState, whyNoAtlas, whyNoGrowth } from './values.js';
 
 function simpleSize(simple) {
@@ -9,7 +9,12 @@ function simpleSize(simple) {
 }
 
 export class SimpleAtlas extends Owner {
+  static {
+    close(this);
+  }
+
   constructor(width, height, options) {
+    atMost(3, arguments.length);
     const [w, h] = [length(width, 'width'), length(height, 'height')];
     const words = atlasOptions(options, 'options');
     super(SIMPLE, (runtime, cell) => {

@@ -47,28 +47,6 @@ export function reading(name, read) {
   }
 }
 
-const typed = Object.getPrototypeOf(Int32Array.prototype);
-const kindOfArray = Object.getOwnPropertyDescriptor(typed, Symbol.toStringTag).get;
-const lengthOfTyped = Object.getOwnPropertyDescriptor(typed, 'length').get;
-
-/** The values of a typed array as they are, and those of another list read out, so that nothing of the caller's runs later. */
-export function numbers(given, name) {
-  return kindOfArray.call(given) === undefined ? list(given, name, (value) => value) : given;
-}
-
-/** How many values such a list has. A class of the caller's may have a `length` of its own, which isn't asked. */
-export function lengthOf(given) {
-  return kindOfArray.call(given) === undefined ? given.length : lengthOfTyped.call(given);
-}
-
-/** An Int32Array that has room for so many numbers. */
-export function room(given, name, least) {
-  if (kindOfArray.call(given) !== 'Int32Array' || lengthOfTyped.call(given) < least) {
-    throw new WollemigoError('BAD_OPTION', `${name} is no Int32Array with room for ${least} numbers`);
-  }
-  return given;
-}
-
 /** An object that a call writes into. */
 export function target(value, name) {
   if (typeof value !== 'object' || value === null) throw new WollemigoError('BAD_OPTION', `${name} is ${shown(value)}, and not an object`);
@@ -79,9 +57,10 @@ export function unwritable(name, cause) {
   return isOurs(cause) ? cause : new WollemigoError('BAD_OPTION', `${name} can't be written to`, { cause });
 }
 
-/** Whether a value is an object as a literal makes it, in this realm or another, or one without a prototype. */
+/** Whether a value is an object as a literal makes it, in this realm or another, or one without a prototype. `Math` and the arguments of a
+ * function have the prototype of a literal, but not its name. */
 function isPlain(value) {
-  if (typeof value !== 'object' || value === null) return false;
+  if (typeof value !== 'object' || value === null || Object.prototype.toString.call(value) !== '[object Object]') return false;
   const above = Object.getPrototypeOf(value);
   return above === null || Object.getPrototypeOf(above) === null;
 }

@@ -31,7 +31,7 @@ test('an atlas: its whole life', () => {
   assert.ok(copy.canGrowTo(150, 100) && !copy.canGrowTo(149, 200));
   assert.deepEqual(copy.size, { width: 150, height: 100 });
   copy.clear();
-  assert.deepEqual(copy.free(), [box(0, 0, 150, 100)]);
+  assert.deepEqual(copy.freeBoxes(), [box(0, 0, 150, 100)]);
   copy.reset(64, 32, { alignment: { width: 8, height: 1 }, largeSizeThreshold: 40 });
   assert.deepEqual(copy.options, { alignment: { width: 8, height: 1 }, smallSizeThreshold: 32, largeSizeThreshold: 40 });
   assert.deepEqual(copy.allocate(3, 3), { id: copy.allocated()[0].id, ...box(0, 0, 8, 3) });
@@ -70,7 +70,7 @@ test('more boxes than one page of memory lists', () => {
   assert.equal(granted.length, 16384);
   assert.deepEqual(atlas.allocated(), granted.sort((a, b) => a.id % 16777216 - b.id % 16777216));
   atlas.deallocateAll(granted.map(({ id }) => id));
-  assert.deepEqual(atlas.free(), [box(0, 0, 512, 512)]);
+  assert.deepEqual(atlas.freeBoxes(), [box(0, 0, 512, 512)]);
 });
 
 test('bad calls of an atlas, and the limit on its slots', () => {
@@ -86,7 +86,7 @@ test('bad calls of an atlas, and the limit on its slots', () => {
   assert.deepEqual(whole, box(0, 0, 64, 64));
   refused(() => atlas.grow(65, 65), 'SLOTS', 'grow');
   assert.deepEqual(atlas.allocated(), [{ id, ...whole }]);
-  assert.deepEqual(new Atlas(2147483647, 2147483647).free(), [box(0, 0, 2147483647, 2147483647)]);
+  assert.deepEqual(new Atlas(2147483647, 2147483647).freeBoxes(), [box(0, 0, 2147483647, 2147483647)]);
 });
 
 test('a simple atlas', () => {

@@ -86,7 +86,7 @@ test('random calls', () => {
     if (turn % 10 > 0) continue;
     const told = leaves(atlas.cuts());
     assert.deepEqual(told.live.sort(order), atlas.allocated().sort(order));
-    assert.deepEqual(told.free.sort(order), atlas.free().sort(order));
+    assert.deepEqual(told.free.sort(order), atlas.freeBoxes().sort(order));
     assert.equal(told.many, atlas.slots.used);
   }
 });

@@ -13,7 +13,7 @@ const page = { width: 64, height: 64 };
 const USES = {
   Atlas: {
     allocate: [1, 1], deallocate: [3], deallocateAll: [[]], get: [3], canFit: [1, 1], reserve: [1], grow: [200, 200],
-    canGrowTo: [200, 200], rearrange: [], resizeAndRearrange: [5, 5], clear: [], reset: [5, 5], allocated: [], free: [], cuts: [],
+    canGrowTo: [200, 200], rearrange: [], resizeAndRearrange: [5, 5], clear: [], reset: [5, 5], allocated: [], freeBoxes: [], cuts: [],
     clone: [], allocateInto: [1, 1, {}],
   },
   SimpleAtlas: { allocate: [1, 1], grow: [200, 200], canGrowTo: [200, 200], clear: [], reset: [5, 5], initFrom: [new Atlas(5, 5)] },

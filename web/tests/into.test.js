@@ -184,3 +184,59 @@ test('a list of a class that has a length of its own', () => {
     assert.equal(cache.length, 2);
   }
 });
+
+/** Frees a box and allocates until its id comes again, for another box: so a freed slot's generations go round. */
+function comeAgain(atlas, id, { width, height }) {
+  atlas.deallocate(id);
+  for (let turns = 0; turns < 1000; turns++) {
+    const box = atlas.allocate(width, height);
+    if (box.id === id) return box;
+    atlas.deallocate(box.id);
+  }
+  throw new Error('the id never comes again');
+}
+
+test('a setter that throws frees no box but its own', () => {
+  const sides = { width: 9, height: 7 };
+  const ends = {
+    'frees it, until its id is that of another box': (atlas, id) => comeAgain(atlas, id, sides),
+    'frees it by a list, until then': (atlas, id) => {
+      const { x, y } = atlas.get(id);
+      atlas.deallocateAll([id]);
+      const again = atlas.allocate(9, 7);
+      assert.deepEqual([again.x, again.y], [x, y]);
+      return comeAgain(atlas, again.id, sides);
+    },
+    'clears, and allocates': (atlas) => (atlas.clear(), atlas.allocate(9, 7)),
+    'rearranges': (atlas) => atlas.rearrange().changes[0].after,
+    'has another box written, whose setter throws': (atlas) => {
+      refused(() => atlas.allocateInto(5, 5, { set id(_) { throw new Error('inner'); } }), 'BAD_OPTION', 'inner');
+      return null;
+    },
+    'does nothing': () => null,
+  };
+  for (const [name, end] of Object.entries(ends)) {
+    const atlas = new Atlas(64, 64);
+    let wanted = null;
+    const box = { set id(id) { wanted = end(atlas, id); throw new Error('of the caller'); } };
+    refused(() => atlas.allocateInto(9, 7, box), 'BAD_OPTION', name);
+    assert.deepEqual(atlas.allocated(), wanted === null ? [] : [wanted], name);
+  }
+});
+
+test('what insertAll writes lies over nothing that it reads', () => {
+  const cache = new TextureCache(options);
+  const memory = new Int32Array(64);
+  memory.set([5, 5, 6, 6, 7, 7]);
+  const sizes = memory.subarray(0, 6);
+  for (const [keys, given, out] of [
+    [['a', 'b', 'c'], sizes, memory], [['a', 'b', 'c'], sizes, memory.subarray(5, 38)], [sizes.subarray(0, 3), [5, 5, 6, 6, 7, 7], memory],
+    [['a', 'b', 'c'], new Float64Array(memory.buffer, 128, 6), memory.subarray(0, 33)],
+  ]) {
+    refused(() => cache.insertAll(keys, given, out), 'BAD_OPTION', 'out over what is read');
+    assert.equal(cache.length, 0);
+  }
+  assert.equal(cache.insertAll(['a', 'b', 'c'], sizes, memory.subarray(6)), 3);
+  assert.equal(cache.insertAll(['d'], memory.subarray(62), memory), 1, 'what lies behind all that is written');
+  assert.deepEqual(['a', 'b', 'c'].map((key) => cache.peek(key).inner.width), [5, 6, 7]);
+});

@@ -34,6 +34,15 @@ test('what a console shows', () => {
   inspect(Atlas.prototype);
 });
 
+test('a console shows what is none of them', () => {
+  const { [Symbol.for('nodejs.util.inspect.custom')]: shown } = Object.getPrototypeOf(Atlas).prototype;
+  const gone = Proxy.revocable({}, {});
+  gone.revoke();
+  const values = [null, undefined, 5, {}, Object.create(null), gone.proxy, { get constructor() { throw new Error('of the caller'); } },
+    { constructor: { name: Symbol('name') } }, Object.create(Atlas.prototype), new Proxy(new Atlas(5, 5), {}), Atlas.prototype];
+  for (const value of values) assert.match(shown.call(value, 2, {}, () => 'read'), /^[\w()]+ \{\}$/);
+});
+
 /** What a bundle of the package, or a program of it, prints. */
 function told(folder, name, text) {
   writeFileSync(join(folder, name), text);
@@ -49,12 +58,12 @@ test('a load that fails names the address and the remedy', () => {
   const print = '.catch((error) => console.log(error.code, error.message, error.cause !== undefined))';
   try {
     assert.match(told(folder, 'file.mjs', `import { load } from ${node}; load('/no/such/file')${print};`),
-      /^LOAD_FAILED .*\/no\/such\/file can't be read \(ENOENT.*; put wollemigo.wasm there, or pass load\(\) its address or its bytes true\n$/);
+      /^LOAD_FAILED .*\/no\/such\/file can't be read \(ENOENT.*; put the module there, or pass load\(\) its address or its bytes true\n$/);
     const server = `import { createServer } from 'node:http'; import { load } from ${index};
       const server = createServer((_, reply) => reply.writeHead(404).end()).listen(0, '127.0.0.1', async () => {
         await load('http://127.0.0.1:' + server.address().port + '/lib/wollemigo.wasm')${print};
         server.close(); });`;
-    assert.match(told(folder, 'far.mjs', server), /the server answered 404 for http:\/\/127.0.0.1:\d+\/lib\/wollemigo.wasm; put wollemigo.wasm there/);
+    assert.match(told(folder, 'far.mjs', server), /the server answered 404 for http:\/\/127.0.0.1:\d+\/lib\/wollemigo.wasm; put the module there/);
     const bundle = spawnSync('esbuild', [JSON.parse(index), '--bundle', '--format=cjs', '--log-level=error'], { encoding: 'utf8' });
     if (bundle.error !== undefined) return;
     const text = `${bundle.stdout}\nmodule.exports.load()${print};`;

@@ -23,7 +23,8 @@ test('options are plain objects', () => {
   const before = stateOf(atlas);
   class Settings {}
   const values = [[], new Date(), new Number(5), Promise.resolve(), new Map(), new Settings(), Object.create({ padding: 1 }), atlas,
-    new Uint8Array(4), /x/, new Error('x'), runInNewContext('[]'), runInNewContext('new Date()')];
+    new Uint8Array(4), /x/, new Error('x'), runInNewContext('[]'), runInNewContext('new Date()'), Math, JSON, Reflect,
+    (function given() { return arguments; })(), runInNewContext('Math')];
   for (const call of takers(atlas)) {
     for (const value of values) refused(() => call(value), 'BAD_OPTION', `${call}: ${Object.prototype.toString.call(value)}`);
   }

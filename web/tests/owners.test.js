@@ -50,7 +50,7 @@ test('a call on what is of another class', () => {
     for (const [name, call] of callsOf(made)) {
       const words = argumentsFor(name, all);
       for (const stranger of strangers) {
-        refused(() => call.apply(stranger, name === 'get' && made === TextureCache ? ['a'] : words), 'BAD_THIS', `${made.name} ${name}`);
+        refused(() => call.apply(stranger, (name === 'get' && made === TextureCache ? ['a'] : words).slice(0, call.length)), 'BAD_THIS', `${made.name} ${name}`);
         tried += 1;
       }
     }
@@ -78,15 +78,6 @@ test('the class that the others have in common', () => {
   const { atlas } = filled();
   common.prototype.dispose.call(atlas);
   refused(() => atlas.isEmpty, 'DISPOSED', 'disposed');
-});
-
-test('a console shows what is none of them', () => {
-  const { [Symbol.for('nodejs.util.inspect.custom')]: shown } = Object.getPrototypeOf(Atlas).prototype;
-  const gone = Proxy.revocable({}, {});
-  gone.revoke();
-  const values = [null, undefined, 5, {}, Object.create(null), gone.proxy, { get constructor() { throw new Error('of the caller'); } },
-    { constructor: { name: Symbol('name') } }, Object.create(Atlas.prototype), new Proxy(new Atlas(5, 5), {}), Atlas.prototype];
-  for (const value of values) assert.match(shown.call(value, 2, {}, () => 'read'), /^[\w()]+ \{\}$/);
 });
 
 test('a class of a caller', () => {

@@ -26,7 +26,7 @@ function useAtlas(): void {
   const { changes, failures } = atlas.resizeAndRearrange(5, 5);
   const sum: number = changes[0].after.id + failures.length + atlas.rearrange().changes.length + atlas.options.largeSizeThreshold;
   const more: boolean = atlas.canFit(1, 1) || atlas.canGrowTo(1, 1) || atlas.isEmpty || sum > atlas.areas.free + atlas.slots.used;
-  if (more) [atlas.reserve(1), atlas.grow(5, 5), atlas.clear(), atlas.reset(5, 5), atlas.get(1), atlas.allocated(), atlas.free(), deepest(atlas.cuts())];
+  if (more) [atlas.reserve(1), atlas.grow(5, 5), atlas.clear(), atlas.reset(5, 5), atlas.get(1), atlas.allocated(), atlas.freeBoxes(), deepest(atlas.cuts())];
   const simple = SimpleAtlas.from(atlas.clone());
   simple.initFrom(atlas);
   simple.allocate(atlas.size.width, 1)?.height;

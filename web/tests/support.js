@@ -32,7 +32,7 @@ export function named(value) {
 /** All that an atlas tells of itself. */
 export function stateOf(atlas) {
   const { size, options, slots, areas, isEmpty } = atlas;
-  return { size, options, slots, areas, isEmpty, live: atlas.allocated(), free: atlas.free() };
+  return { size, options, slots, areas, isEmpty, live: atlas.allocated(), free: atlas.freeBoxes() };
 }
 
 export function simpleState(simple) {

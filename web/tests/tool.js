@@ -79,7 +79,7 @@ export class Tool {
         return [...live.map((each) => `box ${box(each)}`), `live ${live.length}`];
       }
       default: {
-        const holes = atlas.free().sort((a, b) => a.y - b.y || a.x - b.x);
+        const holes = atlas.freeBoxes().sort((a, b) => a.y - b.y || a.x - b.x);
         return [...holes.map((each) => `hole ${corners(each)}`), `holes ${holes.length}`];
       }
     }

@@ -43,7 +43,8 @@ async function trapIn(name, call) {
 test('a trap in a call, after which a new module is started', async () => {
   const cases = {
     atlas_allocate: ({ atlas }) => atlas.allocate(1, 1), atlas_deallocate: ({ atlas }) => atlas.deallocate(3),
-    cache_get_halves: ({ cache }) => cache.get('a'), cache_next_change: ({ cache }) => cache.insert('a', 1, 1), pack: () => pack([]),
+    cache_get_halves: ({ cache }) => cache.get('a'), cache_insert_halves: ({ cache }) => cache.insert('a', 1, 1),
+    cache_next_change: ({ cache }) => cache.trim(0), pack: () => pack([]),
     pack_dense: () => packDense([]), pack_groups: () => packGroups([], []),
     atlas_live: ({ atlas }) => atlas.allocated(), atlas_clone: ({ atlas }) => atlas.clone(), simple_free: ({ simple }) => simple.dispose(),
     atlas_resize_and_rearrange: ({ atlas }) => atlas.resizeAndRearrange(5, 5), cache_new: null,

@@ -5,16 +5,24 @@ import { readFileSync } from 'node:fs';
 import { test } from 'node:test';
 import { fileURLToPath } from 'node:url';
 
+import * as atlas from '../atlas.js';
+import * as cache from '../cache.js';
 import * as browser from '../index.js';
 import * as node from '../node.js';
+import * as nodeAtlas from '../node_atlas.js';
+import * as nodeCache from '../node_cache.js';
 
 const types = readFileSync(new URL('../index.d.ts', import.meta.url), 'utf8');
-const sources = ['interface', 'errors', 'values', 'runtime', 'sheet', 'keys', 'atlas', 'cache', 'simple']
+const sources = ['interface', 'errors', 'values', 'arrays', 'runtime', 'sheet', 'keys', 'atlas', 'cache', 'simple']
   .map((name) => readFileSync(new URL(`../src/${name}.js`, import.meta.url), 'utf8')).join('\n');
 
 test('what is exported is what the types name', () => {
   const named = [...types.matchAll(/^export (?:class|const|function) (\w+)/gm)].map((found) => found[1]);
   for (const api of [browser, node]) assert.deepEqual(Object.keys(api).sort(), named.sort());
+  for (const [name, apis] of [['atlas', [atlas, nodeAtlas]], ['cache', [cache, nodeCache]]]) {
+    const part = readFileSync(new URL(`../${name}.d.ts`, import.meta.url), 'utf8').match(/^export \{ (.*) \} from/m)[1].split(', ');
+    for (const api of apis) assert.deepEqual(Object.keys(api).sort(), part);
+  }
 });
 
 test('what a class has is what the types name', () => {
@@ -49,8 +57,8 @@ test('a program by the types', { skip: tsc.error !== undefined && 'there is no t
 test('the types refuse what the package refuses, also without those of the DOM', { skip: tsc.error !== undefined && 'there is no tsc' }, () => {
   const refusing = fileURLToPath(new URL('refused.ts', import.meta.url));
   const wanted = readFileSync(refusing, 'utf8').split('\n').flatMap((line, at) => (line.endsWith('// refused') ? [at + 1] : []));
-  const words = ['--noEmit', '--strict', '--target', 'es2022', '--module', 'es2022', '--lib', 'es2022'];
-  for (const more of [[], ['--exactOptionalPropertyTypes']]) {
+  const words = ['--noEmit', '--strict', '--target', 'es2022', '--module', 'es2022', '--lib'];
+  for (const more of [['es2022'], ['es2022', '--exactOptionalPropertyTypes'], ['es2022,dom']]) {
     const { stdout } = spawnSync('tsc', [...words, ...more, refusing], { encoding: 'utf8' });
     const found = new Set([...stdout.matchAll(/refused\.ts\((\d+),/g)].map((each) => Number(each[1])));
     assert.deepEqual([...found].sort((a, b) => a - b), wanted, stdout);

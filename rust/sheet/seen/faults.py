@@ -58,6 +58,7 @@ CASES = [
     ('turn', GOOD, ['F', 'O', '--turn', '--form', 'godot'], 2, [r"--turn can't be used with --form godot or godot3: .*"]),
     *(('turn ' + form, GOOD, ['F', 'O', '--turn', '--form', form], 2, [r"--turn can't be used with --form " + line])
       for form, line in (('godot3', 'godot or godot3: .*'), ('unity', 'unity: .*'))),
+    ('turn in several scales', GOOD, ['F', 'O', '--turn', '--form', 'css', '--scale', '1,0.5'], 2, [r'--turn with --form css and .*']),
     ('filter', GOOD, ['F', 'O', '--filter', 'nearest'], 2, [r'--filter and --wrap need --form libgdx or libgdx-new']),
     ('no template', GOOD, ['F', 'O', '--template', 'none.json.tera'], 1, [r'none\.json\.tera: ' + NOT_THERE]),
     ('template and form', GOOD, ['F', 'O', '--template', 'x.json.tera', '--form', 'css'], 2, [r'.*cannot be used with.*']),
@@ -103,9 +104,10 @@ CASES = [
      [r'"a\\u\{ffff\}\.png": XML can\'t contain U\+FFFE or U\+FFFF']),
     ('classes', {'a b.png': WHOLE, 'a-b.png': WHOLE}, ['F', 'O', '--form', 'css'], 2, [r'.*have the same class in CSS, .*']),
     ('too large', {**GOOD, 'c.png': png(100, 3), 'd.png': png(3, 64)}, ['F', 'O', '--size', '64', '64'], 3,
-     [r"c\.png: 100x3 with padding 1 doesn't fit a sheet of 64x64", r"d\.png: 3x64 .*"]),
-    ('no room', {'%d.png' % n: png(30, 30, n) for n in range(9)}, ['F', 'O', '--size', '64', '64', '--pages', '2'], 3,
-     [r'2 sheets don\'t take all pictures, 64x64 at most: \d\.png found no place; --pages 3, a larger sheet or --leave-out would do']),
+     [r"c\.png: 100x3 with padding 1 doesn't fit a sheet of 64x64; a larger sheet, --leave-out or --exclude would do",
+      r"d\.png: 3x64 .*; a larger sheet, --border 0, --leave-out or --exclude would do"]),
+    ('no room', {'%d.png' % n: png(30, 30, n) for n in range(10, 19)}, ['F', 'O', '--size', '64', '64', '--pages', '2'], 3,
+     [r'2 sheets don\'t take all pictures, 64x64 at most: \d+\.png found no place; --pages 3, a larger sheet or --leave-out would do']),
     ('no room for groups', {'%d/%d.png' % (n // 3, n): png(30, 30, n) for n in range(9)},
      ['F', 'O', '--size', '64', '64', '--pages', '2', '--group'], 3,
      [r'2 sheets don\'t take all pictures, .*; --pages 3, a larger sheet or --leave-out would do']),
@@ -123,9 +125,9 @@ CASES = [
     ('all excluded', GOOD, ['F', 'O', '--exclude', '*.png'], 1, [r'.*it contains no picture that is read']),
     ('border and alignment', GOOD, ['F', 'O', '--border', '0', '--align', '4', '4'], 2, [r'.*cannot be used with.*']),
     ('no room at all', GOOD, ['F', 'O', '--size', '8', '8', '--border', '5'], 3,
-     [r"[ab]\.png: \dx\d with padding 1 and border 5 doesn't fit a sheet of 8x8"] * 2),
+     [r"[ab]\.png: \dx\d with padding 1 and border 5 doesn't fit a sheet of 8x8; .*"] * 2),
     ('all too large', GOOD, ['F', 'O', '--size', '4', '4', '--leave-out'], 3,
-     [r"[ab]\.png: \dx\d with padding 1 doesn't fit a sheet of 4x4"] * 2),
+     [r"[ab]\.png: \dx\d with padding 1 doesn't fit a sheet of 4x4; .*"] * 2),
     ('a folder', GOOD, ['F', 'O'], 1, [r'.*sheet\.json: it is a folder']),
     ('a folder for the picture', GOOD, ['F', 'O'], 1, [r'.*sheet\.png: it is a folder']),
 ]
@@ -134,7 +136,7 @@ BEFORE = {'a folder': ['sheet.json'], 'a folder for the picture': ['sheet.png']}
 
 
 def written(folder):
-    return sorted(name for _, folders, names in os.walk(folder) for name in folders + names)
+    return sorted(name for _, folders, names in os.walk(folder) for name in folders + names if not name.endswith('.stamp'))
 
 
 def case(what, files, words, status, lines):
@@ -191,7 +193,7 @@ def no_space():
         done = ended([room + '/in', room + '/out/sheet'], preexec_fn=limit)
         after = {name: open(room + '/out/' + name, 'rb').read() for name in os.listdir(room + '/out')}
         is_told = re.fullmatch(r"guillotiere-sheet: .*/sheet\.(png|json): it can't be written there: .*\n", done.stderr)
-        check('no space', done.returncode == 1 and is_told and before == after and len(before) == 2,
+        check('no space', done.returncode == 1 and is_told and before == after and len(before) == 3,
               (done.returncode, done.stderr, sorted(after)))
 
 
@@ -244,6 +246,7 @@ def another_form():
 
         def told(what, names, *words):
             done = ended([room + '/in', room + '/out/my sheet', *words])
+            done.stderr = re.sub(r'.* it is of an earlier run .*\n', '', done.stderr)
             lines = [re.fullmatch('guillotiere-sheet: .*/out/(.*): it tells where sprites lay in an earlier (.*): '
                                   'run again with its --form, or remove it', line) for line in done.stderr.splitlines()]
             check('another form: ' + what, done.returncode == 0 and all(lines) and [line.groups() for line in lines] == names, done.stderr)
@@ -256,7 +259,7 @@ def another_form():
         put(room + '/in', {'d.png': png(60, 60)})
         told('its name in a URL', [('my sheet.css', 'my sheet.png')])
         put(room + '/in', {'d.png': png(60, 60, 9)})
-        told('other pixels', [])
+        told('other pixels', [('my sheet.css', 'my sheet.png')])
         told('others', [], '--pages', '2', '--form', 'libgdx', '--scale', '1,0.5')
         put(room + '/in', {'e.png': png(80, 80)})
         told('numbers', [('my sheet.atlas', 'my sheet-0.png'), ('my sheet@0.5x.atlas', 'my sheet-0@0.5x.png')],
@@ -432,7 +435,8 @@ def unmoved():
             os.utime(room + '/in/a.png')
             os.remove(room + '/in/x.txt')
             time.sleep(1.5)
-            check('unmoved: untouched', watch.stamps() == before and watch.lines() == [], watch.lines())
+            line = 'guillotiere-sheet: --exclude *_old.png: nothing is like it'
+            check('unmoved: untouched', watch.stamps() == before and watch.lines() == [line], watch.lines())
             put(room + '/in', {'anchors.txt': b'a.png 0.5 0.5\n'})
             check('unmoved: anchors count', wait_for(lambda: '"anchor"' in watch.text()))
 
@@ -456,7 +460,7 @@ def checked():
         os.utime(room + '/in/a.png')
         told(0)
         put(room + '/in', {'a.png': png(8, 8, 9)})
-        told(5, 'sheet.png')
+        told(5, 'sheet.png', 'sheet.json')
         ended([room + '/in', room + '/out/sheet'])
         told(0)
         os.remove(room + '/out/sheet.json')

@@ -164,7 +164,7 @@ def great_heads(room):
         put(folder, {name: bytes(data)})
         done = run(folder, room + '/sheet', '--greatest', '65536', '--memory', '16G', most=200 << 20)
         assert done.returncode in (1, 3) and 'memory' in done.lines[0], (ending, more, done.returncode, done.lines)
-        done = run(folder, room + '/sheet', '--trim', '--memory', '100M')
+        done = run(folder, room + '/sheet', '--trim', '--memory', '100M', '--greatest', '65536')
         assert done.returncode == 3 and 'the pictures take 858.3M' in done.lines[0], (ending, more, done.returncode, done.lines)
         assert not [name for name in os.listdir(room) if 'sheet' in name]
 
@@ -221,8 +221,8 @@ def kinds(room):
     frames = [each.convert('RGB').convert('P', palette=Image.ADAPTIVE) for each in (alpha, alpha.rotate(180))]
     icons.save(folder, 'moving.gif', frames[0], save_all=True, append_images=frames[1:])
     put(folder, {'top first.bmp': top_first(picture)})
-    done = run(folder, room + '/sheet')
-    assert done.returncode == 0 and done.lines == [], done.lines
+    done = run(folder, room + '/sheet', '--no-animations')
+    assert done.returncode == 0 and done.lines == ['moving.gif and 1 more: only the first frame is taken'], done.lines
     found, wanted = readers.read('json-hash', room + '/sheet'), icons.originals(folder)
     assert found.keys() == wanted.keys()
     for name in wanted:
@@ -276,7 +276,7 @@ def moving(room):
         icons.save(folder, name + '.webp', first, save_all=True, append_images=frames[1:], lossless=True, exact=True, **more)
         icons.save(folder, name + ' lossy.webp', first, save_all=True, append_images=frames[1:], quality=95, exact=True, **more)
     done = run(folder, room + '/sheet')
-    assert done.returncode == 0 and done.lines == [], done.lines
+    assert done.returncode == 0 and done.lines == ['dot lossy.webp and 5 more: only the first frame is taken'], done.lines
     found = readers.read('json-hash', room + '/sheet')
     for name, wanted in icons.originals(folder).items():
         assert found[name].size == wanted.size
@@ -309,6 +309,61 @@ def links(room):
             ('sheets', 'it leads to the folder of the sheets; left out'), ('x.psd', "pictures of this kind aren't read; left out"),
             ('x.svg', "pictures of this kind aren't read; left out")], done.lines
         assert sorted(readers.read('json-hash', room + '/out/sheet')) == ['a.png', 'c.png', 'deep/b.png']
+
+
+def dropped(room):
+    """A line for all files of which only the first frame is taken, and one for all that Exif would turn; none for others."""
+    folder, frames = room + '/in', [colours(number) for number in range(3)]
+    moving = [('gif', {}), ('png', {}), ('tif', {})] + [('webp', {'lossless': True})] * features.check('webp_anim')
+    for ending, more in moving:
+        for count in (1, 3):
+            each = [frame.convert('P') for frame in frames] if ending == 'gif' else frames
+            icons.save(folder, '%s %d.%s' % (ending, count, ending), each[0], save_all=True, append_images=each[1:count], **more)
+    for orientation in (1, 6):
+        exif = Image.Exif()
+        exif[0x112] = orientation
+        for ending in ('jpg', 'png', 'webp', 'tif'):
+            tags = {'tiffinfo': {0x112: orientation}} if ending == 'tif' else {'exif': exif}
+            icons.save(folder, 'turned %d.%s' % (orientation, ending), colours(9).convert('RGB'), **tags)
+    for _ in range(2):
+        done = run(folder, room + '/sheet', '--no-animations')
+        assert done.returncode == 0 and done.lines == [
+            'gif 3.gif and %d more: only the first frame is taken' % (len(moving) - 1),
+            "turned 6.jpg and 3 more: how Exif turns them isn't applied"], done.lines
+    for name in os.listdir(folder):
+        if '3' in name and name != 'gif 3.gif' or '6' in name and name != 'turned 6.jpg':
+            os.remove(folder + '/' + name)
+    done = run(folder, room + '/sheet', '--no-animations')
+    assert done.lines == ['gif 3.gif: only the first frame is taken', "turned 6.jpg: how Exif turns it isn't applied"], done.lines
+
+
+def kinds_told(room):
+    """A line for each kind of picture that isn't read, with its count; and for an --exclude that is like nothing."""
+    icons.save(room + '/in', 'a.png', colours(1))
+    put(room + '/in', {**{'%d/%d.svg' % (number % 3, number): b'<svg/>' for number in range(40)}, 'B.SVG': b'', 'x.psd': b''})
+    words = ['--exclude', '0/3.svg', '--exclude', 'nosuch*', '--exclude', 'none/*']
+    for more in ([], ['--check']):
+        done = run(room + '/in', room + '/sheet', *words, *more)
+        assert done.returncode == 0 and done.lines == [
+            "%s/in/0/0.svg and 39 more .svg: pictures of this kind aren't read; left out" % room,
+            "%s/in/x.psd: pictures of this kind aren't read; left out" % room,
+            '--exclude nosuch*: nothing is like it', '--exclude none/*: nothing is like it'], done.lines
+
+
+def heads(room):
+    """With --trim too, a picture that can't be transparent and fits no sheet is named before one is decoded."""
+    put(room + '/in', {'bad.png': WHOLE[:60]})
+    wide = Image.new('RGB', (100, 20))
+    for name, picture in (('a.jpg', wide), ('b.png', wide), ('c.png', wide.convert('L')), ('d.png', wide.convert('P'))):
+        icons.save(room + '/in', name, picture)
+    put(room + '/in', {'e.png': png(100, 20, 8, 2, [bytes(300)] * 20, [(b'tRNS', bytes(6))])})
+    icons.save(room + '/in', 'f.png', Image.new('RGBA', (100, 20)))
+    done = run(room + '/in', room + '/sheet', '--trim', '--size', '64', '64')
+    line = "%s: 100x20 with padding 1 doesn't fit a sheet of 64x64; a larger sheet, --leave-out or --exclude would do"
+    assert done.returncode == 3 and done.lines == [line % name for name in ('a.jpg', 'b.png', 'c.png', 'd.png')], done.lines
+    done = run(room + '/in', room + '/sheet', '--trim', '--size', '100', '100')
+    line = line.replace('64x64', '100x100').replace('sheet, --l', 'sheet, --border 0, --l')
+    assert done.returncode == 3 and done.lines == [line % name for name in ('a.jpg', 'b.png', 'c.png', 'd.png')], done.lines
 
 
 def excluded(room):
@@ -414,6 +469,9 @@ def all_tests():
     else:
         print('skipped animated WebP: this Pillow does not write it')
     test('links', links)
+    test('dropped', dropped)
+    test('kinds that are told', kinds_told)
+    test('heads', heads)
     test('excluded', excluded)
     test('bordered', bordered)
     test('mutated', mutated)

@@ -207,7 +207,7 @@ def godot_animations(path):
             textures[heads['id']] = put(part, (wide + wider, high + higher), (left, top))
         else:
             for animation in body['animations']:
-                assert animation['name'] not in found and animation['loop'] == 'true'
+                assert animation['name'] not in found and animation['loop'] in ('true', 'false')
                 assert is_three or all(frame['duration'] == 1 for frame in animation['frames'])
                 shown = [textures[(frame if is_three else frame['texture'])[1][0]] for frame in animation['frames']]
                 found[animation['name']] = (animation['speed'], shown)

@@ -43,7 +43,7 @@ def walking(room):
             played(name, out, originals, names)
     out = os.path.join(room, 'split')
     told = run(folder, out, '--size', '64', '40', '--pages', '99').stderr
-    assert told == 'guillotiere-sheet: animation hero/walk lies on several sheets, so no file has it; --group may help\n', told
+    assert told.startswith("guillotiere-sheet: animation hero/walk is split: it doesn't fit on one sheet of 64x40; "), told
     icons.compare(readers.read('json-hash', out), originals, False)
     for name in ('json-hash', 'libgdx', 'libgdx-new', 'godot', 'godot3'):
         out = os.path.join(room, 'single ' + name)
@@ -190,7 +190,7 @@ def templates(folder, room):
                 found[told['name']] = sheet.crop((x, sheet.height - y - high, x + wide, sheet.height - y))
         icons.compare(found, originals, False)
     by_hand = os.path.join(HERE, '..', 'templates')
-    assert sorted(os.listdir(by_hand)) == ['cocos.each.plist.tera', 'love.lua.tera', 'unity.json.tera']
+    assert sorted(os.listdir(by_hand)) == ['cocos.each.plist.tera', 'godot_texture.sprite.tres.tera', 'love.lua.tera', 'unity.json.tera']
     out = os.path.join(room, 'own')
     for name, form, ending in (('cocos.each.plist.tera', 'cocos', '-0.plist'), ('unity.json.tera', 'unity', '.json')):
         texts = []
@@ -212,6 +212,46 @@ def templates(folder, room):
     icons.compare(found, originals, False)
 
 
+def small_files(room):
+    """A file for each sprite, as Godot's AtlasTexture, and for each animation, of all sheets."""
+    folder, out = os.path.join(room, 'small'), os.path.join(room, 'small out', 'sheet')
+    icons.fill(folder, count=40)
+    for number in (1, 2, 3):
+        icons.save(folder, 'hero/walk_%d.png' % number, Image.new('RGBA', (20 + number, 10), (number, 1, 2, 255)))
+    os.mkdir(os.path.dirname(out))
+    words = ['--trim', '--size', '128', '128', '--pages', '20', '--drop-extension']
+    done = run(folder, out, *words, '--template', os.path.join(HERE, '..', 'templates', 'godot_texture.sprite.tres.tera'))
+    originals = {name[:-4]: picture for name, picture in icons.originals(folder).items()}
+    found = {}
+    for name in originals:
+        path = '%s-%s.tres' % (out, name.replace('/', '-'))
+        with open(path, encoding='utf-8') as file:
+            parts = {kind: (heads, body) for kind, heads, body in readers.sections(file.read())}
+        assert parts['gd_resource'][0] == {'type': 'AtlasTexture', 'load_steps': 2, 'format': 3}
+        body, page = parts['resource'][1], parts['ext_resource'][0]
+        x, y, wide, high = (int(value) for value in body['region'][1])
+        left, top, wider, higher = (int(value) for value in body.get('margin', ('Rect2', [0, 0, 0, 0]))[1])
+        assert body['atlas'] == ('ExtResource', [page['id']])
+        part = readers.opened(path, page['path']).crop((x, y, x + wide, y + high))
+        found[name] = readers.put(part, (wide + wider, high + higher), (left, top))
+    icons.compare(found, originals, True)
+    written = [name for name in os.listdir(os.path.dirname(out)) if name.endswith('.tres')]
+    assert len(done.stdout.splitlines()) > 1 and len(written) == len(found), written
+    template = os.path.join(room, 'own.animation.txt.tera')
+    with open(template, 'w') as file:
+        file.write('{{ animation.name }} {{ animation.loop }}{% for one in animation.frames %} {{ one.image }}:{{ one.name }}:'
+                   '{{ one.source.width }}{% endfor %}')
+    run(folder, out, *words, '--template', template)
+    with open(out + '-hero-walk.txt') as file:
+        told = file.read().split(' ')
+    sheet = told[2].split(':')[0]
+    assert told == ['hero/walk', 'true', *('%s:hero/walk_%d:%d' % (sheet, number, 20 + number) for number in (1, 2, 3))], told
+    icons.save(folder, 'hero-walk_1.png', Image.new('RGBA', (9, 9)))
+    template = os.path.join(HERE, '..', 'templates', 'godot_texture.sprite.tres.tera')
+    told = run(folder, out, *words, '--template', template, status=2).stderr
+    assert told == 'guillotiere-sheet: sheet-hero-walk_1.tres: two files would have this name\n', told
+
+
 def pivots(room):
     """Unity's pivot is a part of what is kept, from below: that of an anchor, or the middle of the whole picture."""
     folder, out = os.path.join(room, 'pivots'), os.path.join(room, 'pivots sheet')
@@ -224,6 +264,29 @@ def pivots(room):
         told, = readers.read_json(out + '.json')['textures'][0]['sprites']
         assert all(abs(told['pivot'][key] - pivot[key]) < 1e-9 for key in 'xy'), told
         assert (told['rect']['width'], told['rect']['height']) == (10, 8)
+
+
+def trimmed(room):
+    """A border of an alpha up to the threshold is left out, and nothing else."""
+    folder = os.path.join(room, 'trimmed')
+    square = Image.new('RGBA', (100, 100), (9, 9, 9, 1))
+    square.paste((200, 9, 9, 3), (30, 40, 60, 70))
+    square.paste((0, 0, 0, 0), (35, 45, 40, 50))
+    icons.save(folder, 'a.png', square)
+    inner = {side: Image.new('RGBA', (100, 100)) for side in (0, 1, 2, 3)}
+    inner[0].paste(square)
+    for most in (1, 2):
+        inner[most].paste(square.crop((30, 40, 60, 70)), (30, 40))
+    for most, kept in ((0, (0, 0, 100, 100)), (1, (30, 40, 30, 30)), (2, (30, 40, 30, 30)), (3, (0, 0, 1, 1))):
+        for form in readers.READERS:
+            out = os.path.join(room, 'trimmed %d %s' % (most, form))
+            run(folder, out, '--trim', '--trim-threshold', str(most), '--form', form, '--bleed', '0')
+            if most < 3:
+                icons.compare(readers.read(form, out), {'a.png': inner[most]}, False)
+            if form == 'json-hash':
+                assert tuple(frames(out)['a.png']['spriteSourceSize'].values()) == kept
+    run(folder, out, '--trim-threshold', '1', status=2)
+    run(folder, out, '--trim', '--trim-threshold', '256', status=2)
 
 
 def nine_patches(room):
@@ -268,9 +331,11 @@ def all_tests(room):
     icons.fill(folder)
     test('walking', walking, room)
     test('nine-patches', nine_patches, room)
+    test('trimmed', trimmed, room)
     test('filters', filters, folder, room)
     test('Godot 3', by_godot, folder, room)
     test('templates', templates, folder, room)
+    test('small files', small_files, room)
     test('pivots', pivots, room)
 
 

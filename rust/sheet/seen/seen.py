@@ -7,6 +7,7 @@ The last line is 'N passed, M failed'. It needs Pillow; the test of CSS needs Ch
 import html
 import json
 import os
+import random
 import re
 import shutil
 import subprocess
@@ -120,7 +121,7 @@ def grouped(folder, room):
                 assert done.stderr == ''
     out = os.path.join(room, 'parted')
     for more, at in (([], ''), (['--scale', '0.9'], ' at scale 0.9')):
-        done = run(to, out, '--size', '170', '170', '--pages', '20', '--group', '--no-animations', *more)
+        done = run(to, out, '--size', '170', '170', '--pages', '20', '--group', '--no-animations', '--clean', *more)
         parted = [inside for inside, each in sorted(sheets_of_folders(out, at and '@0.9x').items()) if inside and len(each) > 1]
         line = "guillotiere-sheet: folder %s is split%s: it doesn't fit on one sheet of 170x170\n"
         assert parted and len(parted) < 6 and done.stderr == ''.join(line % (inside, at) for inside in parted), (parted, done.stderr)
@@ -319,11 +320,11 @@ def kept(folder, out, rows):
             assert {name: picture.tobytes() for name, picture in readers.read(form, out).items()} == rows
 
 
-def screenshot(chromium, page, size, room):
+def screenshot(chromium, page, size, room, factor=1):
     shot = os.path.join(room, 'shot.png')
     with tempfile.TemporaryDirectory(ignore_cleanup_errors=True) as profile:
         words = ['--user-data-dir=' + profile, '--screenshot=' + shot, '--window-size=%d,%d' % size, '--hide-scrollbars',
-                 '--force-device-scale-factor=1', '--force-color-profile=srgb', 'file://' + page]
+                 '--force-device-scale-factor=%d' % factor, '--force-color-profile=srgb', 'file://' + page]
         subprocess.run([chromium] + browsers.CHROMIUM + words, stdout=subprocess.DEVNULL, stderr=subprocess.DEVNULL,
                        env=dict(os.environ, HOME=profile), timeout=200, check=True)
     with Image.open(shot) as picture:
@@ -345,6 +346,33 @@ def css(chromium, folder, way, room, most=0, more=()):
     sheet, pictures = (screenshot(chromium, os.path.join(room, page), size, room) for page in ('css%s.html' % way, 'pictures.html'))
     assert len(set(pictures.getdata())) > 100
     assert icons.difference(sheet, pictures) <= most, icons.difference(sheet, pictures)
+
+
+def retina(chromium, room):
+    """Of two scales the smaller one is that of the page, and a screen with twice as many pixels shows the larger one, by the same
+    classes."""
+    folder, half, both = (os.path.join(room, 'retina' + name) for name in ('', ' half', ' both'))
+    for number in range(60):
+        side = 16 + number % 9 * 2
+        picture = icons.one(random.Random(number), number).resize((side, side + 2))
+        icons.save(folder, 'icon %d%s.png' % (number, 'ab'[number % 2]), picture)
+    for way in ('plain', 'full', 'pages'):
+        for out, scale in ((half, '0.5'), (both, '1,0.5')):
+            more = ['--power-of-two'] if '--turn' in WAYS[way] and way == 'full' else []
+            words = [word for word in WAYS[way] if more or word != '--turn']
+            run(folder, out, '--form', 'css', '--page', '--scale', scale, '--no-animations', *words, *more)
+        assert not os.path.exists(both + '@0.5x.css')
+        with open(both + '.html', encoding='utf-8') as file:
+            text = file.read()
+        shown = re.sub(r'<i class="[^"]*" title="([^"]*)"></i>', lambda match: '<img style="margin: 3px; width: %gpx" src="file://%s">' % (
+            Image.open(os.path.join(folder, match.group(1))).width / 2, urllib.parse.quote(os.path.join(folder, match.group(1)))), text)
+        with open(os.path.join(room, 'retina pictures.html'), 'w', encoding='utf-8') as file:
+            file.write(shown)
+        by_hand = os.path.join(room, 'retina pictures.html')
+        for factor, pages in ((1, (half + '@0.5x.html', both + '.html')), (2, (by_hand, both + '.html'))):
+            shots = [screenshot(chromium, page, (500, 400), room, factor) for page in pages]
+            assert shots[0].size == (500 * factor, 400 * factor) and len(set(shots[0].getdata())) > 100
+            assert icons.difference(*shots) == 0, (way, factor, icons.difference(*shots))
 
 
 def page_of_pictures(folder, text):
@@ -380,6 +408,7 @@ def all_tests(room):
     if chromium is None:
         print('skipped the classes of CSS: there is no chromium')
         return
+    test('css, retina', retina, chromium, room)
     for way in ('plain', 'full', 'pages'):
         test('css, ' + way, css, chromium, folder, way, room)
     # Where gAMA is applied the browser rounds once, and the sheet as well. Browsers apply it beside cHRM alone.

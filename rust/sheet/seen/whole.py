@@ -6,6 +6,7 @@ finds the pictures that belong to it, and the next run leaves nothing but the se
 
 The last line is 'N passed, M failed'. It needs Pillow, and gcc on Linux."""
 import os
+import resource
 import shutil
 import signal
 import subprocess
@@ -50,7 +51,7 @@ def told(originals):
 
 
 def hidden(folder):
-    return [name for name in os.listdir(folder) if name.startswith('.')]
+    return [name for name in os.listdir(folder) if name.startswith('.') and not name.endswith('.stamp')]
 
 
 def killed(form, more, library, room):
@@ -145,7 +146,8 @@ def stopped(library, room):
 
 
 def to_the_disk(library, room):
-    """All files and both folders are on the disk before the first one gets its place; then the record goes, and comes last."""
+    """All files and both folders are on the disk before the first one gets its place; then the record goes, where a picture is replaced,
+    and comes after the pictures, and the stamp last."""
     folder, _ = pictures(room, 'disk', 9, 20)
     inside = os.path.join(room, 'on disk')
     os.mkdir(inside)
@@ -154,9 +156,10 @@ def to_the_disk(library, room):
         assert run([folder, os.path.join(inside, 'sheet'), *['--trim'][:number - 1]], library, STEP_LOG=log).returncode == 0
         with open(log) as file:
             steps = file.read().split()
-        # The record is unlinked in the middle; at the end the folder of parts, which isn't there any more, and the lock.
-        assert steps == ['mkdir', 'fsync', 'fsync', 'fsync', 'rename', 'fsync', 'unlink', 'fsync', 'rename', 'rename', 'fsync', 'rmdir',
-                         'unlink', 'unlink'], steps
+        # At the end the folder of parts, which isn't there any more, and the lock.
+        replaced = ['unlink', 'fsync'] if number == 2 else []
+        assert steps == ['mkdir', 'fsync', 'fsync', 'fsync', 'fsync', 'rename', 'fsync', *replaced, 'rename', 'rename', 'rename', 'fsync',
+                         'rmdir', 'unlink', 'unlink'], steps
         icons.save(folder, '0x.png', Image.new('RGBA', (40, 30), (1, 1, 1, 255)))
 
 
@@ -173,7 +176,44 @@ def hung_up(room):
     time.sleep(0.5)
     assert running.poll() is None and found('json-hash', out) == told(originals)
     running.terminate()
-    running.wait(timeout=20)
+    assert running.wait(timeout=20) == 130 and not os.path.exists(os.path.join(room, '.hung.lock'))
+
+
+def asked_to_end(room):
+    """Where a hangup is ignored, as by nohup, other signals do what they do otherwise: nothing is left half done, and with --keep-best the
+    best sheet is written."""
+    folder, originals = pictures(room, 'asked', 40, 20)
+    for how in (signal.SIGTERM, signal.SIGINT):
+        for more, status in (([], 130), (['--keep-best'], 0)):
+            inside = os.path.join(room, 'asked %d %d' % (how, status))
+            os.mkdir(inside)
+            out = os.path.join(inside, 'sheet')
+            running = begun([PROGRAM, folder, out, '--effort', '100000000', *more], stdout=subprocess.DEVNULL, stderr=subprocess.PIPE,
+                            preexec_fn=lambda: signal.signal(signal.SIGHUP, signal.SIG_IGN))
+            assert b'so far a sheet of ' in running.stderr.readline()
+            running.send_signal(signal.SIGHUP)
+            time.sleep(0.3)
+            assert running.poll() is None
+            running.send_signal(how)
+            running.stderr.close()
+            assert running.wait(timeout=60) == status, (how, more, running.returncode)
+            assert not hidden(inside) and found('json-hash', out) == (told(originals) if status == 0 else None), os.listdir(inside)
+
+
+def too_long(room):
+    """A file that may not grow is a failed write, and the earlier set stays."""
+    inside = os.path.join(room, 'too long')
+    os.mkdir(inside)
+    out = os.path.join(inside, 'sheet')
+    (old, originals), (new, _) = pictures(room, 'short', 4, 20), pictures(room, 'long', 60, 30)
+    assert run([old, out]).returncode == 0
+
+    def limit():
+        signal.signal(signal.SIGXFSZ, signal.SIG_DFL)
+        resource.setrlimit(resource.RLIMIT_FSIZE, (3000, 3000))
+    done = ended([new, out], preexec_fn=limit)
+    assert done.returncode == 1 and "it can't be written there: File too large" in done.stderr, (done.returncode, done.stderr)
+    assert not hidden(inside) and found('json-hash', out) == told(originals)
 
 
 def untouched(room):
@@ -184,7 +224,7 @@ def untouched(room):
     words = [folder, os.path.join(inside, 'sheet'), '--size', '64', '64', '--pages', '9']
 
     def stamps():
-        files = {name: os.stat(os.path.join(inside, name)) for name in os.listdir(inside)}
+        files = {name: os.stat(os.path.join(inside, name)) for name in os.listdir(inside) if not name.endswith('.stamp')}
         return {name: (file.st_mtime_ns, file.st_ino) for name, file in files.items()}
     assert run(words).returncode == 0
     first = stamps()
@@ -200,6 +240,8 @@ def untouched(room):
 def all_tests(room):
     test('untouched', untouched, room)
     test('hung up', hung_up, room)
+    test('asked to end', asked_to_end, room)
+    test('too long', too_long, room)
     library = os.path.join(room, 'steps.so')
     compiler = shutil.which('gcc')
     if compiler is None or not sys.platform.startswith('linux'):

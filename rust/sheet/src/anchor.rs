@@ -55,17 +55,10 @@ pub fn anchors(
 ) -> Result<Vec<Option<Anchor>>, Fault> {
     let path = inside.join(FILE);
     let mut anchors = vec![usual; files.len()];
-    if !path.exists() {
-        return Ok(anchors);
-    }
-    let text = folder::text(&path)?;
-    let lines = text.lines().enumerate();
-    for (number, text) in
-        lines.filter(|(_, text)| !text.trim().is_empty() && !text.starts_with('#'))
-    {
-        let told = |what: &str| format!("{}: line {}: {}", path.display(), number + 1, what);
+    for (number, text) in folder::lines(&path)? {
+        let told = |what: &str| format!("{}: line {}: {}", path.display(), number, what);
         let (pattern, anchor) =
-            line(text).ok_or_else(|| Fault::new(FILES, told("it isn't PATTERN X Y")))?;
+            line(&text).ok_or_else(|| Fault::new(FILES, told("it isn't PATTERN X Y")))?;
         let mut is_used = false;
         for ((_, file), place) in files.iter().zip(&mut anchors) {
             if pattern.has(file.strip_prefix(inside).unwrap_or(file)) {

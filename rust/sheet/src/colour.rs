@@ -1,5 +1,6 @@
 //! What the files say of colours, where it is asked for: kept where all say the same, and applied where they differ.
 use crate::picture::Picture;
+use std::sync::Arc;
 
 /// A chunk of a PNG: its name and its data.
 pub type Chunk = ([u8; 4], Vec<u8>);
@@ -105,7 +106,7 @@ enum Meaning {
 
 /// Where all say the same, nothing is changed, and the sheets say it too. Else gAMA beside cHRM is applied, and the sheets are
 /// sRGB.
-pub fn settle(found: &mut [(String, Picture, Colour)]) -> Settled {
+pub fn settle(found: &mut [(String, Arc<Picture>, Colour)]) -> Settled {
     let first = found.first().map(|one| one.2.clone()).unwrap_or_default();
     if !first.has_profile && found.iter().all(|one| one.2 == first) {
         return Settled {
@@ -118,7 +119,7 @@ pub fn settle(found: &mut [(String, Picture, Colour)]) -> Settled {
         match colour.meaning() {
             Meaning::Srgb => {}
             Meaning::Gamma(gamma) => {
-                apply(picture, gamma);
+                apply(Arc::make_mut(picture), gamma);
                 applied.push(format!("colours differ: {}: {}", name, APPLIED));
             }
             Meaning::Other => {
@@ -157,8 +158,9 @@ fn apply(picture: &mut Picture, gamma: u32) {
 mod tests {
     use super::{settle, Colour};
     use crate::picture::Picture;
+    use std::sync::Arc;
 
-    fn one(name: &str, chunks: &[(&[u8; 4], &[u8])]) -> (String, Picture, Colour) {
+    fn one(name: &str, chunks: &[(&[u8; 4], &[u8])]) -> (String, Arc<Picture>, Colour) {
         let chunks = chunks
             .iter()
             .map(|(name, data)| (**name, data.to_vec()))
@@ -172,7 +174,7 @@ mod tests {
             chunks,
             has_profile: false,
         };
-        (name.to_string(), picture, colour)
+        (name.to_string(), Arc::new(picture), colour)
     }
 
     const GAMMA: (&[u8; 4], &[u8]) = (b"gAMA", &[0, 0, 0xb1, 0x8f]);

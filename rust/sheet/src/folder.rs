@@ -2,6 +2,8 @@
 use crate::fault::{Fault, FILES};
 use crate::nine;
 use globset::{Glob, GlobBuilder, GlobSet, GlobSetBuilder};
+use std::collections::{BTreeMap, HashSet};
+use std::io::ErrorKind;
 use std::path::{Path, PathBuf};
 use walkdir::{DirEntry, WalkDir};
 
@@ -23,29 +25,53 @@ pub type Named = (String, PathBuf);
 pub struct Listed {
     pub files: Vec<Named>,
     pub notes: Vec<String>,
+    /// All folders that were looked at.
+    pub folders: Vec<PathBuf>,
+    /// The numbers of the patterns that were like something.
+    pub used: HashSet<usize>,
 }
 
 /// Files and folders by patterns like those of a shell.
 pub struct Patterns {
     names: GlobSet,
     paths: GlobSet,
+    // Which of all patterns these are.
+    of_names: Vec<usize>,
+    of_paths: Vec<usize>,
 }
 
 impl Patterns {
     /// A pattern without `/` is that of a file's or a folder's own name, wherever it lies; another one that of its path in the folder.
     pub fn new(patterns: &[String]) -> Result<Patterns, globset::Error> {
-        let (paths, names): (Vec<&String>, Vec<&String>) =
-            patterns.iter().partition(|pattern| pattern.contains('/'));
+        let (of_paths, of_names): (Vec<usize>, Vec<usize>) =
+            (0..patterns.len()).partition(|number| patterns[*number].contains('/'));
+        let those = |numbers: &[usize]| {
+            numbers
+                .iter()
+                .map(|one| &patterns[*one])
+                .collect::<Vec<_>>()
+        };
         Ok(Patterns {
-            names: set(&names)?,
-            paths: set(&paths)?,
+            names: set(&those(&of_names))?,
+            paths: set(&those(&of_paths))?,
+            of_names,
+            of_paths,
         })
     }
 
     /// Whether one is like the path in the folder.
     pub fn has(&self, inside: &Path) -> bool {
+        !self.like(inside).is_empty()
+    }
+
+    // The numbers of those that are like it.
+    fn like(&self, inside: &Path) -> Vec<usize> {
         let name = inside.file_name().map(Path::new).unwrap_or(inside);
-        self.names.is_match(name) || self.paths.is_match(inside)
+        let (names, paths) = (self.names.matches(name), self.paths.matches(inside));
+        let names = names.into_iter().map(|one| self.of_names[one]);
+        names
+            .chain(paths.into_iter().map(|one| self.of_paths[one]))
+            .collect()
     }
 }
 
@@ -77,13 +103,31 @@ pub fn text(path: &Path) -> Result<String, Fault> {
     }
 }
 
+/// The lines of a file that say something, with their numbers; none where it isn't there. What can't be asked is no answer.
+pub fn lines(path: &Path) -> Result<Vec<(usize, String)>, Fault> {
+    let there = path.symlink_metadata();
+    if matches!(there, Err(error) if error.kind() == ErrorKind::NotFound) {
+        return Ok(Vec::new());
+    }
+    let text = text(path)?;
+    let lines = (1..).zip(text.lines().map(str::to_string));
+    let says = |(_, line): &(usize, String)| !line.trim().is_empty() && !line.starts_with('#');
+    Ok(lines.filter(says).collect())
+}
+
 /// Whether a file is read, by its ending.
 pub fn is_picture(path: &Path) -> bool {
     has_ending(path, &ENDINGS)
 }
 
-fn is_hidden(entry: &DirEntry) -> bool {
-    entry.depth() > 0 && entry.file_name().to_string_lossy().starts_with('.')
+fn is_hidden(path: &Path) -> bool {
+    let name = path.file_name().unwrap_or_default();
+    name.to_string_lossy().starts_with('.')
+}
+
+// A link that leads to nothing.
+fn is_broken_link(path: &Path, kind: ErrorKind) -> bool {
+    kind == ErrorKind::NotFound && path.is_symlink()
 }
 
 // A folder for `target`, the one that the sheets are written to, can only be a link.
@@ -102,12 +146,43 @@ struct Walk<'a> {
     target: &'a Path,
     excluded: &'a Patterns,
     drop_extension: bool,
+    // The patterns that were like something.
+    used: HashSet<usize>,
+    // Files of each ending of pictures that aren't read.
+    others: BTreeMap<String, Vec<PathBuf>>,
+    // The folder that is listed, and those in which it lies.
+    inside: Vec<PathBuf>,
     files: Vec<Named>,
     notes: Vec<String>,
+    folders: Vec<PathBuf>,
     faults: Vec<String>,
 }
 
 impl Walk<'_> {
+    // What isn't looked at.
+    fn is_passed_over(&mut self, path: &Path, depth: usize) -> bool {
+        let inside = path.strip_prefix(self.folder).unwrap_or(path);
+        let like = self.excluded.like(inside);
+        self.used.extend(&like);
+        depth > 0 && is_hidden(path) || !like.is_empty()
+    }
+
+    // A line for each kind of picture that isn't read.
+    fn tell_others(&mut self) {
+        for (ending, mut paths) in std::mem::take(&mut self.others) {
+            paths.sort();
+            let more = match paths.len() {
+                1 => String::new(),
+                count => format!(" and {} more .{}", count - 1, ending),
+            };
+            self.notes.push(format!(
+                "{}{}: pictures of this kind aren't read; left out",
+                paths[0].display(),
+                more
+            ));
+        }
+    }
+
     fn leave_out(&mut self, path: &Path, why: &str) {
         self.notes
             .push(format!("{}: {}; left out", path.display(), why));
@@ -116,11 +191,7 @@ impl Walk<'_> {
     /// Takes what was found, and says whether to go into it, if it is a folder.
     fn take(&mut self, entry: &DirEntry) -> bool {
         let path = entry.path();
-        if is_hidden(entry)
-            || self
-                .excluded
-                .has(path.strip_prefix(self.folder).unwrap_or(path))
-        {
+        if self.is_passed_over(path, entry.depth()) {
             return false;
         }
         if is_target(entry, self.target) {
@@ -131,7 +202,12 @@ impl Walk<'_> {
             return true;
         }
         if has_ending(path, &OTHERS) {
-            self.leave_out(path, "pictures of this kind aren't read");
+            let ending = path.extension().unwrap_or_default();
+            let ending = ending.to_string_lossy().to_ascii_lowercase();
+            self.others
+                .entry(ending)
+                .or_default()
+                .push(path.to_path_buf());
         } else if is_picture(path) && !entry.file_type().is_file() {
             self.leave_out(path, "it isn't a file");
         } else if is_picture(path) {
@@ -143,15 +219,19 @@ impl Walk<'_> {
         true
     }
 
-    /// Of a link to nowhere nothing is told, but where a picture is meant.
+    /// Of a link to nowhere nothing is told, but where a picture is meant. Where a folder can't be listed to its end no path is told.
     fn fail(&mut self, error: &walkdir::Error) {
-        let is_meant = |path: &Path| is_picture(path) || path.is_dir();
-        match error.path() {
-            Some(path) if error.loop_ancestor().is_some() => {
-                self.leave_out(path, "it leads to a folder that it lies in");
-            }
-            Some(path) if !is_meant(path) => {}
-            _ => self.faults.push(error.to_string()),
+        let depth = error.depth();
+        let listed = self.inside.get(depth.saturating_sub(1));
+        let path = error.path().or(listed.map(PathBuf::as_path));
+        let path = path.unwrap_or(self.folder).to_path_buf();
+        if self.is_passed_over(&path, depth) {
+            return;
+        }
+        match error.io_error() {
+            None => self.leave_out(&path, "it leads to a folder that it lies in"),
+            Some(why) if is_broken_link(&path, why.kind()) && !is_picture(&path) => {}
+            Some(why) => self.faults.push(format!("{}: {}", path.display(), why)),
         }
     }
 
@@ -160,8 +240,13 @@ impl Walk<'_> {
         while let Some(entry) = walk.next() {
             match entry {
                 Ok(entry) => {
-                    if !self.take(&entry) && entry.file_type().is_dir() {
+                    let is_folder = entry.file_type().is_dir();
+                    if !self.take(&entry) && is_folder {
                         walk.skip_current_dir();
+                    } else if is_folder {
+                        self.inside.truncate(entry.depth());
+                        self.folders.push(entry.path().to_path_buf());
+                        self.inside.push(entry.into_path());
                     }
                 }
                 Err(error) => self.fail(&error),
@@ -175,6 +260,7 @@ impl Walk<'_> {
                 .push(format!("{} and {} {}", first, second, what));
         }
         self.faults.sort();
+        self.tell_others();
         self.notes.sort();
     }
 }
@@ -194,8 +280,12 @@ pub fn files(
         target,
         excluded,
         drop_extension,
+        used: HashSet::new(),
+        others: BTreeMap::new(),
+        inside: Vec::new(),
         files: Vec::new(),
         notes: Vec::new(),
+        folders: Vec::new(),
         faults: Vec::new(),
     };
     walk.go();
@@ -210,6 +300,8 @@ pub fn files(
         return Ok(Listed {
             files: walk.files,
             notes: walk.notes,
+            folders: walk.folders,
+            used: walk.used,
         });
     }
     Err(Fault {

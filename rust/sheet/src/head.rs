@@ -2,7 +2,7 @@
 use image::ImageFormat;
 use imagesize::ImageType;
 use std::fs::File;
-use std::io::{BufRead, BufReader, Seek, SeekFrom};
+use std::io::{BufRead, BufReader, Read, Seek, SeekFrom};
 use std::path::Path;
 
 // What isn't a file may never end.
@@ -24,6 +24,31 @@ fn by_decoder(file: impl BufRead + Seek, format: ImageFormat) -> Option<(u64, u6
 /// The width and the height; none where the first bytes don't tell them.
 pub fn size(path: &Path) -> Option<(u64, u64)> {
     size_of(path, opened(path)?)
+}
+
+/// Whether no pixel can be transparent, as the first bytes tell: a JPEG, or a PNG without alpha.
+pub fn is_opaque(path: &Path) -> bool {
+    let mut first = [0; 12];
+    let file = opened(path).and_then(|mut file| {
+        file.read_exact(&mut first).ok()?;
+        file.seek(SeekFrom::Start(0)).ok()?;
+        Some(file)
+    });
+    match (imagesize::image_type(&first), file) {
+        (Ok(ImageType::Jpeg), Some(_)) => true,
+        (Ok(ImageType::Png), Some(file)) => {
+            let reader = png::Decoder::new(file).read_info();
+            reader.map_or(false, |reader| {
+                let info = reader.info();
+                let is_plain = !matches!(
+                    info.color_type,
+                    png::ColorType::Rgba | png::ColorType::GrayscaleAlpha
+                );
+                is_plain && info.trns.is_none()
+            })
+        }
+        _ => false,
+    }
 }
 
 /// Of a file's bytes.

@@ -3,11 +3,15 @@ mod anchor;
 mod animation;
 mod colour;
 mod decode;
+mod dropped;
 mod fault;
 mod folder;
 mod forms;
+mod fresh;
+mod groups;
 mod head;
 mod heap;
+mod inputs;
 mod man;
 mod memory;
 mod nine;
@@ -23,19 +27,25 @@ mod search;
 mod set;
 mod sheet;
 mod stale;
+mod stamp;
 mod stop;
+mod sums;
 mod watch;
 mod webp;
 mod words;
 
+use animation::{animations, Animation};
 use colour::Settled;
-use fault::{Fault, FILES, LEFT_OUT, WORDS};
-use folder::{Named, Patterns};
+use fault::{Fault, FILES, LEFT_OUT, STALE, WORDS};
+use folder::{Listed, Named, Patterns};
+use inputs::Input;
 use progress::Progress;
 use set::Target;
 use sheet::{Built, Sprite};
+use stamp::{Made, Written};
 use std::path::{Path, PathBuf};
 use std::process::ExitCode;
+use std::sync::Arc;
 use std::thread;
 use words::Words;
 
@@ -48,6 +58,31 @@ pub struct Done {
     /// For standard error.
     pub notes: Vec<String>,
     pub has_left_out: bool,
+    /// Files of earlier runs.
+    pub left: Vec<Written>,
+    /// The files and folders that it is made from.
+    pub from: Vec<PathBuf>,
+}
+
+impl Done {
+    fn new(words: &Words, listed: &Listed) -> Done {
+        let texts = fresh::texts(words).into_iter().filter(|path| path.exists());
+        let pictures = listed.files.iter().map(|(_, path)| path.clone());
+        Done {
+            files: Vec::new(),
+            lines: Vec::new(),
+            notes: Vec::new(),
+            has_left_out: false,
+            left: Vec::new(),
+            from: listed
+                .folders
+                .iter()
+                .cloned()
+                .chain(pictures)
+                .chain(texts)
+                .collect(),
+        }
+    }
 }
 
 // A sheet in its own folder would be one of its sprites the next time.
@@ -118,22 +153,83 @@ fn encoded(
     })
 }
 
-/// Reads the folder, packs, and writes.
+// What is told of a run that has nothing to do.
+fn up_to_date(words: &Words, target: &Target, is_alone: bool) -> Option<Done> {
+    let old = target.stamped();
+    if old.placed.is_empty() || target.is_in_part() {
+        return None;
+    }
+    let listed = listed(words).ok()?;
+    let stamp = old.fresh(&fresh::asked(words, &listed))?;
+    if stamp != old && is_alone {
+        target.renew(&stamp);
+    } else if stamp != old && !words.check {
+        // Where the folder can't be written to, what was compared is compared again.
+        let _ = target.alone_in_silence(|| target.renew(&stamp));
+    }
+    let mut done = Done::new(words, &listed);
+    done.files = stamp
+        .outputs
+        .iter()
+        .map(|one| words.target().join(&one.name))
+        .collect();
+    done.left = target.left(&stamp);
+    done.notes = stamp.made.notes;
+    done.has_left_out = stamp.made.has_left_out;
+    if !words.check {
+        done.lines = stamp.made.lines;
+    }
+    Some(done)
+}
+
+/// Reads the folder, packs, and writes, if anything has changed.
 pub fn run(words: &Words) -> Result<Done, Fault> {
     check_folders(words)?;
-    let target = Target::new(words.target(), words.stem());
-    if words.check {
-        return run_alone(words, &target);
+    let target = Target::new(words.target(), words.stem(), &words.form_name());
+    let early = match words.check || !target.is_busy() {
+        true => up_to_date(words, &target, false),
+        false => None,
+    };
+    // A run that this one waited for may have done it all.
+    let alone = || match up_to_date(words, &target, true) {
+        Some(done) => Ok(done),
+        None => run_alone(words, &target),
+    };
+    let mut done = match early {
+        Some(done) if words.check && !done.left.is_empty() => {
+            let lines = target.lines_of(&done.left);
+            return Err(Fault {
+                status: STALE,
+                lines,
+            });
+        }
+        Some(done) => done,
+        None if words.check => run_alone(words, &target)?,
+        None => target.alone(alone)?,
+    };
+    if words.clean || words.watch {
+        target.clean(&done.left)?;
+    } else {
+        done.notes.extend(target.lines_of(&done.left));
     }
-    target.alone(|| run_alone(words, &target))
+    if let (Some(path), Some(record)) = (&words.depfile, done.files.last()) {
+        fresh::write_rule(path, record.strip_prefix(".").unwrap_or(record), &done.from)?;
+        fresh::renew(record, &done.from, &target)?;
+    }
+    Ok(done)
 }
 
 /// All that is read, and what is told of it.
 struct Read {
     sprites: Vec<Sprite>,
+    animations: Vec<Animation>,
     settled: Settled,
     notes: Vec<String>,
     left_out: Vec<String>,
+    inputs: Vec<Input>,
+    asked: String,
+    seen: i64,
+    done: Done,
 }
 
 // Without the lines of nine-patches.
@@ -146,7 +242,7 @@ fn sprite(
     let told = |why| format!("{}: {}", path.display(), why);
     let (picture, nine) = if nine::is_nine(path) {
         let (inner, nine) = nine::read(&picture).map_err(told)?;
-        (inner, Some(nine))
+        (Arc::new(inner), Some(nine))
     } else {
         (picture, None)
     };
@@ -162,7 +258,7 @@ fn sprites(
     files: Vec<Named>,
     words: &Words,
     notes: &mut Vec<String>,
-) -> Result<(Vec<Sprite>, Settled), Fault> {
+) -> Result<(Vec<Sprite>, Settled, Vec<Input>), Fault> {
     let anchors = anchor::anchors(&words.folder, &files, words.anchor, notes)?;
     let paths: Vec<PathBuf> = files.iter().map(|(_, path)| path.clone()).collect();
     if let Some(path) = paths.iter().find(|path| words.turn && nine::is_nine(path)) {
@@ -172,7 +268,8 @@ fn sprites(
         );
         return Err(Fault::new(WORDS, line));
     }
-    let mut found = reading::pictures(files, words)?;
+    let (mut found, inputs, dropped) = reading::pictures(files, words)?;
+    notes.extend(dropped);
     let settled = if words.manage_colours {
         colour::settle(&mut found)
     } else {
@@ -186,7 +283,7 @@ fn sprites(
         }
     }
     if lines.is_empty() {
-        Ok((sprites, settled))
+        Ok((sprites, settled, inputs))
     } else {
         Err(Fault {
             status: FILES,
@@ -195,43 +292,68 @@ fn sprites(
     }
 }
 
-fn read(words: &Words) -> Result<Read, Fault> {
-    room::check_size(words)?;
+fn listed(words: &Words) -> Result<Listed, Fault> {
     let refused = |error| Fault::new(WORDS, format!("--exclude: {}", error));
     let excluded = Patterns::new(&words.exclude).map_err(refused)?;
     let to = words.target();
     let to = to.canonicalize().map_err(|error| Fault::file(&to, error))?;
-    let listed = folder::files(&words.folder, &to, &excluded, words.drop_extension)?;
+    let mut listed = folder::files(&words.folder, &to, &excluded, words.drop_extension)?;
+    let unused = (0..)
+        .zip(&words.exclude)
+        .filter(|(number, _)| !listed.used.contains(number));
+    let lines = unused.map(|(_, pattern)| format!("--exclude {}: nothing is like it", pattern));
+    listed.notes.extend(lines.collect::<Vec<_>>());
+    Ok(listed)
+}
+
+// `inputs` has the texts as they were when this was seen, before one of them was taken.
+fn read(words: &Words, seen: i64, mut inputs: Vec<Input>) -> Result<Read, Fault> {
+    room::check_size(words)?;
+    let listed = listed(words)?;
+    let (asked, done) = (fresh::asked(words, &listed), Done::new(words, &listed));
     let names: Vec<&str> = listed.files.iter().map(|one| one.0.as_str()).collect();
     forms::check_names(words.form, words.stem(), &names)?;
+    let played = animations(&listed.files, words)?;
+    let animations = played.animations;
     let mut notes = listed.notes;
+    notes.extend(played.notes);
     let (files, left_out) = reading::checked(listed.files, words)?;
-    let (sprites, settled) = sprites(files, words, &mut notes)?;
+    let (mut sprites, settled, read) = sprites(files, words, &mut notes)?;
+    inputs.extend(read);
+    inputs.extend(left_out.iter().map(|(_, path)| Input::look(path)));
+    let order = animation::order(&animations);
+    sprites.sort_by_cached_key(|one| animation::key(&one.name, &order));
     notes.extend(settled.notes.iter().cloned());
-    notes.extend(forms::lost(words.form, &sprites));
+    notes.extend(forms::lost(words.form, &sprites, played.has_own));
     Ok(Read {
         sprites,
+        animations,
         settled,
         notes,
-        left_out,
+        left_out: left_out.into_iter().map(|(name, _)| name).collect(),
+        inputs,
+        asked,
+        seen,
+        done,
     })
 }
 
 fn run_alone(words: &Words, target: &Target) -> Result<Done, Fault> {
+    let (seen, texts) = (inputs::now(), fresh::texts(words));
+    let texts = texts.iter().map(|path| Input::read(path)).collect();
     let style = words.style()?;
-    let read = read(words)?;
+    let read = read(words, seen, texts)?;
     let mut done = Done {
-        files: Vec::new(),
-        lines: Vec::new(),
         notes: read.notes,
         has_left_out: !read.left_out.is_empty(),
+        ..read.done
     };
     let mut all = Vec::new();
     for scale in &words.scale {
-        let built = sheet::built(&read.sprites, *scale, words)?;
+        let built = sheet::built(&read.sprites, &read.animations, *scale, words)?;
         let suffix = scale.suffix();
         done.has_left_out |= !built.left_out.is_empty();
-        done.notes.extend(built.parted.iter().cloned());
+        done.notes.extend(forms::split(words.form, &built));
         done.notes.extend(
             built
                 .left_out
@@ -239,21 +361,33 @@ fn run_alone(words: &Words, target: &Target) -> Result<Done, Fault> {
                 .chain(&read.left_out)
                 .map(|name| format!("left out of {}{}: {}", words.stem(), suffix, name)),
         );
-        done.notes.extend(forms::split(words.form, &built.sheet));
-        done.lines.extend(lines(&built));
         all.push(built);
     }
     let mut files = encoded(&all, &read.settled.chunks, words.compress)?;
-    for Built { sheet, .. } in &all {
-        // The first file of several may name the others.
-        files.extend(forms::files(&style, sheet)?.into_iter().rev());
+    let pages = all.iter_mut().flat_map(|one| &mut one.sheet.pages);
+    for (page, (name, bytes)) in pages.zip(&mut files) {
+        page.take(bytes, words.names);
+        *name = page.image.clone();
     }
+    done.lines.extend(all.iter().flat_map(lines));
+    let sheets: Vec<&sheet::Sheet> = all.iter().map(|one| &one.sheet).collect();
+    files.extend(forms::all_files(&style, words.stem(), &sheets)?);
     if words.check {
         target.check(&files)?;
         done.lines.clear();
         return Ok(done);
     }
-    done.notes.extend(target.write(&files)?);
+    let made = Made {
+        asked: read.asked,
+        inputs: read.inputs,
+        seen: read.seen,
+        lines: done.lines.clone(),
+        notes: done.notes.clone(),
+        has_left_out: done.has_left_out,
+    };
+    let (notes, stamp) = target.write(&files, &made)?;
+    done.notes.extend(notes);
+    done.left = target.left(&stamp);
     let folder = words.target();
     done.files = files.iter().map(|(name, _)| folder.join(name)).collect();
     Ok(done)

@@ -75,6 +75,22 @@ pub fn fits(sprite: Size, ways: &Ways) -> bool {
     matches!(pack_pages(&[sprite], &alone), Ok(Some(_)))
 }
 
+/// Whether an empty sheet of the greatest size takes all of these, with guillotine cuts.
+pub fn fit_together(sprites: &[Size], ways: &Ways) -> bool {
+    let plain = Ways {
+        options: SheetOptions {
+            effort: 0,
+            ..ways.options
+        },
+        is_dense: false,
+        ..*ways
+    };
+    let room = Allowed::One(greatest(ways.options.allowed));
+    let inside = ways_inside(&plain, room, 1);
+    let found = inside.map(|inside| one_sheet(sprites, &inside, |_| {}));
+    matches!(found, Some(Ok(Some(_))))
+}
+
 // All sheets whose sides are powers of two, the smaller ones first, and of two with as many pixels the one that is nearer to a square.
 fn powers(greatest: i32) -> Vec<Size> {
     let sides: Vec<i32> = (0..31)

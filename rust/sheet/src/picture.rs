@@ -77,9 +77,9 @@ impl Picture {
         }
     }
 
-    /// The smallest part that has all pixels that aren't wholly transparent; where all are, the first pixel.
-    pub fn visible(&self) -> Part {
-        let is_seen = |pixel: &Pixel| pixel[3] != 0;
+    /// The smallest part that has all pixels whose alpha is above this; where none is, the first pixel.
+    pub fn visible(&self, most: u8) -> Part {
+        let is_seen = |pixel: &Pixel| pixel[3] > most;
         let rows: Vec<u32> = (0..self.height)
             .filter(|y| self.row(*y).iter().any(is_seen))
             .collect();
@@ -359,7 +359,7 @@ mod tests {
             width: 1,
             height: 1,
         };
-        assert_eq!(one.visible(), first);
+        assert_eq!(one.visible(0), first);
         one.pixels[5 + 3] = grey(7);
         one.pixels[2 * 5 + 1] = [0, 0, 0, 1];
         let part = Part {
@@ -368,7 +368,14 @@ mod tests {
             width: 3,
             height: 2,
         };
-        assert_eq!(one.visible(), part);
+        assert_eq!(one.visible(0), part);
+        let seen = Part {
+            left: 3,
+            width: 1,
+            height: 1,
+            ..part
+        };
+        assert_eq!((one.visible(1), one.visible(255)), (seen, first));
         assert_eq!(values(&one.part(part)), [0, 0, 7, 0, 0, 0]);
     }
 }

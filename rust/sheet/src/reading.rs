@@ -1,20 +1,54 @@
 //! Reads pictures, after their sizes: what is too large is known before it takes memory.
 use crate::colour::Colour;
-use crate::decode::{decoded, GREATEST, TOO_LARGE};
+use crate::decode::{decoded, is_targa, GREATEST, TOO_LARGE};
+use crate::dropped::{self, Dropped};
 use crate::fault::{Fault, FILES};
 use crate::folder::Named;
 use crate::head;
+use crate::inputs::Input;
 use crate::memory::Bytes;
 use crate::picture::Picture;
 use crate::progress::Progress;
 use crate::room;
+use crate::sums;
 use crate::words::Words;
+use std::collections::HashMap;
 use std::panic;
 use std::path::Path;
+use std::sync::Arc;
 use std::thread;
 
-/// A name, the pixels, and what the file says of colours.
-pub type Found = (String, Picture, Colour);
+/// A name, the pixels, which names that lead to one file share, and what the file says of colours.
+pub type Found = (String, Arc<Picture>, Colour);
+
+// Files, each once, and of each name which of them it leads to.
+struct Different {
+    files: Vec<Named>,
+    of_names: Vec<usize>,
+}
+
+fn different(files: &[Named]) -> Different {
+    let mut all: Vec<Named> = Vec::new();
+    let mut numbers = HashMap::new();
+    let mut of_names = Vec::new();
+    for (name, path) in files {
+        let next = all.len();
+        // A TGA is read for one by its ending.
+        let number = Input::look(path).number();
+        let place = match number {
+            Some(number) => *numbers.entry((number, is_targa(path))).or_insert(next),
+            None => next,
+        };
+        if place == next {
+            all.push((name.clone(), path.clone()));
+        }
+        of_names.push(place);
+    }
+    Different {
+        files: all,
+        of_names,
+    }
+}
 
 // What this gives for each file, by as many threads as the machine has processors. A reader of pictures that panics has met a file
 // that it can't read, and gives nothing.
@@ -54,9 +88,20 @@ fn of_each<T: Send>(
     results
 }
 
-fn read(path: &Path, most: u64) -> Result<(Picture, Colour), String> {
-    let bytes = std::fs::read(path).map_err(|error| error.to_string())?;
-    decoded(path, &bytes, most)
+type Decoded = Result<(Arc<Picture>, Colour, Dropped), String>;
+
+fn read(path: &Path, most: u64) -> (Input, Decoded) {
+    let look = Input::look(path);
+    match std::fs::read(path) {
+        Ok(bytes) => {
+            let sum = sums::of(&bytes);
+            let picture = decoded(path, &bytes, most);
+            let shared =
+                picture.map(|(picture, colour)| (Arc::new(picture), colour, dropped::of(&bytes)));
+            (look.with(sum), shared)
+        }
+        Err(error) => (look, Err(error.to_string())),
+    }
 }
 
 fn told(path: &Path, why: &str) -> String {
@@ -73,13 +118,13 @@ fn bad_files(lines: Vec<String>) -> Result<(), Fault> {
     })
 }
 
-/// The files whose pictures may have a place, and the names of those that are left out. A picture that no sheet takes is refused here
+/// The files whose pictures may have a place, and those that are left out. A picture that no sheet takes is refused here
 /// already, and so are all, where they take more memory than is allowed.
-pub fn checked(files: Vec<Named>, words: &Words) -> Result<(Vec<Named>, Vec<String>), Fault> {
-    let sizes: Vec<Option<(u64, u64)>> = of_each("looking at", &files, head::size)
-        .into_iter()
-        .map(Option::flatten)
-        .collect();
+pub fn checked(files: Vec<Named>, words: &Words) -> Result<(Vec<Named>, Vec<Named>), Fault> {
+    let once = different(&files);
+    let sizes = of_each("looking at", &once.files, head::size);
+    let sizes = once.of_names.iter().map(|one| sizes[*one].flatten());
+    let sizes: Vec<Option<(u64, u64)>> = sizes.collect();
     let is_great = |size: &Option<(u64, u64)>| {
         size.map_or(false, |(w, h)| Bytes::of(w, h).0 > GREATEST as u64)
     };
@@ -89,17 +134,20 @@ pub fn checked(files: Vec<Named>, words: &Words) -> Result<(Vec<Named>, Vec<Stri
     }
     let (mut kept, mut taken, mut left_out, mut too_large) =
         (Vec::new(), Bytes(0), Vec::new(), Vec::new());
-    for (file, size) in files.into_iter().zip(sizes) {
+    let mut counted = vec![false; once.files.len()];
+    for ((file, size), number) in files.into_iter().zip(sizes).zip(once.of_names) {
         let great = is_great(&size).then(|| told(&file.1, TOO_LARGE));
-        let no_place = size.and_then(|size| room::no_place(&file.0, size, words));
+        let no_place = size.and_then(|size| room::no_place(&file, size, words));
         match great.or(no_place) {
             Some(line) => {
                 too_large.push(line);
-                left_out.push(file.0);
+                left_out.push(file);
             }
             None => {
                 let (width, height) = size.unwrap_or((0, 0));
-                taken = taken.and(Bytes::of(width, height));
+                if !std::mem::replace(&mut counted[number], true) {
+                    taken = taken.and(Bytes::of(width, height));
+                }
                 kept.push(file);
             }
         }
@@ -114,19 +162,31 @@ pub fn checked(files: Vec<Named>, words: &Words) -> Result<(Vec<Named>, Vec<Stri
     Ok((kept, left_out))
 }
 
+/// Pictures, the files as they were read, and what is told of what isn't taken of them.
+pub type Read = (Vec<Found>, Vec<Input>, Vec<String>);
+
 /// All pictures. All that can't be read are named.
-pub fn pictures(files: Vec<Named>, words: &Words) -> Result<Vec<Found>, Fault> {
+pub fn pictures(files: Vec<Named>, words: &Words) -> Result<Read, Fault> {
     // Samples of sixteen bits take twice what is counted.
     let most = words.memory().0.saturating_mul(2);
     let most = most.clamp(1 << 20, GREATEST as u64);
-    let results = of_each("reading", &files, |path| read(path, most));
-    let (mut found, mut lines) = (Vec::new(), Vec::new());
-    for ((name, path), result) in files.into_iter().zip(results) {
-        match result.unwrap_or_else(|| Err("it can't be read".to_string())) {
-            Ok((picture, colour)) => found.push((name, picture, colour)),
-            Err(why) => lines.push(told(&path, &why)),
+    let once = different(&files);
+    let results = of_each("reading", &once.files, |path| read(path, most));
+    let (mut found, mut inputs, mut lines) = (Vec::new(), Vec::new(), Vec::new());
+    let mut dropped = Vec::new();
+    for ((name, path), number) in files.into_iter().zip(once.of_names) {
+        match &results[number] {
+            Some((input, Ok((picture, colour, of_file)))) => {
+                dropped.push(*of_file);
+                found.push((name, picture.clone(), colour.clone()));
+                inputs.push(input.of(&path));
+            }
+            Some((_, Err(why))) => lines.push(told(&path, why)),
+            None => lines.push(told(&path, "it can't be read")),
         }
     }
     bad_files(lines)?;
-    Ok(found)
+    let names = found.iter().map(|one: &Found| one.0.as_str());
+    let notes = dropped::lines(&names.zip(dropped).collect::<Vec<_>>());
+    Ok((found, inputs, notes))
 }

@@ -1,5 +1,7 @@
 //! What fits: into sheets, and into memory.
 use crate::fault::Fault;
+use crate::folder::Named;
+use crate::head;
 use crate::memory::Bytes;
 use crate::packing::{fits, greatest};
 use crate::scale::Scale;
@@ -7,6 +9,8 @@ use crate::sheet::Sprite;
 use crate::words::Words;
 use guillotiere::sheet::Allowed;
 use guillotiere::{size2, Size};
+use std::collections::HashSet;
+use std::sync::Arc;
 
 /// The place that a picture needs, with what is repeated around it. Sides beyond those of any sheet are as good as endless.
 pub fn size((width, height): (u64, u64), extrude: u16) -> Size {
@@ -21,15 +25,28 @@ pub fn too_large(name: &str, size: Size, words: &Words) -> String {
         Some(border) => format!("padding {} and border {}", words.padding, border),
         None => format!("padding {}", words.padding),
     };
+    let bare = Words {
+        border: Some(0),
+        ..words.clone()
+    };
+    let border = match words.align.is_none() && words.border != Some(0) && fits(size, &bare.ways())
+    {
+        true => "--border 0, ",
+        false => "",
+    };
     format!(
-        "{}: {}x{} with {} doesn't fit a sheet of {}x{}",
-        name, size.width, size.height, around, room.width, room.height
+        "{}: {}x{} with {} doesn't fit a sheet of {}x{}; a larger sheet, {}--leave-out or --exclude would do",
+        name, size.width, size.height, around, room.width, room.height, border
     )
 }
 
 /// Why no sheet takes a picture, by its size alone; none where one may.
-pub fn no_place(name: &str, (width, height): (u64, u64), words: &Words) -> Option<String> {
-    if words.trim || width == 0 || height == 0 {
+pub fn no_place(
+    (name, path): &Named,
+    (width, height): (u64, u64),
+    words: &Words,
+) -> Option<String> {
+    if width == 0 || height == 0 {
         return None;
     }
     let at = |scale: &Scale| size((scale.of(width), scale.of(height)), words.extrude);
@@ -38,12 +55,20 @@ pub fn no_place(name: &str, (width, height): (u64, u64), words: &Words) -> Optio
     let first = sizes.iter().find(|size| !fits(size))?;
     // Without it a single one that doesn't fit is a fault.
     let is_wanted = words.leave_out && sizes.iter().any(fits);
+    // What is transparent around it doesn't count.
+    if words.trim && !head::is_opaque(path) {
+        return None;
+    }
     (!is_wanted).then(|| too_large(name, *first, words))
 }
 
 /// Whether the pictures that were read, and these sheets, may take so much memory.
 pub fn check_memory(found: &[Sprite], sizes: &[Size], words: &Words) -> Result<(), Fault> {
-    let of_pictures = found.iter().fold(Bytes(0), |sum, one| {
+    let mut counted = HashSet::new();
+    let once = found
+        .iter()
+        .filter(|one| counted.insert(Arc::as_ptr(&one.picture)));
+    let of_pictures = once.fold(Bytes(0), |sum, one| {
         sum.and(Bytes::of(
             one.picture.width.into(),
             one.picture.height.into(),

@@ -1,21 +1,24 @@
 //! From pictures to sheets.
 use crate::anchor::Anchor;
-use crate::animation::{animations, Animation};
+use crate::animation::Animation;
 use crate::decode::NO_MEMORY;
 use crate::fault::{Fault, FILES, ROOM};
 use crate::forms;
+use crate::groups::{self, groups, Groups, Shown};
 use crate::nine::Nine;
 use crate::output::note;
-use crate::packing::{fits, greatest, Pages, Place};
+use crate::packing::{fits, greatest, Pages, Place, Ways};
 use crate::picture::{Lie, Part, Picture};
 use crate::progress::Progress;
 use crate::room::{check_memory, size, too_large};
 use crate::scale::Scale;
 use crate::search;
-use crate::words::Words;
+use crate::sums;
+use crate::words::{Names, Words};
 use guillotiere::sheet::SheetError;
 use guillotiere::Size;
-use std::collections::{BTreeMap, BTreeSet, HashMap};
+use std::collections::{HashMap, HashSet};
+use std::sync::Arc;
 
 /// A sprite in a sheet. Sides and corners are in pixels.
 #[derive(Clone, Debug, PartialEq)]
@@ -50,12 +53,30 @@ impl Frame {
 /// A sheet.
 #[derive(Clone, Debug, PartialEq)]
 pub struct Page {
-    /// The name of its picture's file.
+    /// What files beside the picture are called, without their endings.
+    pub record: String,
+    /// The name of its picture's file, and the sum of that file's bytes.
     pub image: String,
+    pub sum: String,
     pub width: u32,
     pub height: u32,
     /// In the order of the names; those of an animation together, in the order of their numbers.
     pub frames: Vec<Frame>,
+}
+
+impl Page {
+    /// The file beside the picture with another ending.
+    pub fn beside(&self, ending: &str) -> String {
+        format!("{}{}", self.record, ending)
+    }
+
+    /// Takes the bytes of the picture for its own, and by them its name, if that is asked for.
+    pub fn take(&mut self, bytes: &[u8], names: Names) {
+        self.sum = sums::of(bytes);
+        if names == Names::Content {
+            self.image = format!("{}.{}.png", self.record, sums::short(&self.sum));
+        }
+    }
 }
 
 /// All sheets of one scale.
@@ -86,90 +107,107 @@ impl Sheet {
 /// A picture that becomes a sprite.
 pub struct Sprite {
     pub name: String,
-    pub picture: Picture,
+    pub picture: Arc<Picture>,
     pub anchor: Option<Anchor>,
     pub nine: Option<Nine>,
 }
 
-/// All sheets of one scale, their pictures, the names that are left out, and a line for each folder that should lie on one sheet
-/// and doesn't.
+/// All sheets of one scale, their pictures, the names that are left out, and a line for each folder and each animation that should lie on
+/// one sheet and doesn't.
 pub struct Built {
     pub sheet: Sheet,
     pub pictures: Vec<Picture>,
     pub left_out: Vec<String>,
-    pub parted: Vec<String>,
+    pub split: Vec<String>,
 }
 
-/// A part of a picture that has one place, for all names that lead to it, and the folder with which it lies on one sheet.
-struct Stored {
-    picture: Picture,
-    group: Option<usize>,
-}
-
-/// What is known of a picture before it has a place: the number of what is stored of it.
+/// What is known of a sprite before it has a place: the number of the picture that it shows, among those that differ.
+#[derive(Clone, Copy)]
 struct Known {
-    stored: usize,
+    picture: usize,
     kept: Part,
     whole: (u32, u32),
 }
 
-// Whether those of a folder lie on one of several sheets.
-fn keeps_together(words: &Words) -> bool {
-    words.group && words.limit() > 1
+/// Where sprites lie, and which pictures are drawn where.
+struct Laid {
+    sizes: Vec<Size>,
+    sprites: Vec<Option<Place>>,
+    drawn: Vec<(usize, Place)>,
 }
 
-// The folder of a sprite, if it doesn't lie in FOLDER itself.
-fn folder_of(name: &str) -> Option<&str> {
-    name.rsplit_once('/').map(|(folder, _)| folder)
-}
-
-// The number of the folder in which each picture lies, where those of a folder keep together; none of those in FOLDER itself.
-fn groups(found: &[Sprite], words: &Words) -> Vec<Option<usize>> {
-    if !keeps_together(words) {
-        return vec![None; found.len()];
-    }
-    let mut numbers: HashMap<&str, usize> = HashMap::new();
-    let number = found.iter().map(|one| {
-        let folder = folder_of(&one.name)?;
-        let next = numbers.len();
-        Some(*numbers.entry(folder).or_insert(next))
-    });
-    number.collect()
-}
-
-// What is kept of each picture, each different one of a group once.
-fn kept(found: &[Sprite], scale: Scale, words: &Words) -> (Vec<Known>, Vec<Stored>) {
-    let mut known = Vec::new();
-    let mut numbers: HashMap<(Option<usize>, Picture), usize> = HashMap::new();
-    for (one, group) in found.iter().zip(groups(found, words)) {
+// What is kept of each picture, each different one once. What several names share is looked at once.
+fn kept(found: &[Sprite], scale: Scale, words: &Words) -> (Vec<Known>, Vec<Picture>) {
+    let mut known: Vec<Known> = Vec::new();
+    let mut numbers: HashMap<Picture, usize> = HashMap::new();
+    let mut shared: HashMap<(*const Picture, bool), usize> = HashMap::new();
+    for (place, one) in found.iter().enumerate() {
+        let is_whole = one.nine.is_some();
+        let first = *shared
+            .entry((Arc::as_ptr(&one.picture), is_whole))
+            .or_insert(place);
+        if first < place {
+            known.push(known[first]);
+            continue;
+        }
         let smaller;
         let picture = if scale.is_one() {
-            &one.picture
+            &*one.picture
         } else {
             smaller = one.picture.scaled(scale);
             &smaller
         };
         let whole = (picture.width, picture.height);
-        let kept = if words.trim && one.nine.is_none() {
-            picture.visible()
+        let kept = if words.trim && !is_whole {
+            picture.visible(words.trim_threshold)
         } else {
             picture.whole()
         };
-        let part = picture.part(kept);
         let next = numbers.len();
-        let stored = *numbers.entry((group, part)).or_insert(next);
+        let picture = *numbers.entry(picture.part(kept)).or_insert(next);
         known.push(Known {
-            stored,
+            picture,
             kept,
             whole,
         });
     }
-    let mut stored: Vec<(usize, Stored)> = numbers
+    let mut pictures: Vec<(usize, Picture)> = numbers
         .into_iter()
-        .map(|((group, picture), number)| (number, Stored { picture, group }))
+        .map(|(picture, number)| (number, picture))
         .collect();
-    stored.sort_by_key(|(number, _)| *number);
-    (known, stored.into_iter().map(|(_, one)| one).collect())
+    pictures.sort_by_key(|(number, _)| *number);
+    (known, pictures.into_iter().map(|(_, one)| one).collect())
+}
+
+// A picture that has one place, with the group that it lies with.
+type Stored = (usize, Option<usize>);
+
+// What has a place: each different picture of a group once; and which of them each sprite shows. A sprite in no group shows that of a
+// group, where one has it.
+fn stored(known: &[Known], groups: &Groups) -> (Vec<Stored>, Vec<usize>) {
+    let mut all: Vec<Stored> = Vec::new();
+    let mut of_sprites = vec![0; known.len()];
+    let mut numbers: HashMap<Stored, usize> = HashMap::new();
+    let mut in_groups: HashMap<usize, usize> = HashMap::new();
+    for is_grouped in [true, false] {
+        let those = groups.order.iter();
+        for one in those.filter(|one| groups.numbers[**one].is_some() == is_grouped) {
+            let (picture, group) = (known[*one].picture, groups.numbers[*one]);
+            let next = all.len();
+            let number = match in_groups.get(&picture) {
+                Some(number) if !is_grouped => *number,
+                _ => *numbers.entry((picture, group)).or_insert(next),
+            };
+            if number == next {
+                all.push((picture, group));
+            }
+            if is_grouped {
+                in_groups.entry(picture).or_insert(number);
+            }
+            of_sprites[*one] = number;
+        }
+    }
+    (all, of_sprites)
 }
 
 // Names each picture that no sheet takes.
@@ -186,7 +224,7 @@ fn check_sizes(
     let all = names
         .iter()
         .zip(known)
-        .map(|(name, one)| (name, sizes[one.stored]));
+        .map(|(name, one)| (name, sizes[one.picture]));
     let lines: Vec<String> = all
         .filter(|(_, size)| !fits(*size, &ways))
         .map(|(name, size)| too_large(name, size, words))
@@ -209,18 +247,14 @@ fn named(names: &[&str]) -> String {
     }
 }
 
-fn packed(
-    names: &[&str],
-    known: &[Known],
-    stored: &[Stored],
+// The search for the sheets of these, in groups.
+fn searched(
+    sizes: &[Size],
+    groups: &[Option<usize>],
+    limit: usize,
     scale: Scale,
     words: &Words,
 ) -> Result<Pages, Fault> {
-    let sides = |picture: &Picture| (picture.width.into(), picture.height.into());
-    let size = |one: &Stored| size(sides(&one.picture), words.extrude);
-    let sizes: Vec<Size> = stored.iter().map(size).collect();
-    let groups: Vec<Option<usize>> = stored.iter().map(|one| one.group).collect();
-    check_sizes(names, known, &sizes, words)?;
     let refused = |error: SheetError| Fault::new(ROOM, error.to_string());
     let shown = Progress::open("packing");
     // With an effort it may take long.
@@ -236,16 +270,74 @@ fn packed(
             });
         }
     };
-    let pages =
-        search::found(&sizes, &groups, &words.ways(), words.limits(), progress).map_err(refused)?;
-    drop(shown);
-    let is_homeless = |one: &Known| pages.places[one.stored].is_none();
-    let homeless = names.iter().zip(known).filter(|(_, one)| is_homeless(one));
-    let homeless: Vec<&str> = homeless.map(|(name, _)| *name).collect();
-    if homeless.is_empty() || words.leave_out && !pages.sizes.is_empty() {
-        return Ok(pages);
+    let ways = Ways {
+        limit,
+        ..words.ways()
+    };
+    search::found(sizes, groups, &ways, words.limits(), progress).map_err(refused)
+}
+
+// Where groups have pictures in common, one sheet for all has each of them once.
+fn packed(
+    stored: &[Stored],
+    sizes: &[Size],
+    scale: Scale,
+    words: &Words,
+) -> Result<Option<Pages>, Fault> {
+    if stored.len() > sizes.len() {
+        let none = vec![None; sizes.len()];
+        let pages = searched(sizes, &none, 1, scale, words)?;
+        if pages.places.iter().all(Option::is_some) {
+            return Ok(Some(pages));
+        }
     }
-    Err(no_room(&homeless, pages.needed, words))
+    Ok(None)
+}
+
+fn laid(
+    names: &[&str],
+    known: &[Known],
+    sizes: &[Size],
+    animations: &[Animation],
+    scale: Scale,
+    words: &Words,
+) -> Result<Laid, Fault> {
+    let pictures: Vec<usize> = known.iter().map(|one| one.picture).collect();
+    let shown = Shown {
+        names,
+        pictures: &pictures,
+        sizes,
+    };
+    let groups = groups(&shown, animations, words);
+    let (stored, of_sprites) = stored(known, &groups);
+    if let Some(pages) = packed(&stored, sizes, scale, words)? {
+        let drawn = (0..).zip(pages.places.iter().copied().flatten());
+        return Ok(Laid {
+            drawn: drawn.collect(),
+            sprites: pictures.iter().map(|one| pages.places[*one]).collect(),
+            sizes: pages.sizes,
+        });
+    }
+    let theirs: Vec<Size> = stored.iter().map(|(picture, _)| sizes[*picture]).collect();
+    let numbers: Vec<Option<usize>> = stored.iter().map(|(_, group)| *group).collect();
+    let pages = searched(&theirs, &numbers, words.limit(), scale, words)?;
+    let sprites: Vec<Option<Place>> = of_sprites.iter().map(|one| pages.places[*one]).collect();
+    let homeless = names
+        .iter()
+        .zip(&sprites)
+        .filter(|(_, place)| place.is_none());
+    let homeless: Vec<&str> = homeless.map(|(name, _)| *name).collect();
+    if !homeless.is_empty() && (!words.leave_out || pages.sizes.is_empty()) {
+        return Err(no_room(&homeless, pages.needed, words));
+    }
+    let drawn = stored.iter().zip(&pages.places);
+    Ok(Laid {
+        drawn: drawn
+            .filter_map(|((picture, _), place)| Some((*picture, (*place)?)))
+            .collect(),
+        sprites,
+        sizes: pages.sizes,
+    })
 }
 
 fn no_room(homeless: &[&str], needed: usize, words: &Words) -> Fault {
@@ -257,7 +349,7 @@ fn no_room(homeless: &[&str], needed: usize, words: &Words) -> Fault {
     // With no sheet at all there was no room for the largest.
     let enough = match needed {
         0 => String::new(),
-        count if words.group && !keeps_together(words) => {
+        count if words.group && words.limit() == 1 => {
             format!("--pages {} without --group, ", count)
         }
         count => format!("--pages {}, ", count),
@@ -274,63 +366,25 @@ fn no_room(homeless: &[&str], needed: usize, words: &Words) -> Fault {
     Fault::new(ROOM, line)
 }
 
-// The folders whose sprites lie on several sheets, or have a place in part; a line for each.
-fn parted(
-    names: &[&str],
-    known: &[Known],
-    packed: &Pages,
-    scale: Scale,
-    words: &Words,
-) -> Vec<String> {
-    if !keeps_together(words) {
-        return Vec::new();
-    }
-    let room = greatest(words.options().allowed);
-    let mut sheets: BTreeMap<&str, BTreeSet<Option<usize>>> = BTreeMap::new();
-    for (name, one) in names.iter().zip(known) {
-        if let Some(folder) = folder_of(name) {
-            let sheet = packed.places[one.stored].map(|place| place.page);
-            sheets.entry(folder).or_default().insert(sheet);
-        }
-    }
-    let several = sheets.iter().filter(|(_, sheets)| sheets.len() > 1);
-    let line = |folder: &str| {
-        format!(
-            "folder {} is split{}: it doesn't fit on one sheet of {}x{}",
-            folder,
-            at_scale(scale),
-            room.width,
-            room.height
-        )
-    };
-    several.map(|(folder, _)| line(folder)).collect()
-}
-
-fn at_scale(scale: Scale) -> String {
-    if scale.is_one() {
-        String::new()
-    } else {
-        format!(" at scale {}", scale)
-    }
-}
-
-fn image_name(words: &Words, scale: Scale, page: usize) -> String {
+fn record_name(words: &Words, scale: Scale, page: usize) -> String {
     let number = match words.pages {
         None => String::new(),
         Some(_) => format!("-{}", page),
     };
-    format!("{}{}{}.png", words.stem(), number, scale.suffix())
+    format!("{}{}{}", words.stem(), number, scale.suffix())
 }
 
 // The sheets, still without sprites.
-fn empty_pages(packed: &Pages, scale: Scale, words: &Words) -> Vec<Page> {
+fn empty_pages(laid: &Laid, scale: Scale, words: &Words) -> Vec<Page> {
     let page = |(number, size): (usize, &Size)| Page {
-        image: image_name(words, scale, number),
+        image: format!("{}.png", record_name(words, scale, number)),
+        record: record_name(words, scale, number),
+        sum: String::new(),
         width: size.width as u32,
         height: size.height as u32,
         frames: Vec::new(),
     };
-    packed.sizes.iter().enumerate().map(page).collect()
+    laid.sizes.iter().enumerate().map(page).collect()
 }
 
 // The upper left corner of a sprite, inside of what is repeated around it.
@@ -341,52 +395,34 @@ fn corner(place: &Place, words: &Words) -> (u32, u32) {
 
 fn drawn(
     pages: &[Page],
-    stored: &[Stored],
-    packed: &Pages,
+    pictures: &[Picture],
+    laid: &Laid,
     words: &Words,
 ) -> Result<Vec<Picture>, Fault> {
     let empty = |page: &Page| {
         let no_memory = |_| Fault::new(FILES, format!("{}: {}", page.image, NO_MEMORY));
         Picture::empty(page.width, page.height).map_err(no_memory)
     };
-    let mut pictures: Vec<Picture> = pages.iter().map(empty).collect::<Result<_, _>>()?;
-    for (one, place) in stored.iter().zip(&packed.places) {
-        if let Some(place) = place {
-            let lie = if place.placed.turned {
-                forms::turned(words.form)
-            } else {
-                Lie::Upright
-            };
-            let (x, y) = corner(place, words);
-            pictures[place.page].draw(&one.picture, x, y, lie, u32::from(words.extrude));
-        }
+    let mut sheets: Vec<Picture> = pages.iter().map(empty).collect::<Result<_, _>>()?;
+    for (picture, place) in &laid.drawn {
+        let lie = if place.placed.turned {
+            forms::turned(words.form)
+        } else {
+            Lie::Upright
+        };
+        let (x, y) = corner(place, words);
+        let extrude = u32::from(words.extrude);
+        sheets[place.page].draw(&pictures[*picture], x, y, lie, extrude);
     }
     let far = words.bleed();
-    pictures
+    sheets
         .iter_mut()
         .filter(|_| far > 0)
-        .for_each(|picture| picture.bleed(far));
+        .for_each(|sheet| sheet.bleed(far));
     if words.premultiply {
-        pictures.iter_mut().for_each(Picture::premultiply);
+        sheets.iter_mut().for_each(Picture::premultiply);
     }
-    Ok(pictures)
-}
-
-// Brings the frames of each animation together, in its order.
-fn sort_frames(pages: &mut [Page], animations: &[Animation]) {
-    let mut keys: HashMap<&str, (String, u64)> = HashMap::new();
-    for one in animations {
-        for (number, name) in &one.frames {
-            keys.insert(name, (one.whole.clone(), *number));
-        }
-    }
-    for page in pages {
-        let key = |frame: &Frame| match keys.get(frame.name.as_str()) {
-            Some((name, number)) => (name.clone(), *number),
-            None => (frame.name.clone(), 0),
-        };
-        page.frames.sort_by_cached_key(key);
-    }
+    Ok(sheets)
 }
 
 fn frame(one: &Sprite, known: &Known, place: &Place, scale: Scale, words: &Words) -> Frame {
@@ -403,33 +439,59 @@ fn frame(one: &Sprite, known: &Known, place: &Place, scale: Scale, words: &Words
     }
 }
 
+// The animations without the frames that have no place, where two are left.
+fn played(animations: &[Animation], names: &[&str], places: &[Option<Place>]) -> Vec<Animation> {
+    let placed = names
+        .iter()
+        .zip(places)
+        .filter(|(_, place)| place.is_some());
+    let placed: HashSet<&str> = placed.map(|(name, _)| *name).collect();
+    let left = animations.iter().map(|one| {
+        let frames = one.frames.iter();
+        let frames = frames.filter(|(_, name)| placed.contains(name.as_str()));
+        Animation {
+            frames: frames.cloned().collect(),
+            ..one.clone()
+        }
+    });
+    left.filter(|one| one.frames.len() > 1).collect()
+}
+
 /// The sheets of one scale.
-pub fn built(found: &[Sprite], scale: Scale, words: &Words) -> Result<Built, Fault> {
+pub fn built(
+    found: &[Sprite],
+    animations: &[Animation],
+    scale: Scale,
+    words: &Words,
+) -> Result<Built, Fault> {
     let names: Vec<&str> = found.iter().map(|one| one.name.as_str()).collect();
-    let (known, stored) = kept(found, scale, words);
-    let packed = packed(&names, &known, &stored, scale, words)?;
-    check_memory(found, &packed.sizes, words)?;
-    let mut pages = empty_pages(&packed, scale, words);
+    let (known, pictures) = kept(found, scale, words);
+    let sides = |picture: &Picture| (picture.width.into(), picture.height.into());
+    let sizes: Vec<Size> = pictures
+        .iter()
+        .map(|one| size(sides(one), words.extrude))
+        .collect();
+    check_sizes(&names, &known, &sizes, words)?;
+    let laid = laid(&names, &known, &sizes, animations, scale, words)?;
+    check_memory(found, &laid.sizes, words)?;
+    let mut pages = empty_pages(&laid, scale, words);
     let mut left_out = Vec::new();
-    for (sprite, one) in found.iter().zip(&known) {
-        match &packed.places[one.stored] {
+    for ((sprite, one), place) in found.iter().zip(&known).zip(&laid.sprites) {
+        match place {
             Some(place) => pages[place.page]
                 .frames
                 .push(frame(sprite, one, place, scale, words)),
             None => left_out.push(sprite.name.clone()),
         }
     }
-    let pictures = drawn(&pages, &stored, &packed, words)?;
-    let placed: Vec<&str> = pages
+    let pictures = drawn(&pages, &pictures, &laid, words)?;
+    let animations = played(animations, &names, &laid.sprites);
+    let of_sprites: Vec<Option<usize>> = laid
+        .sprites
         .iter()
-        .flat_map(|page| page.frames.iter().map(|frame| frame.name.as_str()))
+        .map(|place| place.map(|place| place.page))
         .collect();
-    let animations = if words.no_animations {
-        Vec::new()
-    } else {
-        animations(&placed, words.stem())
-    };
-    sort_frames(&mut pages, &animations);
+    let split = groups::split(&names, &of_sprites, &animations, scale, words);
     let sheet = Sheet {
         stem: format!("{}{}", words.stem(), scale.suffix()),
         scale,
@@ -442,6 +504,6 @@ pub fn built(found: &[Sprite], scale: Scale, words: &Words) -> Result<Built, Fau
         sheet,
         pictures,
         left_out,
-        parted: parted(&names, &known, &packed, scale, words),
+        split,
     })
 }

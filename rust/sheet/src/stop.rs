@@ -84,12 +84,18 @@ pub fn is_asked() -> bool {
     IS_ASKED.load(Ordering::SeqCst)
 }
 
-// Whether a run is to outlive its terminal, as by nohup: then signals do what they did, and the next run removes what is left.
+// Whether a run is to outlive its terminal, as by nohup.
 fn is_hangup_ignored() -> bool {
     let status = fs::read_to_string("/proc/self/status").unwrap_or_default();
     let ignored = status.lines().find_map(|line| line.strip_prefix("SigIgn:"));
     let signals = ignored.and_then(|ignored| u64::from_str_radix(ignored.trim(), 16).ok());
     signals.map_or(false, |signals| signals & 1 == 1)
+}
+
+#[cfg(unix)]
+fn ignore(signal: libc::c_int) {
+    // Nothing is called by it.
+    unsafe { libc::signal(signal, libc::SIG_IGN) };
 }
 
 /// Removes what is held, where no thread is in the middle of it.
@@ -99,11 +105,10 @@ pub fn clear() {
     }
 }
 
-/// From now on a signal removes what is held, and ends the program.
+/// From now on a signal removes what is held, and ends the program. A hangup that was ignored still is, and a file that grows beyond a
+/// limit is a failed write.
 pub fn listen() {
-    if is_hangup_ignored() {
-        return;
-    }
+    let outlives = is_hangup_ignored();
     let end = || {
         if CAN_ASK.load(Ordering::SeqCst) && !IS_ASKED.swap(true, Ordering::SeqCst) {
             return;
@@ -114,4 +119,13 @@ pub fn listen() {
     };
     // Where no signal can be waited for, it ends the program as it would have.
     let _ = ctrlc::set_handler(end);
+    #[cfg(unix)]
+    {
+        ignore(libc::SIGXFSZ);
+        if outlives {
+            ignore(libc::SIGHUP);
+        }
+    }
+    #[cfg(not(unix))]
+    let _ = outlives;
 }

@@ -1,16 +1,17 @@
 //! Sheets that follow their folder.
 use crate::anchor;
+use crate::animation;
 use crate::fault::{Fault, FILES};
 use crate::folder::{self, Patterns};
+use crate::inputs::Input;
 use crate::words::Words;
 use crate::{run, told, Done};
 use notify::event::{AccessKind, AccessMode, EventKind};
 use notify::{Event, RecommendedWatcher, RecursiveMode, Watcher};
 use same_file::Handle;
-use std::fs::Metadata;
 use std::path::{Path, PathBuf};
 use std::sync::mpsc::{channel, Receiver, RecvTimeoutError};
-use std::time::{Duration, SystemTime};
+use std::time::Duration;
 
 // So long nothing changes before the folder is read.
 const QUIET: Duration = Duration::from_millis(150);
@@ -77,29 +78,19 @@ impl Watched {
     }
 }
 
-// A file, with its size, its time, and what else tells whether it is the same.
-type Stamp = (PathBuf, u64, Option<SystemTime>, [i64; 3]);
-
 // What a run reads: files, and what is told of the folder.
-type Seen = (Vec<Stamp>, Vec<String>);
+type Seen = (Vec<Input>, Vec<String>);
 
-fn stamp(path: PathBuf) -> Stamp {
-    let file = path.metadata().ok();
-    let time = file.as_ref().and_then(|file| file.modified().ok());
-    let more = file.as_ref().map_or([0; 3], identity);
-    (path, file.map_or(0, |file| file.len()), time, more)
-}
-
-// A file that comes to the place of another may be as long, and have the same time.
-#[cfg(unix)]
-fn identity(file: &Metadata) -> [i64; 3] {
-    use std::os::unix::fs::MetadataExt;
-    [file.ino() as i64, file.ctime(), file.ctime_nsec()]
-}
-
-#[cfg(not(unix))]
-fn identity(_: &Metadata) -> [i64; 3] {
-    [0; 3]
+// What it wrote, and the folder of that.
+fn held(written: &[PathBuf], words: &Words) -> Vec<Input> {
+    let files = written.iter().map(|path| Input::look(path));
+    let mut all: Vec<Input> = files.collect();
+    all.push(Input::written(
+        &words.target(),
+        u64::from(words.target().is_dir()),
+        String::new(),
+    ));
+    all
 }
 
 fn seen(words: &Words) -> Seen {
@@ -117,12 +108,14 @@ fn seen(words: &Words) -> Seen {
         Err(error) => (Vec::new(), vec![error.to_string()]),
     };
     paths.push(words.folder.join(anchor::FILE));
+    paths.push(words.folder.join(animation::FILE));
     paths.extend(words.template.clone());
-    (paths.into_iter().map(stamp).collect(), lines)
+    (paths.iter().map(|path| Input::look(path)).collect(), lines)
 }
 
-/// Writes the sheets, and anew after each change of what is read, until the program is ended. Files of an earlier time that aren't written
-/// any more are removed. A fault is told, and the last sheets stay; where the folder is removed, they follow the next one of its name.
+/// Writes the sheets, and anew after each change of what is read, until the program is ended. Files of earlier runs that aren't written
+/// any more are removed, and one that is taken away is written again. A fault is told, and the last sheets stay; where the folder is
+/// removed, they follow the next one of its name.
 pub fn watch(words: &Words) -> Result<Done, Fault> {
     let mut watched = Watched::new(&words.folder);
     if watched.folder.is_none() {
@@ -137,23 +130,27 @@ pub fn watch(words: &Words) -> Result<Done, Fault> {
         let done = run(words);
         told(&done);
         if let Ok(done) = done {
-            for path in earlier.iter().filter(|path| !done.files.contains(path)) {
-                let _ = std::fs::remove_file(path);
-            }
             earlier = done.files;
         }
+        let there = held(&earlier, words);
         // There may be links to other folders than before.
         let next = Watched::new(&words.folder);
         if next.folder.is_some() {
             watched = next;
         }
         // The template, and what a link leads to, may lie in another folder.
-        let is_elsewhere =
-            |one: &&Stamp| Some(&one.0) == words.template.as_ref() || one.0.is_symlink();
-        let elsewhere: Vec<&Stamp> = before.0.iter().filter(is_elsewhere).collect();
-        let is_new = || elsewhere.iter().any(|one| stamp(one.0.clone()) != **one);
+        let is_elsewhere = |one: &&Input| {
+            let path = Path::new(&one.path);
+            Some(path) == words.template.as_deref() || path.is_symlink()
+        };
+        let elsewhere: Vec<&Input> = before.0.iter().filter(is_elsewhere).collect();
+        let is_lost = || held(&earlier, words) != there;
+        let is_new = || {
+            let is_other = |one: &&Input| Input::look(Path::new(&one.path)) != **one;
+            elsewhere.iter().any(is_other) || is_lost()
+        };
         // What changed while it ran was told, and what doesn't count changes nothing.
-        while seen(words) == before {
+        while seen(words) == before && !is_lost() {
             if !watched.wait(&words.folder, is_new) {
                 watched = Watched::new(&words.folder);
             }

@@ -60,6 +60,22 @@ pub fn inner(bytes: &[u8]) -> Option<(u32, u32)> {
     Some((side(6)?, side(8)?))
 }
 
+/// Whether there is a second frame.
+pub fn has_frames(bytes: &[u8]) -> bool {
+    let mut rest = bytes.get(12..).unwrap_or(&[]);
+    let mut count = 0;
+    while let Some((name, _, next)) = chunk(rest) {
+        count += usize::from(name == b"ANMF");
+        rest = next;
+    }
+    count > 1
+}
+
+/// What Exif tells.
+pub fn exif(bytes: &[u8]) -> Option<&[u8]> {
+    find(bytes.get(12..)?, b"EXIF")
+}
+
 /// The first frame; none where the file has no animation.
 pub fn first(bytes: &[u8]) -> Option<First> {
     let (name, head, rest) = chunk(bytes.get(12..)?)?;

@@ -9,7 +9,7 @@ use crate::packing::Ways;
 use crate::scale::Scale;
 use crate::search::Limits;
 use clap::error::{ContextKind, ErrorKind};
-use clap::{ArgMatches, CommandFactory, FromArgMatches, Parser};
+use clap::{ArgMatches, CommandFactory, FromArgMatches, Parser, ValueEnum};
 use clap_complete::Shell;
 use guillotiere::sheet::{Allowed, SheetOptions};
 use guillotiere::size2;
@@ -27,8 +27,17 @@ Example: guillotiere-sheet icons game/icons --trim --power-of-two
 Status: 0 written; 1 a file can't be read or written; 2 wrong usage; 3 the pictures don't fit; 4 written, and some are left out; \
 5 with --check, the files aren't up to date; 130 ended by Ctrl-C.";
 
+/// How the pictures of the sheets are called.
+#[derive(Clone, Copy, Debug, PartialEq, Eq, ValueEnum)]
+pub enum Names {
+    /// OUT.png, or OUT-0.png, OUT-1.png ..
+    Fixed,
+    /// By what they have, as OUT.0123456789abcdef.png: none takes the place of an old one, which stays until the run after the next
+    Content,
+}
+
 /// Packs the pictures of a folder into sheets that engines load.
-#[derive(Parser, Debug)]
+#[derive(Parser, Clone, Debug)]
 #[command(name = "guillotiere-sheet", version, override_usage = USAGE, after_help = AFTER)]
 pub struct Words {
     /// The folder whose pictures (.png, .jpg, .jpeg, .webp, .gif, .bmp, .tif, .tiff, .tga), with those of its subfolders, are the sprites;
@@ -39,7 +48,8 @@ pub struct Words {
     /// What is written next to the pictures
     #[arg(long, value_enum, default_value_t = Form::JsonHash)]
     pub form: Form,
-    /// Writes what a template of Tera says: FILE is NAME.ENDING.tera, or NAME.each.ENDING.tera for a file for each sheet
+    /// Writes what a template of Tera says: FILE is NAME.ENDING.tera, or NAME.each.ENDING.tera for a file for each sheet, or has sprite or
+    /// animation in place of each
     #[arg(long, value_name = "FILE", conflicts_with = "form")]
     pub template: Option<PathBuf>,
     /// With --form libgdx and libgdx-new: how the engine reads between pixels; nearest for pixel art
@@ -48,9 +58,15 @@ pub struct Words {
     /// With --form libgdx and libgdx-new: in which directions the engine repeats the sheet
     #[arg(long, value_enum, default_value_t = Wrap::None)]
     pub wrap: Wrap,
+    /// How the pictures of the sheets are called
+    #[arg(long, value_enum, default_value_t = Names::Fixed)]
+    pub names: Names,
     /// Leaves out the transparent borders of the pictures
     #[arg(long)]
     pub trim: bool,
+    /// With --trim: pixels with an alpha up to N, of 255, count as transparent
+    #[arg(long, value_name = "N", default_value_t = 0, requires = "trim")]
+    pub trim_threshold: u8,
     /// Repeats the outermost pixels of each sprite N times around it
     #[arg(long, value_name = "N", default_value_t = 0)]
     pub extrude: u16,
@@ -139,7 +155,11 @@ pub struct Words {
     /// Pictures whose names end in numbers make no animations
     #[arg(long)]
     pub no_animations: bool,
-    /// How many pictures of an animation are shown in a second
+    /// Files like PATTERN are frames, whatever numbers there are; without it frames count from 0 or 1 with no gap
+    #[arg(long, value_name = "PATTERN", conflicts_with = "no_animations")]
+    pub animations: Vec<String>,
+    /// How many pictures of an animation are shown in a second; FOLDER/animations.txt can have lines PATTERN N for single animations, with
+    /// `once` behind N for one that isn't repeated
     #[arg(long, value_name = "N", default_value_t = 10.0, value_parser = frame_rate)]
     pub frame_rate: f64,
     /// Names without .png, .jpg and the like
@@ -151,6 +171,12 @@ pub struct Words {
     /// Keeps running, and writes the sheets again whenever the folder changes
     #[arg(long)]
     pub watch: bool,
+    /// Removes the files of earlier runs of the same OUT and form that aren't written any more
+    #[arg(long, conflicts_with = "check")]
+    pub clean: bool,
+    /// Writes to FILE, for make and ninja, which files and folders the record is made from
+    #[arg(long, value_name = "FILE", conflicts_with = "check")]
+    pub depfile: Option<PathBuf>,
     /// Prints the manual page, for man(1)
     #[arg(long, exclusive = true)]
     pub man: bool,
@@ -171,7 +197,8 @@ fn seconds(text: &str) -> Result<Duration, String> {
     Ok(Duration::from_secs_f64(seconds))
 }
 
-fn frame_rate(text: &str) -> Result<f64, String> {
+/// Pictures a second.
+pub fn frame_rate(text: &str) -> Result<f64, String> {
     let rate = text
         .parse()
         .ok()
@@ -247,6 +274,15 @@ impl Words {
             .unwrap_or("")
     }
 
+    /// That of the form, or of the template.
+    pub fn form_name(&self) -> String {
+        let name = self.template.as_ref().and_then(|path| path.file_name());
+        match (name, self.form.to_possible_value()) {
+            (None, Some(form)) => form.get_name().to_string(),
+            (name, _) => name.unwrap_or_default().to_string_lossy().into_owned(),
+        }
+    }
+
     /// The folder that the files are written to.
     pub fn target(&self) -> PathBuf {
         match self.out.parent() {
@@ -281,6 +317,9 @@ impl Words {
             Some("--page needs --form css")
         } else if !self.has_filter() && (self.filter, self.wrap) != (Filter::Linear, Wrap::None) {
             Some("--filter and --wrap need --form libgdx or libgdx-new")
+        } else if self.turn && self.form == Form::Css && self.scale.len() > 1 && !self.power_of_two
+        {
+            Some("--turn with --form css and several scales needs --power-of-two: browsers blur turned sprites of other sheets")
         } else if self.turn && forms::no_turn(self.form).is_some() {
             forms::no_turn(self.form)
         } else {
@@ -310,6 +349,7 @@ impl Words {
             template,
             filter: self.filter,
             wrap: self.wrap,
+            names: self.names,
             with_page: self.page,
         })
     }

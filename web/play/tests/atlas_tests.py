@@ -361,4 +361,20 @@ def test_motion_ends_where_the_session_goes_on(page):
     page.compare()
 
 
+def test_what_a_rearrangement_loses_is_told(page):
+    """At the same size a box may find no room, and undoing brings it back."""
+    sizes = [(36, 44), (28, 16), (20, 44), (40, 40), (32, 40), (36, 24), (36, 24), (36, 40), (32, 20), (32, 44), (40, 16), (32, 24), (40, 40),
+             (36, 12), (44, 24), (44, 16), (40, 28), (36, 16), (44, 28), (12, 36), (28, 16), (44, 32), (32, 32), (12, 44), (12, 16), (12, 12)]
+    lines = ['atlas 160 160'] + ['alloc %d %d' % size for size in sizes]
+    ids = [reply.split()[1] for reply in page.tool.replies(lines)[1:]]
+    lines += ['free ' + number for number in ids[1::6]]
+    assert page.tool.replies(lines + ['rearrange'])[-1] == 'changes 20 failures 1'
+    page.play(lines)
+    page.click('#rearrange')
+    assert page.trouble().startswith('A box found no room in the new order, and is lost')
+    assert len(page.compare()[0]) == 20
+    page.click('#undo')
+    assert page.trouble() == '' and len(page.compare()[0]) == 21
+
+
 TESTS = [each for name, each in sorted(globals().items()) if name.startswith('test_')]

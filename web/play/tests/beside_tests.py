@@ -1,4 +1,4 @@
-"""The session beside a shelf and a skyline packer. What those two make of the lines is worked out by hand, from their rules; what the atlas
+"""The session beside other packers. What those make of the lines is worked out by hand, from their rules; what the atlas
 makes of them is what atlas_tool answers."""
 import random
 import re
@@ -6,7 +6,9 @@ import re
 # In 100 x 100, then 200 x 100. Shelf: 40x30 begins a shelf, 50x20 stands beside it, 60x30 begins a second one, 30x20 takes the place
 # that was freed, 100x45 has no shelf and only 40 below; after the growth 90x90 has none, and 100x15 stands behind 50x20: of two shelves of
 # one height the upper one is taken. Skyline: 60x30 lies on 50x20, at 40 20, 30x20 on 40x30, 100x45 on both, 90x90 to the right, and 100x15
-# has no room below that.
+# has no room below that. Maximal rectangles: 50x20 and 60x30 fit where 60x100 is left, at 40 0 and at 40 20, 30x20 in 40x70 at 0 30, 100x45
+# in
+# 100x50 at 0 50, and 90x90 in the new 100x100.
 LINES = ['atlas 100 100', 'alloc 40 30', 'alloc 50 20', 'alloc 60 30', 'free FIRST', 'alloc 30 20', 'alloc 100 45', 'grow 200 100',
          'alloc 90 90', 'alloc 100 15']
 SHELF = [[0, 0, 30, 20], [40, 0, 50, 20], [0, 30, 60, 30], [90, 0, 100, 15]]
@@ -41,7 +43,7 @@ def freed(page):
     return [line.replace('FIRST', first) for line in LINES]
 
 
-def test_is_compared_with_two_packers(page):
+def test_is_compared_with_other_packers(page):
     lines = freed(page)
     rows, boxes = opened(page, lines)
     row, own = ours(page, lines)
@@ -53,7 +55,41 @@ def test_is_compared_with_two_packers(page):
     drawn = page.run('return [...document.querySelectorAll("#beside-shown canvas")].map((canvas) => {'
                      'const { data } = canvas.getContext("2d").getImageData(0, 0, canvas.width, canvas.height);'
                      'return new Set(new Uint32Array(data.buffer)).size > 1; })')
-    assert drawn == [True] * 3
+    assert drawn == [True] * 4
+    assert rows[3] == ['maximal rectangles', '6', '1', '80.0 %', '80.0 %', '-'] and boxes[3] == sorted(SKYLINE), (rows, boxes)
+
+
+def test_how_full_each_was(page):
+    """A curve for each, in one picture: how full it was after each call."""
+    lines = freed(page)
+    opened(page, lines)
+    # Areas after each call of the shelf packer, of the skyline packer and of the atlas as the tool tells them; of 10,000, then of 20,000.
+    shelf = [0, 1200, 2200, 4000, 2800, 3400, 3400, 3400, 3400, 4900]
+    skyline = [0, 1200, 2200, 4000, 2800, 3400, 7900, 7900, 16000, 16000]
+    shares = [[area / (20000 if at > 6 else 10000) for at, area in enumerate(areas)] for areas in (shelf, skyline)]
+    own = []
+    for at in range(1, len(lines) + 1):
+        _, (width, height), live, _ = page.tool.boxes(lines[:at])
+        own.append(sum((x1 - x0) * (y1 - y0) for x0, y0, x1, y1 in live.values()) / (width * height))
+    curves = page.run('return [...document.querySelectorAll("#beside-curves polyline")].map((line) => line.getAttribute("points"))')
+    found = [[1 - float(point.split(',')[1]) / 100 for point in line.split()] for line in curves]
+    for wanted, told in zip([own] + shares, found):
+        assert len(told) == len(wanted) == len(lines) and all(abs(one - other) < 1e-9 for one, other in zip(wanted, told)), (wanted, told)
+    assert len(found) == 4 and found[3] == found[2]
+    label = page.run('return document.getElementById("beside-curves").getAttribute("aria-label")')
+    assert 'after each of 9 calls' in label and 'a shelf packer 24.5 %' in label and 'maximal rectangles 80.0 %' in label, label
+
+
+def test_each_packer_lays_boxes_apart(page):
+    """Of random calls, a growth among them: what is held overlaps nothing of it, and lies inside."""
+    draw = random.Random(9)
+    lines = ['atlas 200 200'] + ['alloc %d %d' % (draw.randint(1, 40), draw.randint(1, 40)) for _ in range(120)] + ['grow 260 230']
+    lines += ['alloc %d %d' % (draw.randint(1, 60), draw.randint(1, 60)) for _ in range(120)]
+    rows, boxes = opened(page, lines)
+    for row, held in zip(rows, boxes):
+        assert len(held) == int(row[1]) > 60 and all(x >= 0 and y >= 0 and x + w <= 260 and y + h <= 230 for x, y, w, h in held), row
+        for at, (x, y, w, h) in enumerate(held):
+            assert all(x + w <= u or u + v <= x or y + h <= t or t + s <= y for u, t, v, s in held[at + 1:]), (row, held[at])
 
 
 def test_rearranged_boxes_are_freed_by_their_new_ids(page):

@@ -187,4 +187,15 @@ def test_stops_with_its_tab(page):
     assert page.run('return play.player.isRunning') is False
 
 
+def test_a_texel_is_a_pixel(page):
+    """The page's canvas takes as many pixels of the page as the texture has texels."""
+    page.click('#tab-cache')
+    page.click('#cache-step')
+    sizes = page.run("""return [...document.querySelectorAll('#cache-pages-shown canvas')].map((canvas) => {
+      const { borderLeftWidth, borderTopWidth } = getComputedStyle(canvas), { width, height } = canvas.getBoundingClientRect();
+      return [width - 2 * parseFloat(borderLeftWidth) - canvas.width, height - 2 * parseFloat(borderTopWidth) - canvas.height];
+    })""")
+    assert sizes and all(each == [0, 0] for each in sizes), sizes
+
+
 TESTS = [each for name, each in sorted(globals().items()) if name.startswith('test_')]

@@ -110,12 +110,12 @@ def test_names(page):
 
 
 def test_size(page):
-    """What the page loads: itself and the module, under 230 kB together, and under 90 by gzip."""
+    """What the page loads: itself and the module, under 250 kB together, and under 95 by gzip."""
     names = page.run('return performance.getEntriesByType("resource").map((each) => each.name)')
     names = [name for name in names if name.startswith('http')]
     plain, packed = page.measure([page.address] + names)
     assert [name.split('/')[-1] for name in names] == ['wollemigo.wasm'], names
-    assert plain < 230000 and packed < 90000, (plain, packed)
+    assert plain < 250000 and packed < 95000, (plain, packed)
     page.notes.append('%s loads two files: %d bytes, %d packed by gzip' % (page.browser.name, plain, packed))
 
 
@@ -183,6 +183,44 @@ def test_words(page):
     """No line of the page's text names what a person can't see."""
     text = page.run('return document.body.textContent')
     assert not re.search(r'undefined|NaN|\[object', text)
+
+
+STILL = """const note = document.getElementById('still');
+    return note ? [getComputedStyle(note).visibility, note.textContent.replace(/\\s+/g, ' ')] : null"""
+
+
+def test_what_stands_still_says_why(page):
+    """Where the script can't run, from the disk or under a policy, the page says so after a while; else it says nothing. From the disk a
+    browser may run it all the same."""
+    assert page.run(STILL) is None
+    sources = os.path.dirname(os.path.dirname(os.path.abspath(__file__)))
+    for name in ('how.html', 'index.html'):
+        for address in ('file://' + os.path.join(sources, name), page.address.replace('/built/', '/policy/') + name):
+            page.browser.open('about:blank')
+            page.browser.open(address)
+            page.wait("!!window.how || !!window.play || document.getElementById('still')"
+                      " && getComputedStyle(document.getElementById('still')).visibility === 'visible'", 20)
+            note = page.run(STILL)
+            assert note is None and address.startswith('file:') and page.browser.name == 'Firefox' \
+                or 'web/play/build --alone' in note[1] and 'script-src' in note[1], (address, note)
+    page.browser.told()
+    page.open()
+
+
+def test_one_file_from_the_disk(page):
+    """Made by --alone, each page opens from the disk and does what it does elsewhere."""
+    folder = page.alone()
+    page.browser.open('file://' + os.path.join(folder, 'how.html'))
+    page.wait('!!window.how')
+    assert page.run('return [how.pick.shown.picked !== null, document.getElementById("still")]') == [True, None]
+    page.browser.open('about:blank')
+    page.browser.open('file://' + os.path.join(folder, 'index.html'))
+    page.wait('!!window.play')
+    page.settle()
+    page.click('#add-many')
+    page.compare()
+    assert sorted(os.listdir(folder)) == ['how.html', 'index.html']
+    page.open()
 
 
 TESTS = [each for name, each in sorted(globals().items()) if name.startswith('test_')]

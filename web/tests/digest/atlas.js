@@ -207,7 +207,7 @@ export class Atlases {
     this.sum.add(live.status);
     this.sum.wide(count);
     for (let i = 0; i < count && i < room; i++) this.sum.allocation(this.found[i]);
-    const free = this.list(it, (atlas) => atlas.free(), this.boxes, room);
+    const free = this.list(it, (atlas) => atlas.freeBoxes(), this.boxes, room);
     const boxes = free.count ?? count;
     this.sum.add(free.status);
     this.sum.wide(boxes);

@@ -1,6 +1,6 @@
 //! A class for each sprite, and a page that shows them.
 use super::escaped;
-use crate::sheet::{Frame, Sheet};
+use crate::sheet::{Frame, Page, Sheet};
 use std::collections::HashMap;
 use std::fmt::Write;
 
@@ -65,61 +65,107 @@ pub(super) fn path(name: &str) -> String {
     path
 }
 
-// What is kept of the sprite is drawn by an element inside, which is turned back where the sprite lies turned.
-fn rules(class: &str, frame: &Frame) -> String {
-    let (kept, (width, height)) = (frame.kept, frame.whole);
+// The size of the whole sprite.
+fn outer(class: &str, frame: &Frame) -> String {
+    let (width, height) = frame.whole;
+    format!(
+        ".{} {{ width: {}px; height: {}px }}\n",
+        class, width, height
+    )
+}
+
+// What is kept of the sprite is drawn by an element inside, which is turned back where the sprite lies turned. `ratio` pixels of the sheet
+// are as wide as one of the page.
+fn inner(class: &str, frame: &Frame, ratio: f64) -> String {
+    let kept = frame.kept;
     let (wide, high) = frame.lying();
+    let part = |pixels: u32| f64::from(pixels) / ratio;
     let turn = match frame.is_turned {
         true => format!(
             " transform-origin: 0 0; transform: translateY({}px) rotate(-90deg);",
-            kept.height
+            part(kept.height)
         ),
         false => String::new(),
     };
-    let outer = format!(".{} {{ width: {}px; height: {}px }}", class, width, height);
-    let inner = format!(
-        "left: {}px; top: {}px; width: {}px; height: {}px; background-position: -{}px -{}px;{}",
-        kept.left, kept.top, wide, high, frame.x, frame.y, turn
-    );
-    format!("{}\n.{}::before {{ {} }}\n", outer, class, inner)
+    format!(
+        ".{}::before {{ left: {}px; top: {}px; width: {}px; height: {}px; background-position: -{}px -{}px;{} }}\n",
+        class,
+        part(kept.left),
+        part(kept.top),
+        part(wide),
+        part(high),
+        part(frame.x),
+        part(frame.y),
+        turn
+    )
 }
 
-pub fn text(sheet: &Sheet) -> String {
-    let common = common(&sheet.stem);
+// The picture of all sprites on a sheet.
+fn picture(stem: &str, page: &Page, ratio: f64) -> String {
+    let classes = page
+        .frames
+        .iter()
+        .map(|frame| format!(".{}::before", class(stem, &frame.name)));
+    let classes: Vec<String> = classes.collect();
+    let size = match ratio == 1.0 {
+        true => String::new(),
+        false => format!(
+            "; background-size: {}px {}px",
+            f64::from(page.width) / ratio,
+            f64::from(page.height) / ratio
+        ),
+    };
+    format!(
+        "/* sha256: {} */\n{} {{ background-image: url({}){} }}\n",
+        page.sum,
+        classes.join(",\n"),
+        quoted(&path(&page.image)),
+        size
+    )
+}
+
+/// Of several scales the smallest is that of the page, and each larger one is for screens with so many more pixels.
+pub fn text(stem: &str, sheets: &[&Sheet]) -> String {
+    let common = common(stem);
     let mut text = format!(
         "@charset \"utf-8\";\n.{} {{ display: inline-block; position: relative; overflow: hidden }}\n\
          .{}::before {{ content: \"\"; display: block; position: absolute; background-repeat: no-repeat }}\n",
         common, common
     );
-    for page in &sheet.pages {
-        for frame in &page.frames {
-            text.push_str(&rules(&class(&sheet.stem, &frame.name), frame));
+    let mut sheets = sheets.to_vec();
+    sheets.sort_by(|one, other| one.scale.value().total_cmp(&other.scale.value()));
+    let least = sheets.first().map_or(1.0, |sheet| sheet.scale.value());
+    for (place, sheet) in sheets.iter().enumerate() {
+        let ratio = sheet.scale.value() / least;
+        if place > 0 {
+            writeln!(text, "@media (min-resolution: {}dppx) {{", ratio).unwrap();
         }
-        let classes = page
-            .frames
-            .iter()
-            .map(|frame| format!(".{}::before", class(&sheet.stem, &frame.name)));
-        let classes: Vec<String> = classes.collect();
-        writeln!(
-            text,
-            "{} {{ background-image: url({}) }}",
-            classes.join(",\n"),
-            quoted(&path(&page.image))
-        )
-        .unwrap();
+        for page in &sheet.pages {
+            for frame in &page.frames {
+                let class = class(stem, &frame.name);
+                if place == 0 {
+                    text.push_str(&outer(&class, frame));
+                }
+                text.push_str(&inner(&class, frame, ratio));
+            }
+            text.push_str(&picture(stem, page, ratio));
+        }
+        if place > 0 {
+            text.push_str("}\n");
+        }
     }
     text
 }
 
-pub fn page(sheet: &Sheet) -> String {
+pub fn page(stem: &str, sheet: &Sheet) -> String {
     let mut text = format!(
         "<!DOCTYPE html>\n<meta charset=\"utf-8\">\n<title>{}</title>\n<link rel=\"stylesheet\" href=\"{}.css\">\n\
          <style>i {{ margin: 3px }}</style>\n",
-        escaped(&sheet.stem),
-        path(&sheet.stem)
+        escaped(stem),
+        path(stem)
     );
     for frame in sheet.pages.iter().flat_map(|page| &page.frames) {
-        let (common, class) = (common(&sheet.stem), class(&sheet.stem, &frame.name));
+        let (common, class) = (common(stem), class(stem, &frame.name));
         writeln!(
             text,
             "<i class=\"{} {}\" title=\"{}\"></i>",

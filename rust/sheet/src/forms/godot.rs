@@ -57,7 +57,7 @@ impl Version {
         text
     }
 
-    fn animation(self, name: &str, speed: f64, places: &[usize]) -> String {
+    fn animation(self, one: &Played) -> String {
         let shown = |place: &usize| {
             let texture = self.call("SubResource", &self.id("sprite", *place));
             match self {
@@ -65,13 +65,14 @@ impl Version {
                 Version::Four => format!("{{\n\"duration\": 1.0,\n\"texture\": {}\n}}", texture),
             }
         };
-        let frames: Vec<String> = places.iter().map(shown).collect();
+        let frames: Vec<String> = one.places.iter().map(shown).collect();
         format!(
-            "{{\n\"frames\": [{}],\n\"loop\": true,\n\"name\": {}{},\n\"speed\": {:?}\n}}",
+            "{{\n\"frames\": [{}],\n\"loop\": {},\n\"name\": {}{},\n\"speed\": {:?}\n}}",
             frames.join(", "),
+            one.is_looped,
             if self.is_three() { "" } else { "&" },
-            quoted(name),
-            speed
+            quoted(one.name),
+            one.speed
         )
     }
 
@@ -90,26 +91,32 @@ impl Version {
     }
 }
 
-// The name of each animation, and the places of its frames.
-fn played<'a>(sheet: &'a Sheet, frames: &[(usize, &'a Frame)]) -> Vec<(&'a str, Vec<usize>)> {
+/// What is played: the places of its frames, and how.
+struct Played<'a> {
+    name: &'a str,
+    speed: f64,
+    is_looped: bool,
+    places: Vec<usize>,
+}
+
+// In the order of the names. The frames of an animation come in its order.
+fn played<'a>(sheet: &'a Sheet, frames: &[(usize, &'a Frame)]) -> Vec<Played<'a>> {
     let animated = sheet.animated();
-    let mut played: BTreeMap<&str, (&str, Vec<(u64, usize)>)> = BTreeMap::new();
+    let mut played: BTreeMap<&str, Played> = BTreeMap::new();
     for (place, (_, frame)) in frames.iter().enumerate() {
-        match animated.get(frame.name.as_str()) {
-            Some((one, number)) => {
-                let frames = played.entry(&one.whole).or_insert((&one.name, Vec::new()));
-                frames.1.push((*number, place));
-            }
-            None => {
-                played.insert(&frame.name, (&frame.name, vec![(0, place)]));
-            }
-        }
+        let (whole, one) = match animated.get(frame.name.as_str()) {
+            Some((one, _)) => (one.whole.as_str(), Some(one)),
+            None => (frame.name.as_str(), None),
+        };
+        let so_far = played.entry(whole).or_insert_with(|| Played {
+            name: one.map_or(whole, |one| one.name.as_str()),
+            speed: one.map_or(sheet.frame_rate, |one| one.frame_rate),
+            is_looped: one.map_or(true, |one| one.is_looped),
+            places: Vec::new(),
+        });
+        so_far.places.push(place);
     }
-    let sorted = played.into_values().map(|(name, mut places)| {
-        places.sort_unstable();
-        (name, places.into_iter().map(|(_, place)| place).collect())
-    });
-    sorted.collect()
+    played.into_values().collect()
 }
 
 pub fn text(sheet: &Sheet, version: Version) -> String {
@@ -130,11 +137,16 @@ pub fn text(sheet: &Sheet, version: Version) -> String {
     }
     let animations: Vec<String> = played(sheet, &frames)
         .iter()
-        .map(|(name, places)| version.animation(name, sheet.frame_rate, places))
+        .map(|one| version.animation(one))
+        .collect();
+    let sums = sheet.pages.iter();
+    let sums: Vec<String> = sums
+        .map(|page| format!("{}: \"{}\"", quoted(&page.image), page.sum))
         .collect();
     writeln!(
         text,
-        "\n[resource]\nanimations = [{}]",
+        "\n[resource]\nmetadata/sha256 = {{\n{}\n}}\nanimations = [{}]",
+        sums.join(",\n"),
         animations.join(", ")
     )
     .unwrap();

@@ -1,8 +1,10 @@
 //! TexturePacker's JSON, hash and array, and Phaser's multiatlas.
-use super::{beside, has_all, File};
+use super::{has_all, File};
 use crate::animation::Animation;
 use crate::nine;
 use crate::sheet::{Frame, Page, Sheet};
+use crate::sums;
+use crate::words::Names;
 use serde::{Serialize, Serializer};
 use std::collections::BTreeMap;
 
@@ -60,6 +62,8 @@ struct Tag<'a> {
     from: usize,
     to: usize,
     direction: &'static str,
+    #[serde(skip_serializing_if = "Option::is_none")]
+    repeat: Option<&'static str>,
 }
 
 #[derive(Serialize)]
@@ -68,6 +72,8 @@ struct Meta<'a> {
     version: &'static str,
     #[serde(skip_serializing_if = "Option::is_none")]
     image: Option<&'a str>,
+    #[serde(skip_serializing_if = "Option::is_none")]
+    sha256: Option<&'a str>,
     #[serde(skip_serializing_if = "Option::is_none")]
     format: Option<&'static str>,
     #[serde(skip_serializing_if = "Option::is_none")]
@@ -78,19 +84,22 @@ struct Meta<'a> {
     related_multi_packs: Vec<String>,
     #[serde(rename = "frameTags", skip_serializing_if = "Vec::is_empty")]
     frame_tags: Vec<Tag<'a>>,
+    #[serde(skip_serializing_if = "BTreeMap::is_empty")]
+    animations: Played<'a>,
 }
 
 #[derive(Serialize)]
 struct Whole<'a, F> {
     frames: F,
     #[serde(skip_serializing_if = "BTreeMap::is_empty")]
-    animations: BTreeMap<&'a str, Vec<&'a str>>,
+    animations: Played<'a>,
     meta: Meta<'a>,
 }
 
 #[derive(Serialize)]
 struct Texture<'a> {
     image: &'a str,
+    sha256: &'a str,
     format: &'static str,
     size: Sides,
     scale: f64,
@@ -161,12 +170,12 @@ fn middle(nine: nine::Sides, (width, height): (u32, u32)) -> Box {
 // All frames of a sheet; those of animations with the milliseconds that each is shown.
 fn all<'a>(sheet: &'a Sheet, page: &'a Page, are_named: bool) -> Vec<(&'a str, One<'a>)> {
     let animated = sheet.animated();
-    let duration = (1000.0 / sheet.frame_rate).round() as u32;
+    let duration = |(one, _): &(&Animation, u64)| (1000.0 / one.frame_rate).round() as u32;
     let frames = page.frames.iter().map(|frame| {
         let name = frame.name.as_str();
         (
             name,
-            one(frame, are_named, animated.get(name).map(|_| duration)),
+            one(frame, are_named, animated.get(name).map(duration)),
         )
     });
     frames.collect()
@@ -181,15 +190,37 @@ impl Serialize for Members<'_> {
     }
 }
 
+// Animations by their names.
+type Played<'a> = BTreeMap<&'a str, Vec<&'a str>>;
+
+fn named(one: &Animation) -> (&str, Vec<&str>) {
+    let frames = one.frames.iter().map(|frame| frame.1.as_str());
+    (one.name.as_str(), frames.collect())
+}
+
 // The animations whose frames all lie on this sheet.
-fn played<'a>(sheet: &'a Sheet, page: &Page) -> BTreeMap<&'a str, Vec<&'a str>> {
+fn played<'a>(sheet: &'a Sheet, page: &Page) -> Played<'a> {
     let whole = sheet.animations.iter().filter(|one| has_all(page, one));
-    let frames = |one: &'a Animation| one.frames.iter().map(|frame| frame.1.as_str()).collect();
-    whole.map(|one| (one.name.as_str(), frames(one))).collect()
+    whole.map(named).collect()
+}
+
+// Those that lie on no single sheet.
+fn split(sheet: &Sheet) -> Played<'_> {
+    let is_split = |one: &&Animation| !sheet.pages.iter().any(|page| has_all(page, one));
+    sheet
+        .animations
+        .iter()
+        .filter(is_split)
+        .map(named)
+        .collect()
 }
 
 // The same, by the places of the first and the last frame in the list.
 fn tags<'a>(sheet: &'a Sheet, page: &Page) -> Vec<Tag<'a>> {
+    let is_once = |name: &str| {
+        let mut all = sheet.animations.iter();
+        all.any(|one| one.name == name && !one.is_looped)
+    };
     let tag = |(name, frames): (&'a str, Vec<&'a str>)| {
         let from = page
             .frames
@@ -201,6 +232,7 @@ fn tags<'a>(sheet: &'a Sheet, page: &Page) -> Vec<Tag<'a>> {
             from,
             to,
             direction: "forward",
+            repeat: is_once(name).then_some("1"),
         })
     };
     played(sheet, page).into_iter().filter_map(tag).collect()
@@ -218,27 +250,31 @@ fn meta(app_only: bool) -> Meta<'static> {
         app: "guillotiere-sheet",
         version: env!("CARGO_PKG_VERSION"),
         image: None,
+        sha256: None,
         format: if app_only { None } else { Some(FORMAT) },
         size: None,
         scale: None,
         related_multi_packs: Vec::new(),
         frame_tags: Vec::new(),
+        animations: BTreeMap::new(),
     }
 }
 
 // The first file names the others, as engines that load them all from one expect.
-fn meta_of<'a>(sheet: &'a Sheet, number: usize) -> Meta<'a> {
+fn meta_of<'a>(sheet: &'a Sheet, number: usize, others: Vec<String>) -> Meta<'a> {
     let page = &sheet.pages[number];
-    let others = sheet
-        .pages
-        .iter()
-        .filter(|other| number == 0 && other.image != page.image);
     Meta {
         image: Some(&page.image),
+        sha256: Some(&page.sum),
         size: Some(sides(page)),
         scale: Some(sheet.scale.to_string()),
-        related_multi_packs: others.map(|other| beside(&other.image, ".json")).collect(),
+        related_multi_packs: others,
         frame_tags: tags(sheet, page),
+        animations: if number == 0 {
+            split(sheet)
+        } else {
+            BTreeMap::new()
+        },
         ..meta(false)
     }
 }
@@ -249,18 +285,27 @@ fn text(value: &impl Serialize) -> String {
     text
 }
 
-fn each(sheet: &Sheet, of: impl Fn(&Page, Meta<'_>) -> String) -> Vec<File> {
+// Where pictures are called by what they have, so are all files but the first.
+fn each(sheet: &Sheet, names: Names, of: impl Fn(&Page, Meta<'_>) -> String) -> Vec<File> {
     let file = |(number, page): (usize, &Page)| {
-        (
-            beside(&page.image, ".json"),
-            of(page, meta_of(sheet, number)).into_bytes(),
-        )
+        let text = of(page, meta_of(sheet, number, Vec::new())).into_bytes();
+        let name = match names {
+            Names::Fixed => page.beside(".json"),
+            Names::Content => page.beside(&format!(".{}.json", sums::short(&sums::of(&text)))),
+        };
+        (name, text)
     };
-    sheet.pages.iter().enumerate().map(file).collect()
+    let others: Vec<File> = sheet.pages.iter().enumerate().skip(1).map(file).collect();
+    let named = others.iter().map(|(name, _)| name.clone()).collect();
+    let first = sheet.pages.first().map(|page| {
+        let text = of(page, meta_of(sheet, 0, named));
+        (page.beside(".json"), text.into_bytes())
+    });
+    first.into_iter().chain(others).collect()
 }
 
-pub fn hashes(sheet: &Sheet) -> Vec<File> {
-    each(sheet, |page, meta| {
+pub fn hashes(sheet: &Sheet, names: Names) -> Vec<File> {
+    each(sheet, names, |page, meta| {
         text(&Whole {
             frames: Members(all(sheet, page, false)),
             animations: played(sheet, page),
@@ -277,8 +322,8 @@ fn listed<'a>(sheet: &'a Sheet, page: &'a Page) -> Vec<One<'a>> {
         .collect()
 }
 
-pub fn arrays(sheet: &Sheet) -> Vec<File> {
-    each(sheet, |page, meta| {
+pub fn arrays(sheet: &Sheet, names: Names) -> Vec<File> {
+    each(sheet, names, |page, meta| {
         text(&Whole {
             frames: listed(sheet, page),
             animations: played(sheet, page),
@@ -290,6 +335,7 @@ pub fn arrays(sheet: &Sheet) -> Vec<File> {
 fn texture<'a>(sheet: &'a Sheet, page: &'a Page) -> Texture<'a> {
     Texture {
         image: &page.image,
+        sha256: &page.sum,
         format: FORMAT,
         size: sides(page),
         scale: sheet.scale.value(),

@@ -142,6 +142,9 @@ pub fn text(sheet: &Sheet, filter: Filter, wrap: Wrap, is_new: bool) -> String {
         if sheet.is_premultiplied && is_new {
             text.push_str("pma: true\n");
         }
+        if is_new {
+            writeln!(text, "sha256: {}", page.sum).unwrap();
+        }
         for frame in &page.frames {
             match animated.get(frame.name.as_str()) {
                 Some((one, number)) => region(&mut text, &one.whole, &number.to_string(), frame),

@@ -9,10 +9,11 @@ mod template;
 pub use libgdx::{Filter, Wrap};
 pub use template::Template;
 
-use crate::animation::Animation;
+use crate::animation::{self, Animation};
 use crate::fault::{Fault, WORDS};
 use crate::picture::Lie;
-use crate::sheet::{Page, Sheet, Sprite};
+use crate::sheet::{Built, Page, Sheet, Sprite};
+use crate::words::Names;
 use clap::ValueEnum;
 use std::collections::HashSet;
 
@@ -53,6 +54,7 @@ pub struct Style {
     pub template: Option<Template>,
     pub filter: Filter,
     pub wrap: Wrap,
+    pub names: Names,
     /// Whether CSS has a page that shows all.
     pub with_page: bool,
 }
@@ -60,14 +62,28 @@ pub struct Style {
 /// The name of a file, and what it has.
 pub type File = (String, Vec<u8>);
 
+/// The files of all scales beside their pictures, of each scale the first one last, since it may name the others. CSS has one for all.
+pub fn all_files(style: &Style, stem: &str, sheets: &[&Sheet]) -> Result<Vec<File>, Fault> {
+    let mut all = Vec::new();
+    match sheets {
+        _ if style.form != Form::Css => {}
+        [sheet] => return Ok(css_files(style, &sheet.stem, sheets)),
+        _ => return Ok(css_files(style, stem, sheets)),
+    }
+    for sheet in sheets {
+        all.extend(files(style, sheet)?.into_iter().rev());
+    }
+    Ok(all)
+}
+
 /// The files of one scale beside its pictures.
 pub fn files(style: &Style, sheet: &Sheet) -> Result<Vec<File>, Fault> {
     let one =
         |ending: &str, text: String| vec![(format!("{}{}", sheet.stem, ending), text.into_bytes())];
     let atlas = |is_new| libgdx::text(sheet, style.filter, style.wrap, is_new);
     Ok(match style.form {
-        Form::JsonHash => json::hashes(sheet),
-        Form::JsonArray => json::arrays(sheet),
+        Form::JsonHash => json::hashes(sheet, style.names),
+        Form::JsonArray => json::arrays(sheet, style.names),
         Form::Phaser => one(".json", json::multiatlas(sheet)),
         Form::Libgdx => one(".atlas", atlas(false)),
         Form::LibgdxNew => one(".atlas", atlas(true)),
@@ -80,14 +96,21 @@ pub fn files(style: &Style, sheet: &Sheet) -> Result<Vec<File>, Fault> {
             Some(template) => template.files(sheet)?,
             None => Vec::new(),
         },
-        Form::Css => {
-            let mut files = one(".css", css::text(sheet));
-            if style.with_page {
-                files.extend(one(".html", css::page(sheet)));
-            }
-            files
-        }
+        Form::Css => css_files(style, &sheet.stem, &[sheet]),
     })
+}
+
+fn css_files(style: &Style, stem: &str, sheets: &[&Sheet]) -> Vec<File> {
+    let mut files = Vec::new();
+    if let Some(sheet) = sheets.first().filter(|_| style.with_page) {
+        files.push((
+            format!("{}.html", stem),
+            css::page(stem, sheet).into_bytes(),
+        ));
+    }
+    let text = css::text(stem, sheets);
+    files.push((format!("{}.css", stem), text.into_bytes()));
+    files
 }
 
 /// Why sprites can't lie turned in a form; none where they can.
@@ -135,7 +158,7 @@ pub fn check_names(form: Form, stem: &str, names: &[&str]) -> Result<(), Fault> 
 }
 
 /// What the form has no place for, a line each.
-pub fn lost(form: Form, sprites: &[Sprite]) -> Vec<String> {
+pub fn lost(form: Form, sprites: &[Sprite], has_rates: bool) -> Vec<String> {
     let has_anchors = matches!(
         form,
         Form::JsonHash
@@ -159,6 +182,16 @@ pub fn lost(form: Form, sprites: &[Sprite]) -> Vec<String> {
     if !has_anchors && sprites.iter().any(|one| one.anchor.is_some()) {
         lines.push("this form has no place for anchors".to_string());
     }
+    let is_timeless = matches!(
+        form,
+        Form::Libgdx | Form::LibgdxNew | Form::Starling | Form::Css | Form::Cocos
+    );
+    if has_rates && is_timeless {
+        lines.push(format!(
+            "this form has no place for what {} tells",
+            animation::FILE
+        ));
+    }
     let nines = sprites
         .iter()
         .filter(|one| !has_nines && one.nine.is_some());
@@ -171,19 +204,18 @@ pub fn lost(form: Form, sprites: &[Sprite]) -> Vec<String> {
     lines
 }
 
-/// The animations that a form with a file for each sheet can't have, since their frames lie on several, a line each.
-pub fn split(form: Form, sheet: &Sheet) -> Vec<String> {
-    if !matches!(form, Form::JsonHash | Form::JsonArray) {
-        return Vec::new();
-    }
-    let is_split = |one: &&Animation| !sheet.pages.iter().any(|page| has_all(page, one));
-    let line = |one: &Animation| {
-        format!(
-            "animation {} lies on several sheets, so no file has it; --group may help",
-            one.name
-        )
+/// A line for each folder and each animation that is split. JSON tells of such an animation in its first file.
+pub fn split(form: Form, built: &Built) -> Vec<String> {
+    let is_told = matches!(form, Form::JsonHash | Form::JsonArray);
+    let first = built.sheet.pages.first();
+    let line = |line: &String| match first {
+        Some(page) if is_told && line.starts_with("animation ") => {
+            let file = page.beside(".json");
+            format!("{}; meta.animations of {} has its frames", line, file)
+        }
+        _ => line.clone(),
     };
-    sheet.animations.iter().filter(is_split).map(line).collect()
+    built.split.iter().map(line).collect()
 }
 
 // Whether all frames of an animation lie on a sheet.
@@ -197,11 +229,6 @@ fn has_all(page: &Page, animation: &Animation) -> bool {
         .frames
         .iter()
         .all(|(_, name)| names.contains(name.as_str()))
-}
-
-// The name of a file of this sheet's with another ending: the file beside the picture.
-fn beside(image: &str, ending: &str) -> String {
-    format!("{}{}", image.strip_suffix(".png").unwrap_or(image), ending)
 }
 
 /// How files of these forms can spell the name of a picture.

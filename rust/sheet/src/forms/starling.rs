@@ -1,5 +1,5 @@
 //! The XML of Starling's texture atlases.
-use super::{beside, escaped, File};
+use super::{escaped, File};
 use crate::sheet::{Frame, Sheet};
 use std::fmt::Write;
 
@@ -49,12 +49,13 @@ pub fn files(sheet: &Sheet) -> Vec<File> {
         let lines: String = page.frames.iter().map(line).collect();
         let head = "<?xml version=\"1.0\" encoding=\"UTF-8\"?>\n<TextureAtlas imagePath=\"";
         let text = format!(
-            "{}{}\">\n{}</TextureAtlas>\n",
+            "{}{}\" sha256=\"{}\">\n{}</TextureAtlas>\n",
             head,
             escaped(&page.image),
+            page.sum,
             lines
         );
-        (beside(&page.image, ".xml"), text.into_bytes())
+        (page.beside(".xml"), text.into_bytes())
     };
     sheet.pages.iter().map(file).collect()
 }

@@ -1,9 +1,11 @@
 //! Files by templates, so that an engine is a file away: that of the user, and those of forms that are templates themselves.
-use super::{beside, File};
+use super::File;
+use crate::animation::Animation;
 use crate::fault::{Fault, FILES, WORDS};
 use crate::folder;
 use crate::sheet::{Frame, Page, Sheet};
 use serde_json::{json, Value};
+use std::collections::{HashMap, HashSet};
 use std::error::Error;
 use std::path::Path;
 use tera::{Context, Tera};
@@ -14,11 +16,25 @@ pub struct Template {
     name: String,
     text: String,
     ending: String,
-    is_for_each: bool,
+    files: Files,
+}
+
+/// Which files a template makes.
+#[derive(Clone, Copy, Debug, PartialEq)]
+enum Files {
+    One,
+    OfSheets,
+    OfSprites,
+    OfAnimations,
 }
 
 const TERA: &str = ".tera";
-const EACH: &str = ".each";
+// What stands in the name of a template that makes several files.
+const KINDS: [(&str, Files); 3] = [
+    (".each", Files::OfSheets),
+    (".sprite", Files::OfSprites),
+    (".animation", Files::OfAnimations),
+];
 
 // All that went wrong, from the whole to the part.
 fn why(error: &tera::Error) -> String {
@@ -32,20 +48,22 @@ fn why(error: &tera::Error) -> String {
 }
 
 impl Template {
-    /// By the name of its file: `NAME.ENDING.tera` makes OUT.ENDING, and `NAME.each.ENDING.tera` such a file for each sheet.
+    /// By the name of its file: `NAME.ENDING.tera` makes OUT.ENDING, `NAME.each.ENDING.tera` such a file for each sheet, and
+    /// `NAME.sprite.ENDING.tera` and `NAME.animation.ENDING.tera` a file OUT-SPRITE.ENDING for each sprite or each animation.
     pub fn new(name: &str, text: &str) -> Result<Template, Fault> {
         let refused = |what: &str| Fault::new(WORDS, format!("{}: {}", name.escape_debug(), what));
         let known = name
             .strip_suffix(TERA)
             .and_then(|name| name.split_once('.'));
         let (_, endings) = known.ok_or_else(|| {
-            refused("the name of a template is NAME.ENDING.tera or NAME.each.ENDING.tera")
+            refused("the name of a template is NAME.ENDING.tera, or NAME.each.ENDING.tera, or with sprite or animation in place of each")
         })?;
         let endings = format!(".{}", endings);
-        let each = endings
-            .strip_prefix(EACH)
-            .filter(|ending| ending.starts_with('.'));
-        let ending = each.unwrap_or(&endings);
+        let several = KINDS.iter().find_map(|(word, files)| {
+            let ending = endings.strip_prefix(word)?;
+            ending.starts_with('.').then_some((ending, *files))
+        });
+        let (ending, files) = several.unwrap_or((&endings, Files::One));
         let is_picture = ending.to_ascii_lowercase().ends_with(".png");
         if ending.ends_with(['.', ' ']) || is_picture || ending.chars().any(char::is_control) {
             return Err(refused("its files can't have this ending"));
@@ -54,7 +72,7 @@ impl Template {
             name: name.to_string(),
             text: text.to_string(),
             ending: ending.to_string(),
-            is_for_each: each.is_some(),
+            files,
         };
         template.parsed()?;
         Ok(template)
@@ -81,37 +99,95 @@ impl Template {
         Ok(tera)
     }
 
+    fn text(&self, tera: &Tera, context: &Context) -> Result<Vec<u8>, Fault> {
+        let text = tera.render(&self.name, context);
+        let text = text.map_err(|error| self.refused(&error))?;
+        Ok(text.into_bytes())
+    }
+
+    fn context(&self, of: &Value) -> Result<Context, Fault> {
+        Context::from_serialize(of).map_err(|error| self.refused(&error))
+    }
+
     /// The files of one scale.
     pub fn files(&self, sheet: &Sheet) -> Result<Vec<File>, Fault> {
         let tera = self.parsed()?;
-        let all = whole(sheet);
-        let file = |name: String, more: Option<&Value>| {
-            let mut context =
-                Context::from_serialize(&all).map_err(|error| self.refused(&error))?;
-            if let Some(page) = more {
-                context.insert("page", page);
-            }
-            let text = tera
-                .render(&self.name, &context)
-                .map_err(|error| self.refused(&error))?;
-            Ok((name, text.into_bytes()))
-        };
-        if !self.is_for_each {
-            return Ok(vec![file(format!("{}{}", sheet.stem, self.ending), None)?]);
+        if matches!(self.files, Files::OfSprites | Files::OfAnimations) {
+            return self.small_files(sheet, &tera);
         }
-        let pages = sheet
-            .pages
-            .iter()
-            .zip(all["pages"].as_array().into_iter().flatten());
-        pages
-            .map(|(page, value)| file(beside(&page.image, &self.ending), Some(value)))
-            .collect()
+        let all = whole(sheet);
+        let mut context = self.context(&all)?;
+        if self.files == Files::One {
+            let name = format!("{}{}", sheet.stem, self.ending);
+            return Ok(vec![(name, self.text(&tera, &context)?)]);
+        }
+        let mut files = Vec::new();
+        let values = all["pages"].as_array().into_iter().flatten();
+        for (page, value) in sheet.pages.iter().zip(values) {
+            context.insert("page", value);
+            files.push((page.beside(&self.ending), self.text(&tera, &context)?));
+        }
+        Ok(files)
+    }
+
+    // Of sprites or animations, with what belongs to each alone.
+    fn small_files(&self, sheet: &Sheet, tera: &Tera) -> Result<Vec<File>, Fault> {
+        let mut context = self.context(&settings(sheet))?;
+        let animated = sheet.animated();
+        let mut frames: HashMap<&str, Value> = HashMap::new();
+        let mut files = Vec::new();
+        for one in &sheet.pages {
+            context.insert("page", &without_frames(one));
+            for each in &one.frames {
+                let mut value = frame(&animated, each);
+                context.insert("frame", &value);
+                if self.files == Files::OfSprites {
+                    files.push((
+                        self.small_name(sheet, &each.name),
+                        self.text(tera, &context)?,
+                    ));
+                }
+                value["image"] = json!(one.image);
+                frames.insert(&each.name, value);
+            }
+        }
+        if self.files == Files::OfAnimations {
+            for one in &sheet.animations {
+                let mut value = animation(one);
+                let shown = one.frames.iter().map(|(_, name)| frames.get(name.as_str()));
+                value["frames"] = json!(shown.collect::<Vec<_>>());
+                context.insert("animation", &value);
+                files.push((
+                    self.small_name(sheet, &one.name),
+                    self.text(tera, &context)?,
+                ));
+            }
+        }
+        self.check_names(&files)?;
+        Ok(files)
+    }
+
+    fn small_name(&self, sheet: &Sheet, name: &str) -> String {
+        format!("{}-{}{}", sheet.stem, name.replace('/', "-"), self.ending)
+    }
+
+    // The parts of a name can be joined in two ways.
+    fn check_names(&self, files: &[File]) -> Result<(), Fault> {
+        let mut names = HashSet::new();
+        match files.iter().find(|(name, _)| !names.insert(name)) {
+            Some((name, _)) => Err(Fault::new(
+                WORDS,
+                format!("{}: two files would have this name", name),
+            )),
+            None => Ok(()),
+        }
     }
 }
 
-fn frame(sheet: &Sheet, frame: &Frame) -> Value {
+type Animated<'a> = HashMap<&'a str, (&'a Animation, u64)>;
+
+fn frame(animated: &Animated, frame: &Frame) -> Value {
     let (kept, (width, height), (wide, high)) = (frame.kept, frame.whole, frame.lying());
-    let animated = sheet.animated();
     let animation = animated.get(frame.name.as_str());
     let middle = |from: u32, side: u32, whole: u32| {
         f64::from(from) + f64::from(side) / 2.0 - f64::from(whole) / 2.0
@@ -133,27 +209,35 @@ fn sides(sides: crate::nine::Sides) -> Value {
     json!({"left": sides.left, "right": sides.right, "top": sides.top, "bottom": sides.bottom})
 }
 
-fn page(sheet: &Sheet, page: &Page) -> Value {
-    let frames: Vec<Value> = page.frames.iter().map(|one| frame(sheet, one)).collect();
-    json!({"image": page.image, "width": page.width, "height": page.height, "frames": frames})
+fn without_frames(page: &Page) -> Value {
+    json!({"image": page.image, "sha256": page.sum, "width": page.width, "height": page.height})
+}
+
+fn page(animated: &Animated, page: &Page) -> Value {
+    let frames = page.frames.iter().map(|one| frame(animated, one));
+    let mut value = without_frames(page);
+    value["frames"] = json!(frames.collect::<Vec<_>>());
+    value
+}
+
+fn animation(one: &Animation) -> Value {
+    let names: Vec<&str> = one.frames.iter().map(|frame| frame.1.as_str()).collect();
+    json!({"name": one.name, "frames": names, "frame_rate": one.frame_rate, "loop": one.is_looped})
+}
+
+fn settings(sheet: &Sheet) -> Value {
+    json!({
+        "stem": sheet.stem, "scale": sheet.scale.value(), "premultiplied": sheet.is_premultiplied, "frame_rate": sheet.frame_rate,
+    })
 }
 
 fn whole(sheet: &Sheet) -> Value {
-    let names = |one: &crate::animation::Animation| {
-        one.frames
-            .iter()
-            .map(|frame| frame.1.clone())
-            .collect::<Vec<_>>()
-    };
-    let animations = sheet
-        .animations
-        .iter()
-        .map(|one| json!({"name": one.name, "frames": names(one)}));
-    json!({
-        "stem": sheet.stem, "scale": sheet.scale.value(), "premultiplied": sheet.is_premultiplied, "frame_rate": sheet.frame_rate,
-        "pages": sheet.pages.iter().map(|one| page(sheet, one)).collect::<Vec<_>>(),
-        "animations": animations.collect::<Vec<_>>(),
-    })
+    let animated = sheet.animated();
+    let pages = sheet.pages.iter().map(|one| page(&animated, one));
+    let mut all = settings(sheet);
+    all["pages"] = json!(pages.collect::<Vec<_>>());
+    all["animations"] = json!(sheet.animations.iter().map(animation).collect::<Vec<_>>());
+    all
 }
 
 /// Of Unity and of cocos2d.

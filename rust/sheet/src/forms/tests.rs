@@ -2,6 +2,7 @@
 use super::{check_names, files, Filter, Form, Style, Template, Wrap};
 use crate::picture::Part;
 use crate::sheet::{Frame, Page, Sheet};
+use crate::words::Names;
 
 fn sheet() -> Sheet {
     let frame = Frame {
@@ -24,7 +25,9 @@ fn sheet() -> Sheet {
         scale: "0.5".parse().unwrap(),
         is_premultiplied: true,
         pages: vec![Page {
+            record: "s".to_string(),
             image: "s.png".to_string(),
+            sum: "5a".to_string(),
             width: 8,
             height: 16,
             frames: vec![frame],
@@ -40,6 +43,7 @@ fn text(form: Form) -> String {
         template: None,
         filter: Filter::Nearest,
         wrap: Wrap::Xy,
+        names: Names::Fixed,
         with_page: false,
     };
     let mut files = files(&style, &sheet()).unwrap();
@@ -72,7 +76,7 @@ fn libgdx() {
     let lines = "\ns.png\nsize: 8,16\nformat: RGBA8888\nfilter: Nearest,Nearest\nrepeat: xy\na \"b\".png\n  rotate: true\n  \
                  xy: 1, 2\n  size: 5, 6\n  orig: 10, 20\n  offset: 3, 10\n  index: -1\n";
     assert_eq!(text(Form::Libgdx), lines);
-    let lines = "s.png\nsize: 8,16\nformat: RGBA8888\nfilter: Nearest,Nearest\nrepeat: xy\npma: true\na \"b\".png\n\
+    let lines = "s.png\nsize: 8,16\nformat: RGBA8888\nfilter: Nearest,Nearest\nrepeat: xy\npma: true\nsha256: 5a\na \"b\".png\n\
                  bounds: 1, 2, 5, 6\noffsets: 3, 10, 10, 20\nrotate: 90\n";
     assert_eq!(text(Form::LibgdxNew), lines);
 }
