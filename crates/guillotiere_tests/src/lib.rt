@@ -22,6 +22,8 @@ mod node_kinds;
 #[cfg(test)]
 mod playing;
 #[cfg(test)]
+mod rehearsing;
+#[cfg(test)]
 mod rows;
 #[cfg(test)]
 mod session_rows;

@@ -3,6 +3,7 @@
 
 pub mod queries;
 pub mod rearranging;
+pub mod rehearsing;
 pub mod requesting;
 pub mod reserving;
 pub mod walks;

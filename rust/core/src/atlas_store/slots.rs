@@ -8,6 +8,7 @@ pub mod lists;
 pub mod piles;
 pub mod piling;
 pub mod placing;
+pub mod rehearsing;
 pub mod walks;
 
 use crate::atlas_model::Rectangle;
