@@ -62,6 +62,8 @@ OPERATORS = [
 ]
 
 NUMBERS = [
+    ('cut', [BOOL, U8, U8], 1, seq(put(2, op2('WrapAdd', copy(1), num(U8, 200))), put(0, op2(unsigned('Lt'), copy(2), num(U8, 100))), 'Return'),
+     [((100,), 1), ((10,), 0)]),
     ('literal_shift', [U64, U64], 1, seq(put(0, op2('Shl', num(U64, 1), copy(1))), 'Return'), [((40,), 1 << 40)]),
     ('literals', [U64, U64], 1, seq(put(0, op2(unsigned('Mul'), num(U64, 65536), num(U64, 65536))), 'Return'), [((0,), 1 << 32)]),
     ('great_literal', [U64], 0, seq(put(0, opd(num(U64, ALL))), 'Return'), [((), ALL)]),

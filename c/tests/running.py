@@ -7,7 +7,8 @@ import tempfile
 
 HERE = os.path.dirname(os.path.abspath(__file__))
 ROOT = os.path.dirname(os.path.dirname(HERE))
-BITS = {'Bool': 1}
+# The seconds that all cases may take.
+LONGEST = 10
 
 
 def import_printer(folder):
@@ -70,7 +71,10 @@ def run(folder, compiler):
         ran = subprocess.run(compiler + ['-I', os.path.join(ROOT, 'bindings', 'c'), '-o', program, source], capture_output=True, text=True)
         if ran.returncode or re.search('warning', ran.stderr):
             return [ran.stderr[-2000:]]
-        told = subprocess.run([program], capture_output=True, text=True).stdout
+        try:
+            told = subprocess.run([program], capture_output=True, text=True, timeout=LONGEST).stdout
+        except subprocess.TimeoutExpired:
+            return ['a case does not end']
     return differing(told, modules[1]) + not_refused(*modules)
 
 
