@@ -5,11 +5,14 @@ import re
 
 import border
 from bodies import Body
+from merging import Piece, merged, small
 from mir import Unknown, only
 from shapes import Shapes, declaration, is_library, word
 
 HERE = os.path.dirname(os.path.abspath(__file__))
 Key = collections.namedtuple('Key', ['name', 'types', 'methods'])
+# How many lines a function has at most that is put where it is called.
+SMALL = 8
 # What has no body: it stands in heap.c.
 FOREIGN = {'libc::heap::rattle_alloc', 'libc::heap::rattle_realloc', 'libc::heap::rattle_dealloc'}
 
@@ -24,7 +27,7 @@ class Printer:
         self.world, self.names = world, names
         self.shapes = Shapes(world, names, headers)
         self.called, self.taken, self.queue, self.printed = {}, {}, [], []
-        self.statics, self.makers, self.foreign = [], {}, set()
+        self.statics, self.makers, self.foreign, self.count = [], {}, set(), 0
 
     # Functions
 
@@ -172,34 +175,63 @@ class Printer:
         lines = ['/* ' + line.replace('*/', '* /') for line in known.documentation + ['%s:%d' % (known.place, known.line)]]
         return lines[:1] + [' * ' + line[3:] for line in lines[1:]] + [' */'] if len(lines) > 1 else [lines[0] + ' */']
 
-    def types(self):
-        ordered = self.shapes.order()
-        lines = ['typedef struct %s %s;' % (name, name) for name in map(self.shapes.name, ordered)] + ['']
-        for kind in ordered:
+    def structs(self):
+        """Each struct, and for a reader the name in the sources of those that aren't of a library."""
+        pieces, told = [], {}
+        for kind in self.shapes.order():
+            pieces.append(Piece(self.shapes.name(kind), kind[1] if kind[0] == 'Named' else kind[0], self.shapes.definition(kind)))
             if kind[0] == 'Named' and not is_library(kind[1]):
-                lines.append('/* %s */' % kind[1])
-            lines += self.shapes.definition(kind) + ['']
-        return lines
+                told[self.shapes.name(kind)] = ['/* %s */' % kind[1]]
+        return pieces, told
 
     def sizes(self):
         """The sizes that proofs took, asserted where pointers have 64 bits."""
-        lines = ['#if UINTPTR_MAX > 0xffffffffu']
-        for index, (kind, size) in enumerate(sorted(self.shapes.strides.items(), key=lambda each: self.shapes.c(each[0]))):
-            lines.append('typedef char size_%d[sizeof(%s) == %d ? 1 : -1];' % (index + 1, self.shapes.c(kind), size))
-        return lines + ['#endif', '']
+        return ['sizeof(%s) == %d' % (self.shapes.c(kind), size) for kind, size in self.shapes.strides.items()]
 
     def text(self, wrappers=()):
         """All of the file, after run()."""
-        functions = []
-        for key, head, lines in self.printed:
-            functions += self.documentation(key) + ['static %s {' % head] + lines + ['}', '']
-        heads = ['static %s;' % head for _, head, _ in self.printed]
-        makers = [line for _, lines in self.makers.values() for line in lines]
+        structs, told = self.structs()
+        makers = [Piece(name, 'maker', lines) for name, lines in self.makers.values()]
+        functions = [Piece(self.name(key), key.name, [head + ' {'] + lines + ['}']) for key, head, lines in self.printed]
+        notes = {self.name(key): self.documentation(key) for key, _, _ in self.printed}
         statics = ['static ' + text % ('constant_%d' % (index + 1)) for index, text in enumerate(self.statics)]
-        heap = support('heap.c') if self.foreign else []
-        heap += support('lanes.c') if self.shapes.has_lanes else []
-        parts = [support('support.c'), self.types(), self.sizes(), heap, makers, statics, [''], heads, [''], functions, list(wrappers)]
+        groups, others = merged([structs, makers, functions], statics + ['//'] + self.sizes() + ['//'] + list(wrappers))
+        statics, sizes, wrappers = parted(others)
+        self.count = len(groups[2])
+        inner = (support('heap.c') if self.foreign else []) + (support('lanes.c') if self.shapes.has_lanes else []) + ['']
+        made = [line for piece in groups[1] for line in piece.lines]
+        parts = [support('support.c'), ['', *typed(groups[0], told)], asserted(sizes), inner, made, statics, [''], written(groups[2], notes),
+                 wrappers]
         return '\n'.join(line for part in parts for line in part).rstrip('\n') + '\n'
+
+
+def parted(lines):
+    """Three lists, where lines `//` divide them."""
+    one = lines.index('//')
+    other = lines.index('//', one + 1)
+    return lines[:one], lines[one + 1:other], lines[other + 1:]
+
+
+def typed(structs, told):
+    lines = ['typedef struct %s %s;' % (piece.name, piece.name) for piece in structs] + ['']
+    for piece in structs:
+        lines += told.get(piece.name, []) + piece.lines + ['']
+    return lines
+
+
+def asserted(sizes):
+    tests = ['typedef char size_%d[%s ? 1 : -1];' % (index + 1, test) for index, test in enumerate(sorted(set(sizes)))]
+    return ['#if UINTPTR_MAX > 0xffffffffu'] + tests + ['#endif', '']
+
+
+def written(functions, notes):
+    """Declarations, and then the functions: small ones are to be printed in place by the compiler."""
+    inner = small(functions, SMALL)
+    lines = ['%s %s;' % ('SMALL' if piece.name in inner else 'PART', piece.lines[0][:-2]) for piece in functions] + ['']
+    for piece in functions:
+        head = '%s %s' % ('SMALL' if piece.name in inner else 'PART', piece.lines[0])
+        lines += notes[piece.name] + [head] + piece.lines[1:] + ['']
+    return lines
 
 
 def of(world, names):

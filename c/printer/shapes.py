@@ -272,5 +272,6 @@ class Shapes:
         pad = '    ' if len(filled) == 1 else '        '
         lines = []
         for index in filled:
-            lines += [pad + 'struct {'] + self.rows(kind, index, parts[index], pad + '    ') + ['%s} %s;' % (pad, self.variant(kind, index))]
+            lines += [pad + 'struct {'] + self.rows(kind, index, parts[index], pad + '    ')
+            lines.append('%s} %s;' % (pad, self.variant(kind, index)))
         return lines if len(filled) < 2 else ['    union {'] + lines + ['    } is;']

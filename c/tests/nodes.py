@@ -38,7 +38,8 @@ OPERATORS = [
     of_two(unsigned('Div'), U32, U32, [((MOST[32], 2), 2147483647)]), of_two(signed('Div'), U32, U32, [((MOST[32] - 6, 2), MOST[32] - 2)]),
     of_two(unsigned('Rem'), U8, U8, [((250, 7), 5)]), of_two(signed('Rem'), U32, U32, [((MOST[32] - 6, 4), MOST[32] - 2)]),
     of_two(signed('Div'), U8, U8, [((0xf9, 2), 0xfd)]),
-    of_two(unsigned('Lt'), U32, BOOL, [((1, MOST[32]), 1), ((2, 2), 0)]), of_two(signed('Lt'), U32, BOOL, [((MOST[32], 1), 1), ((1, MOST[32]), 0)]),
+    of_two(unsigned('Lt'), U32, BOOL, [((1, MOST[32]), 1), ((2, 2), 0)]), of_two(signed('Lt'), U32, BOOL, [((MOST[32], 1), 1), ((1,
+     MOST[32]), 0)]),
     of_two(unsigned('Le'), U64, BOOL, [((2, 2), 1), ((3, 2), 0)]), of_two(signed('Le'), U8, BOOL, [((0x80, 0x7f), 1), ((0x7f, 0x80), 0)]),
     of_two(signed('Lt'), U64, BOOL, [((ALL, 0), 1), ((0, ALL), 0)]),
     of_two('Eq', U64, BOOL, [((1 << 40, 1 << 40), 1), ((1 << 40, 0), 0)]), of_two('Ne', U32, BOOL, [((4, 4), 0), ((4, 5), 1)]),
@@ -53,16 +54,19 @@ OPERATORS = [
     of_one('ones', 'CountOnes', U64, U32, [((ALL,), 64), ((5,), 2)]), of_one('ones_32', 'CountOnes', U32, U32, [((MOST[32],), 32)]),
     of_one('leading', 'LeadingZeros', U64, U32, [((0,), 64), ((1,), 63), ((1 << 63,), 0)]),
     of_one('leading_32', 'LeadingZeros', U32, U32, [((0,), 32), ((1,), 31)]),
-    of_one('trailing', 'TrailingZeros', U64, U32, [((0,), 64), ((8,), 3)]), of_one('trailing_32', 'TrailingZeros', U32, U32, [((0,), 32), ((8,), 3)]),
+    of_one('trailing', 'TrailingZeros', U64, U32, [((0,), 64), ((8,), 3)]), of_one('trailing_32', 'TrailingZeros', U32, U32, [((0,),
+     32), ((8,), 3)]),
     of_one('widen_unsigned', cast('Unsigned', 'Unsigned', 64), U32, U64, [((MOST[32],), MOST[32])]),
     of_one('widen_signed', cast('Signed', 'Signed', 64), U32, U64, [((MOST[32],), ALL)]),
     of_one('widen_signed_8', cast('Signed', 'Unsigned', 32), U8, U32, [((0x80,), 0xffffff80)]),
-    of_one('narrow', cast('Signed', 'Unsigned', 8), U32, U8, [((0x1234,), 0x34)]), of_one('same', cast('Signed', 'Unsigned', 32), U32, U32, [((7,), 7)]),
+    of_one('narrow', cast('Signed', 'Unsigned', 8), U32, U8, [((0x1234,), 0x34)]), of_one('same', cast('Signed', 'Unsigned', 32),
+     U32, U32, [((7,), 7)]),
     of_one('of_bool', cast('Unsigned', 'Unsigned', 32), BOOL, U32, [((1,), 1)]),
 ]
 
 NUMBERS = [
-    ('cut', [BOOL, U8, U8], 1, seq(put(2, op2('WrapAdd', copy(1), num(U8, 200))), put(0, op2(unsigned('Lt'), copy(2), num(U8, 100))), 'Return'),
+    ('cut', [BOOL, U8, U8], 1, seq(put(2, op2('WrapAdd', copy(1), num(U8, 200))), put(0, op2(unsigned('Lt'), copy(2), num(U8, 100))),
+     'Return'),
      [((100,), 1), ((10,), 0)]),
     ('literal_shift', [U64, U64], 1, seq(put(0, op2('Shl', num(U64, 1), copy(1))), 'Return'), [((40,), 1 << 40)]),
     ('literals', [U64, U64], 1, seq(put(0, op2(unsigned('Mul'), num(U64, 65536), num(U64, 65536))), 'Return'), [((0,), 1 << 32)]),
@@ -94,11 +98,13 @@ PARTS = [
     ('swap_in_itself', [U64, U32, U64, PAIR, U64], 2, seq(
         put(3, {'Aggregate': [copy(1), copy(2)]}), put(4, op1(cast('Unsigned', 'Unsigned', 64), copy(3, field(0)))),
         put(3, {'Aggregate': [num(U32, 0), copy(4)]}), put(0, opd(copy(3, field(1)))), 'Return'), [((3, 5), 3)]),
-    ('enum_tag', [U8, U32, CHOICE], 1, seq(put(2, {'Aggregate': [num(U8, 1), copy(1)]}), put(0, opd(copy(2, variant(1), field(0)))), 'Return'),
+    ('enum_tag', [U8, U32, CHOICE], 1, seq(put(2, {'Aggregate': [num(U8, 1), copy(1)]}), put(0, opd(copy(2, variant(1), field(0)))),
+     'Return'),
      [((7,), 1)]),
     ('enum_payload', [U32, U32, TWO], 1, seq(put(2, {'Aggregate': [num(U8, 0), num(U8, 4), copy(1)]}),
                                              put(0, opd(copy(2, variant(0), field(2)))), 'Return'), [((7,), 7)]),
-    ('enum_other', [U64, U64, TWO], 1, seq(put(2, {'Aggregate': [num(U8, 1), copy(1)]}), put(0, opd(copy(2, variant(1), field(1)))), 'Return'),
+    ('enum_other', [U64, U64, TWO], 1, seq(put(2, {'Aggregate': [num(U8, 1), copy(1)]}), put(0, opd(copy(2, variant(1), field(1)))),
+     'Return'),
      [((ALL,), ALL)]),
     ('array', [U32, U32, array(U32, 3), PTR, PTR, U64], 1, seq(
         put(2, {'Aggregate': [num(U32, 4), copy(1), num(U32, 6)]}), put(3, {'AddrOf': at(2)}),
@@ -128,9 +134,11 @@ def adds(local, number):
 
 
 CONTROL = [
-    ('switch', [U32, U8, CHOICE], 1, seq([{'Switch': [copy(1), [[1, 3], [2]], True]}] + seq(put(0, opd(num(U32, 13)))) + seq(put(0, opd(num(U32, 2))))
+    ('switch', [U32, U8, CHOICE], 1, seq([{'Switch': [copy(1), [[1, 3], [2]], True]}] + seq(put(0, opd(num(U32, 13)))) + seq(put(0,
+     opd(num(U32, 2))))
                                          + seq(put(0, opd(num(U32, 99)))), 'Return'), [((1,), 13), ((3,), 13), ((2,), 2), ((0,), 99)]),
-    ('switch_all', [U32, U8], 1, seq([{'Switch': [copy(1), [[0], [1]], False]}, put(0, opd(num(U32, 5))), put(0, opd(num(U32, 6)))], 'Return'),
+    ('switch_all', [U32, U8], 1, seq([{'Switch': [copy(1), [[0], [1]], False]}, put(0, opd(num(U32, 5))), put(0, opd(num(U32, 6)))],
+     'Return'),
      [((0,), 5), ((1,), 6)]),
     ('sum_to', [U32, U32, U32, BOOL], 1, seq(put(0, opd(num(U32, 0))), put(2, opd(num(U32, 0))), block(loop(
         put(3, op2(unsigned('Lt'), copy(2), copy(1))), when(copy(3), 'Skip', leave(1)), adds(2, num(U32, 1)), adds(0, copy(2)))), 'Return'),
@@ -179,7 +187,8 @@ ORDER = [
         put(0, opd(copy(2))), 'Return'), [((7,), 21)]),
     ('two_offsets', [U32, U64, array(U32, 4), PTR, U64, PTR, PTR], 1, seq(
         put(2, {'Aggregate': [num(U32, each) for each in (3, 4, 5, 6)]}), put(3, {'AddrOf': at(2)}),
-        put(4, op2(unsigned('Mul'), copy(1), num(U64, 4))), put(5, op2('Offset', copy(3), copy(4))), put(at(5, deref(U32)), opd(num(U32, 50))),
+        put(4, op2(unsigned('Mul'), copy(1), num(U64, 4))), put(5, op2('Offset', copy(3), copy(4))), put(at(5, deref(U32)),
+         opd(num(U32, 50))),
         put(6, op2('Offset', copy(3), copy(4))), put(0, opd(copy(6, deref(U32)))), 'Return'), [((2,), 50)]),
 ]
 
@@ -188,7 +197,8 @@ CALLS = [
     ('given_method', [U32, U32], 1, seq(call('t::twice', [copy(1)], 0, [U32], [{'Impl': ['t::Steps', [], []]}]), 'Return'), [((8,), 10)]),
     ('not_used', [U32, U32, U32], 1, seq(call('t::next', [copy(1)], 2), put(0, opd(copy(1))), 'Return'), [((8,), 8)]),
     ('into_a_field', [U64, U32, PAIR], 1, seq(
-        put(2, {'Aggregate': [num(U32, 1), num(U64, 2)]}), {'Call': [{'Fn': ['t::next', {'types': [], 'dicts': []}]}, [copy(1)], at(2, field(0))]},
+        put(2, {'Aggregate': [num(U32, 1), num(U64, 2)]}), {'Call': [{'Fn': ['t::next', {'types': [], 'dicts': []}]}, [copy(1)],
+         at(2, field(0))]},
         put(0, op1(cast('Unsigned', 'Unsigned', 64), copy(2, field(0)))), 'Return'), [((8,), 9)]),
     ('number', [U64, U64], 1, seq(call('t::length', [], 0, [{'Const': 7}]), 'Return'), [((0,), 7)]),
 ]
@@ -198,7 +208,8 @@ HELPERS = [
     function('t::next', [U32, U32], 1, seq(put(0, op2(unsigned('Add'), copy(1), num(U32, 1))), 'Return')),
     function('t::boxed', [named('t::Box', param(0)), param(0), EMPTY], 1, seq(
         put(2, {'Aggregate': ['Unit']}), put(0, {'Aggregate': [copy(1), copy(2)]}), 'Return'), 1),
-    function('t::step', [U32, U32], 1, seq(put(0, op2(unsigned('Add'), copy(1), num(U32, 1))), 'Return'), method_of={'Impl': ['t::Steps', 0]}),
+    function('t::step', [U32, U32], 1, seq(put(0, op2(unsigned('Add'), copy(1), num(U32, 1))), 'Return'),
+     method_of={'Impl': ['t::Steps', 0]}),
     function('t::twice', [param(0), param(0), param(0)], 1, seq(
         {'Call': [{'Method': [{'Given': 0}, 0, {'types': [], 'dicts': []}]}, [copy(1)], at(2)]},
         {'Call': [{'Method': [{'Given': 0}, 0, {'types': [], 'dicts': []}]}, [copy(2)], at(0)]}, 'Return'), 1, [{'of': 't::Step'}]),
@@ -215,16 +226,19 @@ def refused(word, kinds, body, count=0):
 # What the printer doesn't know, and the word that its refusal has.
 REFUSED = [
     refused('statement Fork', [UNIT], [{'Fork': 1}]), refused('callee VtMethod', [UNIT, UNIT], [{'Call': [{'VtMethod': 0}, [], at(1)]}]),
-    refused('operand Float', [U64], seq(put(0, opd({'Float': 1})), 'Return')), refused('right side Load', [U64], seq(put(0, {'Load': 1}), 'Return')),
+    refused('operand Float', [U64], seq(put(0, opd({'Float': 1})), 'Return')), refused('right side Load', [U64], seq(put(0,
+     {'Load': 1}), 'Return')),
     refused('operator FloatAdd', [U64], seq(put(0, op2('FloatAdd', num(U64, 1), num(U64, 1))), 'Return')),
     refused('operator FloatNeg', [U64], seq(put(0, op1('FloatNeg', num(U64, 1))), 'Return')),
-    refused('type Float', [{'Float': 64}], ['Return']), refused('step Index', [U64, PAIR], seq(put(0, opd(copy(1, {'Index': 0}))), 'Return')),
+    refused('type Float', [{'Float': 64}], ['Return']), refused('step Index', [U64, PAIR], seq(put(0, opd(copy(1, {'Index': 0}))),
+     'Return')),
     refused('operator Div of 128 bits', [U128], seq(put(0, op2(unsigned('Div'), num(U128, 1), num(U128, 1))), 'Return')),
     refused('cast', [U128, U8], seq(put(0, op1(cast('Signed', 'Signed', 128), copy(1))), 'Return'), 1),
     refused('constant Text', [UNIT, ref(U8)], seq({'LendStatic': [at(1), U8, {'Text': 'a'}]}, put(0, opd(copy(1, deref(U8)))), 'Return')),
     refused('vectors of', [U64, {'Vector': [U8, {'Lit': 8}]}], seq(put(0, {'Vec1': [{'Bitmask': 64}, copy(1)]}), 'Return'), 1),
     refused('no function', [U64], seq(call('t::absent', [], 0), 'Return')),
-    refused('an offset of', [U32, U64, PTR, PTR], seq(put(3, op2('Offset', copy(2), copy(1))), put(0, opd(copy(3, deref(U32)))), 'Return'), 2),
+    refused('an offset of', [U32, U64, PTR, PTR], seq(put(3, op2('Offset', copy(2), copy(1))), put(0, opd(copy(3, deref(U32)))),
+     'Return'), 2),
     refused('foreign function', [UNIT], seq(call('t::foreign', [], 0), 'Return')),
     refused('behind its end', [UNIT], ['Return', 'Return']),
 ]

@@ -41,7 +41,8 @@ def differing(told, nodes):
     lines, wanted = told.split('\n'), []
     for name, _, _, _, rows in nodes.CASES:
         wanted += ['%s %d' % (name, result) for _, result in rows]
-    return ['%s and not %s' % pair for pair in zip(lines, wanted) if pair[0] != pair[1]] or ([] if len(lines) == len(wanted) + 1 else ['too few'])
+    wrong = ['%s and not %s' % pair for pair in zip(lines, wanted) if pair[0] != pair[1]]
+    return wrong or ([] if len(lines) == len(wanted) + 1 else ['too few'])
 
 
 def not_refused(mir, nodes, printing, sources):
