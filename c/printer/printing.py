@@ -200,8 +200,8 @@ class Printer:
         self.count = len(groups[2])
         inner = (support('heap.c') if self.foreign else []) + (support('lanes.c') if self.shapes.has_lanes else []) + ['']
         made = [line for piece in groups[1] for line in piece.lines]
-        parts = [support('support.c'), ['', *typed(groups[0], told)], asserted(sizes), inner, made, statics, [''], written(groups[2], notes),
-                 wrappers]
+        parts = [support('support.c'), ['', *typed(groups[0], told)], asserted(sizes), inner, made, statics, [''],
+                 written(groups[2], notes), wrappers]
         return '\n'.join(line for part in parts for line in part).rstrip('\n') + '\n'
 
 
