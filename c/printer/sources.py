@@ -144,10 +144,10 @@ class Sources:
 
 
 def above(lines):
-    """The documentation that ends with the last of these lines, but for attributes."""
+    """The comment that ends with the last of these lines, but for attributes."""
     found = []
-    while lines and re.match(r'\s*(?:///|#\[)', lines[-1]):
+    while lines and re.match(r'\s*(?://|#\[)', lines[-1]):
         line = lines.pop().strip()
-        if line.startswith('///'):
-            found.insert(0, line[3:].strip())
+        if line.startswith('//'):
+            found.insert(0, line.lstrip('/').strip())
     return found
