@@ -33,13 +33,17 @@ pub trait Entry {
     fn rectangle(&self) -> Rectangle
         ensures { result ≡ (item self.now).area };
 
-    /// The entry after it in its list; in a pile, the tag of what is below it to the right.
-    fn after(&self) -> Link
-        ensures { result.number ≡ (item self.now).after };
+    /// The entry that it hangs below, or the tag of its list.
+    fn up(&self) -> Link
+        ensures { result.number ≡ (item self.now).up };
 
-    /// The entry before it in its list; in a pile, the tag of what is below it to the left.
-    fn before(&self) -> Link
-        ensures { result.number ≡ (item self.now).before };
+    /// The entry that hangs below it to the left, or none.
+    fn left(&self) -> Link
+        ensures { result.number ≡ (item self.now).left };
+
+    /// The entry that hangs below it to the right, or none.
+    fn right(&self) -> Link
+        ensures { result.number ≡ (item self.now).right };
 }
 
 // Shows a pile to a search, but for what lies below an entry that can't be the best.
