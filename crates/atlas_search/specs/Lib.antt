@@ -7,6 +7,7 @@ pub mod Masks
 pub mod Tables
 pub mod Items
 pub mod Heaps
+pub mod Ways
 pub mod Lookups
 pub mod Ranks
 pub mod Bests
