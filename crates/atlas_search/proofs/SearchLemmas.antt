@@ -16,3 +16,4 @@ pub mod ItemPicks
 pub mod BlankHeads
 pub mod Heaps
 pub mod Ways
+pub mod HeapSearches

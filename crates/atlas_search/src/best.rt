@@ -120,7 +120,7 @@ impl Best {
                 is_large: self.is_large,
                 rank,
                 corner,
-                bar: if rank == 0 { corner } else { self.bar },
+                bar: if rank == 0 { corner } else { NO_CORNER },
                 at,
             };
         }

@@ -1,5 +1,5 @@
 //! The search for the free box that a request takes, through the lists of a table.
-ghost use Rattle.std.specs.Prelude.{◌≡◌, ◌≢◌, ◌+◌, ◌*◌, ◌<◌, ◌==◌, ◌⊎◌, ◌++◌, ◌∷◌, ℕ, Bool, max, true, [], map, List, None, IfSome};
+ghost use Rattle.std.specs.Prelude.{◌≡◌, ◌≢◌, ◌+◌, ◌*◌, ◌<◌, ◌≤◌, ◌==◌, ◌⊎◌, ◌++◌, ◌∷◌, ℕ, Bool, max, true, [], map, List, None, IfSome};
 ghost use Rattle.atlas_model.specs.Boxes.{Box, IsPositive, Sides};
 ghost use Rattle.atlas_model.specs.Choice.{IsFitting, IsPick, Options, class_of};
 ghost use Rattle.atlas_search.specs.Bests.{HasSeen};

@@ -1,11 +1,11 @@
-use Rattle.std.proofs.Common.{map, Bool, [], subst, sym, arith}
+use Rattle.std.proofs.Common.{map, Bool, [], refl, subst, sym, arith}
 use Rattle.atlas_search.specs.declared.best.Found.{Found}
 use Rattle.atlas_search.specs.Bests.{HasSeen}
 use Rattle.atlas_search.specs.Lookups.{IsBestBelow, IsStanding}
 use Rattle.atlas_model.specs.Pixels.{options_of, sides_of}
-use Rattle.atlas_search.proofs.SearchLemmas.ItemPicks.{best-found, free-inside, found-read, none-found, none-from, no_room-of_items, pick-of_items, seen-nothing}
+use Rattle.atlas_search.proofs.SearchLemmas.ItemPicks.{area-read, best-found, free-inside, none-found, none-from, no_room-of_items, pick-of_items, seen-nothing}
 use Rattle.atlas_search.proofs.SearchLemmas.Windows.{fits-reaching, large-law, left-begin, left-next, none-left}
-use Rattle.atlas_search.proofs.search.pick_from.Goals as goal
+use Rattle.atlas_search.proofs.search.pick.Goals as goal
 
 pub loop-least-init : goal.loop-least-init
 loop-least-init g c =
@@ -31,17 +31,17 @@ loop-least-init g c =
 pub search_before-is_last-requires-clause-search : goal.search_before-is_last-requires-clause-search
 search_before-is_last-requires-clause-search g c = (options_of c.args.options.now, sides_of c.args.size, c.loop-least.least, c.loop-least.invariant.0)
 
-pub bounds-entries-spot : goal.bounds-entries-spot
-bounds-entries-spot g c =
+pub bounds-entries-at : goal.bounds-entries-at
+bounds-entries-at g c =
     let o = options_of c.args.options.now in
     let es = map g.E.Entry.item c.args.entries.now in
     let is = c.in-Some.ensures.some in
     let searched = c.search_before-is_last.ensures.best o (sides_of c.args.size) c.loop-least.least c.loop-least.invariant.0 c.loop-least.invariant.3 in
-    let best = best-found o es (sides_of c.args.size) c.args.table.now c.end_after-end.result c.search_before-is_last.new.best c.in-Some.spot searched is.0 is.1 in
-    free-inside g.E.Entry.item c.args.entries.now c.in-Some.spot.at.number best.standing.free
+    let best = best-found o es (sides_of c.args.size) c.end_after-end.result c.search_before-is_last.new.best c.in-Some.at _ searched is.0 is.1 refl in
+    free-inside g.E.Entry.item c.args.entries.now c.in-Some.at.number best.standing.free
 
-pub offset_bounds-entries-spot : goal.offset_bounds-entries-spot
-offset_bounds-entries-spot g c = omega (arith, bounds-entries-spot g c)
+pub offset_bounds-entries-at : goal.offset_bounds-entries-at
+offset_bounds-entries-at g c = omega (arith, bounds-entries-at g c)
 
 pub returns-in-Some-clause-picked : goal.returns-in-Some-clause-picked
 returns-in-Some-clause-picked g c =
@@ -51,11 +51,11 @@ returns-in-Some-clause-picked g c =
     let is = c.in-Some.ensures.some in
     let search = c.loop-least.invariant.0 in
     let searched = c.search_before-is_last.ensures.best o r c.loop-least.least search c.loop-least.invariant.3 in
-    let best = best-found o es r c.args.table.now c.end_after-end.result c.search_before-is_last.new.best c.in-Some.spot searched is.0 is.1 in
-    let read = found-read g.E.Entry.item c.args.entries.now c.in-Some.spot c.index-entries-spot.result c.rectangle.result c.found.result best.standing.free
-    c.index-entries-spot.is c.rectangle.ensures c.found.ensures in
-    pick-of_items o es r c.args.table.now c.requires.listed c.loop-least.least c.end_after-end.result c.found.result c.end_after-end.ensures.class search.from
-    (subst (λ (f : Found). IsBestBelow o c.args.table.now es c.end_after-end.result r f) (sym read) best)
+    let free = (best-found o es r c.end_after-end.result c.search_before-is_last.new.best c.in-Some.at _ searched is.0 is.1 refl).standing.free in
+    let area = area-read g.E.Entry.item c.args.entries.now c.in-Some.at.number c.index-entries-at.result c.rectangle-rectangle.result free
+    c.index-entries-at.is c.rectangle-rectangle.ensures in
+    let best = best-found o es r c.end_after-end.result c.search_before-is_last.new.best c.in-Some.at c.rectangle-rectangle.result searched is.0 is.1 area in
+    pick-of_items o es r c.args.table.now c.requires.listed c.loop-least.least c.end_after-end.result _ c.end_after-end.ensures.class search.from best
 
 pub returns-in-Some-clause-standing : goal.returns-in-Some-clause-standing
 returns-in-Some-clause-standing g c =
@@ -64,10 +64,10 @@ returns-in-Some-clause-standing g c =
     let r = sides_of c.args.size in
     let is = c.in-Some.ensures.some in
     let searched = c.search_before-is_last.ensures.best o r c.loop-least.least c.loop-least.invariant.0 c.loop-least.invariant.3 in
-    let best = best-found o es r c.args.table.now c.end_after-end.result c.search_before-is_last.new.best c.in-Some.spot searched is.0 is.1 in
-    let read = found-read g.E.Entry.item c.args.entries.now c.in-Some.spot c.index-entries-spot.result c.rectangle.result c.found.result best.standing.free
-    c.index-entries-spot.is c.rectangle.ensures c.found.ensures in
-    subst (λ (f : Found). IsStanding o c.args.table.now es f) (sym read) best.standing
+    let free = (best-found o es r c.end_after-end.result c.search_before-is_last.new.best c.in-Some.at _ searched is.0 is.1 refl).standing.free in
+    let area = area-read g.E.Entry.item c.args.entries.now c.in-Some.at.number c.index-entries-at.result c.rectangle-rectangle.result free
+    c.index-entries-at.is c.rectangle-rectangle.ensures in
+    (best-found o es r c.end_after-end.result c.search_before-is_last.new.best c.in-Some.at c.rectangle-rectangle.result searched is.0 is.1 area).standing
 
 pub loop-least-preserved : goal.loop-least-preserved
 loop-least-preserved g c =
@@ -78,19 +78,19 @@ loop-least-preserved g c =
     let search = l.invariant.0 in
     let end = c.end_after-end in
     let searched = c.search_before-is_last.ensures.best o r l.least search l.invariant.3 in
-    let none = c.spot.ensures.none c.in_default.is in (
+    let none = c.found.ensures.none c.in_default.is in (
       record {
         listed = search.listed;
         row = search.row;
         column = search.column;
-        from = none-found o es r c.args.table.now end.result c.search_before-is_last.new.best searched none;
+        from = none-found o es r end.result c.search_before-is_last.new.best searched none;
         left = left-next c.args.table.now c.place_for-own.result l.least end.result end.result l.columns l.rows c.from-columns-in-loop-least.result c.from-rows-in-loop-least.result
             (omega (arith, l.invariant.1, end.ensures.after)) (omega (arith, l.invariant.2, end.ensures.after)) end.ensures.after (omega arith)
             c.from-columns-in-loop-least.ensures c.from-rows-in-loop-least.ensures search.left;
       },
       omega (arith, l.invariant.1, end.ensures.after),
       omega (arith, l.invariant.2, end.ensures.after),
-      seen-nothing o es r c.args.table.now end.result c.search_before-is_last.new.best searched none,
+      seen-nothing o es r end.result c.search_before-is_last.new.best searched none,
     )
 
 pub returns-then-is_empty-clause-none : goal.returns-then-is_empty-clause-none
@@ -107,7 +107,7 @@ returns-then-is_empty-clause-none g c _ =
     c.from-columns-in-loop-least.ensures c.from-rows-in-loop-least.ensures search.left in
     no_room-of_items o es r (none-left o c.args.table.now es r search.listed c.place_for-own.result search.row search.column end.result c.from-columns-in-loop-least.result c.from-rows-in-loop-least.result c.or.result
     left (c.search_before-is_last.ensures.last c.if-is_last.true) c.or.ensures (c.is_empty.ensures.empty c.if-is_empty.true)
-    (none-found o es r c.args.table.now end.result c.search_before-is_last.new.best searched (c.spot.ensures.none c.in_default.is)))
+    (none-found o es r end.result c.search_before-is_last.new.best searched (c.found.ensures.none c.in_default.is)))
 
 pub returns-clause-none : goal.returns-clause-none
 returns-clause-none g c _ =

@@ -3,7 +3,7 @@ use Rattle.atlas_model.specs.Choice.{class_of}
 use Rattle.atlas_model.specs.Pixels.{options_of, sides_of}
 use Rattle.atlas_search.specs.Bests.{HasSeen}
 use Rattle.atlas_search.specs.Lookups.{IsSearch}
-use Rattle.atlas_search.proofs.search.pick_from.Given as goal
+use Rattle.atlas_search.proofs.search.pick.Given as goal
 
 abbrev pub invariant-loop-least : goal.invariant-loop-least
 invariant-loop-least g l =
