@@ -1,5 +1,5 @@
 -- The entries that a search reads: each has a rectangle, and links to others of its list. No public clause cites this module.
-use Rattle.std.specs.Prelude.{ℕ, ◌≡◌, pos, Bool, false, List, map, slice_index_or}
+use Rattle.std.specs.Prelude.{ℕ, pos, Bool, false, List, map, slice_index_or}
 use Rattle.atlas_model.specs.declared.geometry.Rectangle.{Rectangle}
 use Rattle.atlas_model.specs.Boxes.{Sides, Box, box_sides}
 use Rattle.atlas_model.specs.Pixels.{box_of}

@@ -1,5 +1,5 @@
 -- The search through lists of entries: what it needs, and what it answers. No public clause cites this module.
-use Rattle.std.specs.Prelude.{ℕ, ◌+◌, ◌*◌, ◌≡◌, ◌<◌, ◌≤◌, ◌==◌, ◌⊎◌, ◌++◌, ◌∷◌, Bool, true, List, Contains}
+use Rattle.std.specs.Prelude.{ℕ, ◌+◌, ◌*◌, ◌≡◌, ◌<◌, ◌≤◌, ◌==◌, ◌⊎◌, ◌++◌, Bool, true, List, Contains}
 use Rattle.std.specs.Prelude.{slice_index_or, length, ℤ, ◌≤ℤ◌}
 use Rattle.atlas_search.specs.declared.bands.Borders.{Borders}
 use Rattle.atlas_search.specs.declared.bands.Place.{Place}

@@ -1,5 +1,5 @@
 -- The loops of a search through a heap.
-use Rattle.std.proofs.Common.{◌≡◌, ◌≢◌, ℕ, ◌<◌, ◌≤◌, ◌⊎◌, Bool, FitsSigned, w32, List, [], ◌∷◌, ◌++◌, length, map, get_or, refl, ap, sym, ◌∙◌, subst, inl, inr, append_assoc, arith}
+use Rattle.std.proofs.Common.{◌≡◌, ◌≢◌, ℕ, ◌<◌, ◌≤◌, Bool, FitsSigned, w32, List, [], ◌∷◌, ◌++◌, length, map, get_or, refl, ap, sym, ◌∙◌, subst, inl, inr, append_assoc, arith}
 use Rattle.std.proofs.lemmas.Bool.{cases_eq}
 use Rattle.std.proofs.lemmas.List.{length-append, length-map}
 use Rattle.atlas_search.specs.declared.best.Best.{Best}
@@ -8,8 +8,8 @@ use Rattle.atlas_search.specs.Bests.{HasSeen}
 use Rattle.atlas_model.specs.Boxes.{Box, Sides}
 use Rattle.atlas_model.specs.Choice.{ComesFirst}
 use Rattle.atlas_model.specs.Pixels.{box_of}
-use Rattle.atlas_search.specs.Heaps.{Heap, IsHeap, members}
-use Rattle.atlas_search.specs.Heaps.Heap.{None, Top}
+use Rattle.atlas_search.specs.Heaps.{Heap, members}
+use Rattle.atlas_search.specs.Heaps.Heap.{Top}
 use Rattle.atlas_search.specs.Items.{Item, item_at, item_box, shown_items}
 use Rattle.atlas_search.specs.Lookups.{HasShown}
 use Rattle.atlas_search.specs.Numbers.{no_slot, occurs}
@@ -78,7 +78,7 @@ done-all es top h s at done d e =
     inl (
       refl,
       d.4 ∙ ap (λ (v : Way). ahead v ++ members (Top at d.1 d.2)) here
-      ∙ ap members (sym (d.3 ∙ ap (λ (v : Way). whole v (Top at d.1 d.2)) here)),
+          ∙ ap members (sym (d.3 ∙ ap (λ (v : Way). whole v (Top at d.1 d.2)) here)),
     )
 
 -- What a climb keeps.

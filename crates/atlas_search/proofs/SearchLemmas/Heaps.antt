@@ -1,15 +1,15 @@
 -- Lists as heaps: the order of their entries, and what is read of them.
-use Rattle.std.proofs.Common.{◌≡◌, ◌≢◌, ℕ, zero, suc, ◌+◌, ◌<◌, ◌≤◌, ◌⊎◌, List, [], ◌∷◌, ◌++◌, length, map, get_or, refl, ap, sym, ◌∙◌, subst, inl, inr, arith}
+use Rattle.std.proofs.Common.{◌≡◌, ◌≢◌, ℕ, ◌+◌, ◌<◌, ◌≤◌, List, [], ◌∷◌, ◌++◌, length, map, get_or, refl, ap, sym, ◌∙◌, subst, inl, inr, arith}
 use Rattle.std.proofs.lemmas.Bool.{cases_eq}
 use Rattle.std.proofs.lemmas.List.{get_or-map}
 use Rattle.atlas_model.specs.Boxes.{Box}
 use Rattle.atlas_model.specs.Choice.{ComesFirst}
-use Rattle.atlas_search.specs.Heaps.{Heap, IsAbove, IsHeap, IsListed, members, tag_of}
+use Rattle.atlas_search.specs.Heaps.{Heap, IsHeap, IsListed, members, tag_of}
 use Rattle.atlas_search.specs.Heaps.Heap.{None, Top}
 use Rattle.atlas_search.specs.Items.{Item, item_at, item_box, no_item}
 use Rattle.atlas_search.specs.Numbers.{occurs, same, no_slot}
 use Rattle.atlas_search.specs.Ranks.{corner_of}
-use Rattle.atlas_search.proofs.Occurrences.{same-self, same-ne}
+use Rattle.atlas_search.proofs.Occurrences.{same-ne}
 
 pub occurs-append : (i : ℕ) (xs ys : List ℕ) → occurs i (xs ++ ys) ≡ occurs i xs + occurs i ys
 occurs-append i [] ys = omega arith

@@ -134,10 +134,10 @@ module _ (o : Options) (heads : List Link) (es : List Item) (own : Place) (r : S
             let right : own.row < row_of t.0 = true_lt own.row (row_of t.0) p.0 in
             let under : own.column < column_of t.0 = true_lt own.column (column_of t.0) p.1 in
             let equal : HasEqualSide r (item_box (item_at es t.0)) = subst (λ (d : Shown). HasEqualSide r d.box) t.2 e in
-            elim equal [
+            absurd (elim equal [
               | inl w ↦ let same : row_of t.0 ≡ band_of o r.width = ap (band_of o) w in omega (arith, right, search.row, same)
               | inr w ↦ let same : column_of t.0 ≡ band_of o r.height = ap (band_of o) w in omega (arith, under, search.column, same)
-            ]);
+            ]));
       }
 
   -- And else they are shown.

@@ -10,7 +10,7 @@ use Rattle.atlas_search.specs.Numbers.{occurs, same, no_slot}
 use Rattle.atlas_search.specs.Rectangles.{IsSolid}
 use Rattle.atlas_search.specs.Ways.{IsAt, IsDone, IsNext, IsShowable, Way, ahead, first_below, whole}
 use Rattle.atlas_search.specs.Ways.Way.{Here, OnLeft, OnRight}
-use Rattle.atlas_search.proofs.Occurrences.{same-self, same-ne, length-distinct}
+use Rattle.atlas_search.proofs.Occurrences.{same-self, length-distinct}
 use Rattle.atlas_search.proofs.SearchLemmas.Heaps.{heap-inside, none-of, occurs-append, occurs-top, top-of}
 
 -- ---- ways
@@ -121,7 +121,7 @@ module _ (es : List Item) (top : ℕ) (h : Heap) (s : IsShowable es top h) (at :
           below.left,
           below.right,
           is ∙ ap (λ (g : Heap). whole w (Top at g r)) empty
-          ∙ ap (λ (g : Heap). whole w (Top at None g)) (below.is ∙ ap (λ n. Top n below.left below.right) (sym first)),
+              ∙ ap (λ (g : Heap). whole w (Top at None g)) (below.is ∙ ap (λ n. Top n below.left below.right) (sym first)),
           refl,
         )
     | inr left ↦
@@ -222,8 +222,13 @@ module _ (es : List Item) (top : ℕ) (h : Heap) (s : IsShowable es top h) (at :
     where
       elsewhere : (u : ℕ) (left : Heap) (way : Way) → h ≡ whole (OnRight u left way) (Top at l r) → occurs at (members left) ≡ 0
       elsewhere u left way is =
-          omega (arith, s.once at, at-occurs es top h s at (OnRight u left way) l r is at, same-self at,
-          occurs-append at (ahead way) (u ∷ members left))
+          omega (
+            arith,
+            s.once at,
+            at-occurs es top h s at (OnRight u left way) l r is at,
+            same-self at,
+            occurs-append at (ahead way) (u ∷ members left),
+          )
 
       not_left : (left : Heap) → IsHeap es u (item_at es u).left left → (item_at es u).left ≡ at → occurs at (members left) ≡ 0 → ⊥
       not_left None heap on_left none =

@@ -1,4 +1,4 @@
-use Rattle.std.proofs.Common.{◌<◌, ◌∙◌, sym, arith, map}
+use Rattle.std.proofs.Common.{◌∙◌, sym, arith, map}
 use Rattle.atlas_search.proofs.SearchLemmas.HeapSearches.{climb-aside, climb-falls, climb-inside, climb-on, climb-up, done-all}
 use Rattle.atlas_search.proofs.search.climb.Goals as goal
 use Rattle.atlas_search.proofs.search.climb.Goals.{else-right-via-then-right+else-left-at, else-right-via-else-right}

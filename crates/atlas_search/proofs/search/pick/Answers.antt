@@ -1,7 +1,5 @@
-use Rattle.std.proofs.Common.{map, Bool, [], refl, subst, sym, arith}
-use Rattle.atlas_search.specs.declared.best.Found.{Found}
+use Rattle.std.proofs.Common.{map, Bool, [], refl, subst, arith}
 use Rattle.atlas_search.specs.Bests.{HasSeen}
-use Rattle.atlas_search.specs.Lookups.{IsBestBelow, IsStanding}
 use Rattle.atlas_model.specs.Pixels.{options_of, sides_of}
 use Rattle.atlas_search.proofs.SearchLemmas.ItemPicks.{area-read, best-found, free-inside, none-found, none-from, no_room-of_items, pick-of_items, seen-nothing}
 use Rattle.atlas_search.proofs.SearchLemmas.Windows.{fits-reaching, large-law, left-begin, left-next, none-left}

@@ -1,4 +1,4 @@
-use Rattle.std.proofs.Common.{◌≤◌, length, map, subst, sym, arith}
+use Rattle.std.proofs.Common.{map, arith}
 use Rattle.std.proofs.lemmas.List.{length-map}
 use Rattle.atlas_search.proofs.SearchLemmas.Heaps.{item-read}
 use Rattle.atlas_search.proofs.SearchLemmas.HeapSearches.{showing-begins, showing-below, showing-done, showing-ends, showing-falls_below, showing-falls_on, showing-on, showing-solid}

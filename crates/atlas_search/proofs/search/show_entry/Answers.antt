@@ -1,4 +1,4 @@
-use Rattle.std.proofs.Common.{◌≡◌, sym, ◌∙◌, rules, arith}
+use Rattle.std.proofs.Common.{sym, ◌∙◌, rules}
 use Rattle.atlas_search.proofs.SearchLemmas.HeapSearches.{entry-alone, entry-looked, entry-over, entry-then_over}
 use Rattle.atlas_search.proofs.search.show_entry.Goals as goal
 

@@ -1,4 +1,4 @@
-use Rattle.std.proofs.Common.{◌≤◌, ◌∷◌, [], length, map, arith}
+use Rattle.std.proofs.Common.{◌∷◌, [], map, arith}
 use Rattle.std.proofs.lemmas.List.{length-map}
 use Rattle.atlas_search.proofs.SearchLemmas.HeapSearches.{list-alone, list-empty, list-next, list-read, list-solid}
 use Rattle.atlas_search.proofs.search.show_list.Goals as goal

@@ -1,4 +1,4 @@
-use Rattle.std.proofs.Common.{◌≡◌, arith}
+use Rattle.std.proofs.Common.{arith}
 use Rattle.atlas_search.proofs.SearchLemmas.TableHeads.{blanked-table}
 use Rattle.atlas_search.proofs.table.Table.clear.Goals as goal
 

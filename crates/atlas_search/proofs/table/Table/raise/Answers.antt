@@ -1,4 +1,4 @@
-use Rattle.std.proofs.Common.{◌≡◌, ◌≢◌, ◌+◌, ◌*◌, ◌<◌, ◌∙◌, true, length, refl, sym, ap, arith}
+use Rattle.std.proofs.Common.{◌≡◌, ◌+◌, ◌*◌, ◌<◌, ◌∙◌, true, length, refl, sym, ap, arith}
 use Rattle.atlas_search.specs.Tables.{is_used_at}
 use Rattle.atlas_search.proofs.SearchLemmas.TableHeads.{read-head, is_slot, slot-is, kept-table, kept-mark, marked-table, head_of-same, head_of-other}
 use Rattle.atlas_search.proofs.table.Table.raise.Goals as goal
