@@ -15,9 +15,13 @@ use crate::search::Entry;
 
 /// An entry whose links can be written.
 pub trait Linked: Entry {
+    /// What the entry is but for its links.
+    ghost bare: { Self → Self };
+
     /// Hangs the entry below `up`, with these below it. All else of it stays.
     fn set_links(&mut self, up: Link, left: Link, right: Link)
-        ensures { Self.item self.new ≡ linked (Self.item self.old) up.number left.number right.number };
+        ensures links { Self.item self.new ≡ linked (Self.item self.old) up.number left.number right.number }
+        ensures bare { Self.bare self.new ≡ Self.bare self.old };
 }
 
 // What an entry hangs below, and what hangs below it.
@@ -58,8 +62,9 @@ fn corner_at<E: Entry>(entries: &[E], at: Link) -> u64
 #[inline(always)]
 fn relink<E: Linked>(entries: &mut [E], at: Link, up: Link, left: Link, right: Link)
     requires { at.number < length entries.old }
-    ensures { map E.item entries.new ≡ slice_set (map E.item entries.old) at.number
+    ensures links { map E.item entries.new ≡ slice_set (map E.item entries.old) at.number
         (linked (item_at (map E.item entries.old) at.number) up.number left.number right.number) }
+    ensures bare { map E.bare entries.new ≡ map E.bare entries.old }
 {
     entries[at.number as usize].set_links(up, left, right);
 }
@@ -68,9 +73,10 @@ fn relink<E: Linked>(entries: &mut [E], at: Link, up: Link, left: Link, right: L
 #[inline(always)]
 fn set_up<E: Linked>(entries: &mut [E], at: Link, up: Link)
     requires { at.number < length entries.old }
-    ensures { map E.item entries.new ≡ slice_set (map E.item entries.old) at.number
+    ensures links { map E.item entries.new ≡ slice_set (map E.item entries.old) at.number
         (linked (item_at (map E.item entries.old) at.number) up.number
         (item_at (map E.item entries.old) at.number).left (item_at (map E.item entries.old) at.number).right) }
+    ensures bare { map E.bare entries.new ≡ map E.bare entries.old }
 {
     let links = links_at(entries, at);
     relink(entries, at, up, links.left, links.right);
@@ -82,7 +88,8 @@ fn hang_left<E: Linked>(entries: &mut [E], above: Link, less: Link)
     requires above { above.number < length entries.old }
     requires less { less.number < length entries.old }
     requires apart { above.number ≢ less.number }
-    ensures { IsHungLeft (map E.item entries.old) (map E.item entries.new) above.number less.number }
+    ensures hung { IsHungLeft (map E.item entries.old) (map E.item entries.new) above.number less.number }
+    ensures bare { map E.bare entries.new ≡ map E.bare entries.old }
 {
     let links = links_at(entries, above);
     relink(entries, above, links.up, less, links.left);
@@ -100,6 +107,7 @@ fn hang<E: Linked>(entries: &mut [E], top: Link, part: Link)
         → IsAbove (map E.item entries.old) top.number h
         → IsMelded (map E.item entries.old) (map E.item entries.new) up top.number g h }
     ensures areas { KeepsAreas (map E.item entries.old) (map E.item entries.new) }
+    ensures bare { map E.bare entries.new ≡ map E.bare entries.old }
 {
     let mut above = top;
     let mut rest = part;
@@ -131,6 +139,7 @@ fn meld<E: Linked>(entries: &mut [E], one: Link, other: Link, up: Link) -> Link
         → AreApart (map E.item entries.old) under one.number g under other.number h
         → IsMelded (map E.item entries.old) (map E.item entries.new) up.number result.number g h }
     ensures areas { KeepsAreas (map E.item entries.old) (map E.item entries.new) }
+    ensures bare { map E.bare entries.new ≡ map E.bare entries.old }
 {
     if corner_at(entries, other) < corner_at(entries, one) {
         set_up(entries, other, up);
@@ -166,6 +175,7 @@ pub fn push<E: Linked>(entries: &mut [E], tag: Link, top: Link, near: Link, at: 
     ensures pushed { (h : Heap) → CanPush (map E.item entries.old) tag.number top.number near.number at.number h
         → HasPushed (map E.item entries.old) (map E.item entries.new) tag.number result.number at.number h }
     ensures areas { KeepsAreas (map E.item entries.old) (map E.item entries.new) }
+    ensures bare { map E.bare entries.new ≡ map E.bare entries.old }
 {
     let none = Link::NONE;
     if top.number == NO_SLOT {
@@ -189,6 +199,7 @@ fn close<E: Linked>(entries: &mut [E], at: Link) -> Link
         → IsMelded (map E.item entries.old) (map E.item entries.new) (item_at (map E.item entries.old) at.number).up result.number
         left right }
     ensures areas { KeepsAreas (map E.item entries.old) (map E.item entries.new) }
+    ensures bare { map E.bare entries.new ≡ map E.bare entries.old }
 {
     let links = links_at(entries, at);
     if links.left.number == NO_SLOT {
@@ -211,6 +222,7 @@ pub fn remove<E: Linked>(entries: &mut [E], at: Link) -> Link
     ensures removed { (tag top : ℕ) (h : Heap) → CanRemove (map E.item entries.old) tag top at.number h
         → HasRemoved (map E.item entries.old) (map E.item entries.new) tag top result.number at.number h }
     ensures areas { KeepsAreas (map E.item entries.old) (map E.item entries.new) }
+    ensures bare { map E.bare entries.new ≡ map E.bare entries.old }
 {
     let up = links_at(entries, at).up;
     let rest = close(entries, at);

@@ -33,7 +33,7 @@ returns-then-links-clause-melded g c l r a =
           closes-right es fs c.args.at.number l r a k.result.up.number k.result.left.number k.result.right.number
           k.ensures.up k.ensures.left k.ensures.right c.if-links.true w.if-links-2.true
           (linked-by es fs k.result.right.number k.result.up.number (item_at es k.result.right.number).left
-          (item_at es k.result.right.number).right inside (is ∙ w.set_up.ensures))
+          (item_at es k.result.right.number).right inside (is ∙ w.set_up.ensures.links))
       | else-links-2 w ↦
           subst (λ (xs : List Item). IsMelded es xs (item_at es c.args.at.number).up k.result.right.number l r)
           (sym (ap (map item) w.entries-is))
@@ -64,7 +64,7 @@ returns-then-links-3-clause-melded g c l r a =
     closes-left es fs c.args.at.number l r a k.result.up.number k.result.left.number k.result.right.number
     k.ensures.up k.ensures.left k.ensures.right c.if-links-3.true c.if-links.false
     (linked-by es fs k.result.left.number k.result.up.number (item_at es k.result.left.number).left
-    (item_at es k.result.left.number).right inside c.set_up-then-links-3.ensures)
+    (item_at es k.result.left.number).right inside c.set_up-then-links-3.ensures.links)
 
 pub meld-requires : goal.meld-requires
 meld-requires g c =

@@ -28,6 +28,7 @@ loop-next-init g c =
       corner = c.corner_at-rest_corner.ensures.corner;
       narrow = c.corner_at-rest_corner.ensures.narrow;
       areas = record { long = refl; areas = λ k. refl; frees = λ k. refl };
+      bare = refl;
     }
 
 pub links_at-requires : goal.links_at-requires
@@ -64,7 +65,7 @@ returns-then-next-clause-hung g c up a under b is first =
     let fs = map g.E.Entry.item l.entries in
     let gs = map g.E.Entry.item c.hang_left.new.entries in
     turn-ends es fs gs up c.args.top.number under c.args.part.number a b l.above.number l.rest.number c.links_at.result.right.number is
-    (l.invariant.hanging up a under b is first) c.links_at.ensures.right c.if-next.true c.hang_left.ensures
+    (l.invariant.hanging up a under b is first) c.links_at.ensures.right c.if-next.true c.hang_left.ensures.hung
 
 pub returns-then-next-clause-areas : goal.returns-then-next-clause-areas
 returns-then-next-clause-areas g c =
@@ -72,7 +73,7 @@ returns-then-next-clause-areas g c =
     let es = map g.E.Entry.item c.args.entries.now in
     let fs = map g.E.Entry.item l.entries in
     let gs = map g.E.Entry.item c.hang_left.new.entries in
-    areas-then es fs gs l.invariant.areas (hung-areas fs gs l.above.number l.rest.number c.hang_left.ensures)
+    areas-then es fs gs l.invariant.areas (hung-areas fs gs l.above.number l.rest.number c.hang_left.ensures.hung)
 
 pub corner_at-next_corner-requires-clause-inside : goal.corner_at-next_corner-requires-clause-inside
 corner_at-next_corner-requires-clause-inside g c =
@@ -153,7 +154,7 @@ loop-next-smaller-then-rest_corner-next_corner g c =
     let es = map g.E.Entry.item c.args.entries.now in
     let fs = map g.E.Entry.item l.entries in
     let s = l.invariant.hanging r.0 r.1 r.2 r.3 r.4 r.5 in
-    turn-falls-taking es fs (map g.E.Entry.item c.hang_left-then-rest_corner-next_corner.new.entries) r.0 c.args.top.number r.2 c.args.part.number r.1 r.3 l.above.number l.rest.number c.links_at.result.right.number r.4 s c.links_at.ensures.right c.if-next.false c.hang_left-then-rest_corner-next_corner.ensures
+    turn-falls-taking es fs (map g.E.Entry.item c.hang_left-then-rest_corner-next_corner.new.entries) r.0 c.args.top.number r.2 c.args.part.number r.1 r.3 l.above.number l.rest.number c.links_at.result.right.number r.4 s c.links_at.ensures.right c.if-next.false c.hang_left-then-rest_corner-next_corner.ensures.hung
 
 pub loop-next-preserved-then-rest_corner-next_corner : goal.loop-next-preserved-then-rest_corner-next_corner
 loop-next-preserved-then-rest_corner-next_corner g c =
@@ -161,7 +162,7 @@ loop-next-preserved-then-rest_corner-next_corner g c =
     let es = map g.E.Entry.item c.args.entries.now in
     let fs = map g.E.Entry.item l.entries in
     let gs = map g.E.Entry.item c.hang_left-then-rest_corner-next_corner.new.entries in
-    let is = c.hang_left-then-rest_corner-next_corner.ensures in
+    let is = c.hang_left-then-rest_corner-next_corner.ensures.hung in
     let boxes = boxes-same fs gs (hung-areas fs gs l.above.number l.rest.number is) in
     let order = corner-first (item_box (item_at fs l.rest.number)) (item_box (item_at fs c.links_at.result.right.number)) l.invariant.narrow c.corner_at-next_corner.ensures.narrow (omega (arith, l.invariant.corner, c.corner_at-next_corner.ensures.corner, c.if-rest_corner-next_corner.true)) in
     record {
@@ -171,6 +172,7 @@ loop-next-preserved-then-rest_corner-next_corner g c =
       corner = c.corner_at-next_corner.ensures.corner ∙ ap corner_of (sym (boxes c.links_at.result.right.number));
       narrow = subst (λ (b : Box). b.min.x < 4294967296) (sym (boxes c.links_at.result.right.number)) c.corner_at-next_corner.ensures.narrow;
       areas = areas-then es fs gs l.invariant.areas (hung-areas fs gs l.above.number l.rest.number is);
+      bare = c.hang_left-then-rest_corner-next_corner.ensures.bare ∙ l.invariant.bare;
     }
 
 pub loop-next-smaller : goal.loop-next-smaller
@@ -180,7 +182,7 @@ loop-next-smaller g c =
     let es = map g.E.Entry.item c.args.entries.now in
     let fs = map g.E.Entry.item l.entries in
     let s = l.invariant.hanging r.0 r.1 r.2 r.3 r.4 r.5 in
-    turn-falls-passing es fs (map g.E.Entry.item c.hang_left-else-rest_corner-next_corner.new.entries) r.0 c.args.top.number r.2 c.args.part.number r.1 r.3 l.above.number l.rest.number c.links_at.result.right.number r.4 s c.links_at.ensures.right c.if-next.false c.hang_left-else-rest_corner-next_corner.ensures
+    turn-falls-passing es fs (map g.E.Entry.item c.hang_left-else-rest_corner-next_corner.new.entries) r.0 c.args.top.number r.2 c.args.part.number r.1 r.3 l.above.number l.rest.number c.links_at.result.right.number r.4 s c.links_at.ensures.right c.if-next.false c.hang_left-else-rest_corner-next_corner.ensures.hung
 
 pub loop-next-preserved : goal.loop-next-preserved
 loop-next-preserved g c =
@@ -188,7 +190,7 @@ loop-next-preserved g c =
     let es = map g.E.Entry.item c.args.entries.now in
     let fs = map g.E.Entry.item l.entries in
     let gs = map g.E.Entry.item c.hang_left-else-rest_corner-next_corner.new.entries in
-    let is = c.hang_left-else-rest_corner-next_corner.ensures in
+    let is = c.hang_left-else-rest_corner-next_corner.ensures.hung in
     let boxes = boxes-same fs gs (hung-areas fs gs l.above.number c.links_at.result.right.number is) in
     let order = corner-first (item_box (item_at fs c.links_at.result.right.number)) (item_box (item_at fs l.rest.number)) c.corner_at-next_corner.ensures.narrow l.invariant.narrow (omega (arith, l.invariant.corner, c.corner_at-next_corner.ensures.corner, c.if-rest_corner-next_corner.false)) in
     record {
@@ -198,4 +200,5 @@ loop-next-preserved g c =
       corner = l.invariant.corner ∙ ap corner_of (sym (boxes l.rest.number));
       narrow = subst (λ (b : Box). b.min.x < 4294967296) (sym (boxes l.rest.number)) l.invariant.narrow;
       areas = areas-then es fs gs l.invariant.areas (hung-areas fs gs l.above.number c.links_at.result.right.number is);
+      bare = c.hang_left-else-rest_corner-next_corner.ensures.bare ∙ l.invariant.bare;
     }

@@ -16,6 +16,7 @@ invariant-loop-next g l = record {
   corner : l.rest_corner ≡ corner_of (item_box (item_at (map g.E.Entry.item l.entries) l.rest.number));
   narrow : (item_box (item_at (map g.E.Entry.item l.entries) l.rest.number)).min.x < 4294967296;
   areas : KeepsAreas (map g.E.Entry.item l.fn.entries) (map g.E.Entry.item l.entries);
+  bare : map g.E.Linked.bare l.entries ≡ map g.E.Linked.bare l.fn.entries;
 }
 
 abbrev pub decreases-loop-next : goal.decreases-loop-next

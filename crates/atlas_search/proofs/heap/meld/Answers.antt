@@ -47,7 +47,7 @@ hang-requires g c =
     let r = c.requires in
     let es = map g.E.Entry.item c.args.entries.now in
     let fs = map g.E.Entry.item c.set_up.new.entries in
-    let is = linked-by es fs c.args.other.number c.args.up.number (item_at es c.args.other.number).left (item_at es c.args.other.number).right (other-in es r.0 c.args.one.number r.0 c.args.other.number r.1 r.2 r.3) c.set_up.ensures in
+    let is = linked-by es fs c.args.other.number c.args.up.number (item_at es c.args.other.number).left (item_at es c.args.other.number).right (other-in es r.0 c.args.one.number r.0 c.args.other.number r.1 r.2 r.3) c.set_up.ensures.links in
     let a = apart-swap es r.0 c.args.one.number r.0 c.args.other.number r.1 r.2 r.3 in
     let first = corner-first (item_box (item_at es c.args.other.number)) (item_box (item_at es c.args.one.number)) c.corner_at.ensures.narrow c.corner_at-2.ensures.narrow (omega (arith, c.corner_at.ensures.corner, c.corner_at-2.ensures.corner, c.if-corner_at.true)) in (
       c.args.up.number,
@@ -63,7 +63,7 @@ hang-requires-2 g c =
     let r = c.requires in
     let es = map g.E.Entry.item c.args.entries.now in
     let fs = map g.E.Entry.item c.set_up-2.new.entries in
-    let is = linked-by es fs c.args.one.number c.args.up.number (item_at es c.args.one.number).left (item_at es c.args.one.number).right (one-in es r.0 c.args.one.number r.0 c.args.other.number r.1 r.2 r.3) c.set_up-2.ensures in
+    let is = linked-by es fs c.args.one.number c.args.up.number (item_at es c.args.one.number).left (item_at es c.args.one.number).right (one-in es r.0 c.args.one.number r.0 c.args.other.number r.1 r.2 r.3) c.set_up-2.ensures.links in
     let first = corner-first (item_box (item_at es c.args.one.number)) (item_box (item_at es c.args.other.number)) c.corner_at-2.ensures.narrow c.corner_at.ensures.narrow (omega (arith, c.corner_at.ensures.corner, c.corner_at-2.ensures.corner, c.if-corner_at.false)) in (
       c.args.up.number,
       r.1,
@@ -79,7 +79,7 @@ returns-then-corner_at-clause-melded g c under a b apart =
     let es = map g.E.Entry.item c.args.entries.now in
     let fs = map g.E.Entry.item c.set_up.new.entries in
     let gs = map g.E.Entry.item c.hang.new.entries in
-    let is = linked-by es fs c.args.other.number c.args.up.number (item_at es c.args.other.number).left (item_at es c.args.other.number).right (other-in es r.0 c.args.one.number r.0 c.args.other.number r.1 r.2 r.3) c.set_up.ensures in
+    let is = linked-by es fs c.args.other.number c.args.up.number (item_at es c.args.other.number).left (item_at es c.args.other.number).right (other-in es r.0 c.args.one.number r.0 c.args.other.number r.1 r.2 r.3) c.set_up.ensures.links in
     let swapped = apart-swap es under c.args.one.number under c.args.other.number a b apart in
     let first = corner-first (item_box (item_at es c.args.other.number)) (item_box (item_at es c.args.one.number)) c.corner_at.ensures.narrow c.corner_at-2.ensures.narrow (omega (arith, c.corner_at.ensures.corner, c.corner_at-2.ensures.corner, c.if-corner_at.true)) in
     melded-swap es gs c.args.up.number c.args.other.number b a
@@ -94,7 +94,7 @@ returns-clause-melded g c under a b apart =
     let es = map g.E.Entry.item c.args.entries.now in
     let fs = map g.E.Entry.item c.set_up-2.new.entries in
     let gs = map g.E.Entry.item c.hang-2.new.entries in
-    let is = linked-by es fs c.args.one.number c.args.up.number (item_at es c.args.one.number).left (item_at es c.args.one.number).right (one-in es r.0 c.args.one.number r.0 c.args.other.number r.1 r.2 r.3) c.set_up-2.ensures in
+    let is = linked-by es fs c.args.one.number c.args.up.number (item_at es c.args.one.number).left (item_at es c.args.one.number).right (one-in es r.0 c.args.one.number r.0 c.args.other.number r.1 r.2 r.3) c.set_up-2.ensures.links in
     let first = corner-first (item_box (item_at es c.args.one.number)) (item_box (item_at es c.args.other.number)) c.corner_at-2.ensures.narrow c.corner_at.ensures.narrow (omega (arith, c.corner_at.ensures.corner, c.corner_at-2.ensures.corner, c.if-corner_at.false)) in
     melded-raised es fs under c.args.one.number under c.args.other.number c.args.up.number a b apart is gs
     (c.hang-2.ensures.hung c.args.up.number a under b
@@ -106,7 +106,7 @@ returns-then-corner_at-clause-areas g c =
     let r = c.requires in
     let es = map g.E.Entry.item c.args.entries.now in
     let fs = map g.E.Entry.item c.set_up.new.entries in
-    let is = linked-by es fs c.args.other.number c.args.up.number (item_at es c.args.other.number).left (item_at es c.args.other.number).right (other-in es r.0 c.args.one.number r.0 c.args.other.number r.1 r.2 r.3) c.set_up.ensures in
+    let is = linked-by es fs c.args.other.number c.args.up.number (item_at es c.args.other.number).left (item_at es c.args.other.number).right (other-in es r.0 c.args.one.number r.0 c.args.other.number r.1 r.2 r.3) c.set_up.ensures.links in
     areas-raised es fs r.0 c.args.other.number r.0 c.args.one.number c.args.up.number r.2 r.1 (apart-swap es r.0 c.args.one.number r.0 c.args.other.number r.1 r.2 r.3) is (map g.E.Entry.item c.hang.new.entries) c.hang.ensures.areas
 
 pub returns-clause-areas : goal.returns-clause-areas
@@ -114,5 +114,5 @@ returns-clause-areas g c =
     let r = c.requires in
     let es = map g.E.Entry.item c.args.entries.now in
     let fs = map g.E.Entry.item c.set_up-2.new.entries in
-    let is = linked-by es fs c.args.one.number c.args.up.number (item_at es c.args.one.number).left (item_at es c.args.one.number).right (one-in es r.0 c.args.one.number r.0 c.args.other.number r.1 r.2 r.3) c.set_up-2.ensures in
+    let is = linked-by es fs c.args.one.number c.args.up.number (item_at es c.args.one.number).left (item_at es c.args.one.number).right (one-in es r.0 c.args.one.number r.0 c.args.other.number r.1 r.2 r.3) c.set_up-2.ensures.links in
     areas-raised es fs r.0 c.args.one.number r.0 c.args.other.number c.args.up.number r.1 r.2 r.3 is (map g.E.Entry.item c.hang-2.new.entries) c.hang-2.ensures.areas

@@ -36,7 +36,7 @@ returns-then-links-at-clause-removed g c tag top h can =
     let inside : up < length fs = omega (arith, c.if-up-entries.false, length-map c.close-rest.new.entries g.E.Entry.item) in
     let within = top-tagged es tag top c.args.at.number h can
     (omega (arith, inside, c.links_at.ensures.up, c.close-rest.ensures.areas.long)) in
-    let is = linked-by fs gs up k.result.up.number rest k.result.right.number inside c.relink.ensures in
+    let is = linked-by fs gs up k.result.up.number rest k.result.right.number inside c.relink.ensures.links in
     entry-removed es fs gs tag top rest c.args.at.number h can within c.close-rest.ensures.melded c.close-rest.ensures.areas
     up c.links_at.ensures.up
     (inl (
@@ -56,7 +56,7 @@ returns-else-links-at-clause-removed g c tag top h can =
     let inside : up < length fs = omega (arith, c.if-up-entries.false, length-map c.close-rest.new.entries g.E.Entry.item) in
     let within = top-tagged es tag top c.args.at.number h can
     (omega (arith, inside, c.links_at.ensures.up, c.close-rest.ensures.areas.long)) in
-    let is = linked-by fs gs up k.result.up.number k.result.left.number rest inside c.relink-else-links-at.ensures in
+    let is = linked-by fs gs up k.result.up.number k.result.left.number rest inside c.relink-else-links-at.ensures.links in
     entry-removed es fs gs tag top rest c.args.at.number h can within c.close-rest.ensures.melded c.close-rest.ensures.areas
     up c.links_at.ensures.up
     (inr (
