@@ -7,6 +7,7 @@ pub mod Masks
 pub mod Tables
 pub mod Items
 pub mod Heaps
+pub mod HeapCalls
 pub mod Ways
 pub mod Lookups
 pub mod Ranks
