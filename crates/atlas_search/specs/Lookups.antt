@@ -30,7 +30,7 @@ HasShown es xs before after =
 pub record AreListed (o : Options) (heads : List Link) (es : List Item) : Type 0 where
   pub free_lists : ℕ → List ℕ
   pub valid : AreValid o
-  pub short : length es ≤ 2147483648
+  pub short : length es ≤ 4261412864
   pub lists : (k : ℕ) → k < 2704 → IsListed es k (head_of heads k).number (free_lists k)
   pub own : (k i : ℕ) → k < 2704 → 0 < occurs i (free_lists k)
       → ((item_at es i).is_free ≡ true) × (list_of o (item_sides (item_at es i)) ≡ k)

@@ -9,7 +9,7 @@ use Rattle.atlas_search.specs.Rectangles.{IsSolid}
 
 -- A heap without repetition begins with this top, and has exact rectangles alone.
 pub record IsShowable (es : List Item) (top : ℕ) (h : Heap) : Type 0 where
-  pub short : length es ≤ 2147483648
+  pub short : length es ≤ 4261412864
   pub up : ℕ
   pub heap : IsHeap es up top h
   pub once : (i : ℕ) → occurs i (members h) ≤ 1

@@ -15,4 +15,4 @@ impl Link {
 pub const NO_SLOT: u32 = 4294967295;
 
 /// What stands above the first entry of a list is this and the list's number. The numbers of entries are below it.
-pub const TAG: u32 = 2147483648;
+pub const TAG: u32 = 4261412864;
