@@ -19,7 +19,8 @@ pub record IsChild (es : List Item) (up top : ℕ) (h : Heap) (u x : ℕ) : Type
   pub place : IsPlaced es up top h u
   pub side : ((item_at es u).left ≡ x) ⊎ ((item_at es u).right ≡ x)
 
-up-of : (es : List Item) (up top : ℕ) (h : Heap) (x : ℕ) → top ≡ x → 0 < occurs x (members h) → IsHeap es up top h → (item_at es x).up ≡ up
+-- Above the top stands what stands above its heap.
+pub up-of : (es : List Item) (up top : ℕ) (h : Heap) (x : ℕ) → top ≡ x → 0 < occurs x (members h) → IsHeap es up top h → (item_at es x).up ≡ up
 up-of es up top None x e l h = absurd (omega (arith, l))
 up-of es up top (Top at left right) x e l h = ap (λ n. (item_at es n).up) (sym e ∙ h.0.0) ∙ h.0.2
 
