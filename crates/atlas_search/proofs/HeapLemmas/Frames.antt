@@ -25,10 +25,10 @@ above-frame es fs i h here kept above j l =
     subst (λ (b : Box). ComesFirst b (item_box (item_at fs j))) (sym here)
     (subst (λ (b : Box). ComesFirst (item_box (item_at es i)) b) (sym (kept j l)) (above j l))
 
-pub heap-frame : (es fs : List Item) (up top : ℕ) (h : Heap) → length fs ≡ length es
+pub heap-longer : (es fs : List Item) (up top : ℕ) (h : Heap) → length es ≤ length fs
     → ((k : ℕ) → 0 < occurs k (members h) → item_at fs k ≡ item_at es k) → IsHeap es up top h → IsHeap fs up top h
-heap-frame es fs up top None long kept h = h
-heap-frame es fs up top (Top at left right) long kept h =
+heap-longer es fs up top None long kept h = h
+heap-longer es fs up top (Top at left right) long kept h =
     let on_left = λ (k : ℕ) (l : 0 < occurs k (members left)). kept k (omega (arith, l, occurs-top k at left right)) in
     let on_right = λ (k : ℕ) (l : 0 < occurs k (members right)). kept k (omega (arith, l, occurs-top k at left right)) in
     let here : item_at fs at ≡ item_at es at = kept at (omega (arith, same-self at, occurs-top at at left right)) in (
@@ -38,10 +38,14 @@ heap-frame es fs up top (Top at left right) long kept h =
         above-frame es fs at right (ap item_box here) (λ k l. ap item_box (on_right k l)) h.1.1,
       ),
       (
-        subst (λ n. IsHeap fs at n left) (sym (ap (λ (e : Item). e.left) here)) (heap-frame es fs at (item_at es at).left left long on_left h.2.0),
-        subst (λ n. IsHeap fs at n right) (sym (ap (λ (e : Item). e.right) here)) (heap-frame es fs at (item_at es at).right right long on_right h.2.1),
+        subst (λ n. IsHeap fs at n left) (sym (ap (λ (e : Item). e.left) here)) (heap-longer es fs at (item_at es at).left left long on_left h.2.0),
+        subst (λ n. IsHeap fs at n right) (sym (ap (λ (e : Item). e.right) here)) (heap-longer es fs at (item_at es at).right right long on_right h.2.1),
       ),
     )
+
+pub heap-frame : (es fs : List Item) (up top : ℕ) (h : Heap) → length fs ≡ length es
+    → ((k : ℕ) → 0 < occurs k (members h) → item_at fs k ≡ item_at es k) → IsHeap es up top h → IsHeap fs up top h
+heap-frame es fs up top h long = heap-longer es fs up top h (omega (arith, long))
 
 -- A heap hangs below another entry, or tag.
 pub heap-moved : (es fs : List Item) (up up' at : ℕ) (left right : Heap) → length fs ≡ length es
