@@ -13,7 +13,7 @@ use Rattle.guillotiere.specs.FreeBoxes.BoxCalls.{HasUnlisted}
 use Rattle.guillotiere.specs.FreeBoxes.BoxShelves.{BoxShelf, IsIdleFrom, has_width, stored_item, free_item_boxes, free_count, idle_item, AreKept, IsClaimed}
 use Rattle.atlas_model.specs.Choice.{Options, AreValid}
 use Rattle.atlas_model.specs.Pixels.{box_of}
-use Rattle.atlas_search.specs.HeapCalls.{CanPush, CanRemove, HasPushed, HasRemoved, IsSoundHeap, KeepsAreas}
+use Rattle.atlas_search.specs.HeapCalls.{CanPush, CanRemove, HasPushed, HasRemoved, KeepsAreas}
 use Rattle.atlas_search.specs.Heaps.{Heap, IsHeap, members, tag_of}
 use Rattle.atlas_search.specs.Heaps.Heap.{None}
 use Rattle.atlas_search.specs.Items.{Item, no_item, item_at, item_box, item_sides}
@@ -25,7 +25,7 @@ use Rattle.atlas_model.proofs.ListLemmas.ListCounts.{count_by-cons}
 use Rattle.atlas_search.proofs.HeapLemmas.Frames.{heap-frame, heap-longer}
 use Rattle.atlas_search.proofs.HeapLemmas.Removing.{top-only}
 use Rattle.atlas_search.proofs.SearchLemmas.BandLaws.{list_of-most}
-use Rattle.atlas_search.proofs.SearchLemmas.Heaps.{heap-inside, listed-some, none-of, top-of}
+use Rattle.atlas_search.proofs.SearchLemmas.Heaps.{listed-some, none-of, top-of}
 use Rattle.atlas_search.proofs.Occurrences.{same-self, same-ne}
 use Rattle.atlas_model.proofs.TreeLemmas.TreeBasics.{same_box-true, same_box-itself}
 use Rattle.guillotiere.proofs.SimpleLemmas.EntryCounts.{count-of_free, count-of_idle, idle-frame, idle-inside, kept-idle, unused_list-idle}

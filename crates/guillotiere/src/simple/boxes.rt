@@ -176,7 +176,13 @@ impl<A: Allocator> FreeBoxes<A> {
             left: none,
             right: none,
         };
-        let top = heap::push(&mut self.entries, place.tag(), self.table.head(place), none, at);
+        let top = heap::push(
+            &mut self.entries,
+            place.tag(),
+            self.table.head(place),
+            none,
+            at,
+        );
         self.table.raise(place, top);
     }
 

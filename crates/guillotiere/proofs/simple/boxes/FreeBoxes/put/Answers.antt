@@ -1,4 +1,4 @@
-use Rattle.std.proofs.Common.{◌∙◌, [], List, map, subst, sym, ap, arith, ◌≡◌, ◌∷◌}
+use Rattle.std.proofs.Common.{◌∙◌, [], List, map, subst, sym, ap, arith, ◌∷◌}
 use Rattle.std.specs.Vec.{with_item}
 use Rattle.std.proofs.lemmas.List.{with_items_is}
 use Rattle.guillotiere.specs.declared.simple.boxes.FreeBox.{FreeBox}

@@ -1,12 +1,9 @@
-use Rattle.std.proofs.Common.{◌≡◌, ◌+◌, ◌-◌, ◌<◌, ◌∷◌, ◌∙◌, refl, List, map, subst, sym, ap, arith}
-use Rattle.std.proofs.lemmas.List.{length-map, map-set}
-use Rattle.guillotiere.specs.declared.simple.boxes.FreeBox.{FreeBox}
+use Rattle.std.proofs.Common.{◌≡◌, ◌+◌, ◌-◌, ◌∷◌, refl, List, subst, sym, arith}
 use Rattle.atlas_search.specs.Items.{Item}
-use Rattle.atlas_search.specs.declared.link.Link.{Link}
 use Rattle.atlas_model.specs.Boxes.{AreSameBoxes}
-use Rattle.atlas_model.specs.Pixels.{box_of, options_of}
-use Rattle.guillotiere.specs.FreeBoxes.BoxShelves.{AreKept, box_shelf, free_item_boxes, idle_item, stored_item}
-use Rattle.guillotiere.proofs.SimpleLemmas.BoxShelves.{free-inside, idle-written, remove-boxes, remove-kept}
+use Rattle.atlas_model.specs.Pixels.{box_of}
+use Rattle.guillotiere.specs.FreeBoxes.BoxShelves.{AreKept, box_shelf, free_item_boxes}
+use Rattle.guillotiere.proofs.SimpleLemmas.BoxShelves.{idle-written, remove-boxes, remove-kept}
 use Rattle.guillotiere.proofs.SimpleLemmas.EntryCounts.{used-some}
 use Rattle.guillotiere.proofs.simple.boxes.FreeBoxes.remove.Goals as goal
 

@@ -3,7 +3,6 @@ use Rattle.std.proofs.Math.Nat.{max-eq_left, max-eq_right}
 use Rattle.std.proofs.lemmas.List.{map-append, length-map}
 use Rattle.guillotiere.specs.FreeBoxes.BoxShelves.{IsClaimed, box_shelf, stored_item}
 use Rattle.atlas_search.specs.Items.{Item, no_item}
-use Rattle.atlas_search.specs.Numbers.{no_slot}
 use Rattle.guillotiere.proofs.SimpleLemmas.BoxShelves.{taken-new, taken-again, unused-inside, boxes-more, read-item}
 use Rattle.guillotiere.proofs.SimpleLemmas.EntryCounts.{used-all, used-less}
 use Rattle.guillotiere.proofs.simple.boxes.FreeBoxes.take.Goals as goal
