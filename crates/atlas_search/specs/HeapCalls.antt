@@ -11,6 +11,12 @@ pub record KeepsAreas (es fs : List Item) : Type 0 where
   pub areas : (k : ℕ) → (item_at fs k).area ≡ (item_at es k).area
   pub frees : (k : ℕ) → (item_at fs k).is_free ≡ (item_at es k).is_free
 
+-- One entry has these links, and nothing else changed.
+pub record IsLinked (es fs : List Item) (at up left right : ℕ) : Type 0 where
+  pub long : length fs ≡ length es
+  pub here : item_at fs at ≡ linked (item_at es at) up left right
+  pub others : (k : ℕ) → k ≢ at → item_at fs k ≡ item_at es k
+
 -- Entry `less` hangs to the left below entry `above`, and what was there hangs to the right.
 pub record IsHungLeft (es fs : List Item) (above less : ℕ) : Type 0 where
   pub long : length fs ≡ length es

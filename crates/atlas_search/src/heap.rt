@@ -3,7 +3,7 @@ ghost use Rattle.std.specs.Prelude.{◌≡◌, ◌≢◌, ◌<◌, ◌≤◌, �
 ghost use Rattle.atlas_model.specs.Choice.{ComesFirst};
 ghost use Rattle.atlas_search.specs.Heaps.{Heap, IsAbove};
 ghost use Rattle.atlas_search.specs.HeapCalls.{AreApart, ArePartsBelow, CanPush, CanRemove, HasPushed, HasRemoved};
-ghost use Rattle.atlas_search.specs.HeapCalls.{IsHungLeft, IsMelded, KeepsAreas};
+ghost use Rattle.atlas_search.specs.HeapCalls.{IsHungLeft, IsLinked, IsMelded, KeepsAreas};
 ghost use Rattle.atlas_search.specs.Items.{item_at, item_box, linked};
 ghost use Rattle.atlas_search.specs.Numbers.{no_slot};
 ghost use Rattle.atlas_search.specs.Ranks.{corner_of};
@@ -96,6 +96,19 @@ fn hang_left<E: Linked>(entries: &mut [E], above: Link, less: Link)
     set_up(entries, less, above);
 }
 
+// What hangs on the right below an entry hangs on the left then, and the other way round.
+#[inline(always)]
+fn swap_below<E: Linked>(entries: &mut [E], above: Link)
+    requires { above.number < length entries.old }
+    ensures swapped { IsLinked (map E.item entries.old) (map E.item entries.new) above.number
+        (item_at (map E.item entries.old) above.number).up (item_at (map E.item entries.old) above.number).right
+        (item_at (map E.item entries.old) above.number).left }
+    ensures bare { map E.bare entries.new ≡ map E.bare entries.old }
+{
+    let links = links_at(entries, above);
+    relink(entries, above, links.up, links.right, links.left);
+}
+
 // Hangs a heap below the top of another one that comes before it. On the way down the right each passed entry's left goes
 // right, and the next one left.
 fn hang<E: Linked>(entries: &mut [E], top: Link, part: Link)
@@ -125,13 +138,14 @@ fn hang<E: Linked>(entries: &mut [E], top: Link, part: Link)
             rest = next;
             rest_corner = next_corner;
         } else {
-            hang_left(entries, above, next);
+            swap_below(entries, above);
             above = next;
         }
     }
 }
 
 // Two heaps as one, whose top hangs below `up`. Answers the top.
+#[inline(never)]
 fn meld<E: Linked>(entries: &mut [E], one: Link, other: Link, up: Link) -> Link
     requires { (under : ℕ) × (g : Heap) × (h : Heap)
         × AreApart (map E.item entries.old) under one.number g under other.number h }
@@ -152,6 +166,7 @@ fn meld<E: Linked>(entries: &mut [E], one: Link, other: Link, up: Link) -> Link
 }
 
 // Whether an entry, if there is one, has nothing on its left and comes before another one.
+#[inline(always)]
 fn is_place<E: Entry>(entries: &[E], near: Link, at: Link) -> bool
     requires near { near.number ≢ no_slot → near.number < length entries.now }
     requires near_solid { near.number ≢ no_slot → IsUnsigned (item_at (map E.item entries.now) near.number).area }
@@ -170,6 +185,7 @@ fn is_place<E: Entry>(entries: &[E], near: Link, at: Link) -> bool
 
 /// An entry joins the heap with this top, which hangs below `tag`. `near` is none, or an entry of the heap, below which it
 /// goes if it can. Answers the top.
+#[inline(always)]
 pub fn push<E: Linked>(entries: &mut [E], tag: Link, top: Link, near: Link, at: Link) -> Link
     requires { (h : Heap) × CanPush (map E.item entries.old) tag.number top.number near.number at.number h }
     ensures pushed { (h : Heap) → CanPush (map E.item entries.old) tag.number top.number near.number at.number h
@@ -193,6 +209,7 @@ pub fn push<E: Linked>(entries: &mut [E], tag: Link, top: Link, near: Link, at: 
 }
 
 // What hangs below an entry becomes one heap, which hangs where the entry does. Answers its top, or none.
+#[inline(always)]
 fn close<E: Linked>(entries: &mut [E], at: Link) -> Link
     requires { (left : Heap) × (right : Heap) × ArePartsBelow (map E.item entries.old) at.number left right }
     ensures melded { (left right : Heap) → ArePartsBelow (map E.item entries.old) at.number left right
@@ -217,6 +234,7 @@ fn close<E: Linked>(entries: &mut [E], at: Link) -> Link
 
 /// An entry leaves its heap. Answers the top of what was below it, which took its place. A tag above the heap's top isn't
 /// the number of an entry.
+#[inline(always)]
 pub fn remove<E: Linked>(entries: &mut [E], at: Link) -> Link
     requires { (tag : ℕ) × (top : ℕ) × (h : Heap) × CanRemove (map E.item entries.old) tag top at.number h }
     ensures removed { (tag top : ℕ) (h : Heap) → CanRemove (map E.item entries.old) tag top at.number h

@@ -6,7 +6,7 @@ use Rattle.atlas_model.specs.Pixels.{box_of}
 use Rattle.atlas_search.specs.Numbers.{occurs, same, no_slot}
 use Rattle.atlas_search.specs.Rectangles.{IsSolid}
 use Rattle.atlas_search.proofs.Occurrences.{same-self}
-use Rattle.atlas_search.specs.HeapCalls.{AreApart, IsHungLeft, IsMelded, KeepsAreas}
+use Rattle.atlas_search.specs.HeapCalls.{AreApart, IsHungLeft, IsLinked, IsMelded, KeepsAreas}
 use Rattle.atlas_search.specs.Heaps.{Heap, IsAbove, IsHeap, members}
 use Rattle.atlas_search.specs.Heaps.Heap.{None, Top}
 use Rattle.atlas_search.specs.Items.{Item, item_at, item_box, linked}
@@ -29,6 +29,10 @@ heap-reup es fs up up' top (Top at left right) short long some h once here kept 
 pub top-in : (es : List Item) (up top : ℕ) (h : Heap) → IsHeap es up top h → top ≢ no_slot → 0 < occurs top (members h)
 top-in es up top None h some = absurd (some h)
 top-in es up top (Top at left right) h some = omega (arith, same-self at, ap (λ n. same n at) h.0.0, occurs-top top at left right)
+
+top-up : (es : List Item) (up top : ℕ) (h : Heap) → IsHeap es up top h → top ≢ no_slot → (item_at es top).up ≡ up
+top-up es up top None h some = absurd (some h)
+top-up es up top (Top at left right) h some = ap (λ n. (item_at es n).up) h.0.0 ∙ h.0.2
 
 pub first-of : (es : List Item) (up top : ℕ) (h : Heap) → IsHeap es up top h → (j : ℕ) → 0 < occurs j (members h)
     → ComesFirst (item_box (item_at es top)) (item_box (item_at es j))
@@ -249,6 +253,21 @@ module _ (es fs gs : List Item) (up top : ℕ) (g h : Heap) (above rest : ℕ) (
   pub next-apart : (item_at fs above).right ≢ no_slot → above ≢ (item_at fs above).right
   next-apart more e =
       omega (arith, all above, same-self above, top-in fs above (item_at fs above).right p.right p.high more, ap (λ n. occurs n (members p.right)) e)
+
+  -- What is on the right goes left: it hangs below the entry as before.
+  pub swap-hangs : (item_at fs above).right ≢ no_slot
+      → IsLinked fs gs above (item_at fs above).up (item_at fs above).right (item_at fs above).left
+      → IsHungLeft fs gs above (item_at fs above).right
+  swap-hangs more is =
+      let next = (item_at fs above).right in
+      record {
+        long = is.long;
+        upper = is.here;
+        lower =
+            is.others next (λ e. next-apart more (sym e))
+            ∙ ap (λ u. linked (item_at fs next) u (item_at fs next).left (item_at fs next).right) (top-up fs above next p.right p.high more);
+        others = λ k ne far. is.others k ne;
+      }
 
   pub above-inside : above < length fs
   above-inside = heap-inside fs up top s.whole s.heap above s.here

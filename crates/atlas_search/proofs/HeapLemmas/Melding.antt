@@ -6,18 +6,12 @@ use Rattle.std.proofs.Common.{inl, inr}
 use Rattle.atlas_model.specs.Choice.{ComesFirst}
 use Rattle.atlas_search.specs.Numbers.{occurs}
 use Rattle.atlas_search.specs.Rectangles.{IsSolid}
-use Rattle.atlas_search.specs.HeapCalls.{AreApart, IsMelded, KeepsAreas}
+use Rattle.atlas_search.specs.HeapCalls.{AreApart, IsLinked, IsMelded, KeepsAreas}
 use Rattle.atlas_search.specs.Heaps.{Heap, IsAbove, members}
 use Rattle.atlas_search.specs.Items.{Item, item_at, item_box, linked, no_item}
 use Rattle.atlas_search.proofs.HeapLemmas.Frames.{above-frame, heap-frame}
 use Rattle.atlas_search.proofs.SearchLemmas.Heaps.{first-then}
 use Rattle.atlas_search.proofs.HeapLemmas.Hanging.{areas-then, boxes-same, first-of, heap-reup, top-in}
-
--- One entry has these links, and nothing else changed.
-pub record IsLinked (es fs : List Item) (at up left right : ℕ) : Type 0 where
-  pub long : length fs ≡ length es
-  pub here : item_at fs at ≡ linked (item_at es at) up left right
-  pub others : (k : ℕ) → k ≢ at → item_at fs k ≡ item_at es k
 
 pub linked-by : (es fs : List Item) (at up left right : ℕ) → at < length es → fs ≡ set es at (linked (item_at es at) up left right)
     → IsLinked es fs at up left right

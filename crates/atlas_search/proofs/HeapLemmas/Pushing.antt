@@ -5,7 +5,7 @@ use Rattle.atlas_model.specs.Choice.{ComesFirst}
 use Rattle.atlas_search.specs.Numbers.{occurs, same, no_slot}
 use Rattle.atlas_search.specs.Rectangles.{IsSolid}
 use Rattle.atlas_search.proofs.Occurrences.{same-self, same-ne}
-use Rattle.atlas_search.specs.HeapCalls.{AreApart, CanPush, HasPushed, IsMelded, KeepsAreas}
+use Rattle.atlas_search.specs.HeapCalls.{AreApart, CanPush, HasPushed, IsLinked, IsMelded, KeepsAreas}
 use Rattle.atlas_search.specs.Heaps.{Heap, IsHeap, members}
 use Rattle.atlas_search.specs.Heaps.Heap.{None, Top}
 use Rattle.atlas_search.specs.Items.{Item, item_at, item_box, linked}
@@ -13,7 +13,7 @@ use Rattle.atlas_search.proofs.HeapLemmas.Frames.{heap-frame}
 use Rattle.atlas_search.proofs.SearchLemmas.Heaps.{none-of, occurs-top}
 use Rattle.atlas_search.proofs.HeapLemmas.Places.{IsPlaced, IsWith, place-of}
 use Rattle.atlas_search.proofs.HeapLemmas.Hanging.{areas-then, boxes-same}
-use Rattle.atlas_search.proofs.HeapLemmas.Melding.{IsLinked, linked-areas}
+use Rattle.atlas_search.proofs.HeapLemmas.Melding.{linked-areas}
 
 abbrev pub alone : ℕ → Heap
 alone at = Top at None None

@@ -3,7 +3,7 @@ use Rattle.std.proofs.Common.{◌≡◌, ◌≢◌, ℕ, ◌+◌, ◌<◌, ◌�
 use Rattle.std.proofs.lemmas.Bool.{cases_eq, eq-eqb, ne_eqb, cond-true, cond-false}
 use Rattle.atlas_search.specs.Numbers.{occurs, same, no_slot}
 use Rattle.atlas_search.proofs.Occurrences.{same-self}
-use Rattle.atlas_search.specs.HeapCalls.{AreApart, ArePartsBelow, CanRemove, HasRemoved, IsMelded, KeepsAreas}
+use Rattle.atlas_search.specs.HeapCalls.{AreApart, ArePartsBelow, CanRemove, HasRemoved, IsLinked, IsMelded, KeepsAreas}
 use Rattle.atlas_search.specs.Heaps.{Heap, IsHeap, members}
 use Rattle.atlas_search.specs.Heaps.Heap.{None, Top}
 use Rattle.atlas_search.specs.Items.{Item, item_at}
@@ -11,7 +11,7 @@ use Rattle.atlas_search.proofs.HeapLemmas.Frames.{heap-frame, parts}
 use Rattle.atlas_search.proofs.SearchLemmas.Heaps.{heap-inside, none-of, occurs-top}
 use Rattle.atlas_search.proofs.HeapLemmas.Places.{IsPlaced, IsWith, at-top, in-left, in-right, place-of}
 use Rattle.atlas_search.proofs.HeapLemmas.Hanging.{areas-then, boxes-same, heap-reup, top-in}
-use Rattle.atlas_search.proofs.HeapLemmas.Melding.{IsLinked, linked-areas}
+use Rattle.atlas_search.proofs.HeapLemmas.Melding.{linked-areas}
 
 -- Entry x hangs below entry u of a heap.
 pub record IsChild (es : List Item) (up top : ℕ) (h : Heap) (u x : ℕ) : Type 0 where

@@ -3,10 +3,10 @@ use Rattle.std.proofs.Common.{◌≡◌, ◌≢◌, ℕ, ◌+◌, ◌<◌, List,
 use Rattle.atlas_model.specs.Choice.{ComesFirst}
 use Rattle.atlas_search.specs.Numbers.{no_slot}
 use Rattle.atlas_search.specs.Rectangles.{IsSolid}
-use Rattle.atlas_search.specs.HeapCalls.{AreApart, IsHungLeft, IsMelded}
+use Rattle.atlas_search.specs.HeapCalls.{AreApart, IsHungLeft, IsLinked, IsMelded}
 use Rattle.atlas_search.specs.Heaps.{Heap}
 use Rattle.atlas_search.specs.Items.{Item, item_at, item_box}
-use Rattle.atlas_search.proofs.HeapLemmas.Hanging.{IsHanging, hanging-ends, hanging-passes, hanging-takes, next-apart, next-inside, next-solid}
+use Rattle.atlas_search.proofs.HeapLemmas.Hanging.{IsHanging, hanging-ends, hanging-passes, hanging-takes, next-apart, next-inside, next-solid, swap-hangs}
 use Rattle.atlas_search.proofs.HeapLemmas.Spines.{falls-passing, falls-taking, spine}
 
 module _ (es fs gs : List Item) (up top under part : ℕ) (g h : Heap) (above rest next : ℕ) (a : AreApart es up top g under part h)
@@ -19,6 +19,11 @@ module _ (es fs gs : List Item) (up top under part : ℕ) (g h : Heap) (above re
 
   pub turn-apart : next ≢ no_slot → above ≢ next
   turn-apart = subst (λ n. n ≢ no_slot → above ≢ n) (sym is_next) (next-apart es fs gs up top g h above rest a.short a.once s)
+
+  pub turn-swaps : next ≢ no_slot → IsLinked fs gs above (item_at fs above).up (item_at fs above).right (item_at fs above).left
+      → IsHungLeft fs gs above next
+  turn-swaps = subst (λ n. n ≢ no_slot → IsLinked fs gs above (item_at fs above).up (item_at fs above).right (item_at fs above).left
+      → IsHungLeft fs gs above n) (sym is_next) (swap-hangs es fs gs up top g h above rest a.short a.once s)
 
   pub turn-ends : next ≡ no_slot → IsHungLeft fs gs above rest → IsMelded es gs up top g h
   turn-ends = subst (λ n. n ≡ no_slot → IsHungLeft fs gs above rest → IsMelded es gs up top g h) (sym is_next) (hanging-ends es fs gs up top g h above rest a.short a.once s)

@@ -56,6 +56,13 @@ fn hang_left<E: Linked>(entries: &mut [E], above: Link, less: Link) {
     set_up(entries, less, above);
 }
 
+// What hangs on the right below an entry hangs on the left then, and the other way round.
+#[inline(always)]
+fn swap_below<E: Linked>(entries: &mut [E], above: Link) {
+    let links = links_at(entries, above);
+    relink(entries, above, links.up, links.right, links.left);
+}
+
 // Hangs a heap below the top of another one that comes before it. On the way down the right each passed entry's left goes
 // right, and the next one left.
 #[inline]
@@ -76,14 +83,14 @@ fn hang<E: Linked>(entries: &mut [E], top: Link, part: Link) {
             rest = next;
             rest_corner = next_corner;
         } else {
-            hang_left(entries, above, next);
+            swap_below(entries, above);
             above = next;
         }
     }
 }
 
 // Two heaps as one, whose top hangs below `up`. Answers the top.
-#[inline]
+#[inline(never)]
 fn meld<E: Linked>(entries: &mut [E], one: Link, other: Link, up: Link) -> Link {
     if corner_at(entries, other) < corner_at(entries, one) {
         set_up(entries, other, up);
@@ -96,7 +103,7 @@ fn meld<E: Linked>(entries: &mut [E], one: Link, other: Link, up: Link) -> Link 
 }
 
 // Whether an entry, if there is one, has nothing on its left and comes before another one.
-#[inline]
+#[inline(always)]
 fn is_place<E: Entry>(entries: &[E], near: Link, at: Link) -> bool {
     if near.number == NO_SLOT || links_at(entries, near).left.number != NO_SLOT {
         return false;
@@ -106,7 +113,7 @@ fn is_place<E: Entry>(entries: &[E], near: Link, at: Link) -> bool {
 
 /// An entry joins the heap with this top, which hangs below `tag`. `near` is none, or an entry of the heap, below which it
 /// goes if it can. Answers the top.
-#[inline]
+#[inline(always)]
 pub fn push<E: Linked>(entries: &mut [E], tag: Link, top: Link, near: Link, at: Link) -> Link {
     let none = Link::NONE;
     if top.number == NO_SLOT {
@@ -124,7 +131,7 @@ pub fn push<E: Linked>(entries: &mut [E], tag: Link, top: Link, near: Link, at: 
 }
 
 // What hangs below an entry becomes one heap, which hangs where the entry does. Answers its top, or none.
-#[inline]
+#[inline(always)]
 fn close<E: Linked>(entries: &mut [E], at: Link) -> Link {
     let links = links_at(entries, at);
     if links.left.number == NO_SLOT {
@@ -142,7 +149,7 @@ fn close<E: Linked>(entries: &mut [E], at: Link) -> Link {
 
 /// An entry leaves its heap. Answers the top of what was below it, which took its place. A tag above the heap's top isn't
 /// the number of an entry.
-#[inline]
+#[inline(always)]
 pub fn remove<E: Linked>(entries: &mut [E], at: Link) -> Link {
     let up = links_at(entries, at).up;
     let rest = close(entries, at);
