@@ -1,4 +1,6 @@
 pub mod BlankLemmas
+pub mod ClearedLemmas
+pub mod ClearingLemmas
 pub mod PassLemmas
 pub mod GatherLemmas
 pub mod IdOrderLemmas
@@ -21,4 +23,6 @@ pub mod PictureLemmas
 pub mod StandLemmas
 pub mod TrimLemmas
 pub mod UsableLemmas
+pub mod VacateLemmas
+pub mod VacatedLemmas
 pub mod WalkLemmas

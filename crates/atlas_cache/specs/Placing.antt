@@ -5,7 +5,8 @@ use Rattle.guillotiere.specs.declared.Size.{Size}
 use Rattle.guillotiere.specs.Pages.{AddsBoxOn, NoneHasRoomBelow}
 use Rattle.guillotiere.specs.Pixels.{options_of, sides_of}
 use Rattle.guillotiere.specs.Replies.{grant_of}
-use Rattle.guillotiere.specs.States.{started}
+use Rattle.guillotiere.specs.Changes.{only}
+use Rattle.guillotiere.specs.States.{after_freeing, started}
 use Rattle.guillotiere.specs.Steps.{Step}
 use Rattle.guillotiere.specs.Steps.AtlasCall.{Allocate, Grow}
 use Rattle.guillotiere.specs.Steps.AtlasReply.{Allocated, Done}
@@ -28,6 +29,12 @@ abbrev pub GrowsOn : Size → (old new : List AtlasValue) → (page : ℕ) → T
 GrowsOn size old new page =
     (s t : AtlasValue) → slice_get old page ≡ Some s → slice_get new page ≡ Some t
     → Step (state_of s) (Grow (sides_of size)) Done (state_of t)
+
+-- The atlas of a page frees an id by a step of its own: its tree is that of the freeing.
+abbrev pub FreesOn : (old new : List AtlasValue) → (page id : ℕ) → Type 0
+FreesOn old new page id =
+    (s t : AtlasValue) → slice_get old page ≡ Some s → slice_get new page ≡ Some t
+    → state_of t ≡ after_freeing (state_of s) (only id)
 
 -- The atlas of a page begins as a single free rectangle, with the options of the cache and the greatest limit on slots.
 abbrev pub StartsOn : CacheOptions → List AtlasValue → (page : ℕ) → Type 0

@@ -10,7 +10,7 @@ ghost use Rattle.guillotiere.specs.Pixels.{natural, sides_of, size_of};
 ghost use Rattle.atlas_cache.specs.declared.options.CacheOptions.{CacheOptions};
 ghost use Rattle.atlas_cache.specs.Asking.{AreUsable};
 ghost use Rattle.atlas_entries.specs.Entries.{no_page};
-ghost use Rattle.atlas_cache.specs.Placing.{GrowsOn, PlacesFirst, StartsOn};
+ghost use Rattle.atlas_cache.specs.Placing.{FreesOn, GrowsOn, PlacesFirst, StartsOn};
 ghost use Rattle.atlas_cache.specs.Reserving.{IsShortOfSlots, UseAtMost};
 ghost use Rattle.atlas_cache.specs.Rooms.{grown_sides, growth_left, page_sizes, rooms_of, AreAllLargest};
 ghost use Rattle.atlas_cache.specs.Rooms.{AreLargestBelow, HasRoomOnlyAmong, IsFirstToGrow, IsNothingLive};
@@ -20,6 +20,7 @@ ghost use Rattle.atlas_entries.specs.declared.error.CacheError.TheVariants.{Memo
 
 mod asking;
 mod copying;
+mod rehearsing;
 mod repacking;
 mod reserving;
 mod usable;
@@ -176,6 +177,26 @@ impl<A: Allocator + Copy> Rooms<A> {
         self.pages[page as usize].size()
     }
 
+    /// States what always holds of the pages as a whole, and does nothing: each has the options of the cache, the greatest limit on slots
+    /// and a size from `page` to `largest_page`, and there are no more than the options allow.
+    pub fn prove_pages(&self)
+        ensures kept { KeepsRooms self.now }
+        ensures numbered { length self.now.pages ≤ no_page }
+        ensures usable { AreUsable self.now.options }
+    {
+        let _pages = &self.pages;
+        let _len = self.len();
+    }
+
+    /// Whether there are as many pages as the options allow, each at its largest.
+    pub(crate) fn are_full(&self) -> bool
+        ensures all { IsTrue result → length self.now.pages ≡ self.now.options.pages }
+        ensures largest { IsTrue result → AreAllLargest self.now.options (page_sizes self.now.pages) }
+    {
+        self.len() == self.options.pages
+            && first_to_grow(&self.pages, self.options.largest_page).is_none()
+    }
+
     /// States what always holds of the pages, and does nothing: each has the options of the cache, the greatest limit on slots and a
     /// size from `page` to `largest_page`, and there are no more than the options allow; the rectangles of live ids of a page lie apart and
     /// within it; an idle page of the largest size has room for whatever `CacheOptions::asked` asks for.
@@ -231,6 +252,7 @@ impl<A: Allocator + Copy> Rooms<A> {
         ensures sizes { page_sizes self.new.pages ≡ page_sizes self.old.pages }
         ensures options { self.new.options ≡ self.old.options }
         ensures slots { UseAtMost 0 self.old.pages self.new.pages }
+        ensures step { FreesOn self.old.pages self.new.pages page id }
     {
         let _freed = self.pages[page as usize].deallocate(id);
         self.refused[page as usize] = NO_SIZE;

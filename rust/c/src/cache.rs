@@ -163,12 +163,16 @@ fn write_inserted(answer: Result<Inserted, CacheError>, place: &mut PlainPlace) 
 /// counts as a hit. A new key, which counts as no miss, goes onto the first page with room for its size with the padding.
 /// If none has room, a page grows: its smaller side (the width if they are equal) doubles, but no further than the largest
 /// page. If none can grow, one is added; and if no more are allowed, the least recently used key that lies on a page and
-/// that this frame didn't use is evicted; and so on. What was done is handed over by `guillotiere_cache_next_change`, also
+/// that this frame didn't use is evicted; and so on, up to 16 keys. If there still is no room then, only keys that lie in one
+/// box go: the first box that would come free and that the new key fits, if all that this frame didn't use went in that
+/// order. Where memory for looking it up is refused, a byte for each slot of a page, they go on in that order. What was done
+/// is handed over by `guillotiere_cache_next_change`, also
 /// after `FRAME_FULL` and after an error: take all of it after each insertion, before the place or its number is noted. A
 /// key that was evicted and came back is reported as evicted all the same.
 /// `DONE`: the key is new, and its place was written: its pixels are to be written to the texture. `HELD`: it was held, and
-/// its place, where its pixels are, was written. `FRAME_FULL`: all pages allowed exist, at their largest, this frame uses all
-/// keys on them and no page has room: draw what is batched, call `guillotiere_cache_begin_frame` and insert again; while a
+/// its place, where its pixels are, was written. `FRAME_FULL`: all pages allowed exist, at their largest, and none would have
+/// room, were all keys gone that this frame didn't use, of which 16 went at most, or more where that memory was refused: draw
+/// what is batched, call `guillotiere_cache_begin_frame` and insert again; while a
 /// frame has used nothing this is never the answer. `NEVER_FITS` if the size, with the padding on all sides and rounded up to
 /// the alignment, exceeds the largest page, `OTHER_SIZE` if the key is held with another size, even if this one is empty or
 /// would never fit: then nothing changed. `NUMBERS` if 4294967295 keys are still held; `SLOTS` if the page that has room, or

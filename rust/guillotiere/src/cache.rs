@@ -227,7 +227,10 @@ impl<K: Copy + Eq + Hash, S: BuildHasher> TextureCache<K, S> {
     /// large, it is refused with `OtherSize`, and nothing changes. A new key, which counts as no miss, goes onto the first
     /// page with room for its size, in pixels, with the padding. If none has room, a page grows: its smaller side (the width if they are equal)
     /// doubles, but no further than the largest page. If none can grow, one is added; and if no more are allowed, the
-    /// least recently used entry that lies on a page and that this frame didn't use is evicted; and so on.
+    /// least recently used entry that lies on a page and that this frame didn't use is evicted; and so on, up to 16 entries. If there still
+    /// is no room then, only entries that lie in one box go: the first box that would come free and that the new key fits, if all that
+    /// this frame didn't use went in that order. Where memory for looking it up is refused, a byte for each slot of a page, they go on in
+    /// that order.
     ///
     /// A new key with an empty size, of which a side is 0 or below, becomes a blank entry: `Placed` with a place that is empty.
     /// Its page is 0, but it is on no page: no `repack` reports it, and `shrink` leaves no page for it. It takes no room, so no

@@ -81,7 +81,10 @@ impl<K: Copy + Eq + Hash, S: BuildHasher, A: Allocator + Copy> TextureCache<K, S
         ensures stops { IfErr result (λ error. StopsAtPage additional error self.old.pages self.new.pages) }
         ensures inserts { OnOk result (ReadiesInserts additional self.old self.new) }
     {
-        self.rooms.reserve_slots(additional)
+        self.rooms.reserve_slots(additional)?;
+        // Where it is refused, it is asked for again when it is needed.
+        let _refused = self.rooms.reserve_marks(additional, &mut self.marks);
+        Ok(())
     }
 
     // The entries that weren't used for so many frames go.

@@ -3,6 +3,7 @@
 
 mod asking;
 mod copying;
+mod rehearsing;
 mod repacking;
 mod reserving;
 mod usable;
@@ -123,6 +124,13 @@ impl<A: Allocator + Copy> Rooms<A> {
     #[must_use]
     pub fn page_size(&self, page: u32) -> Size {
         self.pages[page as usize].size()
+    }
+
+    /// Whether there are as many pages as the options allow, each at its largest.
+    #[inline]
+    pub(crate) fn are_full(&self) -> bool {
+        self.len() == self.options.pages
+            && first_to_grow(&self.pages, self.options.largest_page).is_none()
     }
 
     /// Grants a request on the first page that has room for it: the page, and what it granted, which has the sides that

@@ -48,7 +48,10 @@ impl<K: Copy + Eq + Hash, S: BuildHasher, A: Allocator + Copy> TextureCache<K, S
     /// after it are as they were. Takes as many steps as there are pages, and memory for those that need it.
     #[inline]
     pub fn reserve_slots(&mut self, additional: u32) -> Result<(), CacheError> {
-        self.rooms.reserve_slots(additional)
+        self.rooms.reserve_slots(additional)?;
+        // Where it is refused, it is asked for again when it is needed.
+        let _refused = self.rooms.reserve_marks(additional, &mut self.marks);
+        Ok(())
     }
 
     // The entries that weren't used for so many frames go.
