@@ -247,10 +247,10 @@ impl<K: Copy + Eq + Hash, S: BuildHasher, A: Allocator + Copy> TextureCache<K, S
     /// between them take nothing of it.
     ///
     /// Takes one look-up by a hash. A new key that isn't blank also takes a few steps for each page, and a request of an atlas for each
-    /// page that isn't known to have no room: one that refused a size no larger in width and height, and hasn't changed since, is. An
-    /// eviction takes a freeing and another request of its page; it passes each blank key that was used before what it evicts once, and
-    /// not again until that key is used. The search for one box takes, until it is found, a step for each entry that this
-    /// frame didn't use, and what a freeing takes for each of them that lies there.
+    /// page that isn't known to have no room: one that refused a size no larger in width and height, of the last two, and hasn't changed
+    /// since, is. An eviction takes a freeing and another request of its page; it passes each blank key that was used before what it evicts
+    /// once, and not again until that key is used. The search for one box takes, until it is found, a step for each entry that this frame
+    /// didn't use, and what a freeing takes for each of them that lies there.
     pub fn insert(
         &mut self,
         key: K,
