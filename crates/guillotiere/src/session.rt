@@ -151,8 +151,8 @@ pub fn step<A: Allocator + Copy>(atlas: &mut AtlasAllocator<A>, call: &Call) -> 
 
 /// Makes calls of an atlas in turn, and appends a reply for each. Room for all replies is reserved first: `Memory` is the
 /// only error, it comes only where `replies` has less room, and after it atlas and replies are as before. The room of the list is
-/// never given back. Each call is answered as by `step`, from what the one before it left. So after any list of calls the boxes tile the atlas as
-/// leaves of one normal tree of cuts, and each reply is owed (docs/MODEL.md, "Sessions").
+/// never given back. Each call is answered as by `step`, from what the one before it left. So after any list of calls the boxes
+/// tile the atlas as leaves of one normal tree of cuts, and each reply is owed (docs/MODEL.md, "Sessions").
 pub fn run<A: Allocator + Copy>(
     atlas: &mut AtlasAllocator<A>,
     calls: &[Call],
