@@ -459,10 +459,10 @@ uint32_t guillotiere_simple_grow(guillotiere_simple *simple, int32_t width, int3
 /* Whether the allocator may be grown to this size, in pixels: no side shrinks. False of a handle that holds nothing. */
 bool guillotiere_simple_can_grow_to(const guillotiere_simple *simple, int32_t width, int32_t height);
 
-/* Starts again with one free box of the allocator's size. Takes no memory. DONE; EMPTY. */
+/* Starts again with one free box of the allocator's size. Keeps the room of the entries, and takes no memory. DONE; EMPTY. */
 uint32_t guillotiere_simple_clear(guillotiere_simple *simple);
 
-/* Starts again at this size and with these options. Takes no memory.
+/* Starts again at this size and with these options. Keeps the room of the entries, and takes no memory.
  * DONE; BAD_CALL if a side isn't above 0 or the options aren't valid; EMPTY. */
 uint32_t guillotiere_simple_reset(guillotiere_simple *simple, int32_t width, int32_t height,
                                   const guillotiere_options *options);

@@ -92,6 +92,7 @@ module _ {K : Type 0} where
   pub looks_as : (s t : CacheState K) → t ≡ s → LooksSame s t
   looks_as s t same = subst (λ (u : CacheState K). LooksSame s u) (sym same) (record {
     same = λ k i. refl;
+    slots = none_used 4 s.pages;
     sizes = refl;
     keeps = record { entries = refl; numbers = refl; reserved = refl; options = refl; frame = refl; counts = refl };
   })

@@ -263,9 +263,10 @@ module _ {K : Type 0} where
     pub frame : t.frame ≡ s.frame
     pub counts : t.counts ≡ s.counts
 
-  -- Nothing that a caller can see changed.
+  -- Nothing that a caller can see changed. At most 4 slots of a page are used, so that what is in reserve beside them is left.
   pub record LooksSame (s t : CacheState K) : Type 0 where
     pub same : HasSameRectangles s.pages t.pages
+    pub slots : UseAtMost 4 s.pages t.pages
     pub sizes : page_sizes t.pages ≡ page_sizes s.pages
     pub keeps : KeepsEntries s t
 

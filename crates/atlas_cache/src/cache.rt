@@ -8,6 +8,7 @@ ghost use Rattle.guillotiere.specs.Pixels.{sides_of, size_of};
 ghost use Rattle.atlas_cache.specs.Asking.{bordered, AreUsable, CanStand, IsFaultIn};
 ghost use Rattle.atlas_cache.specs.Counting.{one_more};
 ghost use Rattle.atlas_entries.specs.Entries.{lying};
+ghost use Rattle.atlas_cache.specs.Placing.{IsFirstShort, IsGrowthShort, LacksSlots};
 ghost use Rattle.atlas_cache.specs.Refusals.{IsRefusedNew};
 ghost use Rattle.atlas_cache.specs.Reserving.{room_in, AllowSlots, HasReserves, HaveSlots, IsReadyFor, IsShortOfSlots, KeepsPageSizes};
 ghost use Rattle.atlas_cache.specs.Reserving.{KeepsReady, KeepsReadyButOne, UseAtMost};
@@ -232,8 +233,9 @@ impl<K: Copy + Eq + Hash, S: BuildHasher, A: Allocator + Copy> TextureCache<K, S
     /// if all that this frame didn't use went in that order. Where memory for its search is refused, a byte for each slot of the pages, they
     /// go on in that order. `FrameFull` if no page has room, nor would one have it, were all entries gone that this frame didn't use, which
     /// can't be while this frame has used nothing; `NeverFits` if the size, with the padding and rounded up to the alignment, exceeds the
-    /// largest page, and then nothing changes. What was done is added to the changes, also after `FrameFull` and after an error: `Memory`,
-    /// `Slots` if those of a page don't suffice, or `Numbers` only where 4,294,967,295 entries are still held.
+    /// largest page, and then nothing changes. What was done is added to the changes, whose room is never given back, also after
+    /// `FrameFull` and after an error: `Memory`, `Slots` if those of the first page that has room, or of the one that would grow, don't
+    /// suffice, or `Numbers` only where 4,294,967,295 entries are still held.
     ///
     /// A new key with an empty size, of which a side is 0 or below, becomes a blank entry: `Placed` with a place that is
     /// empty. It takes no room, so no page changes and nothing is evicted for it, nor is it ever evicted for another key.
@@ -275,6 +277,9 @@ impl<K: Copy + Eq + Hash, S: BuildHasher, A: Allocator + Copy> TextureCache<K, S
         ensures errors { entry_for K.eq key self.old.entries ≡ None
             → IfErr result (IsRefusedNew (length self.new.entries)) }
         ensures short { result ≡ Err Slots → IsShortOfSlots self.new.pages }
+        ensures lacks { result ≡ Err Slots
+            → LacksSlots (size_of (bordered self.old.options size)) self.new.options self.new.pages }
+        ensures capacity { vec_capacity changes.old ≤ vec_capacity changes.new }
         ensures room { IsNoneInUse self.old → result ≢ Ok FrameFull }
         ensures memory { (IsPositive (sides_of size) → ⊥) → 0 < self.old.reserved → result ≢ Err Memory }
         ensures takes { self.old.reserved ≤ self.new.reserved + 1 }
@@ -356,6 +361,8 @@ impl<K: Copy + Eq + Hash, S: BuildHasher, A: Allocator + Copy> TextureCache<K, S
         ensures inserts { Inserts asked key size result changes.old.items changes.new.items self.old self.new }
         ensures errors { IfErr result (IsRefusedNew (length self.new.entries)) }
         ensures short { result ≡ Err Slots → IsShortOfSlots self.new.pages }
+        ensures lacks { result ≡ Err Slots → LacksSlots asked self.new.options self.new.pages }
+        ensures capacity { vec_capacity changes.old ≤ vec_capacity changes.new }
         ensures room { IsNoneInUse self.old → result ≢ Ok FrameFull }
         ensures reserves { (n : ℕ) → HasReserves (n + 1) (room_in changes.old) self.old
             → (HasNoPageFor asked self.old → IsFull self.old)
@@ -407,6 +414,8 @@ impl<K: Copy + Eq + Hash, S: BuildHasher, A: Allocator + Copy> TextureCache<K, S
         ensures stays { result ≡ Ok None → (self.new ≡ self.old) × (changes.new.items ≡ changes.old.items) }
         ensures errors { IfErr result (IsRefusedNew (length self.new.entries)) }
         ensures short { result ≡ Err Slots → IsShortOfSlots self.new.pages }
+        ensures lacks { result ≡ Err Slots → IsFirstShort asked self.new.pages }
+        ensures capacity { vec_capacity changes.old ≤ vec_capacity changes.new }
         ensures already { result ≡ Err Slots → IsShortOfSlots self.old.pages }
         ensures reserves { (n : ℕ) → HasReserves (n + 1) (room_in changes.old) self.old
             → (result ≢ Err Memory) × HasReserves n (room_in changes.new) self.new }
@@ -458,6 +467,7 @@ impl<K: Copy + Eq + Hash, S: BuildHasher, A: Allocator + Copy> TextureCache<K, S
         ensures refused { OnErr result (LooksSame self.old self.new) }
         ensures errors { IfErr result (IsRefusedNew (length self.new.entries)) }
         ensures short { result ≡ Err Slots → IsShortOfSlots self.new.pages }
+        ensures lacks { result ≡ Err Slots → IsFirstShort asked self.new.pages }
         ensures reserves { (n room : ℕ) → HasReserves (n + 1) room self.old
             → (result ≢ Err Memory) × HasReserves n room self.new }
         ensures slots { UseAtMost 4 self.old.pages self.new.pages }
@@ -497,6 +507,8 @@ impl<K: Copy + Eq + Hash, S: BuildHasher, A: Allocator + Copy> TextureCache<K, S
         ensures refused { OnErr result ((self.new ≡ self.old) × (changes.new.items ≡ changes.old.items)) }
         ensures errors { IfErr result IsRefusal }
         ensures short { result ≡ Err Slots → IsShortOfSlots self.new.pages }
+        ensures lacks { result ≡ Err Slots → IsGrowthShort self.new.options self.new.pages }
+        ensures capacity { vec_capacity changes.old ≤ vec_capacity changes.new }
         ensures reserves { IsFull self.old → (n : ℕ) → HasReserves n (room_in changes.old) self.old
             → HasReserves n (room_in changes.new) self.new }
         ensures memory { IsFull self.old → 0 < room_in changes.old → result ≢ Err Memory }
@@ -531,6 +543,7 @@ impl<K: Copy + Eq + Hash, S: BuildHasher, A: Allocator + Copy> TextureCache<K, S
             → HasReserves n (room_in changes.new) self.new }
         ensures full { IsFull self.new }
         ensures slots { UseAtMost 0 self.old.pages self.new.pages }
+        ensures capacity { vec_capacity changes.old ≤ vec_capacity changes.new }
     {
         let Some((number, entry)) = oldest_lying(&mut self.entries) else {
             return None;

@@ -10,7 +10,7 @@ ghost use Rattle.guillotiere.specs.Pixels.{natural, sides_of, size_of};
 ghost use Rattle.atlas_cache.specs.declared.options.CacheOptions.{CacheOptions};
 ghost use Rattle.atlas_cache.specs.Asking.{AreUsable};
 ghost use Rattle.atlas_entries.specs.Entries.{no_page};
-ghost use Rattle.atlas_cache.specs.Placing.{FreesOn, GrowsOn, PlacesFirst, StartsOn};
+ghost use Rattle.atlas_cache.specs.Placing.{FreesOn, GrowsOn, IsGrowthShort, PlacesFirst, StartsOn};
 ghost use Rattle.atlas_cache.specs.Reserving.{IsShortOfSlots, UseAtMost};
 ghost use Rattle.atlas_cache.specs.Rooms.{grown_sides, growth_left, page_sizes, rooms_of, AreAllLargest};
 ghost use Rattle.atlas_cache.specs.Rooms.{AreLargestBelow, HasRoomOnlyAmong, IsFirstToGrow, IsNothingLive};
@@ -280,6 +280,7 @@ impl<A: Allocator + Copy> Rooms<A> {
         ensures refused { OnErr result (self.new ≡ self.old) }
         ensures errors { IfErr result IsRefusal }
         ensures short { result ≡ Err Slots → IsShortOfSlots self.old.pages }
+        ensures lacks { result ≡ Err Slots → IsGrowthShort self.old.options self.old.pages }
         ensures step { IfOk result (λ grown. IfSome grown (λ growth.
             GrowsOn growth.1 self.old.pages self.new.pages growth.0)) }
     {

@@ -291,6 +291,7 @@ impl<K: Copy + Eq + Hash, S: BuildHasher, A: Allocator + Copy> TextureCache<K, S
         ensures refused { OnErr result ((self.new ≡ self.old) × (changes.new.items ≡ changes.old.items)) }
         ensures unless { IsOkUnless result CacheError.Memory }
         ensures memory { length self.old.entries ≤ room_in changes.old → IsOk result }
+        ensures capacity { vec_capacity changes.old ≤ vec_capacity changes.new }
         ensures reserves { (n : ℕ) → HasReserves n (room_in changes.old) self.old
             → HasReserves n (room_in changes.new) self.new }
     {

@@ -17,6 +17,7 @@ use Rattle.guillotiere.specs.declared.Size.{Size}
 use Rattle.guillotiere.specs.Pixels.{size_of}
 use Rattle.atlas_cache.specs.Asking.{bordered}
 use Rattle.atlas_cache.specs.Caches.{HasNoPageFor}
+use Rattle.atlas_cache.specs.Placing.{LacksSlots}
 use Rattle.atlas_cache.proofs.BlankLemmas.{length-less}
 use Rattle.atlas_cache.proofs.ReadyLemmas.{allowed_after, blank_full, blank_not_short, blank_reserves, blank_uses, full_stays, one_fewer}
 use Rattle.atlas_cache.proofs.ReadyLemmas.{one_reserved, ready_after, reserves_left, unrefused_while_ready}
@@ -348,3 +349,13 @@ returns-clause-unrefused g c =
 
 pub returns-in-Some-clause-full : goal.returns-in-Some-clause-full
 returns-in-Some-clause-full g c = rw (← c.self.view_is) (full_stays _ _ refl refl)
+
+pub returns-then-not-is_positive-clause-lacks : goal.returns-then-not-is_positive-clause-lacks
+returns-then-not-is_positive-clause-lacks g c = λ is.
+    absurd (blank_not_short c.args.key c.args.size c.add_blank.result c.args.self.now c.add_blank.new.self c.add_blank.ensures.inserts is)
+
+pub returns-clause-lacks : goal.returns-clause-lacks
+returns-clause-lacks g c = λ is.
+    let asked = rw c.options-2.ensures.options at c.in-Some-asked.ensures.1 in
+    let same : c.in-Some-asked.asked ≡ size_of (bordered c.args.self.now.options c.args.size) = rw (← c.self.view_is) asked in
+    subst (λ (a : Size). LacksSlots a c.insert_new.new.self.options c.insert_new.new.self.pages) same (c.insert_new.ensures.lacks is)

@@ -1,4 +1,4 @@
-use Rattle.std.proofs.Common.{ap, sym, refl, subst, ◌∙◌, ◌≡◌, ◌+◌, Err, Ok, Some, arith, rules}
+use Rattle.std.proofs.Common.{ap, sym, refl, subst, ◌∙◌, ◌≡◌, ◌+◌, Err, Ok, Some, inl, inr, arith, rules}
 use Rattle.std.proofs.lemmas.Option.{slice_get_within}
 use Rattle.atlas_entries.proofs.AppendedLists.{append-none}
 use Rattle.atlas_cache.proofs.LoopLemmas.{inserted, nothing_yet, one_absent, one_more_change, one_options, then_there}
@@ -17,6 +17,7 @@ pub loop-place-init : goal.loop-place-init
 loop-place-init g c = record {
   reached = nothing_yet _ _ _ (sym (append-none _));
   absent = c.requires.absent;
+  capacity = omega arith;
   options = refl;
   inside = rw (← c.self.view_is) (omega (arith, c.len-to.ensures.pages));
   others = rw (← c.self.view_is) (λ k s is room.
@@ -277,6 +278,7 @@ loop-place-preserved g c =
     record {
       reached = one_more_change c.args.asked c.args.changes.now.items now new c.args.self.now t u was.reached full one;
       absent = one_absent g.K.PartialEq.eq c.args.key now new t u one was.absent;
+      capacity = omega (arith, was.capacity, c.insert_cleared.ensures.capacity, c.make_room.ensures.capacity);
       options = one_options now new t u one ∙ was.options;
       inside = omega (arith, there);
       others = only_changed c.args.asked t.pages u.pages c.in-Some-3.page full stay;
@@ -289,3 +291,27 @@ loop-place-preserved g c =
           let goes = rw both at c.make_room.ensures.slots in
           both_used 0 0 0 c.args.self.now.pages t.pages u.pages (omega arith) (was.slots k) (goes (was.keeps k full));
     }
+
+pub returns-in_err-place-clause-lacks : goal.returns-in_err-place-clause-lacks
+returns-in_err-place-clause-lacks g c = λ is.
+    let same : c.from_residual.result ≡ Err c.in_err-place.field-0.0 = search rules in
+    inl (c.in_err-place.ensures.lacks (ap Err (error_is c.in_err-place.field-0.0 c.from_residual.result same is)))
+
+pub returns-in_err-answer-clause-lacks : goal.returns-in_err-answer-clause-lacks
+returns-in_err-answer-clause-lacks g c = λ is.
+    let told : c.from_residual-in_err-answer.result ≡ Err c.in_err-answer.field-0.0 = search rules in
+    inl (c.in_err-answer.ensures.lacks (ap Err (error_is c.in_err-answer.field-0.0 c.from_residual-in_err-answer.result told is)))
+
+pub returns-in_err-page-clause-lacks : goal.returns-in_err-page-clause-lacks
+returns-in_err-page-clause-lacks g c = λ is.
+    let told : c.from_residual-in_err-page.result ≡ Err c.in_err-page.field-0.0 = search rules in
+    let same = c.in_ok-place.ensures.none (ap Ok c.in_default.is) in
+    let still = c.in_ok-answer.ensures.stays (ap Ok c.in_default-2.is) in
+    let short = c.in_err-page.ensures.lacks (ap Err (error_is c.in_err-page.field-0.0 c.from_residual-in_err-page.result told is)) in
+    let stays = c.in_err-page.ensures.refused in
+    inr (rw (stays.0, still.0, same) (c.in_ok-place.ensures.full (ap Ok c.in_default.is)), short)
+
+pub returns-in_err-answer-clause-short : goal.returns-in_err-answer-clause-short
+returns-in_err-answer-clause-short g c = λ is.
+    let told : c.from_residual-in_err-answer.result ≡ Err c.in_err-answer.field-0.0 = search rules in
+    c.in_err-answer.ensures.short (ap Err (error_is c.in_err-answer.field-0.0 c.from_residual-in_err-answer.result told is))

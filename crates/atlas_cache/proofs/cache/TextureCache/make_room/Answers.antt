@@ -174,3 +174,9 @@ returns-clause-stops g c = λ is.
     used-up c.args.asked c.args.self.now (rw (← c.self.view_is) (record { all = all; largest = largest })) c.requires
     (rw (← c.self.view_is) (c.evict.ensures.stops none)) (rw (← c.self.view_is) c.prove_pages.ensures.kept)
     (rw (← c.self.view_is) c.prove_pages.ensures.numbered)
+
+pub returns-in_err-page-clause-lacks : goal.returns-in_err-page-clause-lacks
+returns-in_err-page-clause-lacks g c = λ is.
+    let same : c.from_residual-in_err-page.result ≡ Err c.in_err-page.field-0.0 = search rules in
+    rw c.in_err-page.ensures.refused
+    (c.in_err-page.ensures.lacks (ap Err (error_is c.in_err-page.field-0.0 c.from_residual-in_err-page.result same is)))
