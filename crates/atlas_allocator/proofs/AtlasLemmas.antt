@@ -3,8 +3,6 @@ pub mod UnsignedRectangles
 pub mod ShownLists
 pub mod FreedLists
 pub mod GrantedAtlas
-pub mod TidiedAtlas
-pub mod TidiedGrants
 pub mod GrownAtlas
 pub mod RefitRanks
 pub mod RefitSizes

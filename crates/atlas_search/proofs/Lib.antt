@@ -1,3 +1,4 @@
 pub mod Occurrences
 pub mod SearchLemmas
+pub mod HeapLemmas
 pub mod CutTiles

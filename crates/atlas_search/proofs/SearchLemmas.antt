@@ -1,5 +1,4 @@
 -- Lemmas of the search for a free box, and of the table of lists.
-pub mod ItemPaths
 pub mod BandLaws
 pub mod TableHeads
 pub mod MarkWrites
@@ -15,7 +14,6 @@ pub mod SearchesBefore
 pub mod Windows
 pub mod ItemPicks
 pub mod BlankHeads
-pub mod Piles
-pub mod PileCounts
-pub mod PilePuts
-pub mod PileLifts
+pub mod Heaps
+pub mod Ways
+pub mod HeapSearches

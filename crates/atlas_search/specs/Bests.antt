@@ -1,9 +1,6 @@
 -- The best free box that a search was shown: what it keeps of it. No public clause cites this module.
-use Rattle.std.specs.Prelude.{◌≡◌, ℕ, ◌/◌, ◌<◌, ◌≤◌, ◌⊎◌, ◌++◌, ◌∷◌, [], Bool, List, Contains}
-use Rattle.atlas_search.specs.declared.best.Found.{Found}
-use Rattle.atlas_search.specs.declared.best.Spot.{Spot}
+use Rattle.std.specs.Prelude.{◌≡◌, ℕ, ◌<◌, ◌⊎◌, ◌++◌, ◌∷◌, [], Bool, List}
 use Rattle.atlas_search.specs.declared.best.Best.{Best}
-use Rattle.atlas_model.specs.declared.geometry.Rectangle.{Rectangle}
 use Rattle.atlas_model.specs.Boxes.{Box, Sides, IsPositive}
 use Rattle.atlas_model.specs.Choice.{least_margin}
 use Rattle.atlas_model.specs.Pixels.{size_of}
@@ -29,7 +26,7 @@ pub record HasSeen (s : Best) (is_large : Bool) (r : Sides) (shown : List Shown)
   pub size : s.size ≡ size_of r
   pub large : s.is_large ≡ is_large
   pub best : ((s.rank ≡ no_rank) × FitsNone r shown)
-      ⊎ ((s.rank < no_rank) × IsKeptOf is_large r shown s.rank s.corner s.spot.at.number)
+      ⊎ ((s.rank < no_rank) × IsKeptOf is_large r shown s.rank s.corner s.at.number)
 
 -- The best stays the best once this box is shown.
 abbrev pub IsPassed : Best → Box → Type 0
@@ -42,22 +39,3 @@ abbrev pub BecomesBest : Best → Box → (rank corner : ℕ) → Type 0
 BecomesBest s b rank corner =
     (is_large : Bool) (r : Sides) (shown : List Shown) → HasSeen s is_large r shown → (at : ℕ)
     → (rank < no_rank) × IsKeptOf is_large r (shown ++ shown_at b at ∷ []) rank corner at
-
--- Of these boxes of a list each but the best has at least this `min.y`.
-abbrev pub IsLeast : (s : Best) (list least : ℕ) (own : List Shown) → Type 0
-IsLeast s list least own =
-    (c : Shown) → Contains own c
-    → ((s.spot.list ≡ list) × (c.at ≡ s.spot.at.number) × (s.corner / 4294967296 ≡ c.box.min.y)) ⊎ (least ≤ c.box.min.y)
-
--- The best is the same.
-pub record IsSameBest (before after : Best) : Type 0 where
-  pub rank : after.rank ≡ before.rank
-  pub spot : after.spot ≡ before.spot
-
--- After a look the best is the box that was shown, or the one before.
-abbrev pub IsLooked : (before after : Best) → Spot → Type 0
-IsLooked s t f = IsSameBest s t ⊎ (t.spot ≡ f)
-
--- What is found where the best stands, with this rectangle.
-abbrev pub found_at : Rectangle → Spot → Found
-found_at a s = record { rectangle = a; at = s.at; before = s.before; list = s.list; low = s.low }

@@ -6,7 +6,9 @@ pub mod Bands
 pub mod Masks
 pub mod Tables
 pub mod Items
-pub mod Piles
+pub mod Heaps
+pub mod HeapCalls
+pub mod Ways
 pub mod Lookups
 pub mod Ranks
 pub mod Bests

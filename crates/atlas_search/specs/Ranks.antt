@@ -13,3 +13,7 @@ rank_of is_large margin = if is_large && nat_lt 0 margin then 2147483647 - margi
 -- The `min` of a box as one number, the greater the later the box comes: the y, and below it the x.
 abbrev pub corner_of : Box → ℕ
 corner_of b = b.min.y * 4294967296 + b.min.x
+
+-- A corner that no box has.
+abbrev pub no_corner : ℕ
+no_corner = 18446744073709551615

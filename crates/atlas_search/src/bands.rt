@@ -4,8 +4,10 @@ ghost use Rattle.atlas_search.specs.Bands.{band_of, border_of, list_of, number_o
 ghost use Rattle.atlas_model.specs.Choice.{Options};
 ghost use Rattle.atlas_search.specs.Lookups.{AreBorders, IsEndAfter};
 ghost use Rattle.atlas_model.specs.Boxes.{IsPositive};
+ghost use Rattle.atlas_search.specs.Heaps.{tag_of};
 ghost use Rattle.atlas_model.specs.Pixels.{natural, options_of, sides_of};
 
+use crate::link::{Link, TAG};
 use atlas_model::{AllocatorOptions, Size};
 use std::marker::Model;
 
@@ -17,6 +19,19 @@ pub const BANDS: usize = 52;
 pub struct Place {
     pub row: usize,
     pub column: usize,
+}
+
+impl Place {
+    /// What stands above the first entry of the list.
+    pub fn tag(self) -> Link
+        requires row { self.row < BANDS }
+        requires column { self.column < BANDS }
+        ensures { result.number ≡ tag_of (number_of self) }
+    {
+        Link {
+            number: TAG + (BANDS * self.row + self.column) as u32,
+        }
+    }
 }
 
 // The step of each side up to 256.

@@ -97,14 +97,6 @@ pub fn exact_size(area: Rectangle) -> Size
     area.size()
 }
 
-/// The `min.y` of a rectangle.
-pub fn top_in(area: Rectangle) -> u32
-    requires { IsUnsigned area }
-    ensures { result ≡ (box_of area).min.y }
-{
-    area.min.y as u32
-}
-
 /// The first `extent` pixels of a rectangle along an axis.
 pub fn front(area: Rectangle, axis: Orientation, extent: i32) -> Rectangle
     requires least { pos 0 ≤ℤ extent }

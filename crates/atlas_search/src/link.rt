@@ -14,5 +14,5 @@ impl Link {
 /// The number that means no entry.
 pub const NO_SLOT: u32 = 4294967295;
 
-/// A list that begins with this number or a greater one, but for `NO_SLOT`, is a pile, and the rest is the number of its top.
-pub const PILE: u32 = 4261412864;
+/// What stands above the first entry of a list is this and the list's number. The numbers of entries are below it.
+pub const TAG: u32 = 4261412864;

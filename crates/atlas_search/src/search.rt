@@ -1,23 +1,25 @@
 //! The search for the free box that a request takes, through the lists of a table.
-ghost use Rattle.std.specs.Prelude.{◌≡◌, ◌+◌, ◌*◌, ◌<◌, ◌≤◌, ◌==◌, ◌⊎◌, ℕ, max, true, false, [], map, List, None, IfSome};
+ghost use Rattle.std.specs.Prelude.{◌≡◌, ◌≢◌, ◌+◌, ◌*◌, ◌<◌, ◌≤◌, ◌==◌, ◌⊎◌, ◌++◌, ◌∷◌, ℕ, Bool, max, true, [], map, List, None, IfSome};
 ghost use Rattle.atlas_model.specs.Boxes.{Box, IsPositive, Sides};
 ghost use Rattle.atlas_model.specs.Choice.{IsFitting, IsPick, Options, class_of};
 ghost use Rattle.atlas_search.specs.Bests.{HasSeen};
-ghost use Rattle.atlas_search.specs.Items.{item_at};
-ghost use Rattle.atlas_search.specs.Numbers.{occurs};
-ghost use Rattle.atlas_search.specs.Piles.{IsPile, IsShowable, IsTag, Pile, members};
-ghost use Rattle.atlas_search.specs.Rectangles.{IsSolid};
+ghost use Rattle.atlas_search.specs.Heaps.{Heap, members};
+ghost use Rattle.atlas_search.specs.Heaps.Heap.{Top};
+ghost use Rattle.atlas_search.specs.Items.{Item, item_at, shown_items};
 ghost use Rattle.atlas_search.specs.Lookups.{AreBelow, AreFreeItems, AreListed, AreNoneApart, HasAdded};
-ghost use Rattle.atlas_search.specs.Lookups.{HasSearched, HasShown, HasShownPile, IsBeyond, IsInColumn, IsInRow, IsSearch};
+ghost use Rattle.atlas_search.specs.Lookups.{HasSearched, HasShown, IsBeyond, IsInColumn, IsInRow, IsSearch};
 ghost use Rattle.atlas_search.specs.Lookups.{IsStanding};
 ghost use Rattle.atlas_search.specs.Masks.{IsMarked};
+ghost use Rattle.atlas_search.specs.Numbers.{no_slot};
+ghost use Rattle.atlas_search.specs.Rectangles.{IsSolid};
+ghost use Rattle.atlas_search.specs.Searches.{Shown};
+ghost use Rattle.atlas_search.specs.Ways.{IsDone, IsNext, IsShowable, first_below};
 ghost use Rattle.atlas_model.specs.Pixels.{box_of, options_of, sides_of};
-ghost use Rattle.atlas_search.specs.Tables.{head_of, is_used_at};
+ghost use Rattle.atlas_search.specs.Tables.{is_used_at};
 
 use crate::bands::{BANDS, Place, Scale};
 use crate::best::{Best, Found, corner};
-use crate::cut::top_in;
-use crate::link::{Link, NO_SLOT, PILE};
+use crate::link::{Link, NO_SLOT};
 use crate::masks::Mask;
 use crate::table::Table;
 use atlas_model::{Rectangle, Size};
@@ -33,108 +35,126 @@ pub trait Entry {
     fn rectangle(&self) -> Rectangle
         ensures { result ≡ (item self.now).area };
 
-    /// The entry after it in its list; in a pile, the tag of what is below it to the right.
-    fn after(&self) -> Link
-        ensures { result.number ≡ (item self.now).after };
+    /// The entry that it hangs below, or the tag of its list.
+    fn up(&self) -> Link
+        ensures { result.number ≡ (item self.now).up };
 
-    /// The entry before it in its list; in a pile, the tag of what is below it to the left.
-    fn before(&self) -> Link
-        ensures { result.number ≡ (item self.now).before };
+    /// The entry that hangs below it to the left, or none.
+    fn left(&self) -> Link
+        ensures { result.number ≡ (item self.now).left };
+
+    /// The entry that hangs below it to the right, or none.
+    fn right(&self) -> Link
+        ensures { result.number ≡ (item self.now).right };
 }
 
-// Shows a pile to a search, but for what lies below an entry that can't be the best.
-fn show_pile<E: Entry>(entries: &[E], tag: Link, depth: u32, list: usize, best: &mut Best)
-    requires pile { (bits : ℕ) × (p : Pile) × IsPile (map E.item entries.now) depth bits tag.number p
-        × ((i : ℕ) → occurs i (members p) ≤ 1)
-        × ((i : ℕ) → 0 < occurs i (members p) → IsSolid (item_at (map E.item entries.now) i).area) }
-    requires depth { depth ≤ 25 }
-    ensures { (bits : ℕ) (p : Pile) → IsPile (map E.item entries.now) depth bits tag.number p
-        → ((i : ℕ) → 0 < occurs i (members p) → IsSolid (item_at (map E.item entries.now) i).area)
-        → HasShownPile (map E.item entries.now) list p best.old best.new }
+// What hangs below an entry begins with this: what hangs to the left, or else to the right.
+fn below<E: Entry>(entry: &E) -> Link
+    ensures { result.number ≡ first_below (E.item entry.now) }
 {
-    if tag.number != NO_SLOT {
-        let at = Link {
-            number: tag.number - PILE,
+    let left = entry.left();
+    if left.number == NO_SLOT {
+        entry.right()
+    } else {
+        left
+    }
+}
+
+// Shows an entry to a search. Answers with what the entries below it begin, or none if none of them can be the best.
+#[inline(always)]
+fn show_entry<E: Entry>(entry: &E, at: Link, best: &mut Best) -> Link
+    requires { IsSolid (E.item entry.now).area }
+    ensures some { result.number ≢ no_slot → (result.number ≡ first_below (E.item entry.now))
+        × ((es : List Item) → E.item entry.now ≡ item_at es at.number → HasShown es (at.number ∷ []) best.old best.new) }
+    ensures none { result.number ≡ no_slot → (es : List Item) → E.item entry.now ≡ item_at es at.number
+        → (l r : Heap) → IsShowable es at.number (Top at.number l r)
+        → HasShown es (members (Top at.number l r)) best.old best.new }
+{
+    let area = entry.rectangle();
+    let corner = corner(area);
+    if best.passes(corner) {
+        return Link::NONE;
+    }
+    best.look(area, corner, at);
+    if best.passes(corner) {
+        return Link::NONE;
+    }
+    below(entry)
+}
+
+// The entry after all that hangs below one, in a heap with this top; none if they are the last.
+#[inline(always)]
+fn climb<E: Entry>(entries: &[E], top: Link, from: Link) -> Link
+    requires { (h : Heap) × (done : List ℕ) × IsShowable (map E.item entries.now) top.number h × IsDone h from.number done }
+    ensures { (h : Heap) (done : List ℕ) → IsShowable (map E.item entries.now) top.number h → IsDone h from.number done
+        → IsNext h result.number done }
+{
+    let mut at = from;
+    while at.number != top.number {
+        let up = entries[at.number as usize].up();
+        let above = &entries[up.number as usize];
+        let right = above.right();
+        if right.number != NO_SLOT && above.left().number == at.number {
+            return right;
+        }
+        at = up;
+    }
+    Link::NONE
+}
+
+// Shows the entries of a heap with this top to a search, from one on, but for what hangs below one that can't be the best.
+#[inline(never)]
+fn show_below<E: Entry>(entries: &[E], top: Link, from: Link, best: Best) -> Best
+    requires { (h : Heap) × (done : List ℕ) × IsShowable (map E.item entries.now) top.number h × IsNext h from.number done }
+    ensures { (h : Heap) (done : List ℕ) → IsShowable (map E.item entries.now) top.number h → IsNext h from.number done
+        → (is_large : Bool) (r : Sides) (shown : List Shown)
+        → HasSeen best is_large r (shown ++ shown_items (map E.item entries.now) done)
+        → HasSeen result is_large r (shown ++ shown_items (map E.item entries.now) (members h)) }
+{
+    let mut found = best;
+    let mut at = from;
+    while (at.number as usize) < entries.len() {
+        let next = show_entry(&entries[at.number as usize], at, &mut found);
+        at = if next.number == NO_SLOT {
+            climb(entries, top, at)
+        } else {
+            next
         };
-        let entry = &entries[at.number as usize];
-        let area = entry.rectangle();
-        if !best.passes(corner(area)) {
-            best.look(area, at, Link::NONE, list, 0);
-            show_pile(entries, entry.before(), depth + 1, list, best);
-            show_pile(entries, entry.after(), depth + 1, list, best);
+    }
+    found
+}
+
+// Shows a list that begins with this to a search.
+#[inline(always)]
+fn show_list<E: Entry>(entries: &[E], top: Link, best: &mut Best)
+    requires { (h : Heap) × IsShowable (map E.item entries.now) top.number h }
+    ensures { (h : Heap) → IsShowable (map E.item entries.now) top.number h
+        → HasShown (map E.item entries.now) (members h) best.old best.new }
+{
+    if (top.number as usize) < entries.len() {
+        let from = show_entry(&entries[top.number as usize], top, best);
+        if from.number != NO_SLOT {
+            *best = show_below(entries, top, from, *best);
         }
     }
 }
 
-// Shows the boxes of a list that is a pile to a search. None lies above its top, so the top's `min.y` is the list's bound.
-fn show_top<E: Entry>(entries: &[E], tag: Link, list: usize, best: &mut Best)
-    requires tag { IsTag tag.number }
-    requires showable { (xs : List ℕ) × IsShowable (map E.item entries.now) tag.number xs }
-    ensures { (xs : List ℕ) → IsShowable (map E.item entries.now) tag.number xs
-        → HasShown (map E.item entries.now) tag.number list xs best.old best.new }
-{
-    let low = top_in(entries[(tag.number - PILE) as usize].rectangle());
-    show_pile(entries, tag, 0, list, best);
-    best.end_list(list, low);
-}
-
-// Shows the boxes of a list that is a chain to a search.
-#[inline(always)]
-fn show_chain<E: Entry>(entries: &[E], head: Link, list: usize, best: &mut Best)
-    requires chain { IsTag head.number → ⊥ }
-    requires showable { (xs : List ℕ) × IsShowable (map E.item entries.now) head.number xs }
-    ensures { (xs : List ℕ) → IsShowable (map E.item entries.now) head.number xs
-        → HasShown (map E.item entries.now) head.number list xs best.old best.new }
-{
-    let mut least = 4294967295;
-    let mut at = head;
-    let mut before = Link::NONE;
-    while at.number != NO_SLOT {
-        let entry = &entries[at.number as usize];
-        least = best.look(entry.rectangle(), at, before, list, least);
-        before = at;
-        at = entry.after();
-    }
-    best.end_list(list, least);
-}
-
-// Shows the boxes of a list to a search. Where `any` is false, none is a pile.
-#[inline(always)]
-fn show_list<E: Entry>(entries: &[E], head: Link, list: usize, any: bool, best: &mut Best)
-    requires plain { any ≡ false → IsTag head.number → ⊥ }
-    requires showable { (xs : List ℕ) × IsShowable (map E.item entries.now) head.number xs }
-    ensures { (xs : List ℕ) → IsShowable (map E.item entries.now) head.number xs
-        → HasShown (map E.item entries.now) head.number list xs best.old best.new }
-{
-    if any && head.number >= PILE && head.number < NO_SLOT {
-        show_top(entries, head, list, best);
-    } else {
-        show_chain(entries, head, list, best);
-    }
-}
-
-// Shows the list at a place to a search, unless nothing in it can be the best.
+// Shows the list at a place to a search.
 #[inline(always)]
 fn search_list<A: Allocator, E: Entry>(
     entries: &[E],
     table: &Table<A>,
     place: Place,
-    any: bool,
     best: &mut Best,
 )
     requires row { place.row < BANDS }
     requires column { place.column < BANDS }
     requires listed { (o : Options) × AreListed o table.now (map E.item entries.now) }
-    requires plain { any ≡ false → (k : ℕ) → IsTag (head_of table.now k).number → ⊥ }
     ensures { (o : Options) (end : ℕ) (r : Sides) → AreListed o table.now (map E.item entries.now)
         → AreBelow end place.row place.column
-        → HasAdded o table.now (map E.item entries.now) end r (λ i j. (i ≡ place.row) × (j ≡ place.column)) best.old
-        best.new }
+        → HasAdded o (map E.item entries.now) end r (λ i j. (i ≡ place.row) × (j ≡ place.column)) best.old best.new }
 {
-    if !best.settles(table.low(place)) {
-        let list = BANDS * place.row + place.column;
-        show_list(entries, table.head(place), list, any, best);
-    }
+    show_list(entries, table.head(place), best);
 }
 
 // Shows lists of a row to a search.
@@ -144,20 +164,18 @@ fn search_row<A: Allocator, E: Entry>(
     table: &Table<A>,
     row: usize,
     columns: Mask,
-    any: bool,
     best: &mut Best,
 )
     requires row { row < BANDS }
     requires columns { (j : ℕ) → IsMarked columns j → j < BANDS }
     requires listed { (o : Options) × AreListed o table.now (map E.item entries.now) }
-    requires plain { any ≡ false → (k : ℕ) → IsTag (head_of table.now k).number → ⊥ }
     ensures { (o : Options) (end : ℕ) (r : Sides) → AreListed o table.now (map E.item entries.now)
         → ((j : ℕ) → IsMarked columns j → AreBelow end row j)
-        → HasAdded o table.now (map E.item entries.now) end r (IsInRow row columns) best.old best.new }
+        → HasAdded o (map E.item entries.now) end r (IsInRow row columns) best.old best.new }
 {
     let mut left = columns;
     while let Some(column) = left.take_first() {
-        search_list(entries, table, Place { row, column }, any, best);
+        search_list(entries, table, Place { row, column }, best);
     }
 }
 
@@ -168,20 +186,18 @@ fn search_column<A: Allocator, E: Entry>(
     table: &Table<A>,
     column: usize,
     rows: Mask,
-    any: bool,
     best: &mut Best,
 )
     requires column { column < BANDS }
     requires rows { (i : ℕ) → IsMarked rows i → i < BANDS }
     requires listed { (o : Options) × AreListed o table.now (map E.item entries.now) }
-    requires plain { any ≡ false → (k : ℕ) → IsTag (head_of table.now k).number → ⊥ }
     ensures { (o : Options) (end : ℕ) (r : Sides) → AreListed o table.now (map E.item entries.now)
         → ((i : ℕ) → IsMarked rows i → AreBelow end i column)
-        → HasAdded o table.now (map E.item entries.now) end r (IsInColumn column rows) best.old best.new }
+        → HasAdded o (map E.item entries.now) end r (IsInColumn column rows) best.old best.new }
 {
     let mut left = rows;
     while let Some(row) = left.take_first() {
-        search_list(entries, table, Place { row, column }, any, best);
+        search_list(entries, table, Place { row, column }, best);
     }
 }
 
@@ -207,21 +223,19 @@ fn search_rows<A: Allocator, E: Entry>(
     rows: Mask,
     first: usize,
     end: usize,
-    any: bool,
     best: &mut Best,
 )
     requires rows { (i : ℕ) → IsMarked rows i → i < end }
     requires first { first ≤ BANDS }
     requires end { end ≤ BANDS }
     requires listed { (o : Options) × AreListed o table.now (map E.item entries.now) }
-    requires plain { any ≡ false → (k : ℕ) → IsTag (head_of table.now k).number → ⊥ }
     ensures { (o : Options) (r : Sides) → AreListed o table.now (map E.item entries.now)
-        → HasAdded o table.now (map E.item entries.now) end r (IsBeyond rows first end) best.old best.new }
+        → HasAdded o (map E.item entries.now) end r (IsBeyond rows first end) best.old best.new }
 {
     let mut left = rows;
     while let Some(row) = left.take_first() {
         let columns = table.row(row).from(first).below(end);
-        search_row(entries, table, row, columns, any, best);
+        search_row(entries, table, row, columns, best);
     }
 }
 
@@ -253,7 +267,6 @@ fn search_before<A: Allocator, E: Entry>(
     columns: Mask,
     rows: Mask,
     end: usize,
-    any: bool,
     best: &mut Best,
 ) -> bool
     requires row { own.row < end }
@@ -261,85 +274,20 @@ fn search_before<A: Allocator, E: Entry>(
     requires end { end ≤ BANDS }
     requires search { (o : Options) × (r : Sides) × (least : ℕ)
         × IsSearch o table.now (map E.item entries.now) own r least columns rows }
-    requires plain { any ≡ false → (k : ℕ) → IsTag (head_of table.now k).number → ⊥ }
     ensures best { (o : Options) (r : Sides) (least : ℕ)
         → IsSearch o table.now (map E.item entries.now) own r least columns rows
-        → HasSeen best.old (class_of o r == 2) r [] → HasSearched o table.now (map E.item entries.now) end r best.new }
+        → HasSeen best.old (class_of o r == 2) r [] → HasSearched o (map E.item entries.now) end r best.new }
     ensures last { result ≡ true → AreNoneApart table.now own }
 {
-    search_row(entries, table, own.row, columns.below(end), any, best);
-    search_column(entries, table, own.column, rows.below(end), any, best);
+    search_row(entries, table, own.row, columns.below(end), best);
+    search_column(entries, table, own.column, rows.below(end), best);
     if best.has_equal_side() {
         return false;
     }
     let first = own.column + 1;
     let others = rows_with(table, first, BANDS).from(own.row + 1);
-    search_rows(entries, table, others.below(end), first, end, any, best);
+    search_rows(entries, table, others.below(end), first, end, best);
     others.is_empty()
-}
-
-// The same. Where `any` is false, no list is a pile.
-#[inline(always)]
-fn pick_from<A: Allocator, E: Entry>(
-    entries: &[E],
-    table: &Table<A>,
-    options: &Scale,
-    size: Size,
-    any: bool,
-) -> Option<Found>
-    requires positive { IsPositive (sides_of size) }
-    requires listed { AreListed (options_of options.now) table.now (map E.item entries.now) }
-    requires plain { any ≡ false → (k : ℕ) → IsTag (head_of table.now k).number → ⊥ }
-    ensures none { result ≡ None → (free : List Box) → AreFreeItems (map E.item entries.now) free → (b : Box)
-        → IsFitting free (sides_of size) b → ⊥ }
-    ensures picked { IfSome result
-        (λ found. (free : List Box) → AreFreeItems (map E.item entries.now) free
-        → IsPick free (options_of options.now) (sides_of size) (box_of found.rectangle)) }
-    ensures standing { IfSome result (IsStanding (options_of options.now) table.now (map E.item entries.now)) }
-{
-    let own = options.place_for(size);
-    let far = own.row.max(own.column);
-    let is_large = far >= options.large();
-    let mut columns = table.row(own.row).from(own.column);
-    let mut rows = table.column(own.column).from(own.row + 1);
-    let mut least = least_from(table, own, far, columns);
-    let mut best = Best::new(size, is_large);
-    while least < BANDS {
-        let end = options.end_after(least);
-        let is_last = search_before(entries, table, own, columns, rows, end, any, &mut best);
-        if let Some(spot) = best.spot() {
-            let entry = &entries[spot.at.number as usize];
-            return Some(spot.found(entry.rectangle()));
-        }
-        columns = columns.from(end);
-        rows = rows.from(end);
-        if is_last && columns.or(rows).is_empty() {
-            return None;
-        }
-        least = end;
-    }
-    None
-}
-
-// The same where lists may be piles.
-#[cold]
-#[inline(never)]
-fn pick_any<A: Allocator, E: Entry>(
-    entries: &[E],
-    table: &Table<A>,
-    options: &Scale,
-    size: Size,
-) -> Option<Found>
-    requires positive { IsPositive (sides_of size) }
-    requires listed { AreListed (options_of options.now) table.now (map E.item entries.now) }
-    ensures none { result ≡ None → (free : List Box) → AreFreeItems (map E.item entries.now) free → (b : Box)
-        → IsFitting free (sides_of size) b → ⊥ }
-    ensures picked { IfSome result
-        (λ found. (free : List Box) → AreFreeItems (map E.item entries.now) free
-        → IsPick free (options_of options.now) (sides_of size) (box_of found.rectangle)) }
-    ensures standing { IfSome result (IsStanding (options_of options.now) table.now (map E.item entries.now)) }
-{
-    pick_from(entries, table, options, size, true)
 }
 
 /// The free entry that a request of this rounded size takes.
@@ -356,11 +304,28 @@ pub fn pick<A: Allocator, E: Entry>(
     ensures picked { IfSome result
         (λ found. (free : List Box) → AreFreeItems (map E.item entries.now) free
         → IsPick free (options_of options.now) (sides_of size) (box_of found.rectangle)) }
-    ensures standing { IfSome result (IsStanding (options_of options.now) table.now (map E.item entries.now)) }
+    ensures standing { IfSome result (IsStanding (map E.item entries.now)) }
 {
-    if table.has_piles() {
-        pick_any(entries, table, options, size)
-    } else {
-        pick_from(entries, table, options, size, false)
+    let own = options.place_for(size);
+    let far = own.row.max(own.column);
+    let is_large = far >= options.large();
+    let mut columns = table.row(own.row).from(own.column);
+    let mut rows = table.column(own.column).from(own.row + 1);
+    let mut least = least_from(table, own, far, columns);
+    let mut best = Best::new(size, is_large);
+    while least < BANDS {
+        let end = options.end_after(least);
+        let is_last = search_before(entries, table, own, columns, rows, end, &mut best);
+        if let Some(at) = best.found() {
+            let rectangle = entries[at.number as usize].rectangle();
+            return Some(Found { rectangle, at });
+        }
+        columns = columns.from(end);
+        rows = rows.from(end);
+        if is_last && columns.or(rows).is_empty() {
+            return None;
+        }
+        least = end;
     }
+    None
 }

@@ -36,7 +36,3 @@ pub mod Edits
 pub mod OpenMembers
 pub mod OpenRuns
 pub mod Entries
-pub mod PilePuts
-pub mod PileLifts
-pub mod PileLiftsLeft
-pub mod PileRemoves

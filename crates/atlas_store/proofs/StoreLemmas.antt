@@ -1,7 +1,8 @@
 -- Lemmas of the store: slots with their lists.
-pub mod Chains
+pub mod Lines
 pub mod LinkedLists
 pub mod FiledSlots
+pub mod ListedSlots
 pub mod TakenSlots
 pub mod Turns
 pub mod Starts
@@ -10,8 +11,6 @@ pub mod StoreTakes
 pub mod UnusedCounts
 pub mod PickedSlots
 pub mod SlotLists
-pub mod PiledLists
-pub mod BuiltPiles
 pub mod Sizes
 pub mod ExtendedTrees
 pub mod ExtensionSteps

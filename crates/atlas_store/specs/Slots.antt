@@ -13,7 +13,6 @@ pub mod Growing
 pub mod SlotCalls
 pub mod Placing
 pub mod Picks
-pub mod Piles
 pub mod Rehearsing
 use Rattle.std.specs.Prelude.{ℕ, ◌≡◌, List, map, pos, slice_index_or}
 use Rattle.atlas_store.specs.declared.slots.Slot.{Slot}
@@ -48,7 +47,7 @@ blank_node =
     }
 
 abbrev pub blank_ring : Ring
-blank_ring = record { previous = record { number = 0 }; next = record { number = 0 } }
+blank_ring = record { up = record { number = 0 }; left = record { number = 0 }; right = record { number = 0 } }
 
 abbrev pub blank_slot : Slot
 blank_slot = record { node = blank_node; ring = blank_ring }

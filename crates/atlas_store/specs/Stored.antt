@@ -3,7 +3,7 @@
 use Rattle.std.specs.Prelude.{ℕ, ◌≡◌, ◌+◌, ◌<◌, ◌≤◌, ◌^◌, Bool, false, List, [], length}
 use Rattle.atlas_store.specs.declared.slots.Slot.{Slot}
 use Rattle.atlas_search.specs.declared.link.Link.{Link}
-use Rattle.atlas_search.specs.declared.table.ListHead.{ListHead}
+use Rattle.atlas_store.specs.declared.slots.lists.Recent.{Recent}
 use Rattle.atlas_model.specs.declared.geometry.Size.{Size}
 use Rattle.atlas_model.specs.declared.options.AllocatorOptions.{AllocatorOptions}
 use Rattle.atlas_model.specs.Boxes.{other, side}
@@ -15,14 +15,15 @@ use Rattle.atlas_store.specs.Slots.{nodes, rings}
 use Rattle.atlas_search.specs.Numbers.{no_slot, occurs}
 use Rattle.atlas_store.specs.Slots.Numbered.{Numbered, erase, first_slot, numbers}
 use Rattle.atlas_store.specs.Slots.Standing.{Sequence, Stands}
-use Rattle.atlas_store.specs.Slots.Lists.{AreFiled, Places}
+use Rattle.atlas_store.specs.Slots.Lists.{AreFiled, IsRecent, Places}
 use Rattle.atlas_store.specs.Slots.Reading.{tree_of}
 
--- The slots with their lists.
+-- The slots with their lists, and the slot that was listed last.
 pub record Shelf : Type 0 where
   pub slots : List Slot
-  pub heads : List ListHead
+  pub heads : List Link
   pub unused : Link
+  pub recent : Recent
   pub options : AllocatorOptions
 
 -- The fields of an atlas; `first` is the first slot of the top sequence, and `used` counts the slots that are used.
@@ -69,6 +70,7 @@ pub record HoldsWith (claimed : ℕ → ℕ) (v : Shelf) (h : Holding) : Type 0 
   pub top : h.sequence.parent ≡ no_slot
   pub stands : Stands (nodes v.slots) h.sequence h.tree
   pub filed : AreFiled (options_of v.options) (nodes v.slots) (rings v.slots) v.heads v.unused (places_of claimed h)
+  pub is_recent : IsRecent v.recent h.free_lists
   pub short : length v.slots ≤ most_slots
   pub valid : AreValid (options_of v.options)
   -- Extents are positive, and no box passes what an `i32` holds.

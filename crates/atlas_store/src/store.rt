@@ -1,8 +1,6 @@
 //! The slots of an atlas with their lists: each call keeps the tree that the slots represent, and the lists, in order.
 ghost use Rattle.std.specs.Prelude.{◌≡◌, ◌≢◌, ◌<◌, ◌≤◌, ◌↔◌, ℕ, true, false, IsTrue, IfOk, length};
 ghost use Rattle.atlas_store.specs.declared.slots.NodeKind.TheVariants.{Alloc, Free};
-ghost use Rattle.atlas_model.specs.Boxes.{IsPositive};
-ghost use Rattle.atlas_model.specs.Pixels.{sides_of};
 ghost use Rattle.atlas_model.specs.Trees.{most_slots};
 ghost use Rattle.atlas_search.specs.Numbers.{no_slot};
 ghost use Rattle.atlas_store.specs.Slots.Standing.{IsSlot};
@@ -14,19 +12,14 @@ pub mod start;
 pub mod turns;
 pub mod views;
 
-use crate::slots::lists::{enlist, give_back, take_slot, unlist};
-use crate::slots::piling::{long_chain, pile};
+use crate::slots::lists::{Recent, enlist, give_back, take_slot, unlist};
 use crate::slots::placing::{Parts, Plan, place_leaf};
 use crate::slots::{Node, NodeKind, Slot, join_next, lift, mark_free, read_node};
 use crate::store::turns::Turns;
-use atlas_model::Size;
 use atlas_search::bands::Scale;
 use atlas_search::link::{Link, NO_SLOT};
-use atlas_search::table::{LISTS, Table};
+use atlas_search::table::Table;
 use std::alloc::{AllocError, Allocator};
-
-// After a grant that found no long chain so many don't look for one, less one.
-const PAUSE: u32 = 64;
 
 /// The slots, the lists that run through them, and the options by which free slots are listed. `turns` counts the
 /// markings, joins and lifts, and is nothing at run time.
@@ -37,8 +30,7 @@ pub struct Store<A: Allocator> {
     unused: Link,
     options: Scale,
     turns: Turns,
-    // With how many grants one looks for a long chain.
-    due: u32,
+    recent: Recent,
 }
 
 impl<A: Allocator> Store<A> {
@@ -46,7 +38,7 @@ impl<A: Allocator> Store<A> {
     ghost use Rattle.atlas_store.specs.Store.Holdings.{shelf_of, node_in, turns_in, HasSlotsFor, IsDetachedLeaf};
     ghost use Rattle.atlas_store.specs.Store.Holdings.{IsHeld};
     ghost use Rattle.atlas_store.specs.Store.StoreCalls.{AreSlotsTaken, IsDetached, IsJoined, IsLeafPlaced, IsLifted};
-    ghost use Rattle.atlas_store.specs.Store.StoreCalls.{IsMarkedFree, CanCarryOut, IsSharpened, IsSlotTaken, IsTidied};
+    ghost use Rattle.atlas_store.specs.Store.StoreCalls.{IsMarkedFree, CanCarryOut, IsSlotTaken};
     ghost use Rattle.atlas_store.specs.Store.StoreCalls.{ListsLeaf, UnlistsLeaf};
 
     /// A copy: the same slots and lists, in new memory of the same allocator. No turn was taken in it yet.
@@ -64,7 +56,7 @@ impl<A: Allocator> Store<A> {
             unused: self.unused,
             options: self.options.copy(),
             turns: Turns::new(),
-            due: self.due,
+            recent: self.recent,
         })
     }
 
@@ -92,47 +84,7 @@ impl<A: Allocator> Store<A> {
         requires free { (node_in (shelf_of self.old) at.number).kind ≡ Free }
         ensures { UnlistsLeaf self.old self.new at.number }
     {
-        unlist(&mut self.slots, &mut self.lists, &self.options, at);
-    }
-
-    /// What a grant for a request of this rounded size does last. Once in a while it looks for a long chain along which such
-    /// requests are searched for, and makes it a pile.
-    #[inline(always)]
-    pub fn tidy(&mut self, size: Size)
-        requires positive { IsPositive (sides_of size) }
-        requires held { IsHeld (shelf_of self.old) }
-        ensures { IsTidied self.old self.new }
-    {
-        self.due = self.due.wrapping_sub(1);
-        if self.due == 0 {
-            self.tidy_now(size);
-        }
-    }
-
-    // Where a long chain is found another one is looked for at the next grant, and else after a pause.
-    #[cold]
-    #[inline(never)]
-    fn tidy_now(&mut self, size: Size)
-        requires positive { IsPositive (sides_of size) }
-        requires held { IsHeld (shelf_of self.old) }
-        ensures { IsTidied self.old self.new }
-    {
-        let place = self.options.place_for(size);
-        let list = long_chain(&self.slots, &self.lists, place);
-        if list >= LISTS {
-            self.due = PAUSE;
-            return;
-        }
-        self.due = 1;
-        pile(&mut self.slots, &mut self.lists, list);
-    }
-
-    /// `low` is at most the `min.y` of each slot of the list of this number.
-    pub fn sharpen(&mut self, list: usize, low: u32)
-        requires { list < 2704 }
-        ensures { IsSharpened self.old self.new list low }
-    {
-        self.lists.set_low(list, low);
+        unlist(&mut self.slots, &mut self.lists, &mut self.recent, at);
     }
 
     /// Puts a detached leaf into its list.
@@ -141,7 +93,13 @@ impl<A: Allocator> Store<A> {
         requires { IsDetached self.old at.number }
         ensures { ListsLeaf self.old self.new at.number }
     {
-        enlist(&mut self.slots, &mut self.lists, &self.options, at);
+        enlist(
+            &mut self.slots,
+            &mut self.lists,
+            &self.options,
+            &mut self.recent,
+            at,
+        );
     }
 
     // Takes an unused slot, the one given back last, or else a new one at the end. It is claimed.

@@ -28,7 +28,6 @@ pub fn grant<A: Allocator>(store: &mut Store<A>, chosen: Found, plan: Plan) -> A
     ensures { IsRequestGranted store.old store.new chosen plan result }
 {
     store.unlist(chosen.at);
-    store.sharpen(chosen.list, chosen.low);
     let slot = place(store, chosen.at, plan);
     let node = store.node(slot);
     Allocation {

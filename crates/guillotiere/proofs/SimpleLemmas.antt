@@ -2,6 +2,7 @@
 pub mod FreeItems
 pub mod EntryCounts
 pub mod CutBoxes
+pub mod HeapLists
 pub mod BoxShelves
 pub mod StoredStates
 pub mod SimpleSessions

@@ -1,44 +1,42 @@
 -- What a search knows once it was shown lists of a table.
-use Rattle.std.proofs.Common.{◌≡◌, ℕ, ◌+◌, ◌*◌, ◌/◌, ◌<◌, ◌≤◌, ◌⊎◌, Bool, true, List, ◌++◌, refl, sym, subst, inl, inr, append_assoc, arith}
+use Rattle.std.proofs.Common.{◌≡◌, ℕ, ◌+◌, ◌*◌, ◌<◌, ◌⊎◌, true, not, List, ◌++◌, refl, ap, sym, subst, inl, inr, append_assoc, arith}
 use Rattle.std.specs.List.{Contains}
 use Rattle.std.proofs.lemmas.Bool.{ne_eqb}
 use Rattle.std.proofs.lemmas.List.Elements.{Contains-append_left, Contains-append_right, Contains-append_cases}
 use Rattle.atlas_search.specs.declared.bands.Place.{Place}
 use Rattle.atlas_search.specs.declared.best.Best.{Best}
-use Rattle.atlas_search.specs.declared.best.Spot.{Spot}
-use Rattle.atlas_search.specs.declared.table.ListHead.{ListHead}
+use Rattle.atlas_search.specs.declared.link.Link.{Link}
 use Rattle.atlas_search.specs.Bands.{band_of, list_of, number_of}
-use Rattle.atlas_search.specs.Bests.{HasSeen, IsSameBest}
+use Rattle.atlas_search.specs.Bests.{HasSeen}
 use Rattle.atlas_model.specs.Boxes.{Sides, IsPositive}
 use Rattle.atlas_model.specs.Choice.{Options}
-use Rattle.atlas_search.specs.Items.{Item, item_at, item_box, item_sides, shown_item, shown_items}
-use Rattle.atlas_search.specs.Piles.{IsListed, IsShowable, IsTag}
-use Rattle.atlas_search.specs.Numbers.{occurs}
-use Rattle.atlas_search.specs.Lookups.{IsSpot, IsLowBut, HasShown, AreListed, IsSameIn, IsStanding, AreBelow, HasAdded, IsItemBelow, found_in}
-use Rattle.atlas_search.specs.Ranks.{no_rank}
+use Rattle.atlas_search.specs.Heaps.{Heap, members, tag_of}
+use Rattle.atlas_search.specs.Items.{Item, item_at, item_sides, shown_item, shown_items}
+use Rattle.atlas_search.specs.Numbers.{no_slot, occurs}
+use Rattle.atlas_search.specs.Lookups.{HasShown, AreListed, AreBelow, HasAdded, IsItemBelow}
 use Rattle.atlas_search.specs.Searches.{Shown}
-use Rattle.atlas_search.specs.Tables.{head_of, low_of, is_used_at}
+use Rattle.atlas_search.specs.Tables.{head_of, is_used_at}
+use Rattle.atlas_search.specs.Ways.{IsShowable}
 use Rattle.atlas_search.proofs.SearchLemmas.BandLaws.{band_below}
-use Rattle.atlas_search.proofs.SearchLemmas.Bests.{seen-passed}
+use Rattle.atlas_search.proofs.SearchLemmas.Heaps.{listed-some}
 use Rattle.atlas_search.proofs.SearchLemmas.ShownItems.{append-none, shown_items-has, shown_items-in}
-use Rattle.atlas_search.proofs.SearchLemmas.Piles.{listed-some}
 
 -- Nothing was shown.
-pub added-none : (o : Options) (heads : List ListHead) (es : List Item) (end : ℕ) (r : Sides) (s : Best)
-    → HasAdded o heads es end r (λ i j. ⊥) s s
-added-none o heads es end r s = grind (arith, append-none)
+pub added-none : (o : Options) (es : List Item) (end : ℕ) (r : Sides) (s : Best)
+    → HasAdded o es end r (λ i j. ⊥) s s
+added-none o es end r s = grind (arith, append-none)
 
 -- Fewer lists.
-pub added-of : (o : Options) (heads : List ListHead) (es : List Item) (end : ℕ) (r : Sides) (V W : ℕ → ℕ → Type 0)
+pub added-of : (o : Options) (es : List Item) (end : ℕ) (r : Sides) (V W : ℕ → ℕ → Type 0)
     (s t : Best)
-    → ((i j : ℕ) → W i j → V i j) → HasAdded o heads es end r V s t → HasAdded o heads es end r W s t
-added-of o heads es end r V W s t to h = grind arith
+    → ((i j : ℕ) → W i j → V i j) → HasAdded o es end r V s t → HasAdded o es end r W s t
+added-of o es end r V W s t to h = grind arith
 
-module _ (o : Options) (heads : List ListHead) (es : List Item) (end : ℕ) (r : Sides) where
+module _ (o : Options) (es : List Item) (end : ℕ) (r : Sides) where
   -- Lists are shown after others.
-  pub added-then : (V W : ℕ → ℕ → Type 0) (s t u : Best) → HasAdded o heads es end r V s t
-      → HasAdded o heads es end r W t u
-      → HasAdded o heads es end r (λ i j. V i j ⊎ W i j) s u
+  pub added-then : (V W : ℕ → ℕ → Type 0) (s t u : Best) → HasAdded o es end r V s t
+      → HasAdded o es end r W t u
+      → HasAdded o es end r (λ i j. V i j ⊎ W i j) s u
   added-then V W s t u a b =
       record {
         more = a.more ++ b.more;
@@ -49,10 +47,9 @@ module _ (o : Options) (heads : List ListHead) (es : List Item) (end : ℕ) (r :
         ];
         seen = λ is_large shown h.
             subst (λ (list : List Shown). HasSeen u is_large r list) (append_assoc shown a.more b.more) (b.seen is_large (shown ++ a.more) (a.seen is_large shown h));
-        known = λ k. b.known (a.known k);
       }
 
-  module _ (a : AreListed o heads es) where
+  module _ (heads : List Link) (a : AreListed o heads es) where
     -- The band of the sides of an entry.
     abbrev pub row_at : ℕ → ℕ
     row_at i = band_of o (item_sides (item_at es i)).width
@@ -68,19 +65,22 @@ module _ (o : Options) (heads : List ListHead) (es : List Item) (end : ℕ) (r :
 
     -- A list with an entry isn't empty.
     pub used-at : (i : ℕ) → (item_at es i).is_free ≡ true → is_used_at heads (52 * row_at i + column_at i) ≡ true
-    used-at i free = grind (arith, list-below, band_below, ne_eqb, listed-some)
+    used-at i free =
+        let k = 52 * row_at i + column_at i in
+        let below = list-below (row_at i) (column_at i) (band_below o _) (band_below o _) in
+        ap not (ne_eqb (head_of heads k).number no_slot
+        (listed-some es k (head_of heads k).number (a.free_lists k) i (omega (arith, a.short)) (a.lists k below) (a.each i free)))
 
     -- What holds of the lists that aren't empty.
     pub added-weaker : (V W : ℕ → ℕ → Type 0) (s t : Best)
         → ((i j : ℕ) → i < 52 → j < 52 → is_used_at heads (52 * i + j) ≡ true → W i j → V i j)
-        → HasAdded o heads es end r V s t → HasAdded o heads es end r W s t
+        → HasAdded o es end r V s t → HasAdded o es end r W s t
     added-weaker V W s t to h =
         record {
           more = h.more;
           of_lists = h.of_lists;
           each = λ i free w. h.each i free (to _ _ (band_below o _) (band_below o _) (used-at i free) w);
           seen = h.seen;
-          known = h.known;
         }
 
     module _ (place : Place) (lr : place.row < 52) (lc : place.column < 52) where
@@ -92,13 +92,21 @@ module _ (o : Options) (heads : List ListHead) (es : List Item) (end : ℕ) (r :
           → (row_at i ≡ place.row) × (column_at i ≡ place.column)
       bands-of_list i e = grind (arith, band_below)
 
-      pub showable : IsShowable es (head_of heads (number_of place)).number (a.free_lists (number_of place))
-      showable = record {
-        short = a.short;
-        listed = a.lists (number_of place) number-below;
-        once = λ i. a.once (number_of place) i number-below;
-        exact = λ i h. a.exact i (a.own (number_of place) i number-below h).0;
-      }
+      -- The list as a heap.
+      pub showable : (h : Heap) × IsShowable es (head_of heads (number_of place)).number h
+          × ((i : ℕ) → occurs i (members h) ≡ occurs i (a.free_lists (number_of place)))
+      showable =
+          let list = a.lists (number_of place) number-below in (
+            list.0,
+            record {
+              short = a.short;
+              up = tag_of (number_of place);
+              heap = list.1;
+              once = λ i. omega (arith, a.once (number_of place) i number-below, list.2 i);
+              exact = λ i h. a.exact i (a.own (number_of place) i number-below (omega (arith, h, list.2 i))).0;
+            },
+            list.2,
+          )
 
       module _ (w : AreBelow end place.row place.column) (xs : List ℕ) (same : (i : ℕ) → occurs i xs ≡ occurs i (a.free_lists (number_of place))) where
         of_list : (c : Shown) → Contains (shown_items es xs) c
@@ -114,77 +122,22 @@ module _ (o : Options) (heads : List ListHead) (es : List Item) (end : ℕ) (r :
             → Contains (shown_items es xs) (shown_item es i)
         has-each i free e = grind (arith, shown_items-has)
 
-        -- The list is passed over.
-        pub added-passed : (s : Best) → s.rank ≡ 0 → s.corner / 4294967296 < low_of heads (number_of place)
-            → HasAdded o heads es end r (λ i j. (i ≡ place.row) × (j ≡ place.column)) s s
-        added-passed s best_is beyond =
-            record {
-              more = shown_items es xs;
-              of_lists = of_list;
-              each = has-each;
-              seen = λ is_large shown h. seen-passed s is_large r shown (shown_items es xs) h best_is (λ c has e.
-                  let t = shown_items-in es xs c has in
-                  let own = a.own (number_of place) t.0 number-below (omega (arith, same t.0, t.1)) in
-                  let low = subst (λ n. low_of heads n ≤ (item_box (item_at es t.0)).min.y) own.1 (a.low t.0 own.0) in
-                  subst (λ (d : Shown). s.corner / 4294967296 < d.box.min.y) (sym t.2) (omega (arith, beyond, low)));
-              known = λ k. k;
-            }
-
-        -- The best of the list is known.
-        standing : (s : Spot) → IsSpot es (head_of heads (number_of place)).number (number_of place) xs s
-            → IsLowBut es xs s.at.number s.low → IsStanding o heads es (found_in es s)
-        standing s spot low = grind (arith, number-below)
-
-        -- Another bound of its list.
-        standing-low : (s : Spot) (low : ℕ) → s.list ≡ number_of place → IsStanding o heads es (found_in es s)
-            → IsLowBut es xs s.at.number low
-            → IsStanding o heads es (found_in es (record s { low = low }))
-        standing-low s low in_list k bound = grind (arith, number-below)
-
         -- The list was shown.
-        pub added-shown : (s t : Best)
-            → ((is_large : Bool) (r : Sides) (shown : List Shown) → HasSeen s is_large r shown
-            → HasSeen t is_large r (shown ++ shown_items es xs))
-            → (IsSameBest s t
-            ⊎ ((IsSpot es (head_of heads (number_of place)).number (number_of place) xs t.spot ⊎ IsSameIn (number_of place) s t) × IsLowBut es xs t.spot.at.number t.spot.low))
-            → HasAdded o heads es end r (λ i j. (i ≡ place.row) × (j ≡ place.column)) s t
-        added-shown s t seen found =
-            record {
-              more = shown_items es xs;
-              of_lists = of_list;
-              each = has-each;
-              seen = λ is_large shown h. seen is_large r shown h;
-              known = λ k some. elim found [
-                | inl kept ↦ subst (λ (f : Spot). IsStanding o heads es (found_in es f)) (sym kept.spot) (k (subst (λ n. n < no_rank) kept.rank some))
-                | inr new ↦ elim new.0 [
-                  | inl spot ↦ standing t.spot spot new.1
-                  | inr same ↦ subst (λ (f : Spot). IsStanding o heads es (found_in es f)) (sym same.2)
-                      (standing-low s.spot t.spot.low same.0 (k (subst (λ n. n < no_rank) same.1 some)) (subst (λ (f : Spot). IsLowBut es xs f.at.number t.spot.low) same.2 new.1))
-                ]
-              ];
-            }
-
-      pub added-list : AreBelow end place.row place.column → (s t : Best)
-          → HasShown es (head_of heads (number_of place)).number (number_of place) (a.free_lists (number_of place)) s t
-          → HasAdded o heads es end r (λ i j. (i ≡ place.row) × (j ≡ place.column)) s t
-      added-list w s t h =
-          added-shown w h.order h.same s t h.seen h.found
-
-      pub added-over : AreBelow end place.row place.column → (s : Best) → s.rank ≡ 0
-          → s.corner / 4294967296 < low_of heads (number_of place)
-          → HasAdded o heads es end r (λ i j. (i ≡ place.row) × (j ≡ place.column)) s s
-      added-over w s best_is beyond = added-passed w (a.free_lists (number_of place)) (λ i. refl) s best_is beyond
+        pub added-list : (s t : Best) → HasShown es xs s t
+            → HasAdded o es end r (λ i j. (i ≡ place.row) × (j ≡ place.column)) s t
+        added-list s t seen =
+            record { more = shown_items es xs; of_lists = of_list; each = has-each; seen = λ is_large shown h. seen is_large r shown h }
 
 -- Nothing that is in question was shown.
-pub added-nothing : (o : Options) (heads : List ListHead) (es : List Item) (end : ℕ) (r : Sides) (W : ℕ → ℕ → Type 0)
+pub added-nothing : (o : Options) (es : List Item) (end : ℕ) (r : Sides) (W : ℕ → ℕ → Type 0)
     (s : Best)
-    → ((i j : ℕ) → W i j → ⊥) → HasAdded o heads es end r W s s
-added-nothing o heads es end r W s never = added-of o heads es end r (λ i j. ⊥) W s s never (added-none o heads es end r s)
+    → ((i j : ℕ) → W i j → ⊥) → HasAdded o es end r W s s
+added-nothing o es end r W s never = added-of o es end r (λ i j. ⊥) W s s never (added-none o es end r s)
 
 -- A list more.
-pub added-next : (o : Options) (heads : List ListHead) (es : List Item) (end : ℕ) (r : Sides) (V U W : ℕ → ℕ → Type 0)
+pub added-next : (o : Options) (es : List Item) (end : ℕ) (r : Sides) (V U W : ℕ → ℕ → Type 0)
     (s t u : Best)
-    → ((i j : ℕ) → W i j → V i j ⊎ U i j) → HasAdded o heads es end r V s t → HasAdded o heads es end r U t u
-    → HasAdded o heads es end r W s u
-added-next o heads es end r V U W s t u to a b =
-    added-of o heads es end r (λ i j. V i j ⊎ U i j) W s u to (added-then o heads es end r V U s t u a b)
+    → ((i j : ℕ) → W i j → V i j ⊎ U i j) → HasAdded o es end r V s t → HasAdded o es end r U t u
+    → HasAdded o es end r W s u
+added-next o es end r V U W s t u to a b =
+    added-of o es end r (λ i j. V i j ⊎ U i j) W s u to (added-then o es end r V U s t u a b)

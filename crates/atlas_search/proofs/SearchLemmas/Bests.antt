@@ -1,11 +1,11 @@
 -- The best of the boxes that a search was shown.
-use Rattle.std.proofs.Common.{◌≡◌, ℕ, ◌-◌, ◌/◌, ◌<◌, ◌≤◌, ◌⊎◌, Bool, true, false, List, [], ◌∷◌, ◌++◌, ℤ, pos, negsuc, FitsSigned, w32, refl, ap, sym, ◌∙◌, subst, inl, inr, arith}
+use Rattle.std.proofs.Common.{◌≡◌, ℕ, ◌-◌, ◌/◌, ◌<◌, ◌≤◌, Bool, true, false, List, [], ◌∷◌, ◌++◌, ℤ, pos, negsuc, FitsSigned, w32, refl, ap, sym, ◌∙◌, subst, inl, inr, arith}
 use Rattle.std.specs.List.{Contains}
 use Rattle.std.proofs.lemmas.Int.{ints}
-use Rattle.std.proofs.lemmas.List.Elements.{Contains-push_cases, Contains-append_left, Contains-append_cases}
+use Rattle.std.proofs.lemmas.List.Elements.{Contains-append_left, Contains-append_cases}
 use Rattle.atlas_search.specs.declared.best.Best.{Best}
 use Rattle.atlas_model.specs.declared.geometry.Rectangle.{Rectangle}
-use Rattle.atlas_search.specs.Bests.{IsAhead, IsKeptOf, IsLeast, HasSeen}
+use Rattle.atlas_search.specs.Bests.{IsAhead, IsKeptOf, HasSeen}
 use Rattle.atlas_model.specs.Boxes.{Sides, Box, box_sides, Fits}
 use Rattle.atlas_model.specs.Choice.{least_margin, HasEqualSide, ComesFirst}
 use Rattle.atlas_model.specs.Pixels.{natural, box_of, rectangle_of, sides_of}
@@ -52,10 +52,6 @@ natural-most (negsuc n) h = omega arith
 corner-row : (b : Box) → b.min.x < 4294967296 → corner_of b / 4294967296 ≡ b.min.y
 corner-row b h = omega (arith, h)
 
-pub row-is : (a : Rectangle) (corner : ℕ) → FitsSigned w32 a.min.x → corner ≡ corner_of (box_of a)
-    → corner / 4294967296 ≡ (box_of a).min.y
-row-is a corner f e = let x = natural-most a.min.x f in ap (λ (n : ℕ). n / 4294967296) e ∙ corner-row (box_of a) (omega (arith, x))
-
 corner-before : (b c : Box) → b.min.x < 4294967296 → c.min.x < 4294967296 → corner_of b < corner_of c → IsBefore (rectangle_of b).min (rectangle_of c).min
 corner-before b c hb hc h = grind (arith, ints)
 
@@ -63,13 +59,6 @@ before-corner : (b c : Box) → b.min.x < 4294967296 → c.min.x < 4294967296
     → IsBefore (rectangle_of b).min (rectangle_of c).min → corner_of b < corner_of c
 before-corner b c hb hc (inl l) = let h : b.min.y < c.min.y = omega (arith, ints, l) in omega (arith, h, hb, hc)
 before-corner b c hb hc (inr e) = let h : b.min.x < c.min.x = omega (arith, ints, e.1) in let s : b.min.y ≡ c.min.y = omega (arith, ints, e.0) in omega (arith, h, s)
-
--- Below the bar no box is ahead of the best one.
-unbeaten : (s : Best) (b : Box) (corner : ℕ) → b.min.x ≤ 2147483647 → b.min.y ≤ 2147483647 → corner ≡ corner_of b
-    → s.bar < corner / 4294967296
-    → (rank : ℕ) → IsAhead rank corner s → ⊥
-unbeaten s b corner hx hy cornered past rank first =
-    let barred = s.barred (omega (arith, hx, hy, cornered, past)) in omega (arith, first, past, barred.0, barred.1)
 
 -- A box that is ahead of the best one, and one that isn't.
 
@@ -99,7 +88,7 @@ module _ (s : Best) (is_large : Bool) (r : Sides) (shown : List Shown) (seen : H
         large = seen.large;
         best = elim seen.best [
           | inl n ↦ inl (n.0, none_more r shown c n.1 misfit)
-          | inr k ↦ inr (k.0, kept-more s.spot.at.number c k.1 (λ fits. absurd (misfit fits)))
+          | inr k ↦ inr (k.0, kept-more s.at.number c k.1 (λ fits. absurd (misfit fits)))
         ];
       }
 
@@ -125,7 +114,7 @@ module _ (s : Best) (is_large : Bool) (r : Sides) (shown : List Shown) (seen : H
             | inl n ↦ absurd (behind (inl (omega (arith, n.0, ranked, rank-below is_large _ below))))
             | inr k ↦ inr (
               k.0,
-              kept-more s.spot.at.number (shown_at b at) k.1 (λ _. not_precedes-good is_large r b k.1.box fits k.1.best.fits (λ h. behind (ahead _ k.1 h))),
+              kept-more s.at.number (shown_at b at) k.1 (λ _. not_precedes-good is_large r b k.1.box fits k.1.best.fits (λ h. behind (ahead _ k.1 h))),
             )
           ];
         }
@@ -144,23 +133,11 @@ module _ (s : Best) (is_large : Bool) (r : Sides) (shown : List Shown) (seen : H
         best = elim seen.best [
           | inl n ↦ best_only is_large r shown (shown_at b at) n.1 fits
           | inr k ↦
-              best_replaced is_large r shown (shown_at k.1.box s.spot.at.number) (shown_at b at) k.1.best fits
+              best_replaced is_large r shown (shown_at k.1.box s.at.number) (shown_at b at) k.1.best fits
               (precedes-good is_large r b k.1.box fits k.1.best.fits (precedes _ k.1 first))
         ];
       },
     )
-
-  fits-cases : (b : Sides) → Fits r b ⊎ (Fits r b → ⊥)
-  fits-cases b = grind arith
-
-  -- No box with this corner is ahead of the best one.
-  seen-unbeaten : (b : Box) (corner : ℕ) → b.min.x < 4294967296 → least_margin r b < no_rank → corner ≡ corner_of b
-      → ((rank : ℕ) → IsAhead rank corner s → ⊥) → (at : ℕ) → HasSeen s is_large r (shown ++ shown_at b at ∷ [])
-  seen-unbeaten b corner narrow below cornered behind at =
-      elim (fits-cases (box_sides b)) [
-        | inl fits ↦ seen-behind b (rank_of is_large (least_margin r b)) corner narrow below refl cornered fits at (behind _)
-        | inr misfit ↦ seen-unfit (shown_at b at) misfit
-      ]
 
   -- A rectangle with this corner.
   module _ (a : Rectangle) (corner : ℕ) (left : FitsSigned w32 a.min.x) (right : FitsSigned w32 a.max.x) (cornered : corner ≡ corner_of (box_of a)) where
@@ -169,12 +146,6 @@ module _ (s : Best) (is_large : Bool) (r : Sides) (shown : List Shown) (seen : H
 
     small_margin : least_margin r (box_of a) < no_rank
     small_margin = let most = natural-most a.max.x right in omega (arith, seen.positive.0, most)
-
-    pub past-bar : FitsSigned w32 a.min.y → s.bar < corner / 4294967296 → (at : ℕ)
-        → HasSeen s is_large r (shown ++ shown_at (box_of a) at ∷ [])
-    past-bar top past =
-        seen-unbeaten (box_of a) corner (omega (arith, in_sight)) small_margin cornered
-        (unbeaten s (box_of a) corner in_sight (natural-most a.min.y top) cornered past)
 
     module _ (m : ℤ) (rank : ℕ) (fits : Fits (sides_of s.size) (box_sides (box_of a))) (margin : m ≡ pos (least_margin (sides_of s.size) (box_of a)))
         (ranked : rank ≡ rank_of s.is_large (natural m)) where
@@ -191,22 +162,6 @@ module _ (s : Best) (is_large : Bool) (r : Sides) (shown : List Shown) (seen : H
       pub ranked-ahead : (at : ℕ) → IsAhead rank corner s
           → (rank < no_rank) × IsKeptOf is_large r (shown ++ shown_at (box_of a) at ∷ []) rank corner at
       ranked-ahead = kept-ahead (box_of a) rank corner (omega (arith, in_sight)) small_margin rank_is cornered fits_asked
-
--- The least `min.y` of a list.
-
--- The box isn't the best.
-pub least-passed : (s : Best) (list least less : ℕ) (own : List Shown) (c : Shown) → IsLeast s list least own
-    → less ≤ least → less ≤ c.box.min.y
-    → IsLeast s list less (own ++ c ∷ [])
-least-passed s list least less own c all lower low d has = grind (arith, Contains-push_cases own c d has, all d)
-
--- The box is the best from now on.
-pub least-ahead : (s : Best) (corner list least less : ℕ) (own : List Shown) (c : Shown) → IsLeast s list least own
-    → less ≤ least
-    → (s.spot.list ≡ list → less ≤ s.corner / 4294967296) → corner / 4294967296 ≡ c.box.min.y
-    → (d : Shown) → Contains (own ++ c ∷ []) d
-    → ((list ≡ list) × (d.at ≡ c.at) × (corner / 4294967296 ≡ d.box.min.y)) ⊎ (less ≤ d.box.min.y)
-least-ahead s corner list least less own c all lower low row d has = grind (arith, Contains-push_cases own c d has, all d)
 
 -- Boxes that are passed over: those with an equal side come after the best, which has an equal side too.
 pub seen-over : (s : Best) (is_large : Bool) (r : Sides) (shown more : List Shown) → HasSeen s is_large r shown
@@ -232,8 +187,8 @@ seen-over s is_large r shown more seen zero below =
         → HasEqualSide r c
     equal l b c fb fc e h = grind (arith, equal_side-margin, margin-equal_side)
 
-    still : (k : IsKeptOf is_large r shown s.rank s.corner s.spot.at.number)
-        → IsBestShown is_large r (shown ++ more) (shown_at k.box s.spot.at.number)
+    still : (k : IsKeptOf is_large r shown s.rank s.corner s.at.number)
+        → IsBestShown is_large r (shown ++ more) (shown_at k.box s.at.number)
     still k =
         let b = k.box in
         let e : HasEqualSide r b = equal_side-margin r b k.best.fits (rank-zero is_large _ k.below (sym k.ranked ∙ zero)) in
@@ -247,11 +202,8 @@ seen-over s is_large r shown more seen zero below =
           ];
         }
 
+-- So are boxes with no equal side.
 pub seen-passed : (s : Best) (is_large : Bool) (r : Sides) (shown more : List Shown) → HasSeen s is_large r shown
-    → s.rank ≡ 0
-    → ((c : Shown) → Contains more c → HasEqualSide r c.box → s.corner / 4294967296 < c.box.min.y)
-    → HasSeen s is_large r (shown ++ more)
-seen-passed s is_large r shown more seen zero below =
-    seen-over s is_large r shown more seen zero (λ b narrow cornered c has e.
-    let row : s.corner / 4294967296 ≡ b.min.y = ap (λ n. n / 4294967296) cornered ∙ corner-row b narrow in
-    inl (omega (arith, row, below c has e)))
+    → s.rank ≡ 0 → ((c : Shown) → Contains more c → HasEqualSide r c.box → ⊥) → HasSeen s is_large r (shown ++ more)
+seen-passed s is_large r shown more seen zero none =
+    seen-over s is_large r shown more seen zero (λ b narrow cornered c has e. absurd (none c has e))

@@ -3,9 +3,9 @@ use Rattle.std.proofs.Common.{◌≡◌, ℕ, ◌+◌, ◌*◌, ◌/◌, ◌%◌
 use Rattle.std.proofs.lemmas.Bool.{cases_lt, true≢false}
 use Rattle.std.proofs.lemmas.List.{length-set}
 use Rattle.atlas_search.specs.declared.masks.Mask.{Mask}
-use Rattle.atlas_search.specs.declared.table.ListHead.{ListHead}
+use Rattle.atlas_search.specs.declared.link.Link.{Link}
 use Rattle.atlas_search.specs.Masks.{has, IsMarked, is_marked_at}
-use Rattle.atlas_search.specs.Tables.{blank_head, is_used_at}
+use Rattle.atlas_search.specs.Tables.{no_link, is_used_at}
 use Rattle.atlas_search.proofs.SearchLemmas.AddedLines.{IsRest, rest-cases}
 use Rattle.atlas_search.proofs.SearchLemmas.TableHeads.{blank-same, blank-kept, used-past}
 
@@ -18,12 +18,12 @@ not_true true h = absurd (h refl)
 not_true false h = refl
 
 -- Of these columns those that aren't left are empty, and what was empty is.
-pub record IsBlanked (old new : List ListHead) (row : ℕ) (columns left : Mask) : Type 0 where
+pub record IsBlanked (old new : List Link) (row : ℕ) (columns left : Mask) : Type 0 where
   pub long : length new ≡ 2704
   pub blank : (j : ℕ) → IsMarked columns j → has left j ≡ false → is_used_at new (52 * row + j) ≡ false
   pub kept : (k : ℕ) → is_used_at old k ≡ false → is_used_at new k ≡ false
 
-pub blanking-begins : (heads : List ListHead) (row : ℕ) (columns : Mask) → length heads ≡ 2704
+pub blanking-begins : (heads : List Link) (row : ℕ) (columns : Mask) → length heads ≡ 2704
     → IsBlanked heads heads row columns columns
 blanking-begins heads row columns long = record {
   long = long;
@@ -31,33 +31,33 @@ blanking-begins heads row columns long = record {
   kept = λ k h. h;
 }
 
-pub blanking-goes_on : (old new : List ListHead) (row k : ℕ) (columns left rest : Mask) → IsRest left rest k
+pub blanking-goes_on : (old new : List Link) (row k : ℕ) (columns left rest : Mask) → IsRest left rest k
     → 52 * row + k < 2704 → IsBlanked old new row columns left
-    → IsBlanked old (slice_set new (52 * row + k) blank_head) row columns rest
+    → IsBlanked old (slice_set new (52 * row + k) no_link) row columns rest
 blanking-goes_on old new row k columns left rest is below b =
     let at = 52 * row + k in
     let within : at < length new = omega (arith, b.long, below) in
     record {
-      long = length-set new at blank_head ∙ b.long;
+      long = length-set new at no_link ∙ b.long;
       blank = λ j h none. elim (rest-cases left rest k j is none) [
         | inl before ↦ blank-kept new at within (52 * row + j) (b.blank j h before)
-        | inr here ↦ ap (λ n. is_used_at (slice_set new at blank_head) (52 * row + n)) here ∙ blank-same new at within
+        | inr here ↦ ap (λ n. is_used_at (slice_set new at no_link) (52 * row + n)) here ∙ blank-same new at within
       ];
       kept = λ n h. blank-kept new at within n (b.kept n h);
     }
 
 -- The lists of the rows that aren't left are empty, and what was empty is.
-pub record AreBlanked (old new : List ListHead) (left : Mask) : Type 0 where
+pub record AreBlanked (old new : List Link) (left : Mask) : Type 0 where
   pub long : length new ≡ 2704
   pub blank : (i j : ℕ) → i < 52 → j < 52 → has left i ≡ false → is_used_at new (52 * i + j) ≡ false
   pub kept : (k : ℕ) → is_used_at old k ≡ false → is_used_at new k ≡ false
 
 -- Each list with a slot is marked.
-abbrev pub AreUsedMarked : List ListHead → List Mask → Type 0
+abbrev pub AreUsedMarked : List Link → List Mask → Type 0
 AreUsedMarked heads rows =
     (i j : ℕ) → i < 52 → j < 52 → is_used_at heads (52 * i + j) ≡ true → is_marked_at rows i j ≡ true
 
-pub rows-begin-blank : (heads : List ListHead) (rows : List Mask) (used : Mask) → length heads ≡ 2704
+pub rows-begin-blank : (heads : List Link) (rows : List Mask) (used : Mask) → length heads ≡ 2704
     → AreUsedMarked heads rows → ((i j : ℕ) → is_marked_at rows i j ≡ true → IsMarked used i) → AreBlanked heads heads used
 rows-begin-blank heads rows used long marked each = record {
   long = long;
@@ -66,7 +66,7 @@ rows-begin-blank heads rows used long marked each = record {
   kept = λ k h. h;
 }
 
-pub rows-go_on-blank : (old new newer : List ListHead) (rows : List Mask) (row : ℕ) (columns left rest : Mask)
+pub rows-go_on-blank : (old new newer : List Link) (rows : List Mask) (row : ℕ) (columns left rest : Mask)
     → AreUsedMarked old rows → IsRest left rest row
     → ((j : ℕ) → has columns j ≡ is_marked_at rows row j) → AreBlanked old new left → length newer ≡ 2704
     → ((j : ℕ) → IsMarked columns j → is_used_at newer (52 * row + j) ≡ false)
@@ -85,7 +85,7 @@ rows-go_on-blank old new newer rows row columns left rest marked is same b long 
   kept = λ k h. kept k (b.kept k h);
 }
 
-pub rows-end-blank : (old new : List ListHead) (left : Mask) → ((i : ℕ) → has left i ≡ false) → AreBlanked old new left
+pub rows-end-blank : (old new : List Link) (left : Mask) → ((i : ℕ) → has left i ≡ false) → AreBlanked old new left
     → (k : ℕ) → is_used_at new k ≡ false
 rows-end-blank old new left none b k = elim (cases_lt k 2704) [
   | inl l ↦

@@ -5,20 +5,19 @@ use Rattle.std.proofs.lemmas.Bool.{cases_lt, true≢false}
 use Rattle.std.proofs.lemmas.List.{get_or_past, length-map}
 use Rattle.atlas_search.specs.declared.best.Best.{Best}
 use Rattle.atlas_search.specs.declared.best.Found.{Found}
-use Rattle.atlas_search.specs.declared.best.Spot.{Spot}
-use Rattle.atlas_search.specs.declared.table.ListHead.{ListHead}
+use Rattle.atlas_search.specs.declared.link.Link.{Link}
 use Rattle.atlas_model.specs.declared.geometry.Rectangle.{Rectangle}
 use Rattle.atlas_model.specs.Boxes.{Sides, Box, Fits, box_sides}
 use Rattle.atlas_model.specs.Choice.{Options, class_of, IsFitting, IsPick}
-use Rattle.atlas_search.specs.Bests.{HasSeen, found_at}
+use Rattle.atlas_search.specs.Bests.{HasSeen}
 use Rattle.atlas_search.specs.Items.{Item, item_at, item_box, item_sides, no_item, shown_item}
-use Rattle.atlas_search.specs.Lookups.{HasSearched, IsBestBelow, FitsItemsFrom, AreFreeItems, AreListed, IsEndAfter, IsItemBelow, found_in}
+use Rattle.atlas_search.specs.Lookups.{HasSearched, IsBestBelow, FitsItemsFrom, AreFreeItems, AreListed, IsEndAfter, IsItemBelow}
 use Rattle.atlas_search.specs.Bands.{band_of}
 use Rattle.atlas_model.specs.Pixels.{box_of}
 use Rattle.atlas_search.specs.Ranks.{no_rank}
 use Rattle.atlas_search.specs.Searches.{Shown, shown_at, FitsOnlyFrom, AreOfClass, IsBestShown}
 use Rattle.atlas_search.proofs.SearchLemmas.BandLaws.{band_below}
-use Rattle.atlas_search.proofs.SearchLemmas.ShownItems.{item-read}
+use Rattle.atlas_search.proofs.SearchLemmas.Heaps.{item-read}
 use Rattle.atlas_search.proofs.SearchLemmas.Windows.{below-class, class-below, class-from}
 use Rattle.atlas_search.proofs.SearchLemmas.Picks.{pick_of_class}
 
@@ -33,14 +32,11 @@ free-inside item xs i free =
           absurd (true≢false (sym free ∙ ap (λ (e : Item). e.is_free) none))
     ]
 
--- What is found with the rectangle that is read of the entry.
-pub found-read : {E : Type 0} (item : E → Item) (xs : List E) (spot : Spot) (x : E) (a : Rectangle) (found : Found)
-    → (item_at (map item xs) spot.at.number).is_free ≡ true → x ≡ get_or xs spot.at.number x → a ≡ (item x).area
-    → found ≡ found_at a spot
-    → found ≡ found_in (map item xs) spot
-found-read item xs spot x a found free read area is =
-    let inside = free-inside item xs spot.at.number free in
-    is ∙ ap (λ (b : Rectangle). found_at b spot) (area ∙ ap (λ (e : Item). e.area) (item-read item xs spot.at.number x inside read))
+-- The rectangle that is read of a free entry.
+pub area-read : {E : Type 0} (item : E → Item) (xs : List E) (i : ℕ) (x : E) (a : Rectangle)
+    → (item_at (map item xs) i).is_free ≡ true → x ≡ get_or xs i x → a ≡ (item x).area → a ≡ (item_at (map item xs) i).area
+area-read item xs i x a free read area =
+    area ∙ ap (λ (e : Item). e.area) (item-read item xs i x (free-inside item xs i free) read)
 
 module _ (o : Options) (es : List Item) (r : Sides) where
   -- No row and no column is left.
@@ -58,49 +54,50 @@ module _ (o : Options) (es : List Item) (r : Sides) where
       let at = all.of_item b fitting.is_free in
       none at.0 at.1 (subst (λ (x : Box). Fits r (box_sides x)) (sym at.2) fitting.fits)
 
-  none-shown : (heads : List ListHead) (end : ℕ) (search : Best) → HasSearched o heads es end r search
+  none-shown : (end : ℕ) (search : Best) → HasSearched o es end r search
       → search.rank ≡ no_rank
       → (i : ℕ) → (item_at es i).is_free ≡ true → IsItemBelow o es end i → Fits r (item_sides (item_at es i)) → ⊥
-  none-shown heads end search h e i free below fits = grind arith
+  none-shown end search h e i free below fits = grind arith
 
   -- Where none before `end` is fitted, those that are reach it.
-  pub none-found : (heads : List ListHead) (end : ℕ) (search : Best) → HasSearched o heads es end r search
+  pub none-found : (end : ℕ) (search : Best) → HasSearched o es end r search
       → search.rank ≡ no_rank → FitsItemsFrom o es end r
-  none-found heads end search h e i free fits =
+  none-found end search h e i free fits =
       let row = band_of o (item_sides (item_at es i)).width in
       let column = band_of o (item_sides (item_at es i)).height in
       elim (cases_lt row end) [
-        | inl l ↦ elim (cases_lt column end) [ inl l' ↦ absurd (none-shown heads end search h e i free (l, l') fits) | inr g ↦ inr g ]
+        | inl l ↦ elim (cases_lt column end) [ inl l' ↦ absurd (none-shown end search h e i free (l, l') fits) | inr g ↦ inr g ]
         | inr g ↦ inl g
       ]
 
   -- It still knows of none.
-  pub seen-nothing : (heads : List ListHead) (end : ℕ) (search : Best) → HasSearched o heads es end r search
+  pub seen-nothing : (end : ℕ) (search : Best) → HasSearched o es end r search
       → search.rank ≡ no_rank
       → HasSeen search (class_of o r == 2) r []
-  seen-nothing heads end best h e =
+  seen-nothing end best h e =
       record { positive = h.seen.positive; size = h.seen.size; large = h.seen.large; best = inl (e, λ c has fits. omega (arith, has.1)) }
 
-  pub best-found : (heads : List ListHead) (end : ℕ) (search : Best) (spot : Spot) → HasSearched o heads es end r search
-      → spot ≡ search.spot → search.rank ≢ no_rank
-      → IsBestBelow o heads es end r (found_in es spot)
-  best-found heads end s spot h e ne =
+  pub best-found : (end : ℕ) (search : Best) (at : Link) (a : Rectangle) → HasSearched o es end r search → at ≡ search.at
+      → search.rank ≢ no_rank → a ≡ (item_at es at.number).area → IsBestBelow o es end r (record { rectangle = a; at = at })
+  best-found end s at a h e ne read =
       elim h.seen.best [
         | inl n ↦ absurd (ne n.0)
         | inr k ↦
-            let is : shown_at k.1.box s.spot.at.number ≡ shown_item es s.spot.at.number = (h.are_shown.of_lists _ k.1.best.is_shown).1 in
-            subst (λ (f : Spot). IsBestBelow o heads es end r (found_in es f)) (sym e)
-            (record {
+            let number : s.at.number ≡ at.number = ap (λ (l : Link). l.number) (sym e) in
+            let shown = h.are_shown.of_lists _ k.1.best.is_shown in
+            let is : shown_at k.1.box s.at.number ≡ shown_at (box_of a) at.number =
+            shown.1 ∙ ap (shown_item es) number ∙ ap (λ (x : Rectangle). shown_at (box_of x) at.number) (sym read) in
+            record {
               shown = h.shown;
               are_shown = h.are_shown;
               best = subst (λ (b : Shown). IsBestShown (class_of o r == 2) r h.shown b) is k.1.best;
-              standing = h.known k.0;
-            })
+              standing = record { free = subst (λ n. (item_at es n).is_free ≡ true) number shown.0; area = sym read };
+            }
       ]
 
-  pub pick-of_items : (heads : List ListHead) (a : AreListed o heads es) (least end : ℕ) (found : Found)
+  pub pick-of_items : (heads : List Link) (a : AreListed o heads es) (least end : ℕ) (found : Found)
       → IsEndAfter o least end → FitsItemsFrom o es least r
-      → IsBestBelow o heads es end r found → (free : List Box) → AreFreeItems es free
+      → IsBestBelow o es end r found → (free : List Box) → AreFreeItems es free
       → IsPick free o r (box_of found.rectangle)
   pick-of_items heads a least end found is from b free all =
       let class = is.class in

@@ -4,15 +4,15 @@ use Rattle.std.proofs.lemmas.Bool.{cases_eq, cond_both, true≢false}
 use Rattle.std.proofs.lemmas.Bool.Decides.{nat_tests}
 use Rattle.atlas_search.specs.declared.bands.Place.{Place}
 use Rattle.atlas_search.specs.declared.best.Best.{Best}
+use Rattle.atlas_search.specs.declared.link.Link.{Link}
 use Rattle.atlas_search.specs.declared.masks.Mask.{Mask}
-use Rattle.atlas_search.specs.declared.table.ListHead.{ListHead}
 use Rattle.atlas_search.specs.Bands.{band_of}
 use Rattle.atlas_search.specs.Bests.{HasSeen}
 use Rattle.atlas_model.specs.Boxes.{Sides}
 use Rattle.atlas_model.specs.Choice.{Options, class_of, HasEqualSide}
 use Rattle.atlas_search.specs.Items.{Item, item_at, item_box, item_sides, shown_item, shown_items}
 use Rattle.atlas_search.specs.Numbers.{occurs}
-use Rattle.atlas_search.specs.Lookups.{AreBelow, AreListed, HasAdded, HasSearched, IsBeyond, IsInColumn, IsInRow, IsItemBelow, IsKnown, IsSearch}
+use Rattle.atlas_search.specs.Lookups.{AreBelow, AreListed, HasAdded, HasSearched, IsBeyond, IsInColumn, IsInRow, IsItemBelow, IsSearch}
 use Rattle.atlas_search.specs.Masks.{has, IsMarked}
 use Rattle.atlas_search.specs.Searches.{Shown}
 use Rattle.atlas_search.specs.Tables.{is_used_at}
@@ -20,7 +20,7 @@ use Rattle.atlas_search.proofs.SearchLemmas.AddedLists.{added-then, added-weaker
 use Rattle.atlas_search.proofs.SearchLemmas.BandLaws.{band_mono, list_of-most}
 use Rattle.atlas_search.proofs.SearchLemmas.Bests.{seen-passed}
 use Rattle.atlas_search.proofs.Occurrences.{same-self, same-ne}
-use Rattle.atlas_search.proofs.SearchLemmas.Piles.{listed-inside}
+use Rattle.atlas_search.proofs.SearchLemmas.Heaps.{listed-inside}
 use Rattle.atlas_search.proofs.SearchLemmas.ShownItems.{shown_items-has, shown_items-in}
 
 -- The numbers below n that pass a test.
@@ -81,14 +81,14 @@ pub below-marked : (all below : Mask) (k j : ℕ) → KeepsBelow all below k →
 below-marked all below k j is h = let p = and_both _ _ (sym (is j) ∙ h) in (p.0, true_lt j k p.1)
 
 -- A column more, of those that the marked rows have a list in.
-pub rows-next : (heads : List ListHead) (first column : ℕ) (rows here more : Mask)
+pub rows-next : (heads : List Link) (first column : ℕ) (rows here more : Mask)
     → ((i : ℕ) → i < 52 → is_used_at heads (52 * i + column) ≡ true → IsMarked here i)
     → ((i : ℕ) → has more i ≡ (has rows i || has here i))
     → ((i j : ℕ) → i < 52 → first ≤ j → j < column → is_used_at heads (52 * i + j) ≡ true → IsMarked rows i)
     → (i j : ℕ) → i < 52 → first ≤ j → j < column + 1 → is_used_at heads (52 * i + j) ≡ true → IsMarked more i
 rows-next heads first column rows here more each either known i j h from below used = grind (arith, or_right, or_left)
 
-module _ (o : Options) (heads : List ListHead) (es : List Item) (own : Place) (r : Sides) (least : ℕ) (columns rows : Mask)
+module _ (o : Options) (heads : List Link) (es : List Item) (own : Place) (r : Sides) (least : ℕ) (columns rows : Mask)
     (search : IsSearch o heads es own r least columns rows) (end : ℕ) where
   abbrev a : AreListed o heads es
   a = search.listed
@@ -110,10 +110,10 @@ module _ (o : Options) (heads : List ListHead) (es : List Item) (own : Place) (r
   inside-free : (i : ℕ) → (item_at es i).is_free ≡ true → i < length es
   inside-free i free =
       let k = 52 * row_of i + column_of i in
-      listed-inside es _ (a.free_lists k) (a.lists k (list_of-most o (item_sides (item_at es i)))) i (a.each i free)
+      listed-inside es k _ (a.free_lists k) (a.lists k (list_of-most o (item_sides (item_at es i)))) i (a.each i free)
 
   -- Once an equal side is found, no list to the right and below holds the best.
-  pub added-apart : (s : Best) → s.rank ≡ 0 → HasAdded o heads es end r IsApart s s
+  pub added-apart : (s : Best) → s.rank ≡ 0 → HasAdded o es end r IsApart s s
   unfolding is_apart
   added-apart s best_is =
       let xs = numbers_where is_apart (length es) in
@@ -138,28 +138,27 @@ module _ (o : Options) (heads : List ListHead) (es : List Item) (own : Place) (r
               | inl w ↦ let same : row_of t.0 ≡ band_of o r.width = ap (band_of o) w in omega (arith, right, search.row, same)
               | inr w ↦ let same : column_of t.0 ≡ band_of o r.height = ap (band_of o) w in omega (arith, under, search.column, same)
             ]));
-        known = λ k. k;
       }
 
   -- And else they are shown.
   pub added-beyond : (used from below : Mask) (s t : Best)
       → ((i j : ℕ) → i < 52 → own.column + 1 ≤ j → j < 52 → is_used_at heads (52 * i + j) ≡ true → IsMarked used i)
       → KeepsFrom used from (own.row + 1) → KeepsBelow from below end
-      → HasAdded o heads es end r (IsBeyond below (own.column + 1) end) s t → HasAdded o heads es end r IsApart s t
+      → HasAdded o es end r (IsBeyond below (own.column + 1) end) s t → HasAdded o es end r IsApart s t
   added-beyond used from below s t each f b h =
-      added-weaker o heads es end r a (IsBeyond below (own.column + 1) end) IsApart s t
+      added-weaker o es end r heads a (IsBeyond below (own.column + 1) end) IsApart s t
       (λ i j hi hj full v.
       let marked = marked-from used from (own.row + 1) i f (each i j hi (omega (arith, v.1)) hj full) (omega (arith, v.0)) in
       (marked-below from below end i b marked v.2.0, omega (arith, v.1), v.2.1)) h
 
   -- All of them.
   added-all : (in_row in_column : Mask) (s t u v : Best) → KeepsBelow columns in_row end → KeepsBelow rows in_column end
-      → HasAdded o heads es end r (IsInRow own.row in_row) s t
-      → HasAdded o heads es end r (IsInColumn own.column in_column) t u
-      → HasAdded o heads es end r IsApart u v
-      → HasAdded o heads es end r (λ i j. (own.row ≤ i) × (own.column ≤ j) × AreBelow end i j × ((least ≤ i) ⊎ (least ≤ j))) s v
+      → HasAdded o es end r (IsInRow own.row in_row) s t
+      → HasAdded o es end r (IsInColumn own.column in_column) t u
+      → HasAdded o es end r IsApart u v
+      → HasAdded o es end r (λ i j. (own.row ≤ i) × (own.column ≤ j) × AreBelow end i j × ((least ≤ i) ⊎ (least ≤ j))) s v
   added-all in_row in_column s t u v bc br x y z =
-      added-weaker o heads es end r a (λ i j. (IsInRow own.row in_row i j ⊎ IsInColumn own.column in_column i j) ⊎ IsApart i j) _ s v
+      added-weaker o es end r heads a (λ i j. (IsInRow own.row in_row i j ⊎ IsInColumn own.column in_column i j) ⊎ IsApart i j) _ s v
       (λ i j hi hj full at.
       elim (cases_eq i own.row) [
         | inl e ↦
@@ -174,18 +173,15 @@ module _ (o : Options) (heads : List ListHead) (es : List Item) (own : Place) (r
           | inr ne' ↦ inr (omega (arith, at.0, ne), omega (arith, at.1, ne'), at.2)
         ]
       ])
-      (added-then o heads es end r _ IsApart s u v (added-then o heads es end r (IsInRow own.row in_row) (IsInColumn own.column in_column) s t u x y) z)
-
-  known-begin : (s : Best) → HasSeen s (class_of o r == 2) r [] → IsKnown o heads es s
-  known-begin s h = grind arith
+      (added-then o es end r _ IsApart s u v (added-then o es end r (IsInRow own.row in_row) (IsInColumn own.column in_column) s t u x y) z)
 
   -- A search that knew of none has seen them.
   pub searched : (in_row in_column : Mask) (s t u v : Best) → own.row < end → own.column < end
       → KeepsBelow columns in_row end → KeepsBelow rows in_column end
       → HasSeen s (class_of o r == 2) r []
-      → (((j : ℕ) → IsMarked in_row j → AreBelow end own.row j) → HasAdded o heads es end r (IsInRow own.row in_row) s t)
-      → (((i : ℕ) → IsMarked in_column i → AreBelow end i own.column) → HasAdded o heads es end r (IsInColumn own.column in_column) t u)
-      → HasAdded o heads es end r IsApart u v → HasSearched o heads es end r v
+      → (((j : ℕ) → IsMarked in_row j → AreBelow end own.row j) → HasAdded o es end r (IsInRow own.row in_row) s t)
+      → (((i : ℕ) → IsMarked in_column i → AreBelow end i own.column) → HasAdded o es end r (IsInColumn own.column in_column) t u)
+      → HasAdded o es end r IsApart u v → HasSearched o es end r v
   searched in_row in_column s t u v lr lc bc br begun x y z =
       let h = added-all in_row in_column s t u v bc br
       (x (λ j m. (lr, (below-marked columns in_row end j bc m).1))) (y (λ i m. ((below-marked rows in_column end i br m).1, lc))) z in
@@ -201,5 +197,4 @@ module _ (o : Options) (heads : List ListHead) (es : List Item) (own : Place) (r
           );
         };
         seen = h.seen (class_of o r == 2) [] begun;
-        known = h.known (known-begin s begun);
       }

@@ -1,48 +1,28 @@
 -- A table after one of its heads is written.
-use Rattle.std.proofs.Common.{◌≡◌, ◌≢◌, ℕ, ◌+◌, ◌*◌, ◌/◌, ◌%◌, ◌<◌, ◌≤◌, ◌⊎◌, inl, inr, Bool, true, false, not, ◌||◌, ◌==◌, List, length, get_or, slice_set, replicate, refl, ap, sym, ◌∙◌, arith}
+use Rattle.std.proofs.Common.{◌≡◌, ◌≢◌, ℕ, ◌+◌, ◌*◌, ◌/◌, ◌%◌, ◌<◌, ◌≤◌, ◌⊎◌, inl, inr, Bool, true, false, not, ◌||◌, ◌==◌, List, ◌++◌, length, take, get_or, slice_set, replicate, refl, ap, sym, ◌∙◌, subst, arith}
 use Rattle.std.proofs.lemmas.List.{get_or-set_same, get_or-set_other, get_or-replicate, get_or_read, length-set, length-replicate}
+use Rattle.std.proofs.Math.Seq.{take-append_seam}
 use Rattle.std.proofs.Math.ListN.{get_or-eq_default}
 use Rattle.std.proofs.lemmas.Bool.{cases_eq, cases_lt, ne_eqb, eq-eqb, or_from, or_left, or_right}
 use Rattle.atlas_search.specs.declared.masks.Mask.{Mask}
 use Rattle.atlas_search.specs.declared.link.Link.{Link}
-use Rattle.atlas_search.specs.declared.table.ListHead.{ListHead}
 use Rattle.atlas_search.specs.Numbers.{no_slot}
 use Rattle.atlas_search.specs.Masks.{is_marked_at}
-use Rattle.atlas_search.specs.Tables.{blank_head, head_of, low_of, is_used_at, IsTable}
+use Rattle.atlas_search.specs.Tables.{no_link, head_of, is_used_at, IsTable}
 
 -- What an index reads.
-module _ (heads : List ListHead) (k : ℕ) (e : ListHead) (within : k < length heads) (read : e ≡ get_or heads k e) where
-  pub read-head : e.first ≡ head_of heads k
-  unfolding head_of
-  read-head = ap (λ h. h.first) (get_or_read heads k e within read blank_head)
+pub read-head : (heads : List Link) (k : ℕ) (e : Link) → k < length heads → e ≡ get_or heads k e → e ≡ head_of heads k
+unfolding head_of
+read-head heads k e within read = get_or_read heads k e within read no_link
 
-  pub read-low : e.low ≡ low_of heads k
-  unfolding low_of
-  read-low = ap (λ h. h.low) (get_or_read heads k e within read blank_head)
-
-module _ (heads : List ListHead) (k : ℕ) (e : ListHead) where
-  pub head_of-same : k < length heads → head_of (slice_set heads k e) k ≡ e.first
+module _ (heads : List Link) (k : ℕ) (e : Link) where
+  pub head_of-same : k < length heads → head_of (slice_set heads k e) k ≡ e
   unfolding head_of
-  head_of-same l = ap (λ h. h.first) (get_or-set_same heads k e blank_head l)
+  head_of-same l = get_or-set_same heads k e no_link l
 
   pub head_of-other : (j : ℕ) → j ≢ k → head_of (slice_set heads k e) j ≡ head_of heads j
   unfolding head_of
-  head_of-other j apart = ap (λ h. h.first) (get_or-set_other heads k j e blank_head apart)
-
-  pub low_of-same : k < length heads → low_of (slice_set heads k e) k ≡ e.low
-  unfolding low_of
-  low_of-same l = ap (λ h. h.low) (get_or-set_same heads k e blank_head l)
-
-  pub low_of-other : (j : ℕ) → j ≢ k → low_of (slice_set heads k e) j ≡ low_of heads j
-  unfolding low_of
-  low_of-other j apart = ap (λ h. h.low) (get_or-set_other heads k j e blank_head apart)
-
-  pub head_of-any : k < length heads → e.first ≡ head_of heads k → (j : ℕ)
-      → head_of (slice_set heads k e) j ≡ head_of heads j
-  head_of-any l same j = grind (arith, head_of-same, head_of-other)
-
-  pub low_of-any : k < length heads → e.low ≡ low_of heads k → (j : ℕ) → low_of (slice_set heads k e) j ≡ low_of heads j
-  low_of-any l same j = grind (arith, low_of-same, low_of-other)
+  head_of-other j apart = get_or-set_other heads k j e no_link apart
 
 -- Whether a link is a slot.
 abbrev pub is_slot : Link → Bool
@@ -73,27 +53,27 @@ parts-differ : (i j k : ℕ) → 52 * i + j ≢ k → (i ≢ k / 52) ⊎ (j ≢ 
 parts-differ i j k ne = elim (cases_eq i (k / 52)) [ inl e ↦ inr (λ h. ne (omega (arith, e, h))) | inr apart ↦ inl apart ]
 
 -- A head is written.
-module _ (heads : List ListHead) (rows : List Mask) (emptied k : ℕ) (e : ListHead) (is : IsTable heads rows emptied) (below : k < 2704) where
-  abbrev new : List ListHead
+module _ (heads : List Link) (rows : List Mask) (emptied k : ℕ) (e : Link) (is : IsTable heads rows emptied) (below : k < 2704) where
+  abbrev new : List Link
   new = slice_set heads k e
 
   within : k < length heads
   within = omega (arith, is.count, below)
 
-  used-same : is_used_at new k ≡ is_slot e.first
+  used-same : is_used_at new k ≡ is_slot e
   used-same = ap is_slot (head_of-same heads k e within)
 
   used-other : (n : ℕ) → n ≢ k → is_used_at new n ≡ is_used_at heads n
   used-other n apart = ap is_slot (head_of-other heads k e n apart)
 
-  used-any : is_slot e.first ≡ is_used_at heads k → (n : ℕ) → is_used_at new n ≡ is_used_at heads n
+  used-any : is_slot e ≡ is_used_at heads k → (n : ℕ) → is_used_at new n ≡ is_used_at heads n
   used-any same n = elim (cases_eq n k) [
     | inl here ↦ ap (is_used_at new) here ∙ used-same ∙ same ∙ sym (ap (is_used_at heads) here)
     | inr apart ↦ used-other n apart
   ]
 
   -- The list stays as empty as it was.
-  pub kept-table : is_slot e.first ≡ is_used_at heads k → IsTable new rows emptied
+  pub kept-table : is_slot e ≡ is_used_at heads k → IsTable new rows emptied
   kept-table same = record {
     count = length-set heads k e ∙ is.count;
     marked = λ i j p q. is.marked i j p q ∙ or_both _ _ _ _ (sym (used-any same (52 * i + j))) refl;
@@ -110,7 +90,7 @@ module _ (heads : List ListHead) (rows : List Mask) (emptied k : ℕ) (e : ListH
   }
 
   -- It gets its first slot and is marked.
-  pub marked-table : (rows' : List Mask) (i j : ℕ) → j < 52 → 52 * i + j ≡ k → is_slot e.first ≡ true
+  pub marked-table : (rows' : List Mask) (i j : ℕ) → j < 52 → 52 * i + j ≡ k → is_slot e ≡ true
       → is_marked_at rows' i j ≡ true
       → ((a b : ℕ) → (a ≢ i) ⊎ (b ≢ j) → is_marked_at rows' a b ≡ is_marked_at rows a b) → IsTable new rows' emptied
   marked-table rows' i j l here some this others = record {
@@ -165,36 +145,36 @@ module _ (heads : List ListHead) (rows : List Mask) (emptied k : ℕ) (e : ListH
 
 -- ---- no list has a slot
 
-pub head_of-blank : (k : ℕ) → head_of (replicate 2704 blank_head) k ≡ record { number = no_slot }
+pub head_of-blank : (k : ℕ) → head_of (replicate 2704 no_link) k ≡ record { number = no_slot }
 unfolding head_of
 head_of-blank k =
     elim (cases_lt k 2704) [
-      | inl l ↦ ap (λ h. h.first) (get_or-replicate 2704 k blank_head blank_head l)
+      | inl l ↦ get_or-replicate 2704 k no_link no_link l
       | inr g ↦
-          let past : length (replicate 2704 blank_head) ≤ k = omega (arith, length-replicate 2704 blank_head) in
-          ap (λ h. h.first) (get_or-eq_default (replicate 2704 blank_head) blank_head past)
+          let past : length (replicate 2704 no_link) ≤ k = omega (arith, length-replicate 2704 no_link) in
+          get_or-eq_default (replicate 2704 no_link) no_link past
     ]
 
-pub used-blank : (k : ℕ) → is_used_at (replicate 2704 blank_head) k ≡ false
+pub used-blank : (k : ℕ) → is_used_at (replicate 2704 no_link) k ≡ false
 used-blank k = ap is_slot (head_of-blank k)
 
 -- A head that is written as that of an empty list.
-module _ (heads : List ListHead) (k : ℕ) (within : k < length heads) where
-  pub blank-same : is_used_at (slice_set heads k blank_head) k ≡ false
-  blank-same = ap is_slot (head_of-same heads k blank_head within)
+module _ (heads : List Link) (k : ℕ) (within : k < length heads) where
+  pub blank-same : is_used_at (slice_set heads k no_link) k ≡ false
+  blank-same = ap is_slot (head_of-same heads k no_link within)
 
-  pub blank-kept : (j : ℕ) → is_used_at heads j ≡ false → is_used_at (slice_set heads k blank_head) j ≡ false
+  pub blank-kept : (j : ℕ) → is_used_at heads j ≡ false → is_used_at (slice_set heads k no_link) j ≡ false
   blank-kept j h = elim (cases_eq j k) [
-    | inl here ↦ ap (is_used_at (slice_set heads k blank_head)) here ∙ blank-same
-    | inr apart ↦ ap is_slot (head_of-other heads k blank_head j apart) ∙ h
+    | inl here ↦ ap (is_used_at (slice_set heads k no_link)) here ∙ blank-same
+    | inr apart ↦ ap is_slot (head_of-other heads k no_link j apart) ∙ h
   ]
 
 -- Past the end there is no list.
-pub used-past : (heads : List ListHead) (k : ℕ) → length heads ≤ k → is_used_at heads k ≡ false
+pub used-past : (heads : List Link) (k : ℕ) → length heads ≤ k → is_used_at heads k ≡ false
 unfolding head_of
-used-past heads k past = ap (λ h. is_slot h.first) (get_or-eq_default heads blank_head past)
+used-past heads k past = ap is_slot (get_or-eq_default heads no_link past)
 
-pub empty-table : (heads : List ListHead) (rows : List Mask) → length heads ≡ 2704
+pub empty-table : (heads : List Link) (rows : List Mask) → length heads ≡ 2704
     → ((k : ℕ) → is_used_at heads k ≡ false) → ((i j : ℕ) → is_marked_at rows i j ≡ false) → IsTable heads rows 2704
 empty-table heads rows long empty none = record {
   count = long;
@@ -202,5 +182,13 @@ empty-table heads rows long empty none = record {
 }
 
 pub blank-table : (rows : List Mask) → ((i j : ℕ) → is_marked_at rows i j ≡ false)
-    → IsTable (replicate 2704 blank_head) rows 2704
-blank-table rows none = empty-table (replicate 2704 blank_head) rows (length-replicate 2704 blank_head) used-blank none
+    → IsTable (replicate 2704 no_link) rows 2704
+blank-table rows none = empty-table (replicate 2704 no_link) rows (length-replicate 2704 no_link) used-blank none
+
+-- Heads of empty lists that are written over others.
+pub blanked-table : (heads rest : List Link) (rows : List Mask) (n : ℕ) → n ≡ 2704 → length heads ≡ 2704
+    → ((k : ℕ) → is_used_at heads k ≡ false) → ((i j : ℕ) → is_marked_at rows i j ≡ false)
+    → IsTable (take n (heads ++ rest)) rows 2704
+blanked-table heads rest rows n is long empty none =
+    let whole : take n (heads ++ rest) ≡ heads = ap (λ m. take m (heads ++ rest)) (is ∙ sym long) ∙ take-append_seam heads rest in
+    subst (λ (hs : List Link). IsTable hs rows 2704) (sym whole) (empty-table heads rows long empty none)

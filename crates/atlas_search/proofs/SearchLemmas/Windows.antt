@@ -4,7 +4,7 @@ use Rattle.std.proofs.lemmas.Bool.{cases_eq, cases_lt, eq-eqb, ne_eqb, true≢fa
 use Rattle.std.proofs.lemmas.Bool.Decides.{nat_tests}
 use Rattle.atlas_search.specs.declared.bands.Place.{Place}
 use Rattle.atlas_search.specs.declared.masks.Mask.{Mask}
-use Rattle.atlas_search.specs.declared.table.ListHead.{ListHead}
+use Rattle.atlas_search.specs.declared.link.Link.{Link}
 use Rattle.atlas_search.specs.Bands.{band_of, start_of, IsInWindow}
 use Rattle.atlas_model.specs.Boxes.{Sides, Fits, IsPositive}
 use Rattle.atlas_model.specs.Choice.{Options, AreValid, class_of}
@@ -17,12 +17,12 @@ use Rattle.atlas_search.proofs.SearchLemmas.BandLaws.{band_below, band_mono, cla
 use Rattle.atlas_search.proofs.SearchLemmas.SearchesBefore.{KeepsFrom, marked-from, or_left, or_right}
 
 -- Each used list from a place on reaches this row or column.
-abbrev pub AreReaching : List ListHead → (own : Place) → (least : ℕ) → Type 0
+abbrev pub AreReaching : List Link → (own : Place) → (least : ℕ) → Type 0
 AreReaching heads own least =
     (i j : ℕ) → i < 52 → j < 52 → own.row ≤ i → own.column ≤ j → is_used_at heads (52 * i + j) ≡ true → (least ≤ i) ⊎ (least ≤ j)
 
 -- Each reaches the least of the columns marked in its row and of the rows marked later.
-pub least-reached : (heads : List ListHead) (own : Place) (least : ℕ) (columns used rows both : Mask)
+pub least-reached : (heads : List Link) (own : Place) (least : ℕ) (columns used rows both : Mask)
     → ((j : ℕ) → own.column ≤ j → j < 52 → is_used_at heads (52 * own.row + j) ≡ true → IsMarked columns j)
     → ((i j : ℕ) → i < 52 → j < 52 → is_used_at heads (52 * i + j) ≡ true → IsMarked used i)
     → KeepsFrom used rows (own.row + 1)
@@ -38,7 +38,7 @@ least-reached heads own least columns used rows both each_column each_row later 
     ]
 
 -- The own row and column before the first turn.
-pub left-begin : (heads : List ListHead) (own : Place) (least : ℕ) (in_row columns in_column rows : Mask)
+pub left-begin : (heads : List Link) (own : Place) (least : ℕ) (in_row columns in_column rows : Mask)
     → ((j : ℕ) → j < 52 → is_used_at heads (52 * own.row + j) ≡ true → IsMarked in_row j)
     → KeepsFrom in_row columns own.column
     → ((i : ℕ) → i < 52 → is_used_at heads (52 * i + own.column) ≡ true → IsMarked in_column i)
@@ -51,7 +51,7 @@ left-begin heads own least in_row columns in_column rows used_row right used_col
     }
 
 -- After a turn up to `end`.
-pub left-next : (heads : List ListHead) (own : Place) (first end least : ℕ)
+pub left-next : (heads : List Link) (own : Place) (first end least : ℕ)
     (columns rows later_columns later_rows : Mask)
     → own.row < end → own.column < end → first < end → end ≤ least → KeepsFrom columns later_columns end
     → KeepsFrom rows later_rows end
@@ -68,11 +68,11 @@ left-next heads own first end least columns rows later_columns later_rows lr lc 
       ];
     }
 
-module _ (o : Options) (heads : List ListHead) (es : List Item) (r : Sides) (a : AreListed o heads es) where
+module _ (o : Options) (heads : List Link) (es : List Item) (r : Sides) (a : AreListed o heads es) where
   -- The class of a free entry, by its bands.
   class-window : (i : ℕ) → (item_at es i).is_free ≡ true
       → IsInWindow o (class_of o (item_sides (item_at es i))) (band_of o (item_sides (item_at es i)).width) (band_of o (item_sides (item_at es i)).height)
-  class-window i free = (window_law o (item_sides (item_at es i)) _ a.valid (positive-at o heads es 0 r a i free) (class_of-most o _)).0 refl
+  class-window i free = (window_law o (item_sides (item_at es i)) _ a.valid (positive-at o es 0 r heads a i free) (class_of-most o _)).0 refl
 
   -- Those that reach the first row or column of a class have it or a later one.
   pub class-from : (class least : ℕ) → class < 3 → start_of o class ≤ least → FitsItemsFrom o es least r
@@ -115,7 +115,7 @@ module _ (o : Options) (heads : List ListHead) (es : List Item) (r : Sides) (a :
     pub fits-reaching : (least : ℕ) → AreReaching heads own least → FitsItemsFrom o es least r
     fits-reaching least reach i free fits =
         reach _ _ (band_below o _) (band_below o _) (omega (arith, er, band_mono o _ _ fits.0)) (omega (arith, ec, band_mono o _ _ fits.1))
-        (used-at o heads es 0 r a i free)
+        (used-at o es 0 r heads a i free)
 
     -- Where no list to the right and below is used, and none is left in the own row and column, the request fits no entry.
     pub none-left : (end : ℕ) (columns rows both : Mask) → AreLeft heads own end columns rows → AreNoneApart heads own
@@ -127,7 +127,7 @@ module _ (o : Options) (heads : List ListHead) (es : List Item) (r : Sides) (a :
         let column = band_of o (item_sides (item_at es i)).height in
         let past : own.row ≤ row = omega (arith, er, band_mono o _ _ fits.0) in
         let under : own.column ≤ column = omega (arith, ec, band_mono o _ _ fits.1) in
-        let full = used-at o heads es 0 r a i free in
+        let full = used-at o es 0 r heads a i free in
         elim (cases_eq row own.row) [
           | inl e ↦
               let marked = left.in_row column under (band_below o _) (subst (λ k. is_used_at heads (52 * k + column) ≡ true) e full)

@@ -6,7 +6,6 @@ use Rattle.std.proofs.lemmas.List.Elements.{Contains-append_left, Contains-appen
 use Rattle.atlas_store.specs.declared.slots.Slot.{Slot}
 use Rattle.atlas_search.specs.declared.link.Link.{Link}
 use Rattle.atlas_store.specs.declared.slots.Node.{Node}
-use Rattle.atlas_search.specs.declared.table.ListHead.{ListHead}
 use Rattle.atlas_store.specs.declared.slots.NodeKind.{NodeKind}
 use Rattle.atlas_store.specs.declared.slots.NodeKind.TheVariants as kind
 use Rattle.atlas_model.specs.Boxes.{Box, moved, origin, other}
@@ -119,7 +118,7 @@ pub exact-free : (ns : List Node) (s : Sequence) (n : Numbered) → Stands ns s 
 exact-free ns s n h w cut i free = slot-exact ns i s n h cut w (omega (arith, ap use_count free))
 
 -- Slots that stand for a tree of cuts, and whose free ones are all listed, can be searched.
-pub searchable : (o : Options) (slots : List Slot) (heads : List ListHead) (unused : Link) (p : Places) (s : Sequence)
+pub searchable : (o : Options) (slots : List Slot) (heads : List Link) (unused : Link) (p : Places) (s : Sequence)
     (n : Numbered)
     → AreFiled o (nodes slots) (rings slots) heads unused p → ((i : ℕ) → p.detached i ≡ false)
     → Stands (nodes slots) s n → 0 < s.width → IsCut s.width (erase n) → length slots ≤ 16777216 → AreValid o

@@ -6,7 +6,7 @@ use Rattle.atlas_store.specs.declared.slots.Node.{Node}
 use Rattle.atlas_store.specs.declared.slots.NodeKind.TheVariants as kind
 use Rattle.atlas_model.specs.declared.geometry.Rectangle.{Rectangle}
 use Rattle.atlas_model.specs.Boxes.{Box}
-use Rattle.atlas_model.specs.Pixels.{rectangle_of, box_of}
+use Rattle.atlas_model.specs.Pixels.{rectangle_of}
 use Rattle.atlas_store.specs.Slots.{nodes, node_at, use_count}
 use Rattle.atlas_search.specs.Numbers.{no_slot}
 use Rattle.atlas_store.specs.Slots.Numbered.{Numbered, tally, first_slot, End}

@@ -1,5 +1,5 @@
 -- The lists of free slots and the list of unused ones, all together.
-use Rattle.std.proofs.Common.{ℕ, ◌<◌, ◌≤◌, ◌≡◌, List, [], ◌∷◌, refl, sym, ap, ◌∙◌, inl, inr, arith, length, Bool, true, false, eqb}
+use Rattle.std.proofs.Common.{ℕ, ◌<◌, ◌≤◌, ◌≡◌, List, ◌∷◌, refl, sym, ap, ◌∙◌, inl, inr, arith, length, Bool, true, false, eqb}
 use Rattle.std.specs.Prelude.{if◌then◌else◌, ◌≢◌, not}
 use Rattle.std.proofs.lemmas.Bool.{cases_eq, cases_lt, cond_both, cond-true, cond-false, eq-eqb, ne_eqb, and_parts, and_from, and_right}
 use Rattle.std.proofs.lemmas.List.{length-map}
@@ -10,23 +10,20 @@ use Rattle.atlas_store.specs.declared.slots.Node.{Node}
 use Rattle.atlas_store.specs.declared.slots.Ring.{Ring}
 use Rattle.atlas_store.specs.declared.slots.NodeKind.{NodeKind}
 use Rattle.atlas_store.specs.declared.slots.NodeKind.TheVariants as kind
-use Rattle.atlas_search.specs.declared.table.ListHead.{ListHead}
 use Rattle.atlas_search.specs.declared.bands.Place.{Place}
 use Rattle.atlas_model.specs.Boxes.{box_sides}
 use Rattle.atlas_model.specs.Pixels.{sides_of, box_of}
 use Rattle.atlas_model.specs.Choice.{Options}
 use Rattle.atlas_store.specs.Slots.{nodes, rings, node_at, ring_at, use_count}
-use Rattle.atlas_search.specs.Numbers.{same, occurs, without, lists_with}
-use Rattle.atlas_search.specs.Piles.{IsTag}
-use Rattle.atlas_store.specs.Slots.Standing.{IsSlot}
-use Rattle.atlas_store.specs.Slots.Lists.{IsLinked, IsList, IsFiled, AreFiled, Places, filed, node_sides, node_top, is_free, tag_of}
+use Rattle.atlas_search.specs.Numbers.{no_slot, same, occurs, without, lists_with}
+use Rattle.atlas_store.specs.Slots.Lists.{IsLinked, IsFiled, AreFiled, Places, filed, node_sides, is_free}
 use Rattle.atlas_search.specs.Bands.{list_of, number_of}
-use Rattle.atlas_search.specs.Tables.{head_of, low_of, is_used_at}
-use Rattle.atlas_store.specs.Slots.Links.{IsSlotOrTag, IsFiledSlot, IsDetachedSlot, IsUnlisted, first_after, with_mark, with_count, with_next, with_ring_previous, unlisted, listed}
+use Rattle.atlas_search.specs.Tables.{head_of, is_used_at}
+use Rattle.atlas_store.specs.Slots.Links.{IsFiledSlot, with_mark, with_count, unlisted, listed}
 use Rattle.atlas_search.proofs.Occurrences.{same-self, same-ne, ne-from_occurs, without-none, occurs-without}
 use Rattle.atlas_search.proofs.SearchLemmas.BandLaws.{list_of-most}
-use Rattle.atlas_store.proofs.StoreLemmas.LinkedLists.{IsLinked-kept, chain-linked, chain-untagged, linked-chain, linked-inside, linked-some, untagged-chain}
-use Rattle.atlas_store.proofs.StoreLemmas.Chains.{CanUnlink, IsList-unlinked, Line-kept, Line-inside, can-unlink, others-unlinked, unlinked-by}
+use Rattle.atlas_store.proofs.StoreLemmas.LinkedLists.{IsLinked-kept, linked-inside, linked-some}
+use Rattle.atlas_store.proofs.StoreLemmas.Lines.{Line-kept, Line-inside}
 pub use Rattle.atlas_store.proofs.SlotLemmas.Frames.{past-unused, used-inside}
 
 -- The list that a node belongs in if it is free.
@@ -93,7 +90,7 @@ pub record AreFreeOnce (ns : List Node) (xs : List ℕ) : Type 0 where
   pub once : (k : ℕ) → occurs k xs ≤ 1
   pub free : (k : ℕ) → 0 < occurs k xs → (node_at ns k).kind ≡ kind.Free
 
-module _ (o : Options) (ns : List Node) (rs : List Ring) (heads : List ListHead) (unused : Link) (p : Places) (f : AreFiled o ns rs heads unused p) where
+module _ (o : Options) (ns : List Node) (rs : List Ring) (heads : List Link) (unused : Link) (p : Places) (f : AreFiled o ns rs heads unused p) where
   -- A slot that stands in a list belongs there.
   pub listed-list : (k i : ℕ) → k < 2704 → 0 < occurs i (p.free_lists k) → k ≡ list_for o (node_at ns i)
   listed-list k i l h = filed-list o k (node_at ns i) (omega (arith, (f.free k l).each i, unless-le (p.detached i) (filed o k (node_at ns i))))
@@ -143,41 +140,31 @@ module _ (o : Options) (ns : List Node) (rs : List Ring) (heads : List ListHead)
   used-not-unused_list i u = elim (cases_lt 0 (occurs i p.unused_list)) [ inl h ↦ (let e = unused_list-use i h in absurd (omega (arith, e.0))) | inr z ↦ omega arith ]
 
 -- A list stays as it was: its slots keep their rings.
-pub IsFiled-kept : (o : Options) (ns : List Node) (rs ts : List Ring) (heads heads' : List ListHead) (k : ℕ)
+pub IsFiled-kept : (o : Options) (ns : List Node) (rs ts : List Ring) (heads heads' : List Link) (k : ℕ)
     (xs ys : List ℕ) (detached detached' : ℕ → Bool)
-    → head_of heads' k ≡ head_of heads k → low_of heads' k ≡ low_of heads k → ys ≡ xs → length rs ≤ length ts
+    → head_of heads' k ≡ head_of heads k → ys ≡ xs → length rs ≤ length ts
     → ((j : ℕ) → 0 < occurs j xs → ring_at ts j ≡ ring_at rs j)
     → ((j : ℕ) → unless_detached (detached' j) (filed o k (node_at ns j)) ≡ unless_detached (detached j) (filed o k (node_at ns j)))
     → IsFiled o ns rs heads k xs detached → IsFiled o ns ts heads' k ys detached'
-IsFiled-kept o ns rs ts heads heads' k xs ys detached detached' eh el ey lt same_at marks h =
+IsFiled-kept o ns rs ts heads heads' k xs ys detached detached' eh ey lt same_at marks h =
     record {
-      links = rw (eh, ey) (IsLinked-kept ns ns rs ts (tag_of k) (head_of heads k) xs lt same_at (λ j _. refl) h.links);
+      links = rw (eh, ey) (IsLinked-kept ns ns rs ts k (head_of heads k) xs lt same_at (λ j _. refl) h.links);
       each = λ i. ap (occurs i) ey ∙ h.each i ∙ sym (marks i);
-      low = λ i l. rw el (h.low i (rw (← ey) l));
     }
 
--- Slot i left the list that comes after `before`.
-pub record IsTakenOut (ns : List Node) (rs ts : List Ring) (before : ℕ) (first new : Link) (i : ℕ) : Type 0 where
+-- Slot i left list m, which begins with this link and had the slots xs.
+pub record IsTakenOut (ns : List Node) (rs ts : List Ring) (m : ℕ) (new : Link) (i : ℕ) (xs : List ℕ) : Type 0 where
   pub same_length : length ts ≡ length rs
-  pub links : (xs : List ℕ) → IsLinked ns rs before first xs → AreFreeOnce ns xs → 0 < occurs i xs
-      → IsLinked ns ts before new (without i xs)
-  pub others : (xs : List ℕ) (k : ℕ) → IsLinked ns rs before first xs → AreFreeOnce ns xs → 0 < occurs i xs
-      → occurs k xs ≡ 0 → ring_at ts k ≡ ring_at rs k
+  pub links : IsLinked ns ts m new (without i xs)
+  pub others : (k : ℕ) → occurs k xs ≡ 0 → ring_at ts k ≡ ring_at rs k
 
--- Slot i joined the list that comes after `before`.
-pub record IsPutIn (ns : List Node) (rs ts : List Ring) (before : ℕ) (first new : Link) (i : ℕ) : Type 0 where
+-- Slot i joined list m, which begins with this link and had the slots xs.
+pub record IsPutIn (ns : List Node) (rs ts : List Ring) (m : ℕ) (new : Link) (i : ℕ) (xs : List ℕ) : Type 0 where
   pub same_length : length ts ≡ length rs
-  pub links : (xs : List ℕ) → IsLinked ns rs before first xs → AreFreeOnce ns xs → occurs i xs ≡ 0
-      → IsLinked ns ts before new (i ∷ xs)
-  pub others : (xs : List ℕ) (k : ℕ) → IsLinked ns rs before first xs → AreFreeOnce ns xs → occurs i xs ≡ 0 → (k ≡ i → ⊥)
-      → occurs k xs ≡ 0 → ring_at ts k ≡ ring_at rs k
+  pub links : IsLinked ns ts m new (i ∷ xs)
+  pub others : (k : ℕ) → (k ≡ i → ⊥) → occurs k xs ≡ 0 → ring_at ts k ≡ ring_at rs k
 
--- The lists but list m stay.
-pub record ChangesList (heads heads' : List ListHead) (m : ℕ) : Type 0 where
-  pub firsts : (k : ℕ) → k ≢ m → head_of heads' k ≡ head_of heads k
-  pub lows : (k : ℕ) → k ≢ m → low_of heads' k ≡ low_of heads k
-
-module _ (o : Options) (ns : List Node) (rs ts : List Ring) (heads heads' : List ListHead) (unused : Link) (p : Places) (f : AreFiled o ns rs heads unused p) (i m : ℕ) (em : m ≡ list_for o (node_at ns i)) (is_free : (node_at ns i).kind ≡ kind.Free) (same_lists : ChangesList heads heads' m) where
+module _ (o : Options) (ns : List Node) (rs ts : List Ring) (heads heads' : List Link) (unused : Link) (p : Places) (f : AreFiled o ns rs heads unused p) (i m : ℕ) (em : m ≡ list_for o (node_at ns i)) (is_free : (node_at ns i).kind ≡ kind.Free) (same_lists : (k : ℕ) → k ≢ m → head_of heads' k ≡ head_of heads k) where
   below : m < 2704
   below = rw em (list_of-most o (node_sides (node_at ns i)))
 
@@ -191,38 +178,34 @@ module _ (o : Options) (ns : List Node) (rs ts : List Ring) (heads heads' : List
       → unless_detached (with_mark p.detached i mark j) (filed o k (node_at ns j)) ≡ unless_detached (p.detached j) (filed o k (node_at ns j))
   marks k mark ne j = grind (arith, filed-other, unless-le, with_mark-other)
 
-  pub AreFiled-unlisted : p.detached i ≡ false → IsTakenOut ns rs ts (tag_of m) (head_of heads m) (head_of heads' m) i
-      → low_of heads' m ≡ low_of heads m → AreFiled o ns ts heads' unused (unlisted p i)
-  AreFiled-unlisted kept w same_low =
+  pub AreFiled-unlisted : p.detached i ≡ false → IsTakenOut ns rs ts m (head_of heads' m) i (p.free_lists m)
+      → AreFiled o ns ts heads' unused (unlisted p i)
+  AreFiled-unlisted kept w =
       let mine = f.free m below in
-      let own = listed-own o ns rs heads unused p f m below in
       let one : occurs i (p.free_lists m) ≡ 1 = rw em (listed-one o ns rs heads unused p f i is_free kept) in
       let on : 0 < occurs i (p.free_lists m) = omega arith in
-      let same_at : (j : ℕ) → occurs j (p.free_lists m) ≡ 0 → ring_at ts j ≡ ring_at rs j = (λ j z. w.others (p.free_lists m) j mine.links own on z) in
-      let links : IsLinked ns ts (tag_of m) (head_of heads' m) (without i (p.free_lists m)) = w.links (p.free_lists m) mine.links own on in
+      let same_at : (j : ℕ) → occurs j (p.free_lists m) ≡ 0 → ring_at ts j ≡ ring_at rs j = w.others in
+      let links : IsLinked ns ts m (head_of heads' m) (without i (p.free_lists m)) = w.links in
       let changed : IsFiled o ns ts heads' m (without i (p.free_lists m)) (with_mark p.detached i true) =
       grind (arith, unless-detached, with_mark-same, occurs-without, same-self, same-ne, with_mark-other) in
       record {
         free = λ k l. elim (cases_eq k m) [
           | inl e ↦ rw e changed
-          | inr ne ↦ IsFiled-kept o ns rs ts heads heads' k (p.free_lists k) (without i (p.free_lists k)) p.detached (with_mark p.detached i true) (same_lists.firsts k ne) (same_lists.lows k ne) (without-none i (p.free_lists k) (elsewhere o ns rs heads unused p f k i l (λ q. ne (q ∙ sym em)))) (omega (arith, w.same_length)) (λ j h. same_at j (apart o ns rs heads unused p f k m j l below ne h)) (marks k true ne) (f.free k l)
+          | inr ne ↦ IsFiled-kept o ns rs ts heads heads' k (p.free_lists k) (without i (p.free_lists k)) p.detached (with_mark p.detached i true) (same_lists k ne) (without-none i (p.free_lists k) (elsewhere o ns rs heads unused p f k i l (λ q. ne (q ∙ sym em)))) (omega (arith, w.same_length)) (λ j h. same_at j (apart o ns rs heads unused p f k m j l below ne h)) (marks k true ne) (f.free k l)
         ];
         line = Line-kept rs ts p.unused_list (omega (arith, w.same_length)) (λ j h. same_at j (used_free j h)) f.line;
         begins = f.begins;
         each = λ j l. f.each j (omega (arith, w.same_length));
       }
 
-  pub AreFiled-listed : p.detached i ≡ true → IsPutIn ns rs ts (tag_of m) (head_of heads m) (head_of heads' m) i
-      → low_of heads' m ≤ node_top (node_at ns i)
-      → ((j : ℕ) → 0 < occurs j (p.free_lists m) → low_of heads' m ≤ low_of heads m)
+  pub AreFiled-listed : p.detached i ≡ true → IsPutIn ns rs ts m (head_of heads' m) i (p.free_lists m)
       → AreFiled o ns ts heads' unused (listed p m i)
-  AreFiled-listed kept w low lower =
+  AreFiled-listed kept w =
       let mine = f.free m below in
-      let own = listed-own o ns rs heads unused p f m below in
       let none : occurs i (p.free_lists m) ≡ 0 = detached-nowhere o ns rs heads unused p f m i below kept in
-      let same_at : (j : ℕ) → (j ≡ i → ⊥) → occurs j (p.free_lists m) ≡ 0 → ring_at ts j ≡ ring_at rs j = (λ j nj z. w.others (p.free_lists m) j mine.links own none nj z) in
+      let same_at : (j : ℕ) → (j ≡ i → ⊥) → occurs j (p.free_lists m) ≡ 0 → ring_at ts j ≡ ring_at rs j = w.others in
       let changed : IsFiled o ns ts heads' m (i ∷ p.free_lists m) (with_mark p.detached i false) = record {
-        links = w.links (p.free_lists m) mine.links own none;
+        links = w.links;
         each = λ j. elim (cases_eq j i) [
           | inl e ↦
               let z : unless_detached (with_mark p.detached i false j) (filed o m (node_at ns j)) ≡ 1 = unless-not (with_mark p.detached i false j) (filed o m (node_at ns j)) (rw e (with_mark-same p.detached i false)) ∙ rw (e, em) (filed-free o (node_at ns i) is_free) in
@@ -234,117 +217,30 @@ module _ (o : Options) (ns : List Node) (rs ts : List Ring) (heads heads' : List
               let v : occurs j (i ∷ p.free_lists m) ≡ occurs j (p.free_lists m) = omega arith in
               v ∙ mine.each j ∙ sym (ap (λ b. unless_detached b (filed o m (node_at ns j))) (with_mark-other p.detached i false j nj))
         ];
-        low = λ j h. elim (cases_eq j i) [
-          | inl e ↦ rw e low
-          | inr nj ↦
-              let here : 0 < occurs j (p.free_lists m) = omega (arith, same-ne j i nj) in
-              omega (arith, lower j here, mine.low j here)
-        ];
       } in
       record {
         free = λ k l. elim (cases_eq k m) [
           | inl e ↦ rw (e, cond-true (eqb m m) (i ∷ p.free_lists m) (p.free_lists m) (eq-eqb m m refl)) changed
-          | inr ne ↦ IsFiled-kept o ns rs ts heads heads' k (p.free_lists k) (lists_with p.free_lists m i k) p.detached (with_mark p.detached i false) (same_lists.firsts k ne) (same_lists.lows k ne) (cond-false (eqb k m) (i ∷ p.free_lists k) (p.free_lists k) (ne_eqb k m ne)) (omega (arith, w.same_length)) (λ j h. same_at j (λ q. absurd (ne-from_occurs i j (p.free_lists k) (detached-nowhere o ns rs heads unused p f k i l kept) h q)) (apart o ns rs heads unused p f k m j l below ne h)) (marks k false ne) (f.free k l)
+          | inr ne ↦ IsFiled-kept o ns rs ts heads heads' k (p.free_lists k) (lists_with p.free_lists m i k) p.detached (with_mark p.detached i false) (same_lists k ne) (cond-false (eqb k m) (i ∷ p.free_lists k) (p.free_lists k) (ne_eqb k m ne)) (omega (arith, w.same_length)) (λ j h. same_at j (λ q. absurd (ne-from_occurs i j (p.free_lists k) (detached-nowhere o ns rs heads unused p f k i l kept) h q)) (apart o ns rs heads unused p f k m j l below ne h)) (marks k false ne) (f.free k l)
         ];
         line = Line-kept rs ts p.unused_list (omega (arith, w.same_length)) (λ j h. same_at j (λ q. absurd (ne-from_occurs i j p.unused_list (used-not-unused_list o ns rs heads unused p f i in_use) h q)) (used_free j h)) f.line;
         begins = f.begins;
         each = λ j l. f.each j (omega (arith, w.same_length));
       }
 
--- Another bound is kept of list m.
-pub AreFiled-sharpened : (o : Options) (ns : List Node) (rs : List Ring) (heads heads' : List ListHead) (unused : Link)
-    (p : Places) (m low : ℕ)
-    → ((k : ℕ) → head_of heads' k ≡ head_of heads k) → ((k : ℕ) → k ≢ m → low_of heads' k ≡ low_of heads k)
-    → low_of heads' m ≡ low
-    → ((i : ℕ) → (node_at ns i).kind ≡ kind.Free → p.detached i ≡ false → list_for o (node_at ns i) ≡ m → low ≤ node_top (node_at ns i))
-    → AreFiled o ns rs heads unused p → AreFiled o ns rs heads' unused p
-AreFiled-sharpened o ns rs heads heads' unused p m low firsts lows here below f =
-    grind (arith, below, listed-kind, listed-kept, listed-list, IsFiled-kept)
-
 pub number-is : (o : Options) (place : Place) (size : Size) (node n : Node)
     → number_of place ≡ list_of o (sides_of size) → sides_of size ≡ box_sides (box_of node.area) → node ≡ n
     → number_of place ≡ list_for o n
 number-is o place size node n e s r = e ∙ ap (list_of o) s ∙ ap (list_for o) r
 
--- No list holds a detached slot.
-pub is-unlisted : (o : Options) (slots : List Slot) (heads : List ListHead) (i m : ℕ) → length slots < 2147483648
-    → IsDetachedSlot o slots heads i
-    → m ≡ list_for o (node_at (nodes slots) i) → (IsTag (head_of heads m).number → ⊥)
-    → IsUnlisted (rings slots) (tag_of m) (head_of heads m) i
-is-unlisted o slots heads i m short k em untagged =
-    let below : m < 2704 = rw em (list_of-most o (node_sides (node_at (nodes slots) i))) in (
-      k.places.free_lists m,
-      untagged-chain (nodes slots) (rings slots) (tag_of m) (head_of heads m) (k.places.free_lists m)
-          (omega (arith, short, length-map slots (λ (s : Slot). s.ring))) ((k.filed.free m below).links) untagged,
-      detached-nowhere o _ _ heads k.unused k.places k.filed m i below k.is_detached,
-    )
-
 -- A slot that stands in a list makes it one that is used.
-pub is-used : (ns : List Node) (rs : List Ring) (heads : List ListHead) (k j : ℕ) (xs : List ℕ) → length rs < 2147483648
-    → IsLinked ns rs (tag_of k) (head_of heads k) xs → 0 < occurs j xs → is_used_at heads k ≡ true
+pub is-used : (ns : List Node) (rs : List Ring) (heads : List Link) (k j : ℕ) (xs : List ℕ) → length rs ≤ no_slot
+    → IsLinked ns rs k (head_of heads k) xs → 0 < occurs j xs → is_used_at heads k ≡ true
 is-used ns rs heads k j xs short h l =
-    ap not (ne_eqb _ _ (linked-some ns rs (tag_of k) (head_of heads k) xs short h j l))
-
--- A free slot stands in its list.
-module _ (o : Options) (ns : List Node) (rs : List Ring) (heads : List ListHead) (unused : Link) (p : Places) (f : AreFiled o ns rs heads unused p)
-    (i : ℕ) (free : (node_at ns i).kind ≡ kind.Free) (kept : p.detached i ≡ false) (short : length rs < 2147483648)
-    (chained : (ring_at rs i).previous.number < 4261412864) where
-  abbrev own : ℕ
-  own = list_for o (node_at ns i)
-
-  own-below : own < 2704
-  own-below = list_of-most o (node_sides (node_at ns i))
-
-  own-linked : IsLinked ns rs (tag_of own) (head_of heads own) (p.free_lists own)
-  own-linked = (f.free own own-below).links
-
-  own-stands : 0 < occurs i (p.free_lists own)
-  own-stands = omega (arith, listed-one o ns rs heads unused p f i free kept)
-
-  own-links : IsList rs (tag_of own) (head_of heads own) (p.free_lists own)
-  own-links = linked-chain ns rs (tag_of own) (head_of heads own) (p.free_lists own) short own-linked i own-stands chained
-
-  can-leave : CanUnlink rs (tag_of own) i
-  can-leave = can-unlink rs (tag_of own) i (head_of heads own) (p.free_lists own) own-links own-stands (omega arith)
-
-  -- What comes before it is a slot, or tells its list.
-  before-is : IsSlotOrTag (length rs) heads (ring_at rs i).previous.number
-  before-is = elim can-leave.previous [
-    | inl e ↦ inr (
-      own,
-      own-below,
-      e,
-      is-used ns rs heads own i (p.free_lists own) short own-linked own-stands,
-      chain-untagged rs (tag_of own) (head_of heads own) (p.free_lists own) short own-links,
-    )
-    | inr l ↦ inl l
-  ]
-
-  -- Once what comes before it goes on with what comes after it, it has left the list.
-  module _ (ss ts : List Ring) (heads' : List ListHead) (ring : Ring) (er : ring ≡ ring_at rs i)
-      (firsts : (k : ℕ) → head_of heads' k ≡ first_after ring.previous ring.next (tag_of k) (head_of heads k))
-      (lows : (k : ℕ) → low_of heads' k ≡ low_of heads k) where
-    other_firsts : (k : ℕ) → k ≢ own → head_of heads' k ≡ head_of heads k
-    other_firsts k ne = grind (arith, can-leave, cond-false, ne_eqb)
-
-    pub unlisted-by : (ms : List Node) → ms ≡ ns → ss ≡ with_next rs ring.previous.number ring.next
-        → ts ≡ with_ring_previous ss ring.next.number ring.previous → AreFiled o ms ts heads' unused (unlisted p i)
-    unlisted-by ms en es et =
-        let w = unlinked-by rs ss ts (tag_of own) i ring (omega arith) can-leave er es et in
-        rw en (AreFiled-unlisted o ns rs ts heads heads' unused p f i own refl free
-        (record { firsts = other_firsts; lows = λ k _. lows k }) kept
-        (record {
-          same_length = w.same_length;
-          links = λ xs h _ on. chain-linked ns ts (tag_of own) (head_of heads' own) (without i xs) (IsList-unlinked rs ts (tag_of own) (head_of heads own) (head_of heads' own) i ring (omega arith) (omega arith) w er (firsts own) xs (chain xs h on) on);
-          others = λ xs k h _ on. others-unlinked rs ts (tag_of own) (head_of heads own) (head_of heads' own) i ring (omega arith) (omega arith) w er xs k (chain xs h on) on;
-        })
-        (lows own))
-      where
-        chain : (xs : List ℕ) → IsLinked ns rs (tag_of own) (head_of heads own) xs → 0 < occurs i xs → IsList rs (tag_of own) (head_of heads own) xs
-        chain xs h on = linked-chain ns rs (tag_of own) (head_of heads own) xs short h i on chained
+    ap not (ne_eqb _ _ (linked-some ns rs k (head_of heads k) xs short h j l))
 
 -- What a call needs of it.
-module _ {o : Options} {slots : List Slot} {heads : List ListHead} {i : ℕ} (k : IsFiledSlot o slots heads i) (free : (node_at (nodes slots) i).kind ≡ kind.Free)
+module _ {o : Options} {slots : List Slot} {heads : List Link} {i : ℕ} (k : IsFiledSlot o slots heads i) (free : (node_at (nodes slots) i).kind ≡ kind.Free)
     (short : length slots < 2147483648) where
   same_count : length (rings slots) ≡ length slots
   same_count = length-map slots (λ (s : Slot). s.ring)
@@ -359,39 +255,9 @@ module _ {o : Options} {slots : List Slot} {heads : List ListHead} {i : ℕ} (k 
       omega (
         arith,
         same_count,
-        linked-inside (nodes slots) (rings slots) (tag_of own) (head_of heads own) (k.places.free_lists own)
+        linked-inside (nodes slots) (rings slots) own (head_of heads own) (k.places.free_lists own)
             ((k.filed.free own (list_of-most o (node_sides (node_at (nodes slots) i)))).links) i (omega (arith, one)),
       )
-
-  module _ (ring : Ring) (er : ring ≡ ring_at (rings slots) i) (few : ring.previous.number < 4261412864) where
-    chained : (ring_at (rings slots) i).previous.number < 4261412864
-    chained = rw (← er) few
-
-    leaves : CanUnlink (rings slots) (tag_of (list_for o (node_at (nodes slots) i))) i
-    leaves = can-leave o (nodes slots) (rings slots) heads k.unused k.places k.filed i free k.kept few-rings chained
-
-    pub leaves-before : IsSlotOrTag (length slots) heads ring.previous.number
-    leaves-before = rw (er, ← same_count) (before-is o (nodes slots) (rings slots) heads k.unused k.places k.filed i free k.kept few-rings chained)
-
-    pub leaves-next : (count : ℕ) → count ≡ length slots → IsSlot count ring.next.number
-    leaves-next count ec = rw (er, ec, ← same_count) leaves.next
-
-    pub leaves-untagged : IsTag ring.next.number → ⊥
-    leaves-untagged tag = elim (leaves-next (length slots) refl) [
-      | inl e ↦ omega (arith, e, tag.1)
-      | inr l ↦ omega (arith, l, short, tag.0)
-    ]
-
-pub listed-by : (o : Options) (ns ms : List Node) (rs ts : List Ring) (heads heads' : List ListHead) (i m top : ℕ)
-    (new : Link)
-    → length rs < 2147483648 → ms ≡ ns → m ≡ list_for o (node_at ns i) → (node_at ns i).kind ≡ kind.Free
-    → ChangesList heads heads' m → head_of heads' m ≡ new → top ≡ node_top (node_at ns i) → low_of heads' m ≤ top
-    → (is_used_at heads m ≡ true → low_of heads' m ≤ low_of heads m) → IsPutIn ns rs ts (tag_of m) (head_of heads m) new i
-    → (unused : Link) (p : Places) → AreFiled o ns rs heads unused p → p.detached i ≡ true
-    → AreFiled o ms ts heads' unused (listed p (list_for o (node_at ns i)) i)
-listed-by o ns ms rs ts heads heads' i m top new short en em free changes first es low lower w unused p f kept =
-    rw (en, ← em) (AreFiled-listed o ns rs ts heads heads' unused p f i m em free changes kept (rw first w) (omega (arith, low, es))
-    (λ j h. lower (is-used ns rs heads m j (p.free_lists m) short ((f.free m (rw em (list_of-most o (node_sides (node_at ns i))))).links) h)))
 
 pub length-rings : (xs ys : List Slot) → length ys ≡ length xs → length (rings ys) ≡ length (rings xs)
 length-rings xs ys e = length-map ys _ ∙ e ∙ sym (length-map xs _)

@@ -1,5 +1,5 @@
 -- The free slot that a search finds.
-use Rattle.std.proofs.Common.{◌≡◌, ◌≤◌, List, refl, sym, ap, subst, ◌∙◌}
+use Rattle.std.proofs.Common.{◌≡◌, List, refl, sym, subst, ◌∙◌}
 use Rattle.atlas_store.specs.declared.slots.Slot.{Slot}
 use Rattle.atlas_search.specs.declared.best.Found.{Found}
 use Rattle.atlas_model.specs.declared.geometry.Rectangle.{Rectangle}
@@ -7,7 +7,6 @@ use Rattle.atlas_model.specs.Boxes.{Sides, Box, origin}
 use Rattle.atlas_model.specs.Choice.{IsPick}
 use Rattle.atlas_model.specs.Pixels.{box_of, options_of}
 use Rattle.atlas_model.specs.Trees.{ungranted, leaves}
-use Rattle.atlas_search.specs.Bands.{list_of}
 use Rattle.atlas_search.specs.Lookups.{AreFreeItems, IsStanding}
 use Rattle.atlas_store.specs.Slots.Picks.{AreFreeBoxes, IsSearchable}
 use Rattle.atlas_store.specs.Slots.{nodes}
@@ -15,7 +14,7 @@ use Rattle.atlas_store.specs.Slots.Numbered.{erase}
 use Rattle.atlas_store.specs.Stored.{Shelf, Holding, places_of}
 use Rattle.atlas_store.specs.Store.Choosing.{IsAtRest, IsChosen}
 use Rattle.atlas_store.specs.Store.Holdings.{node_in}
-use Rattle.atlas_store.proofs.StoreLemmas.SlotLists.{area-is, free-item, free-items, item-free, items, sides-is}
+use Rattle.atlas_store.proofs.StoreLemmas.SlotLists.{area-is, free-items, item-free, items}
 use Rattle.atlas_store.proofs.SlotLemmas.FreeSlots.{AreFreeBoxes-stands, searchable}
 
 module _ (v : Shelf) (h : Holding) (rest : IsAtRest v h) where
@@ -32,7 +31,7 @@ module _ (v : Shelf) (h : Holding) (rest : IsAtRest v h) where
 abbrev IsPicked : Shelf → Sides → Found → List Slot → Type 0
 IsPicked v r found slots =
     ((free : List Box) → AreFreeItems (items slots) free → IsPick free (options_of v.options) r (box_of found.rectangle))
-    → IsStanding (options_of v.options) v.heads (items slots) found → IsChosen v r found
+    → IsStanding (items slots) found → IsChosen v r found
 
 chosen-here : (v : Shelf) (r : Sides) (found : Found) → IsPicked v r found v.slots
 chosen-here v r found picked s =
@@ -41,11 +40,6 @@ chosen-here v r found picked s =
     record {
       free = item-free v.slots found.at.number s.free;
       pick = λ free a. subst (λ (q : Rectangle). IsPick free o r (box_of q)) same (picked free (free-items v.slots free a));
-      inside = s.inside;
-      list = sym s.list ∙ ap (list_of o) (sides-is v.slots found.at.number);
-      low = λ i free other list.
-          subst (λ (q : Rectangle). found.low ≤ (box_of q).min.y) (area-is v.slots i)
-          (s.low i (free-item v.slots i free) (ap (list_of o) (sides-is v.slots i) ∙ list) other);
     }
 
 pub chosen-found : (v : Shelf) (r : Sides) (slots : List Slot) → slots ≡ v.slots → (found : Found)

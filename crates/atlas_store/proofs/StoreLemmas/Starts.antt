@@ -20,6 +20,7 @@ use Rattle.atlas_store.specs.Store.Starts.{one_free_slot, detached_holding, star
 use Rattle.atlas_store.proofs.SlotLemmas.Frames.{same-self, same-ne}
 use Rattle.atlas_store.proofs.SlotLemmas.ReadTrees.{tree_of-Stands}
 use Rattle.atlas_model.proofs.StepLemmas.SoundSteps.{fresh_well_formed, fresh_normal}
+use Rattle.atlas_store.proofs.StoreLemmas.ListedSlots.{recent-none}
 use Rattle.atlas_store.proofs.StoreLemmas.TakenSlots.{AreFiled-one}
 use Rattle.atlas_store.proofs.WalkLemmas.StoredAtlas.{nodes-below}
 use Rattle.atlas_store.proofs.StoreLemmas.Sizes.{side_is, size_is}
@@ -28,6 +29,7 @@ pub record IsStart (v : Shelf) (size : Size) : Type 0 where
   pub slots : v.slots ≡ one_free_slot size ∷ []
   pub lists : (k : ℕ) → is_used_at v.heads k ≡ false
   pub unused : v.unused.number ≡ no_slot
+  pub recent : v.recent.at.number ≡ no_slot
   pub valid : AreValid (options_of v.options)
 
 -- The rectangle of the whole atlas.
@@ -45,7 +47,7 @@ whole_holds : (v : Shelf) (size : Size) → IsStart v size → IsPositive (sides
 whole_holds v size s h wide high =
     let one = AreFiled-one (options_of v.options) (one_free_slot size).node (one_free_slot size).ring v.heads v.unused refl s.lists s.unused in
     let filed : AreFiled (options_of v.options) (nodes v.slots) (rings v.slots) v.heads v.unused (places_of (λ i. 0) (detached_holding (sides_of size))) = rw s.slots one in
-    grind (arith, whole_stands)
+    grind (arith, whole_stands, recent-none v.recent (λ k. []) s.recent)
 
 -- The one slot is a detached leaf.
 pub whole_leaf : (v : Shelf) (size : Size) → IsStart v size → IsPositive (sides_of size)

@@ -8,10 +8,8 @@ use Rattle.atlas_store.specs.declared.slots.Ring.{Ring}
 use Rattle.atlas_store.specs.declared.slots.placing.Parts.{Parts}
 use Rattle.atlas_store.specs.declared.slots.placing.Plan.{Plan}
 use Rattle.atlas_store.specs.declared.slots.NodeKind.TheVariants as kind
-use Rattle.atlas_search.specs.declared.table.ListHead.{ListHead}
 use Rattle.atlas_model.specs.Choice.{Options}
 use Rattle.atlas_model.specs.Pixels.{options_of}
-use Rattle.atlas_search.specs.Tables.{head_of, low_of}
 use Rattle.atlas_store.specs.Slots.{nodes, rings, node_at, use_count, KeepsUse}
 use Rattle.atlas_search.specs.Numbers.{no_slot, front, occurs}
 use Rattle.atlas_store.specs.Slots.Numbered.{Numbered, joined, lifted, marked}
@@ -19,13 +17,14 @@ use Rattle.atlas_store.specs.Slots.Standing.{Sequence, Stands}
 use Rattle.atlas_store.specs.Slots.SlotCalls.{IsLeafFreed, IsNextJoined, IsChildLifted}
 use Rattle.atlas_store.specs.Slots.Placing.{granted_by, left_by, marks_of, planned, taken_by, CanPlace, IsCarriedOut}
 use Rattle.atlas_store.proofs.SlotLemmas.Frames.{Standing-same, same-ne}
-use Rattle.atlas_store.specs.Slots.Lists.{AreFiled, Places, Line, is_free}
+use Rattle.atlas_store.specs.Slots.Lists.{AreFiled, IsRecent, Places, Line, is_free}
+use Rattle.atlas_store.specs.declared.slots.lists.Recent.{Recent}
 use Rattle.std.proofs.lemmas.List.{length-map, length_push}
 use Rattle.atlas_store.specs.Slots.Links.{with_mark, with_count, given_back, IsTaken}
 use Rattle.atlas_search.specs.Rectangles.{IsSolid}
 use Rattle.atlas_store.specs.Stored.{Shelf, Holding, Holds, HoldsWith, IsDetachedOnly, places_of}
-use Rattle.atlas_store.specs.Store.Holdings.{node_in, IsLow, IsDetachedLeaf, after_take, after_mark, after_join, after_lift, after_place}
-use Rattle.atlas_store.proofs.StoreLemmas.FiledSlots.{AreFiled-sharpened, with_mark-same, with_mark-other, with_count-same, with_count-other}
+use Rattle.atlas_store.specs.Store.Holdings.{node_in, IsDetachedLeaf, after_take, after_mark, after_join, after_lift, after_place}
+use Rattle.atlas_store.proofs.StoreLemmas.FiledSlots.{with_mark-same, with_mark-other, with_count-same, with_count-other}
 use Rattle.atlas_store.proofs.StoreLemmas.TakenSlots.{AreFiled-moved, AreFiled-nodes, StaysOrIsOut}
 use Rattle.atlas_store.proofs.SlotLemmas.Recuts.{IsRecut, recut-marked, recut-joined, recut-lifted, recut-planned}
 use Rattle.atlas_store.proofs.SlotLemmas.PlannedLeaves.{Stands-placed, placed-leaf, placed-others, placed-part, untaken-unmarked, used_after}
@@ -53,7 +52,7 @@ pub use-kept : (n m : Node) → KeepsUse n m → use_count m.kind ≡ use_count 
 use-kept n m k = ap use_count k.kind
 
 -- One detached slot changes, and stays in use.
-pub filed-one : (o : Options) (ns ms : List Node) (rs ts : List Ring) (heads : List ListHead) (unused : Link)
+pub filed-one : (o : Options) (ns ms : List Node) (rs ts : List Ring) (heads : List Link) (unused : Link)
     (p : Places) (i : ℕ) (mark : Bool)
     → ts ≡ rs → StaysOrIsOut (node_at ns i) (node_at ms i) (p.detached i) mark
     → use_count (node_at ms i).kind ≡ use_count (node_at ns i).kind
@@ -126,7 +125,7 @@ pub record ChangesTwo (ns ms : List Node) (i j : ℕ) (claimed claimed' : ℕ �
   pub marks : (k : ℕ) → k ≢ i → k ≢ j → detached' k ≡ detached k
   pub others : (k : ℕ) → k ≢ i → k ≢ j → KeepsUse (node_at ns k) (node_at ms k)
 
-pub filed-two : (o : Options) (ns ms : List Node) (rs ts : List Ring) (heads : List ListHead) (unused : Link)
+pub filed-two : (o : Options) (ns ms : List Node) (rs ts : List Ring) (heads : List Link) (unused : Link)
     (p : Places) (claimed' : ℕ → ℕ) (detached' : ℕ → Bool) (i j : ℕ)
     → ts ≡ rs → ChangesTwo ns ms i j p.claimed claimed' p.detached detached'
     → AreFiled o ns rs heads unused p
@@ -139,7 +138,7 @@ filed-two o ns ms rs ts heads unused p claimed' detached' i j same c filed =
     (AreFiled-moved o ns ms rs heads unused p claimed' detached' moved counts filed)
 
 -- What is claimed may be said in another way.
-pub filed-claimed : (o : Options) (ns : List Node) (rs : List Ring) (heads : List ListHead) (unused : Link) (p : Places)
+pub filed-claimed : (o : Options) (ns : List Node) (rs : List Ring) (heads : List Link) (unused : Link) (p : Places)
     (claimed' : ℕ → ℕ)
     → ((i : ℕ) → claimed' i ≡ p.claimed i) → AreFiled o ns rs heads unused p
     → AreFiled o ns rs heads unused (record p { claimed = claimed' })
@@ -155,22 +154,15 @@ pub claimed-back : (claimed : ℕ → ℕ) (j m : ℕ) → claimed j ≡ 0 → (
 claimed-back claimed j m none i = grind (arith, with_count-same, with_count-other)
 
 -- A free leaf leaves its list, or enters it: the nodes stay.
-pub listed-holds : (v : Shelf) (old mid new : List Slot) (heads : List ListHead) (h : Holding) (free_lists : ℕ → List ℕ)
-    (detached : ℕ → Bool)
+pub listed-holds : (v : Shelf) (old mid new : List Slot) (heads : List Link) (recent : Recent) (h : Holding)
+    (free_lists : ℕ → List ℕ) (detached : ℕ → Bool)
     → AreSlots v.slots old mid new → nodes mid ≡ nodes old
     → (AreFiled (options_of v.options) (nodes old) (rings old) v.heads v.unused (places_of (λ i. 0) h)
     → AreFiled (options_of v.options) (nodes mid) (rings mid) heads v.unused (record (places_of (λ i. 0) h) { free_lists = free_lists; detached = detached }))
-    → Holds v h
-    → Holds (record v { slots = new; heads = heads }) (record h { free_lists = free_lists; detached = detached })
-listed-holds v old mid new heads h free_lists detached a same filed holds =
+    → IsRecent recent free_lists → Holds v h
+    → Holds (record v { slots = new; heads = heads; recent = recent }) (record h { free_lists = free_lists; detached = detached })
+listed-holds v old mid new heads recent h free_lists detached a same filed is_recent holds =
     grind (arith, stands-before, filed-before, short-mid)
-
--- Another bound is kept of a list.
-pub sharpened-holds : (v : Shelf) (heads : List ListHead) (m low : ℕ) (h : Holding)
-    → ((k : ℕ) → head_of heads k ≡ head_of v.heads k) → ((k : ℕ) → k ≢ m → low_of heads k ≡ low_of v.heads k)
-    → low_of heads m ≡ low
-    → IsLow v h m low → Holds v h → Holds (record v { heads = heads }) h
-sharpened-holds v heads m low h firsts lows here below holds = grind (arith, AreFiled-sharpened)
 
 -- The rectangle of a free leaf is exact.
 pub leaf-exact : (v : Shelf) (old : List Slot) (at : ℕ) (h : Holding) → old ≡ v.slots → Holds v h
@@ -187,12 +179,12 @@ pub record GivesBack (v : Shelf) (old new : List Slot) (unused : Link) (j : ℕ)
   pub same_nodes : nodes new ≡ nodes old
   pub long : length new ≡ length old
   pub filed :
-      (o : Options) (heads : List ListHead) (p : Places)
+      (o : Options) (heads : List Link) (p : Places)
       → AreFiled o (nodes old) (rings old) heads v.unused p → 0 < p.claimed j
       → AreFiled o (nodes new) (rings new) heads unused (given_back p j)
 
 -- What the lists hold once slot j, which is claimed, is given back.
-given-filed : (v : Shelf) (old new : List Slot) (unused : Link) (j : ℕ) (o : Options) (heads : List ListHead)
+given-filed : (v : Shelf) (old new : List Slot) (unused : Link) (j : ℕ) (o : Options) (heads : List Link)
     (p : Places)
     → GivesBack v old new unused j
     → AreFiled o (nodes old) (rings old) heads v.unused (record p { claimed = with_count (λ i. 0) j 1 })

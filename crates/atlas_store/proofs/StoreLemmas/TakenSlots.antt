@@ -8,21 +8,20 @@ use Rattle.atlas_store.specs.declared.slots.Node.{Node}
 use Rattle.atlas_store.specs.declared.slots.Ring.{Ring}
 use Rattle.atlas_store.specs.declared.slots.NodeKind.{NodeKind}
 use Rattle.atlas_store.specs.declared.slots.NodeKind.TheVariants as kind
-use Rattle.atlas_search.specs.declared.table.ListHead.{ListHead}
 use Rattle.atlas_model.specs.Choice.{Options}
 use Rattle.atlas_store.specs.Slots.{nodes, rings, node_at, ring_at, use_count, blank_node, blank_ring, blank_slot}
 use Rattle.atlas_search.specs.Numbers.{no_slot, occurs, front}
-use Rattle.atlas_store.specs.Slots.Lists.{AreFiled, Places, IsLinked, Line, filed, is_free, tag_of}
+use Rattle.atlas_store.specs.Slots.Lists.{AreFiled, Places, Line, filed, is_free}
 use Rattle.atlas_search.specs.Tables.{head_of, is_used_at}
 use Rattle.atlas_store.specs.Slots.Links.{with_claimed, with_count, with_mark, tail_of, renewed, given_back, IsTaken, TakesFirst}
 use Rattle.atlas_search.proofs.Occurrences.{same-self, same-ne, ne-from_occurs}
-use Rattle.atlas_store.proofs.StoreLemmas.LinkedLists.{IsLinked-kept}
-use Rattle.atlas_store.proofs.StoreLemmas.Chains.{Line-kept, Line-inside, Line-given}
+use Rattle.atlas_store.proofs.StoreLemmas.LinkedLists.{IsLinked-kept, linked-none}
+use Rattle.atlas_store.proofs.StoreLemmas.Lines.{Line-kept, Line-inside, Line-given}
 use Rattle.atlas_store.proofs.StoreLemmas.FiledSlots.{unless-le, filed-use, with_mark-same, unless_detached, unless-detached, unused_list-use, unused-nowhere, with_count-same, with_count-other, past-unused}
 
 -- The lists stay in order where the nodes change: each slot is filed as before, is used or claimed as before, and keeps
 -- its rectangle if it stands in a list.
-pub AreFiled-nodes : (o : Options) (ns ms : List Node) (rs : List Ring) (heads : List ListHead) (unused : Link)
+pub AreFiled-nodes : (o : Options) (ns ms : List Node) (rs : List Ring) (heads : List Link) (unused : Link)
     (p : Places) (claimed' : ℕ → ℕ) (detached' : ℕ → Bool)
     → ((k i : ℕ) → unless_detached (detached' i) (filed o k (node_at ms i)) ≡ unless_detached (p.detached i) (filed o k (node_at ns i)))
     → ((i : ℕ) → i < length rs → claimed' i + use_count (node_at ms i).kind ≡ p.claimed i + use_count (node_at ns i).kind)
@@ -34,9 +33,8 @@ AreFiled-nodes o ns ms rs heads unused p claimed' detached' files counts areas f
       free = λ k l.
           let mine = f.free k l in
           record {
-            links = IsLinked-kept ns ms rs rs (tag_of k) (head_of heads k) (p.free_lists k) (omega arith) (λ j _. refl) (λ j h. areas k j l h) mine.links;
+            links = IsLinked-kept ns ms rs rs k (head_of heads k) (p.free_lists k) (omega arith) (λ j _. refl) (λ j h. areas k j l h) mine.links;
             each = λ i. mine.each i ∙ sym (files k i);
-            low = λ i h. rw (areas k i l h) (mine.low i h);
           };
       line = f.line;
       begins = f.begins;
@@ -61,7 +59,7 @@ filed-same : (o : Options) (k : ℕ) (n m : Node) → m.kind ≡ n.kind → m.ar
 filed-same o k n m e a = grind arith
 
 -- The lists stay in order where the nodes of slots that are out of them change.
-pub AreFiled-moved : (o : Options) (ns ms : List Node) (rs : List Ring) (heads : List ListHead) (unused : Link)
+pub AreFiled-moved : (o : Options) (ns ms : List Node) (rs : List Ring) (heads : List Link) (unused : Link)
     (p : Places) (claimed' : ℕ → ℕ) (detached' : ℕ → Bool)
     → ((i : ℕ) → StaysOrIsOut (node_at ns i) (node_at ms i) (p.detached i) (detached' i))
     → ((i : ℕ) → i < length rs → claimed' i + use_count (node_at ms i).kind ≡ p.claimed i + use_count (node_at ns i).kind)
@@ -87,7 +85,7 @@ pub node_at-grown : (ns : List Node) (i : ℕ) → node_at (ns ++ blank_node ∷
 node_at-grown ns i = grind (arith, get_or_append_left, get_or_push, get_or_past, length_push)
 
 -- One more unused slot, which is claimed.
-module _ (o : Options) (ns : List Node) (rs : List Ring) (heads : List ListHead) (unused : Link) (p : Places) (f : AreFiled o ns rs heads unused p) where
+module _ (o : Options) (ns : List Node) (rs : List Ring) (heads : List Link) (unused : Link) (p : Places) (f : AreFiled o ns rs heads unused p) where
   ring_at-grown : (i : ℕ) → ring_at (rs ++ blank_ring ∷ []) i ≡ ring_at rs i
   ring_at-grown i = grind (arith, get_or_append_left, get_or_push, get_or_past, length_push)
 
@@ -98,20 +96,20 @@ module _ (o : Options) (ns : List Node) (rs : List Ring) (heads : List ListHead)
       let ms = ns ++ blank_node ∷ [] in
       let moved = AreFiled-nodes o ns ms rs heads unused p p.claimed p.detached (λ k i. ap (λ n. unless_detached (p.detached i) (filed o k n)) (node_at-grown ns i)) (λ i l. ap (λ (n : Node). p.claimed i + use_count n.kind) (node_at-grown ns i)) (λ k i l h. ap (λ (n : Node). n.area) (node_at-grown ns i)) f in
       record {
-        free = λ k l. let mine = moved.free k l in record { links = IsLinked-kept ms ms rs (rs ++ blank_ring ∷ []) (tag_of k) (head_of heads k) (p.free_lists k) (omega arith) (λ j h. ring_at-grown j) (λ j _. refl) mine.links; each = mine.each; low = mine.low };
+        free = λ k l. let mine = moved.free k l in record { links = IsLinked-kept ms ms rs (rs ++ blank_ring ∷ []) k (head_of heads k) (p.free_lists k) (omega arith) (λ j h. ring_at-grown j) (λ j _. refl) mine.links; each = mine.each };
         line = Line-kept rs (rs ++ blank_ring ∷ []) p.unused_list (omega arith) (λ j h. ring_at-grown j) f.line;
         begins = f.begins;
         each = grind (arith, node_at-grown, past-unused, with_count-same, Line-inside, with_count-other);
       }
 
   -- The first unused slot is taken.
-  pub AreFiled-taken : (x : ℕ) (rest : List ℕ) (next : Link) → p.unused_list ≡ x ∷ rest → next ≡ (ring_at rs x).next
+  pub AreFiled-taken : (x : ℕ) (rest : List ℕ) (next : Link) → p.unused_list ≡ x ∷ rest → next ≡ (ring_at rs x).right
       → AreFiled o ns rs heads next (record p { unused_list = rest; claimed = with_count p.claimed x 1 })
   AreFiled-taken x rest next es en = grind (arith, with_count-same, same-self, with_count-other, same-ne)
 
   -- A claimed slot becomes the first spare one.
   pub AreFiled-given : (ts : List Ring) (i : ℕ) (ring : Ring) (next : Link) → i < length rs → 0 < p.claimed i
-      → ts ≡ set rs i ring → ring.next ≡ unused → next.number ≡ i → AreFiled o ns ts heads next (given_back p i)
+      → ts ≡ set rs i ring → ring.right ≡ unused → next.number ≡ i → AreFiled o ns ts heads next (given_back p i)
   AreFiled-given ts i ring next li hi et er en =
       let lt : length ts ≡ length rs = rw et (length-set rs i ring) in
       let now = f.each i li in
@@ -119,7 +117,7 @@ module _ (o : Options) (ns : List Node) (rs : List Ring) (heads : List ListHead)
       let same_at : (j : ℕ) → (j ≡ i → ⊥) → ring_at ts j ≡ ring_at rs j = (λ j ne. rw et (get_or-set_other rs i j ring blank_ring ne)) in
       let none : occurs i p.unused_list ≡ 0 = omega arith in
       record {
-        free = λ k l. let mine = f.free k l in record { links = IsLinked-kept ns ns rs ts (tag_of k) (head_of heads k) (p.free_lists k) (omega arith) (λ j h. same_at j (ne-from_occurs i j (p.free_lists k) (unused-nowhere o ns rs heads unused p f k i l unused_now) h)) (λ j _. refl) mine.links; each = mine.each; low = mine.low };
+        free = λ k l. let mine = f.free k l in record { links = IsLinked-kept ns ns rs ts k (head_of heads k) (p.free_lists k) (omega arith) (λ j h. same_at j (ne-from_occurs i j (p.free_lists k) (unused-nowhere o ns rs heads unused p f k i l unused_now) h)) (λ j _. refl) mine.links; each = mine.each };
         line = Line-given rs ts i ring li et p.unused_list f.line (ap (λ (l : Link). l.number) er ∙ f.begins) none;
         begins = en;
         each = grind (arith, with_count-same, same-self, with_count-other, same-ne);
@@ -134,7 +132,7 @@ nil-from_inside rs [] short l e = refl
 nil-from_inside rs (x ∷ xs) short l e = absurd (omega (arith, l.0))
 
 -- No slot is unused: a new one is taken.
-taken-fresh : (o : Options) (old new : List Slot) (slot : Slot) (heads : List ListHead) (unused : Link) (at : ℕ)
+taken-fresh : (o : Options) (old new : List Slot) (slot : Slot) (heads : List Link) (unused : Link) (at : ℕ)
     → length old < 4294967295 → unused.number ≡ no_slot → at ≡ length old → new ≡ old ++ slot ∷ [] → slot ≡ blank_slot
     → (p : Places) → AreFiled o (nodes old) (rings old) heads unused p → IsTaken o old new heads unused p at
 taken-fresh o old new slot heads unused at short none ea en es p f =
@@ -158,8 +156,8 @@ taken-fresh o old new slot heads unused at short none ea en es p f =
     }
 
 -- The first unused slot is taken.
-taken-again : (o : Options) (old new : List Slot) (heads : List ListHead) (unused next : Link)
-    → (unused.number ≡ no_slot → ⊥) → next ≡ (ring_at (rings old) unused.number).next
+taken-again : (o : Options) (old new : List Slot) (heads : List Link) (unused next : Link)
+    → (unused.number ≡ no_slot → ⊥) → next ≡ (ring_at (rings old) unused.number).right
     → nodes new ≡ set (nodes old) unused.number (renewed (node_at (nodes old) unused.number)) → rings new ≡ rings old
     → (p : Places) → AreFiled o (nodes old) (rings old) heads unused p → IsTaken o old new heads next p unused.number
 taken-again o old new heads unused next some en_next en er p f =
@@ -212,13 +210,13 @@ taken-again o old new heads unused next some en_next en er p f =
         rw (er, ap tail_of first) moved
 
 -- The same where the slots are seen through another name.
-taken-again_by : (o : Options) (old items ys new : List Slot) (heads : List ListHead) (unused : Link) (ring : Ring)
+taken-again_by : (o : Options) (old items ys new : List Slot) (heads : List Link) (unused : Link) (ring : Ring)
     → items ≡ old → new ≡ ys → (unused.number ≡ no_slot → ⊥) → ring ≡ ring_at (rings old) unused.number
     → nodes ys ≡ set (nodes items) unused.number (renewed (node_at (nodes items) unused.number))
     → rings ys ≡ rings items → (p : Places) → AreFiled o (nodes old) (rings old) heads unused p
-    → IsTaken o old new heads ring.next p unused.number
+    → IsTaken o old new heads ring.right p unused.number
 taken-again_by o old items ys new heads unused ring ei ey some eg em er p f =
-    grind (arith, taken-again o old new heads unused ring.next some)
+    grind (arith, taken-again o old new heads unused ring.right some)
 
 -- What is taken is the first of the unused slots, or else a new one.
 pub takes-fresh : (old new : List Slot) (slot : Slot) (unused at : Link) → length old < 4294967295
@@ -244,7 +242,7 @@ pub takes-again : (old items ys new : List Slot) (unused : Link) (ring : Ring) �
     → (unused.number ≡ no_slot → ⊥) → ring ≡ ring_at (rings old) unused.number
     → nodes ys ≡ set (nodes items) unused.number (renewed (node_at (nodes items) unused.number))
     → rings ys ≡ rings items
-    → TakesFirst old new unused ring.next unused
+    → TakesFirst old new unused ring.right unused
 takes-again old items ys new unused ring ei ey some eg em er =
     let at = unused.number in
     let now : Node = renewed (node_at (nodes old) at) in
@@ -257,31 +255,27 @@ takes-again old items ys new unused ring ei ey some eg em er =
       once = λ f. absurd (some f.none);
     }
 
-pub given-by : (o : Options) (old new : List Slot) (heads : List ListHead) (unused at : Link) (ring : Ring)
-    → at.number < length old → rings new ≡ set (rings old) at.number ring → nodes new ≡ nodes old → ring.next ≡ unused
+pub given-by : (o : Options) (old new : List Slot) (heads : List Link) (unused at : Link) (ring : Ring)
+    → at.number < length old → rings new ≡ set (rings old) at.number ring → nodes new ≡ nodes old → ring.right ≡ unused
     → (p : Places) → AreFiled o (nodes old) (rings old) heads unused p → 0 < p.claimed at.number
     → AreFiled o (nodes new) (rings new) heads at (given_back p at.number)
 given-by o old new heads unused at ring li er en es p f h =
     let inside : at.number < length (rings old) = rw (length-map old (λ (s : Slot). s.ring)) li in
     rw en (AreFiled-given o (nodes old) (rings old) heads unused p f (rings new) at.number ring at inside h er es refl)
 
-empty-list : (ns : List Node) (rs : List Ring) (b : ℕ) (first : Link) → first.number ≡ no_slot → IsLinked ns rs b first []
-unfolding IsLinked
-empty-list ns rs b first none = inl (record { chain = tt; begins = none; once = λ k. omega arith })
-
 -- Slot 0 is detached, and nothing else stands anywhere.
 abbrev pub one_detached : Places
 one_detached = record { unused_list = []; free_lists = λ _. []; claimed = λ _. 0; detached = with_mark (λ _. false) 0 true }
 
-none-used : (heads : List ListHead) (k : ℕ) → is_used_at heads k ≡ false → (head_of heads k).number ≡ no_slot
+none-used : (heads : List Link) (k : ℕ) → is_used_at heads k ≡ false → (head_of heads k).number ≡ no_slot
 none-used heads k e = grind (arith, ne_eqb)
 
 -- One free slot, which is detached: the lists are empty.
-pub AreFiled-one : (o : Options) (n : Node) (ring : Ring) (heads : List ListHead) (unused : Link) → n.kind ≡ kind.Free
+pub AreFiled-one : (o : Options) (n : Node) (ring : Ring) (heads : List Link) (unused : Link) → n.kind ≡ kind.Free
     → ((k : ℕ) → is_used_at heads k ≡ false) → unused.number ≡ no_slot
     → AreFiled o (n ∷ []) (ring ∷ []) heads unused one_detached
 AreFiled-one o n ring heads unused e empty none =
-    grind (arith, empty-list, none-used, unless-detached, with_mark-same, unless-le, filed-use, past-unused)
+    grind (arith, linked-none, none-used, unless-detached, with_mark-same, unless-le, filed-use, past-unused)
 
 -- Slot i changes what it is used for, and is out of the lists before and after; any other keeps its use.
 pub record Changes (ns ms : List Node) (i : ℕ) (detached detached' : Bool) (claimed claimed' : ℕ) : Type 0 where

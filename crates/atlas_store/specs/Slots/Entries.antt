@@ -1,12 +1,12 @@
 -- Slots as the entries that a search reads. No public clause cites this module.
-use Rattle.std.specs.Prelude.{ℕ, Bool, true, false, List, [], ◌∷◌}
+use Rattle.std.specs.Prelude.{Bool, true, false, List, [], ◌∷◌}
 use Rattle.atlas_store.specs.declared.slots.Slot.{Slot}
 use Rattle.atlas_store.specs.declared.slots.Node.{Node}
 use Rattle.atlas_store.specs.declared.slots.Ring.{Ring}
 use Rattle.atlas_store.specs.declared.slots.NodeKind.{NodeKind}
 use Rattle.atlas_store.specs.declared.slots.NodeKind.TheVariants as kind
 use Rattle.atlas_search.specs.Items.{Item}
-use Rattle.atlas_store.specs.Slots.{blank_node}
+use Rattle.atlas_store.specs.Slots.{blank_node, blank_ring}
 
 abbrev pub is_free : NodeKind → Bool
 is_free kind.Free = true
@@ -14,11 +14,16 @@ is_free _ = false
 
 -- What a search reads of a slot with this node and this ring.
 abbrev pub item_of : Node → Ring → Item
-item_of n r = record { area = n.area; after = r.next.number; before = r.previous.number; is_free = is_free n.kind }
+item_of n r =
+    record { area = n.area; up = r.up.number; left = r.left.number; right = r.right.number; is_free = is_free n.kind }
 
 -- A slot as an entry of a list.
 abbrev pub slot_item : Slot → Item
 slot_item s = item_of s.node s.ring
+
+-- A slot without its links.
+abbrev pub unlinked_slot : Slot → Slot
+unlinked_slot s = record s { ring = blank_ring }
 
 -- The entries that nodes and rings make together.
 abbrev pub entries : List Node → List Ring → List Item

@@ -1,41 +1,20 @@
 -- What the calls on lists of slots make of rings, lists and marks. No public clause cites this module.
-use Rattle.std.specs.Prelude.{ℕ, ◌+◌, ◌%◌, ◌≡◌, ◌≢◌, ◌<◌, ◌==◌, ◌⊎◌, Bool, true, false, if◌then◌else◌}
+use Rattle.std.specs.Prelude.{ℕ, ◌+◌, ◌%◌, ◌≡◌, ◌≢◌, ◌<◌, ◌==◌, Bool, true, false, if◌then◌else◌}
 use Rattle.std.specs.Prelude.{List, [], ◌∷◌, ◌++◌, length, slice_set}
 use Rattle.atlas_store.specs.declared.slots.Slot.{Slot}
 use Rattle.atlas_search.specs.declared.link.Link.{Link}
 use Rattle.atlas_store.specs.declared.slots.Node.{Node}
 use Rattle.atlas_store.specs.declared.slots.Ring.{Ring}
 use Rattle.atlas_store.specs.declared.slots.NodeKind.TheVariants as kind
-use Rattle.atlas_search.specs.declared.bands.Place.{Place}
-use Rattle.atlas_search.specs.declared.table.ListHead.{ListHead}
+use Rattle.atlas_store.specs.declared.slots.lists.Recent.{Recent}
 use Rattle.atlas_model.specs.Choice.{Options}
 use Rattle.atlas_store.specs.Slots.{nodes, rings, node_at, ring_at, blank_slot, AreTakenOnce}
-use Rattle.atlas_search.specs.Piles.{IsTag}
-use Rattle.atlas_search.specs.Tables.{head_of, is_used_at}
-use Rattle.atlas_store.specs.Slots.Lists.{IsList, AreFiled, Line, Places, tag_of}
-use Rattle.atlas_search.specs.Numbers.{front, lists_with, no_slot, occurs, without}
+use Rattle.atlas_store.specs.Slots.Lists.{AreFiled, IsRecent, Line, Places}
+use Rattle.atlas_search.specs.Numbers.{front, lists_with, no_slot, without}
 
--- The list that begins with this link, after `before`, is in order, and slot i does not stand in it.
-abbrev pub IsUnlisted : List Ring → (before : ℕ) → Link → ℕ → Type 0
-IsUnlisted rs before first i = (xs : List ℕ) × IsList rs before first xs × (occurs i xs ≡ 0)
-
--- This is one of n slots, or comes before the first slot of a chain that has one.
-abbrev pub IsSlotOrTag : (n : ℕ) → List ListHead → ℕ → Type 0
-IsSlotOrTag n heads before =
-    (before < n)
-    ⊎ ((k : ℕ) × (k < 2704) × (before ≡ tag_of k) × (is_used_at heads k ≡ true) × (IsTag (head_of heads k).number → ⊥))
-
--- What a list begins with once `next` comes after `before`; `tag` comes before its first slot, which was `first`.
-abbrev pub first_after : (before next : Link) → (tag : ℕ) → (first : Link) → Link
-first_after before next tag first = if before.number == tag then next else first
-
--- `link` comes after slot i in its list; nothing happens where i is no slot.
-abbrev pub with_next : List Ring → ℕ → Link → List Ring
-with_next rs i link = slice_set rs i (record (ring_at rs i) { next = link })
-
--- `link` comes before slot i in its list; nothing happens where i is no slot.
-abbrev pub with_ring_previous : List Ring → ℕ → Link → List Ring
-with_ring_previous rs i link = slice_set rs i (record (ring_at rs i) { previous = link })
+-- `link` is on the right of slot i.
+abbrev pub with_right : List Ring → ℕ → Link → List Ring
+with_right rs i link = slice_set rs i (record (ring_at rs i) { right = link })
 
 -- The mark of slot i is `mark`, and the others stay.
 abbrev pub with_mark : (ℕ → Bool) → ℕ → Bool → ℕ → Bool
@@ -49,29 +28,20 @@ with_count claimed i n k = if k == i then n else claimed k
 abbrev pub lists_without : (ℕ → List ℕ) → ℕ → ℕ → List ℕ
 lists_without free_lists i k = without i (free_lists k)
 
--- The lists are in order.
-abbrev pub AreFiledSlots : List Slot → List ListHead → Type 0
-AreFiledSlots slots heads =
-    (o : Options) × (unused : Link) × (p : Places) × AreFiled o (nodes slots) (rings slots) heads unused p
-
 -- The lists are in order, and slot i is not detached.
-pub record IsFiledSlot (o : Options) (slots : List Slot) (heads : List ListHead) (i : ℕ) : Type 0 where
+pub record IsFiledSlot (o : Options) (slots : List Slot) (heads : List Link) (i : ℕ) : Type 0 where
   pub unused : Link
   pub places : Places
   pub filed : AreFiled o (nodes slots) (rings slots) heads unused places
   pub kept : places.detached i ≡ false
 
--- The lists are in order, and slot i is detached.
-pub record IsDetachedSlot (o : Options) (slots : List Slot) (heads : List ListHead) (i : ℕ) : Type 0 where
+-- The lists are in order, slot i is detached, and the slot that was listed last stands in its list.
+pub record IsDetachedSlot (o : Options) (slots : List Slot) (heads : List Link) (recent : Recent) (i : ℕ) : Type 0 where
   pub unused : Link
   pub places : Places
+  pub is_recent : IsRecent recent places.free_lists
   pub filed : AreFiled o (nodes slots) (rings slots) heads unused places
   pub is_detached : places.detached i ≡ true
-
--- The row and the column of some list.
-pub record IsInTable (place : Place) : Type 0 where
-  pub row : place.row < 52
-  pub column : place.column < 52
 
 -- The list but for its first.
 abbrev pub tail_of : List ℕ → List ℕ
@@ -99,7 +69,7 @@ abbrev pub renewed : Node → Node
 renewed n = record n { generation = (n.generation + 1) % 256 }
 
 -- Slot `at` was taken: it is claimed, no longer unused, not used, and none of those that were claimed.
-pub record IsTaken (o : Options) (old new : List Slot) (heads : List ListHead) (unused' : Link) (p : Places)
+pub record IsTaken (o : Options) (old new : List Slot) (heads : List Link) (unused' : Link) (p : Places)
     (at : ℕ) : Type 0 where
   pub filed : AreFiled o (nodes new) (rings new) heads unused' (with_claimed p at)
   pub inside : at < length new
@@ -115,7 +85,7 @@ pub record CanTake (slots : List Slot) (capacity : ℕ) (unused : Link) : Type 0
 
 -- The first of the unused slots was taken, in its next generation, or else a new one.
 pub record TakesFirst (old new : List Slot) (unused unused' at : Link) : Type 0 where
-  pub taken : (o : Options) (heads : List ListHead) (p : Places) → AreFiled o (nodes old) (rings old) heads unused p
+  pub taken : (o : Options) (heads : List Link) (p : Places) → AreFiled o (nodes old) (rings old) heads unused p
       → IsTaken o old new heads unused' p at.number
   pub others : (k : ℕ) → k ≢ at.number → node_at (nodes new) k ≡ node_at (nodes old) k
   pub again : unused.number ≢ no_slot

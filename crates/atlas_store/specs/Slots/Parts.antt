@@ -1,11 +1,8 @@
 -- What a free leaf becomes where a request is placed. No public clause cites this module.
-use Rattle.std.specs.Prelude.{ℕ, ℤ, ◌+◌, ◌+ℤ◌, ◌-ℤ◌}
+use Rattle.std.specs.Prelude.{ℕ, ◌+◌}
 use Rattle.atlas_search.specs.declared.link.Link.{Link}
 use Rattle.atlas_store.specs.declared.slots.Node.{Node}
 use Rattle.atlas_store.specs.declared.slots.NodeKind.TheVariants as kind
-use Rattle.atlas_model.specs.declared.geometry.Rectangle.{Rectangle}
-use Rattle.atlas_search.specs.declared.cut.Orientation.{Orientation}
-use Rattle.atlas_search.specs.declared.cut.Orientation.TheVariants as orientation
 use Rattle.atlas_model.specs.Boxes.{Axis, Box}
 use Rattle.atlas_model.specs.Boxes.Axis.{Horizontal, Vertical}
 use Rattle.atlas_model.specs.Pixels.{box_of, rectangle_of}

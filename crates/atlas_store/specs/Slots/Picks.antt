@@ -4,14 +4,13 @@ use Rattle.atlas_store.specs.declared.slots.Slot.{Slot}
 use Rattle.atlas_search.specs.declared.link.Link.{Link}
 use Rattle.atlas_store.specs.declared.slots.Node.{Node}
 use Rattle.atlas_store.specs.declared.slots.NodeKind.TheVariants as kind
-use Rattle.atlas_search.specs.declared.table.ListHead.{ListHead}
 use Rattle.atlas_model.specs.Boxes.{Box}
 use Rattle.atlas_model.specs.Pixels.{box_of}
 use Rattle.atlas_model.specs.Choice.{Options, AreValid}
 use Rattle.atlas_model.specs.Trees.{most_slots}
 use Rattle.atlas_store.specs.Slots.{nodes, rings, node_at}
 use Rattle.atlas_store.specs.Slots.Lists.{AreFiled, Places}
-pub use Rattle.atlas_store.specs.Slots.Entries.{item_of, slot_item}
+pub use Rattle.atlas_store.specs.Slots.Entries.{item_of, slot_item, unlinked_slot}
 use Rattle.atlas_search.specs.Rectangles.{IsSolid}
 
 abbrev pub node_box : Node → Box
@@ -25,7 +24,7 @@ abbrev pub AreExact : List Node → Type 0
 AreExact ns = (i : ℕ) → IsFreeSlot ns i → IsSolid (node_at ns i).area
 
 -- The lists are in order, each free slot stands in one, and has an exact rectangle.
-pub record IsSearchable (o : Options) (slots : List Slot) (heads : List ListHead) : Type 0 where
+pub record IsSearchable (o : Options) (slots : List Slot) (heads : List Link) : Type 0 where
   pub unused : Link
   pub places : Places
   pub filed : AreFiled o (nodes slots) (rings slots) heads unused places

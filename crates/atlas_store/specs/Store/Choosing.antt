@@ -1,5 +1,5 @@
 -- The free slot that a request takes, and room for the slots that it needs. No public clause cites this module.
-use Rattle.std.specs.Prelude.{ℕ, ◌+◌, ◌<◌, ◌≤◌, ◌≡◌, ◌≢◌, List, []}
+use Rattle.std.specs.Prelude.{ℕ, ◌+◌, ◌<◌, ◌≤◌, ◌≡◌, List, []}
 use Rattle.atlas_store.specs.declared.store.Store.{Store}
 use Rattle.atlas_search.specs.declared.best.Found.{Found}
 use Rattle.atlas_store.specs.declared.slots.NodeKind.TheVariants as kind
@@ -9,9 +9,7 @@ use Rattle.atlas_model.specs.Boxes.{Sides, Box}
 use Rattle.atlas_model.specs.Choice.{IsPick}
 use Rattle.atlas_model.specs.Pixels.{box_of, options_of}
 use Rattle.atlas_store.specs.Slots.{nodes}
-use Rattle.atlas_search.specs.Bands.{list_of}
-use Rattle.atlas_store.specs.Slots.Lists.{node_sides, node_top}
-use Rattle.atlas_store.specs.Slots.Picks.{AreFreeBoxes, IsFreeSlot}
+use Rattle.atlas_store.specs.Slots.Picks.{AreFreeBoxes}
 use Rattle.atlas_store.specs.Stored.{Shelf, Holding, Holds, IsDetachedOnly}
 use Rattle.atlas_store.specs.Store.Holdings.{capacity_in, node_in, shelf_of, turns_in}
 
@@ -21,17 +19,11 @@ pub record IsAtRest (v : Shelf) (h : Holding) : Type 0 where
   pub listed : IsDetachedOnly [] h
   pub start : h.sequence.start ≡ 0
 
--- The free slot that a request takes, the list where it stands, and at most the `min.y` of each other slot of that
--- list.
+-- The free slot that a request takes.
 pub record IsChosen (v : Shelf) (r : Sides) (p : Found) : Type 0 where
   pub free : (node_in v p.at.number).kind ≡ kind.Free
   pub pick : (free : List Box) → AreFreeBoxes (nodes v.slots) free
       → IsPick free (options_of v.options) r (box_of (node_in v p.at.number).area)
-  pub inside : p.list < 2704
-  pub list : p.list ≡ list_of (options_of v.options) (node_sides (node_in v p.at.number))
-  pub low : (i : ℕ) → IsFreeSlot (nodes v.slots) i → i ≢ p.at.number
-      → list_of (options_of v.options) (node_sides (node_in v i)) ≡ p.list
-      → p.low ≤ node_top (node_in v i)
 
 -- Why slots were refused.
 abbrev pub IsShortOf : (used limit needed kept : ℕ) → AtlasError → Type 0

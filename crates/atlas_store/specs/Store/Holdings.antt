@@ -7,10 +7,7 @@ use Rattle.atlas_store.specs.declared.slots.Node.{Node}
 use Rattle.atlas_store.specs.declared.slots.placing.Parts.{Parts}
 use Rattle.atlas_store.specs.declared.slots.placing.Plan.{Plan}
 use Rattle.atlas_store.specs.declared.slots.NodeKind.TheVariants as kind
-use Rattle.atlas_model.specs.Pixels.{options_of}
-use Rattle.atlas_search.specs.Bands.{list_of}
 use Rattle.atlas_model.specs.Trees.{most_slots}
-use Rattle.atlas_store.specs.Slots.Lists.{node_sides, node_top}
 use Rattle.atlas_store.specs.Slots.{nodes, node_at, AreTakenOnce}
 use Rattle.atlas_store.specs.Slots.Links.{with_mark, tail_of}
 use Rattle.atlas_store.specs.Slots.Numbered.{Numbered, marked, joined, lifted}
@@ -19,7 +16,8 @@ use Rattle.atlas_store.specs.Stored.{Shelf, Holding, Holds}
 
 -- The stored part of a store.
 abbrev pub shelf_of : {A : Type 0} → Store A → Shelf
-shelf_of s = record { slots = s.slots.items; heads = s.lists; unused = s.unused; options = s.options }
+shelf_of s =
+    record { slots = s.slots.items; heads = s.lists; unused = s.unused; recent = s.recent; options = s.options }
 
 -- For how many slots there is memory.
 abbrev pub capacity_in : {A : Type 0} → Store A → ℕ
@@ -62,13 +60,6 @@ pub record IsDetachedLeaf (v : Shelf) (i : ℕ) (h : Holding) : Type 0 where
   pub holds : Holds v h
   pub kind : (node_in v i).kind ≡ kind.Free
   pub detached : h.detached i ≡ true
-
--- `low` is at most the `min.y` of each free slot of list k, but of those that are detached.
-abbrev pub IsLow : Shelf → Holding → (k low : ℕ) → Type 0
-IsLow v h k low =
-    (i : ℕ) → (node_in v i).kind ≡ kind.Free → h.detached i ≡ false
-    → list_of (options_of v.options) (node_sides (node_in v i)) ≡ k
-    → low ≤ node_top (node_in v i)
 
 -- There are as many slots, and room for as many.
 pub record KeepsRoom {A : Type 0} (old new : Store A) : Type 0 where

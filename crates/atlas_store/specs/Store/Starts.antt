@@ -29,7 +29,7 @@ one_free_slot size =
         axis = orientation.Vertical;
         generation = 0;
       };
-      ring = record { previous = record { number = no_slot }; next = record { number = no_slot } };
+      ring = record { up = record { number = no_slot }; left = record { number = no_slot }; right = record { number = no_slot } };
     }
 
 -- What one free slot holds, while it is detached.

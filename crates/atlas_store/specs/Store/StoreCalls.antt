@@ -18,7 +18,6 @@ use Rattle.atlas_store.specs.Store.Holdings.{
   node_in,
   HasSlotsFor,
   IsDetachedLeaf,
-  IsLow,
   KeepsRoom,
   OnlyTakes,
   with_detached,
@@ -46,19 +45,6 @@ pub record UnlistsLeaf {A : Type 0} (old new : Store A) (i : ℕ) : Type 0 where
       → (free_lists : ℕ → List ℕ) × Holds (shelf_of new) (with_detached i true (with_free_lists free_lists h))
   pub nodes : nodes new.slots.items ≡ nodes old.slots.items
   pub slots : length new.slots.items ≡ length old.slots.items
-  pub takes : OnlyTakes old new
-
--- A list may have become a pile. All else is stored as before.
-pub record IsTidied {A : Type 0} (old new : Store A) : Type 0 where
-  pub kept : (h : Holding) → Holds (shelf_of old) h → Holds (shelf_of new) h
-  pub nodes : nodes new.slots.items ≡ nodes old.slots.items
-  pub slots : length new.slots.items ≡ length old.slots.items
-  pub takes : OnlyTakes old new
-
--- `low` is at most the `min.y` of each slot of list k.
-pub record IsSharpened {A : Type 0} (old new : Store A) (k low : ℕ) : Type 0 where
-  pub kept : (h : Holding) → Holds (shelf_of old) h → IsLow (shelf_of old) h k low → Holds (shelf_of new) h
-  pub slots : new.slots ≡ old.slots
   pub takes : OnlyTakes old new
 
 -- The detached leaf of slot i stands in its list.

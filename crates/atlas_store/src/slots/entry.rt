@@ -1,6 +1,7 @@
-//! A slot as an entry that a search reads.
-use crate::slots::Slot;
+//! A slot as an entry of a list.
+use crate::slots::{Ring, Slot};
 use atlas_model::Rectangle;
+use atlas_search::heap::Linked;
 use atlas_search::link::Link;
 use atlas_search::search::Entry;
 
@@ -13,11 +14,25 @@ impl Entry for Slot {
         self.node.area
     }
 
-    fn after(&self) -> Link {
-        self.ring.next
+    fn up(&self) -> Link {
+        self.ring.up
     }
 
-    fn before(&self) -> Link {
-        self.ring.previous
+    fn left(&self) -> Link {
+        self.ring.left
+    }
+
+    fn right(&self) -> Link {
+        self.ring.right
+    }
+}
+
+impl Linked for Slot {
+    ghost use Rattle.atlas_store.specs.Slots.Picks.{unlinked_slot};
+
+    ghost bare = { unlinked_slot };
+
+    fn set_links(&mut self, up: Link, left: Link, right: Link) {
+        self.ring = Ring { up, left, right };
     }
 }

@@ -1,156 +1,142 @@
-//! The lists of free slots, by the bands of both sides, and the list of unused slots: links inside the slots. A list of free slots
-//! is a chain, or a pile.
-ghost use Rattle.std.specs.Prelude.{◌≡◌, ◌<◌, ◌≤◌, ℕ, true, false, List, ◌∷◌, length, slice_set, vec_capacity};
-ghost use Rattle.atlas_search.specs.Bands.{list_of, number_of};
-ghost use Rattle.atlas_search.specs.Tables.{head_of, low_of};
+//! The lists of free slots, by the bands of both sides, and the list of unused slots: links inside the slots.
+ghost use Rattle.std.specs.Prelude.{◌≡◌, ◌<◌, ◌≤◌, ◌⊎◌, ◌==◌, ℕ, true, false, List, length, slice_set, vec_capacity};
+ghost use Rattle.std.specs.Prelude.{if◌then◌else◌};
+ghost use Rattle.atlas_search.specs.Heaps.{tag_of};
+ghost use Rattle.atlas_search.specs.Numbers.{no_slot, occurs};
+ghost use Rattle.atlas_search.specs.Tables.{head_of, is_used_at};
+ghost use Rattle.atlas_search.specs.Bands.{list_of};
 ghost use Rattle.atlas_model.specs.Choice.{Options};
 ghost use Rattle.atlas_model.specs.Pixels.{options_of};
-ghost use Rattle.atlas_store.specs.Slots.{blank_slot, nodes, rings, node_at, ring_at};
-ghost use Rattle.atlas_store.specs.Slots.Standing.{IsSlot};
+ghost use Rattle.atlas_store.specs.Slots.{blank_slot, nodes, rings, node_at};
 ghost use Rattle.atlas_search.specs.declared.link.Link.{Link};
-ghost use Rattle.atlas_search.specs.declared.table.ListHead.{ListHead};
-ghost use Rattle.atlas_store.specs.Slots.Lists.{AreFiled, IsList, Places, node_sides, tag_of};
-ghost use Rattle.atlas_search.specs.Numbers.{occurs};
+ghost use Rattle.atlas_store.specs.Slots.Lists.{AreFiled, IsRecent, Places, node_sides};
 ghost use Rattle.atlas_store.specs.declared.slots.NodeKind.TheVariants.{Free};
-ghost use Rattle.atlas_store.specs.Slots.Links.{CanTake, IsSlotOrTag, IsFiledSlot, IsInTable, IsDetachedSlot};
+ghost use Rattle.atlas_store.specs.Slots.Links.{CanTake, IsFiledSlot, IsDetachedSlot, TakesFirst};
+ghost use Rattle.atlas_store.specs.Slots.Links.{given_back, listed, lists_without, renewed, unlisted, with_right};
 ghost use Rattle.atlas_model.specs.Trees.{most_slots};
-ghost use Rattle.atlas_search.specs.Piles.{IsTag};
 ghost use Rattle.atlas_store.specs.Slots.Picks.{AreExact};
-ghost use Rattle.atlas_store.specs.Slots.Links.{IsUnlisted, TakesFirst};
-ghost use Rattle.atlas_store.specs.Slots.Links.{first_after, given_back, listed, renewed, unlisted, with_next};
-ghost use Rattle.atlas_store.specs.Slots.Links.{with_ring_previous};
 
-use crate::slots::piling::{join_pile, leave_pile};
 use crate::slots::{Node, NodeKind, Ring, Slot, read_node, read_ring, write_node};
 use atlas_model::{Rectangle, point2};
-use atlas_search::bands::{BANDS, Place, Scale};
-use atlas_search::cut::{Orientation, exact_size, top_in};
-use atlas_search::link::{Link, NO_SLOT, PILE};
+use atlas_search::bands::{BANDS, Scale};
+use atlas_search::cut::{Orientation, exact_size};
+use atlas_search::heap::{push, remove};
+use atlas_search::link::{Link, NO_SLOT, TAG};
 use atlas_search::table::Table;
 use std::alloc::Allocator;
 
-// From this number on, what comes before a slot is none: the slot is the first of the list with the rest as its number.
-const FIRST: u32 = 2147483648;
+/// The slot that was listed last, with the number of its list; none once it left it.
+#[derive(Clone, Copy)]
+pub struct Recent {
+    pub at: Link,
+    pub list: usize,
+}
 
-// What comes before the first slot of a list.
-fn before_first(place: Place) -> Link
-    requires { IsInTable place }
-    ensures { result.number ≡ tag_of (number_of place) }
-{
-    Link {
-        number: FIRST + (BANDS * place.row + place.column) as u32,
+impl Recent {
+    /// No slot.
+    pub const NONE: Recent = Recent {
+        at: Link::NONE,
+        list: 0,
+    };
+
+    // The slot, if it stands in the list of this number.
+    fn in_list(&self, list: usize) -> Link
+        ensures { (free_lists : ℕ → List ℕ) → IsRecent self.now free_lists
+            → (result.number ≡ no_slot) ⊎ (0 < occurs result.number (free_lists list)) }
+    {
+        if self.list == list {
+            self.at
+        } else {
+            Link::NONE
+        }
+    }
+
+    // This slot leaves its list.
+    fn forget(&mut self, at: Link)
+        ensures { (free_lists : ℕ → List ℕ) → IsRecent self.old free_lists
+            → IsRecent self.new (lists_without free_lists at.number) }
+    {
+        if self.at.number == at.number {
+            self.at = Link::NONE;
+        }
     }
 }
 
-// `next` comes after `at` in its list.
-fn set_ring_next(slots: &mut [Slot], at: Link, next: Link)
+// Where `up` tells a list, it begins with `first` from now on.
+fn set_top<A: Allocator>(lists: &mut Table<A>, up: Link, first: Link)
+    requires { 4261412864 ≤ up.number
+        → (k : ℕ) × (k < 2704) × (up.number ≡ tag_of k) × (is_used_at lists.old k ≡ true) }
+    ensures { (k : ℕ) → head_of lists.new k ≡ (if up.number == tag_of k then first else head_of lists.old k) }
+{
+    if up.number >= TAG {
+        lists.set_first((up.number - TAG) as usize, first);
+    }
+}
+
+// What is on the right of a slot.
+fn set_right(slots: &mut [Slot], at: Link, right: Link)
     requires { at.number < length slots.old }
-    ensures written { rings slots.new ≡ with_next (rings slots.old) at.number next }
+    ensures written { rings slots.new ≡ with_right (rings slots.old) at.number right }
     ensures same_nodes { nodes slots.new ≡ nodes slots.old }
 {
     let slot = &mut slots[at.number as usize];
-    slot.ring.next = next;
-}
-
-// `previous` comes before `at` in its list; nothing happens where `at` is no slot.
-fn set_ring_previous(slots: &mut [Slot], at: Link, previous: Link)
-    requires inside { IsSlot (length slots.old) at.number }
-    requires short { length slots.old < NO_SLOT }
-    ensures written { rings slots.new ≡ with_ring_previous (rings slots.old) at.number previous }
-    ensures same_nodes { nodes slots.new ≡ nodes slots.old }
-{
-    if at.number != NO_SLOT {
-        let slot = &mut slots[at.number as usize];
-        slot.ring.previous = previous;
-    }
-}
-
-// `next` comes after `before`: in its chain if `before` is a slot, or first in the one that it tells. Answers false, and does
-// nothing, if `before` is a tag of a pile or none.
-fn lead<A: Allocator>(slots: &mut [Slot], lists: &mut Table<A>, before: Link, next: Link) -> bool
-    requires before { before.number < PILE → IsSlotOrTag (length slots.old) lists.old before.number }
-    requires next { before.number < PILE → IsTag next.number → ⊥ }
-    requires short { length slots.old < FIRST }
-    ensures chain { result ≡ true → before.number < PILE }
-    ensures written { result ≡ true → rings slots.new ≡ with_next (rings slots.old) before.number next }
-    ensures same_nodes { nodes slots.new ≡ nodes slots.old }
-    ensures heads { result ≡ true
-        → (k : ℕ) → head_of lists.new k ≡ first_after before next (tag_of k) (head_of lists.old k) }
-    ensures lows { (k : ℕ) → low_of lists.new k ≡ low_of lists.old k }
-    ensures pile { result ≡ false → PILE ≤ before.number }
-    ensures stays { result ≡ false → (slots.new ≡ slots.old) × (lists.new ≡ lists.old) }
-{
-    if before.number < FIRST {
-        set_ring_next(slots, before, next);
-        return true;
-    }
-    if before.number < PILE {
-        lists.set_first((before.number - FIRST) as usize, next);
-        return true;
-    }
-    false
-}
-
-// Puts a slot in front of the list that begins with `first`, and after `before`.
-fn push_front(slots: &mut [Slot], before: Link, first: Link, at: Link)
-    requires inside { at.number < length slots.old }
-    requires list { IsUnlisted (rings slots.old) before.number first at.number }
-    requires short { length slots.old < FIRST }
-    ensures list { (xs : List ℕ) → IsList (rings slots.old) before.number first xs → occurs at.number xs ≡ 0
-        → IsList (rings slots.new) before.number at (at.number ∷ xs) }
-    ensures others { (xs : List ℕ) (k : ℕ) → IsList (rings slots.old) before.number first xs → (k ≡ at.number → ⊥)
-        → occurs k xs ≡ 0 → ring_at (rings slots.new) k ≡ ring_at (rings slots.old) k }
-    ensures same_nodes { nodes slots.new ≡ nodes slots.old }
-{
-    let slot = &mut slots[at.number as usize];
-    slot.ring.previous = before;
-    slot.ring.next = first;
-    set_ring_previous(slots, first, at);
+    slot.ring.right = right;
 }
 
 /// Takes a free slot out of its list; it is detached from then on.
 #[inline(always)]
-pub fn unlist<A: Allocator>(slots: &mut [Slot], lists: &mut Table<A>, options: &Scale, at: Link)
+pub fn unlist<A: Allocator>(slots: &mut [Slot], lists: &mut Table<A>, recent: &mut Recent, at: Link)
     requires free { (node_at (nodes slots.old) at.number).kind ≡ Free }
     requires exact { AreExact (nodes slots.old) }
-    requires kept { IsFiledSlot (options_of options.now) slots.old lists.old at.number }
+    requires kept { (o : Options) × IsFiledSlot o slots.old lists.old at.number }
     requires short { length slots.old ≤ most_slots }
-    ensures filed { (unused : Link) (p : Places)
-        → AreFiled (options_of options.now) (nodes slots.old) (rings slots.old) lists.old unused p
-        → p.detached at.number ≡ false
-        → AreFiled (options_of options.now) (nodes slots.new) (rings slots.new) lists.new unused (unlisted p at.number) }
+    ensures filed { (o : Options) (unused : Link) (p : Places)
+        → AreFiled o (nodes slots.old) (rings slots.old) lists.old unused p → p.detached at.number ≡ false
+        → AreFiled o (nodes slots.new) (rings slots.new) lists.new unused (unlisted p at.number) }
+    ensures recent { (p : Places) → IsRecent recent.old p.free_lists
+        → IsRecent recent.new (unlisted p at.number).free_lists }
     ensures same_nodes { nodes slots.new ≡ nodes slots.old }
 {
-    let ring = read_ring(slots, at);
-    if !lead(slots, lists, ring.previous, ring.next) {
-        leave_pile(slots, lists, options, at);
-        return;
-    }
-    set_ring_previous(slots, ring.next, ring.previous);
+    let up = read_ring(slots, at).up;
+    let rest = remove(slots, at);
+    set_top(lists, up, rest);
+    recent.forget(at);
 }
 
 /// Puts a free and detached slot into its list. Each free slot has an exact rectangle.
 #[inline(always)]
-pub fn enlist<A: Allocator>(slots: &mut [Slot], lists: &mut Table<A>, options: &Scale, at: Link)
+pub fn enlist<A: Allocator>(
+    slots: &mut [Slot],
+    lists: &mut Table<A>,
+    options: &Scale,
+    recent: &mut Recent,
+    at: Link,
+)
     requires free { (node_at (nodes slots.old) at.number).kind ≡ Free }
     requires exact { AreExact (nodes slots.old) }
-    requires detached { IsDetachedSlot (options_of options.now) slots.old lists.old at.number }
+    requires detached { IsDetachedSlot (options_of options.now) slots.old lists.old recent.old at.number }
     requires short { length slots.old ≤ most_slots }
     ensures filed { (unused : Link) (p : Places)
         → AreFiled (options_of options.now) (nodes slots.old) (rings slots.old) lists.old unused p
-        → p.detached at.number ≡ true
+        → IsRecent recent.old p.free_lists → p.detached at.number ≡ true
         → AreFiled (options_of options.now) (nodes slots.new) (rings slots.new) lists.new unused
         (listed p (list_of (options_of options.now) (node_sides (node_at (nodes slots.old) at.number))) at.number) }
+    ensures recent { (p : Places) → IsRecent recent.new
+        (listed p (list_of (options_of options.now) (node_sides (node_at (nodes slots.old) at.number))) at.number).free_lists }
     ensures same_nodes { nodes slots.new ≡ nodes slots.old }
 {
     let node = read_node(slots, at);
     let place = options.place_for(exact_size(node.area));
-    let first = lists.head(place);
-    if !lists.push(place, at, top_in(node.area)) {
-        join_pile(slots, lists, options, place, at);
-        return;
-    }
-    push_front(slots, before_first(place), first, at);
+    let list = BANDS * place.row + place.column;
+    let first = push(
+        slots,
+        place.tag(),
+        lists.head(place),
+        recent.in_list(list),
+        at,
+    );
+    lists.raise(place, first);
+    *recent = Recent { at, list };
 }
 
 // A slot that was never taken.
@@ -173,8 +159,9 @@ fn fresh_slot() -> Slot
             generation: 0,
         },
         ring: Ring {
-            previous: none,
-            next: none,
+            up: none,
+            left: none,
+            right: none,
         },
     }
 }
@@ -205,7 +192,7 @@ pub fn take_slot<A: Allocator>(slots: &mut Vec<Slot, A>, unused: &mut Link) -> L
         Link { number }
     } else {
         let ring = read_ring(slots, at);
-        *unused = ring.next;
+        *unused = ring.right;
         renew(slots, at);
         at
     }
@@ -214,11 +201,11 @@ pub fn take_slot<A: Allocator>(slots: &mut Vec<Slot, A>, unused: &mut Link) -> L
 /// Puts a slot that is claimed, and not used, in front of the unused ones.
 pub fn give_back(slots: &mut [Slot], unused: &mut Link, at: Link)
     requires { at.number < length slots.old }
-    ensures filed { (o : Options) (heads : List ListHead) (p : Places)
+    ensures filed { (o : Options) (heads : List Link) (p : Places)
         → AreFiled o (nodes slots.old) (rings slots.old) heads unused.old p → 0 < p.claimed at.number
         → AreFiled o (nodes slots.new) (rings slots.new) heads unused.new (given_back p at.number) }
     ensures same_nodes { nodes slots.new ≡ nodes slots.old }
 {
-    set_ring_next(slots, at, *unused);
+    set_right(slots, at, *unused);
     *unused = at;
 }

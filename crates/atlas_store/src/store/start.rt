@@ -5,9 +5,10 @@ ghost use Rattle.atlas_model.specs.Choice.{AreValid};
 ghost use Rattle.atlas_model.specs.Pixels.{sides_of, options_of};
 ghost use Rattle.atlas_store.specs.Store.Starts.{IsBegun, IsStarted, one_free_slot};
 
+use crate::slots::lists::Recent;
 use crate::slots::{Node, NodeKind, Ring, Slot};
+use crate::store::Store;
 use crate::store::turns::Turns;
-use crate::store::{PAUSE, Store};
 use atlas_model::{AllocatorOptions, Rectangle, Size};
 use atlas_search::bands::Scale;
 use atlas_search::cut::Orientation;
@@ -30,8 +31,9 @@ fn whole_slot(size: Size) -> Slot
         generation: 0,
     };
     let ring = Ring {
-        previous: none,
-        next: none,
+        up: none,
+        left: none,
+        right: none,
     };
     Slot { node, ring }
 }
@@ -54,7 +56,7 @@ impl<A: Allocator> Store<A> {
             unused: Link::NONE,
             options: Scale::new(options),
             turns: Turns::new(),
-            due: PAUSE,
+            recent: Recent::NONE,
         };
         store.start(size, options);
         Ok(store)
@@ -71,7 +73,7 @@ impl<A: Allocator> Store<A> {
         self.slots.push_reserved(whole_slot(size));
         self.lists.clear();
         self.unused = Link::NONE;
-        self.due = PAUSE;
+        self.recent = Recent::NONE;
         self.options.set(options);
         self.list(Link { number: 0 });
     }
@@ -86,6 +88,6 @@ impl<A: Allocator> Store<A> {
         self.lists = other.lists;
         self.unused = other.unused;
         self.options = other.options;
-        self.due = other.due;
+        self.recent = other.recent;
     }
 }

@@ -17,11 +17,9 @@ use Rattle.atlas_store.specs.Slots.{nodes, node_at}
 use Rattle.atlas_store.specs.Slots.Numbered.{erase, id_of}
 use Rattle.atlas_store.specs.Slots.Picks.{AreFreeBoxes, IsFreeSlot, IsSearchable}
 use Rattle.atlas_store.specs.Stored.{Shelf, Holding, Holds, places_of}
-use Rattle.atlas_store.specs.Store.Holdings.{shelf_of, node_in, with_detached, with_free_lists, IsLow}
-use Rattle.atlas_search.specs.Bands.{list_of}
-use Rattle.atlas_store.specs.Slots.Lists.{node_sides, node_top}
+use Rattle.atlas_store.specs.Store.Holdings.{shelf_of, node_in, with_detached, with_free_lists}
 use Rattle.atlas_tree.specs.Plans.Planning.{IsPlanReady, IsPlanDone, IsPlanned}
-use Rattle.atlas_store.specs.Store.StoreCalls.{CanCarryOut, IsSharpened, UnlistsLeaf}
+use Rattle.atlas_store.specs.Store.StoreCalls.{CanCarryOut, UnlistsLeaf}
 use Rattle.atlas_store.specs.Store.Choosing.{IsAtRest, IsChosen}
 use Rattle.atlas_tree.specs.Plans.Chosen.{IsGrantable, IsGrantMade}
 use Rattle.atlas_store.proofs.StoreLemmas.FiledSlots.{with_mark-same, with_mark-other}
@@ -30,7 +28,6 @@ use Rattle.atlas_store.proofs.SlotLemmas.JoinWrites.{used-inside}
 use Rattle.atlas_store.proofs.SlotLemmas.FreeSlots.{exact-free}
 use Rattle.atlas_store.proofs.StoreLemmas.PickedSlots.{rest-free}
 use Rattle.atlas_store.proofs.StoreLemmas.StoreTakes.{slots-kept}
-use Rattle.atlas_store.proofs.StoreLemmas.TakenOnce.{only-takes}
 
 module _ (v : Shelf) (h : Holding) (rest : IsAtRest v h) where
   -- The leaf of a slot that was chosen.
@@ -50,29 +47,6 @@ pub listed-chosen : {A : Type 0} {v : Store A} {r : Sides} {p : Found} {plan : P
     → IsGrantable v r p plan h
     → (h : Holding) × Holds (shelf_of v) h × (h.detached p.at.number ≡ false)
 listed-chosen {A} {v} {r} {p} {plan} {h} w = (h, w.rest.holds, w.rest.listed p.at.number refl)
-
--- Once the slot is detached, no other slot of its list lies above the strip that the search saw.
-chosen-low : (v u : Shelf) (r : Sides) (p : Found) → IsChosen v r p → nodes u.slots ≡ nodes v.slots
-    → u.options ≡ v.options
-    → (h : Holding) → h.detached p.at.number ≡ true → IsLow u h p.list p.low
-chosen-low v u r p w same options h is_detached i free kept list = grind arith
-
--- The slot leaves its list, for which another strip is kept then.
-pub unlisted-sharpened : {A : Type 0} {v u v' : Store A} {r : Sides} (p : Found) → IsChosen (shelf_of v) r p
-    → UnlistsLeaf v u p.at.number
-    → IsSharpened u v' p.list p.low → UnlistsLeaf v v' p.at.number
-unlisted-sharpened {A} {v} {u} {v'} {r} p w one two = record {
-  kept = λ h holds listed.
-      let left = one.kept h holds listed in
-      let now : Holding = with_detached p.at.number true (with_free_lists left.0 h) in (
-        left.0,
-        two.kept now left.1
-            (chosen-low (shelf_of v) (shelf_of u) r p w one.nodes one.takes.options now (with_mark-same h.detached p.at.number true)),
-      );
-  nodes = ap (λ s. nodes s.items) two.slots ∙ one.nodes;
-  slots = grind arith;
-  takes = only-takes one.takes two.takes;
-}
 
 module _ {A : Type 0} {v v' : Store A} {r : Sides} {p : Found} {plan : Plan} {h : Holding} (w : IsGrantable v r p plan h) (u : UnlistsLeaf v v' p.at.number) where
   left : (free_lists : ℕ → List ℕ) × Holds (shelf_of v') (with_detached p.at.number true (with_free_lists free_lists h))

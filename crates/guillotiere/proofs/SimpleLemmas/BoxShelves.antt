@@ -1,31 +1,35 @@
 -- The free boxes of the simple allocator, after an entry is taken, filled or emptied.
-use Rattle.std.proofs.Common.{◌≡◌, ◌≢◌, ℕ, zero, suc, ◌+◌, ◌<◌, ◌≤◌, ◌⊎◌, inl, inr, Bool, true, false, List, [], ◌∷◌, ◌++◌, map, length, slice_set, get_or, cond, refl, sym, ap, ◌∙◌, subst, arith}
+use Rattle.std.proofs.Common.{◌≡◌, ◌≢◌, ℕ, zero, suc, ◌+◌, ◌<◌, ◌≤◌, ◌⊎◌, inl, inr, Bool, true, false, not, List, [], ◌∷◌, ◌++◌, map, length, slice_set, get_or, cond, refl, sym, ap, ◌∙◌, subst, subst₂, arith}
 use Rattle.std.specs.Prelude.{◌==◌, if◌then◌else◌}
 use Rattle.std.specs.List.{count_by}
-use Rattle.std.proofs.lemmas.Bool.{cases_eq, cases_Bool, both_ways, cond-true, cond-false, lt-ltb, eqb-true, not-false}
-use Rattle.std.proofs.lemmas.List.{get_or-set_same, get_or-set_other, get_or-map, length-set, map-set}
-use Rattle.atlas_search.specs.declared.best.Found.{Found}
+use Rattle.std.proofs.lemmas.Bool.{cases_eq, cases_Bool, both_ways, cond-true, cond-false, eq-eqb, ne_eqb, lt-ltb, eqb-true, not-false}
+use Rattle.std.proofs.lemmas.List.{get_or-set_same, get_or-set_other, get_or-map, length-map, length-set, map-set}
 use Rattle.guillotiere.specs.declared.simple.boxes.FreeBox.{FreeBox}
 use Rattle.atlas_model.specs.declared.geometry.Rectangle.{Rectangle}
 use Rattle.atlas_search.specs.declared.link.Link.{Link}
-use Rattle.atlas_search.specs.declared.table.ListHead.{ListHead}
 use Rattle.atlas_search.specs.Bands.{list_of}
-use Rattle.atlas_model.specs.Boxes.{Box, AreSameBoxes, same_box}
-use Rattle.guillotiere.specs.FreeBoxes.BoxShelves.{has_width, stored_item, free_item_boxes, free_count, idle_item, with_after, AreKept, IsClaimed}
+use Rattle.atlas_model.specs.Boxes.{Box, AreSameBoxes, box_sides, same_box}
+use Rattle.guillotiere.specs.FreeBoxes.BoxCalls.{HasUnlisted}
+use Rattle.guillotiere.specs.FreeBoxes.BoxShelves.{BoxShelf, IsIdleFrom, has_width, stored_item, free_item_boxes, free_count, idle_item, AreKept, IsClaimed}
 use Rattle.atlas_model.specs.Choice.{Options, AreValid}
-use Rattle.atlas_search.specs.Items.{Item, no_item, item_at, item_box, item_sides, IsPath}
-use Rattle.atlas_search.specs.Rectangles.{IsSolid}
-use Rattle.atlas_search.specs.Numbers.{occurs, without, same, no_slot}
-use Rattle.atlas_search.specs.Lookups.{AreChained, IsStanding}
-use Rattle.atlas_search.specs.Piles.{IsTag}
 use Rattle.atlas_model.specs.Pixels.{box_of}
-use Rattle.atlas_search.specs.Tables.{head_of, low_of, is_used_at}
+use Rattle.atlas_search.specs.HeapCalls.{CanPush, CanRemove, HasPushed, HasRemoved, KeepsAreas}
+use Rattle.atlas_search.specs.Heaps.{Heap, IsHeap, members, tag_of}
+use Rattle.atlas_search.specs.Heaps.Heap.{None}
+use Rattle.atlas_search.specs.Items.{Item, no_item, item_at, item_box, item_sides}
+use Rattle.atlas_search.specs.Rectangles.{IsSolid}
+use Rattle.atlas_search.specs.Numbers.{occurs, same, no_slot}
+use Rattle.atlas_search.specs.Lookups.{AreListed}
+use Rattle.atlas_search.specs.Tables.{head_of, is_used_at, no_link}
 use Rattle.atlas_model.proofs.ListLemmas.ListCounts.{count_by-cons}
-use Rattle.atlas_search.proofs.SearchLemmas.ItemPaths.{path-frame, path-next, path-bypassed, path-begun, list_at, listed-without, listed-with}
+use Rattle.atlas_search.proofs.HeapLemmas.Frames.{heap-frame, heap-longer}
+use Rattle.atlas_search.proofs.HeapLemmas.Removing.{top-only}
+use Rattle.atlas_search.proofs.SearchLemmas.BandLaws.{list_of-most}
+use Rattle.atlas_search.proofs.SearchLemmas.Heaps.{listed-some, none-of, top-of}
 use Rattle.atlas_search.proofs.Occurrences.{same-self, same-ne}
 use Rattle.atlas_model.proofs.TreeLemmas.TreeBasics.{same_box-true, same_box-itself}
-use Rattle.atlas_search.proofs.SearchLemmas.ShownItems.{path-inside}
-use Rattle.guillotiere.proofs.SimpleLemmas.EntryCounts.{count-of_free, count-of_idle, kept-idle, unused_list-idle}
+use Rattle.guillotiere.proofs.SimpleLemmas.EntryCounts.{count-of_free, count-of_idle, idle-frame, idle-inside, kept-idle, unused_list-idle}
+use Rattle.guillotiere.proofs.SimpleLemmas.HeapLists.{IsRelisted, list_at, relisted}
 
 -- ---- counts of free boxes
 
@@ -62,11 +66,18 @@ pub boxes-without : (es : List Item) (i : ℕ) (e : Item) → i < length es → 
     → AreSameBoxes (item_box (item_at es i) ∷ free_item_boxes (slice_set es i e)) (free_item_boxes es)
 boxes-without es i e l free idle p = grind (arith, count-set, unit-idle, unit-free, count_by-cons)
 
--- Another link changes no box.
-pub boxes-with_after : (es : List Item) (i after : ℕ) → free_item_boxes (with_after es i after) ≡ free_item_boxes es
-boxes-with_after [] i after = refl
-boxes-with_after (t ∷ es) zero after = refl
-boxes-with_after (t ∷ es) (suc i) after = grind (arith, boxes-with_after es i after)
+-- Boxes are those of entries that are free as before, with the same rectangles.
+pub boxes-kept : (es fs : List Item) → length fs ≡ length es
+    → ((i : ℕ) → (item_at fs i).area ≡ (item_at es i).area) → ((i : ℕ) → (item_at fs i).is_free ≡ (item_at es i).is_free)
+    → free_item_boxes fs ≡ free_item_boxes es
+boxes-kept [] [] long areas frees = refl
+boxes-kept [] (f ∷ fs) long areas frees = absurd (omega (arith, long))
+boxes-kept (e ∷ es) [] long areas frees = absurd (omega (arith, long))
+boxes-kept (e ∷ es) (f ∷ fs) long areas frees =
+    let rest = boxes-kept es fs (omega (arith, long)) (λ i. areas (suc i)) (λ i. frees (suc i)) in
+    ap (λ (b : Bool). if b then item_box f ∷ free_item_boxes fs else free_item_boxes fs) (frees 0)
+    ∙ ap (λ (r : Rectangle). if e.is_free then box_of r ∷ free_item_boxes fs else free_item_boxes fs) (areas 0)
+    ∙ ap (λ (bs : List Box). if e.is_free then item_box e ∷ bs else bs) rest
 
 pub boxes-more : (es : List Item) → free_item_boxes (es ++ no_item ∷ []) ≡ free_item_boxes es
 boxes-more [] = refl
@@ -98,70 +109,40 @@ free-inside (t ∷ es) (suc i) f = omega (arith, free-inside es i f)
 pub exact-width : (r : Rectangle) → IsSolid r → has_width r ≡ true
 exact-width r e = grind (arith, lt-ltb)
 
--- ---- no list is a pile
-
--- What begins a chain of few entries is no tag.
-pub untagged-path : (es : List Item) (from : ℕ) (xs : List ℕ) → length es ≤ 4261412864 → IsPath es from xs no_slot
-    → IsTag from → ⊥
-untagged-path es from [] short path tag = omega (arith, path, tag.1)
-untagged-path es from (x ∷ xs) short path tag = omega (arith, path.0, path.1, short, tag.0)
-
--- Nor is what comes after one of its entries.
-pub untagged-after : (es : List Item) (from x : ℕ) (xs : List ℕ) → length es ≤ 4261412864 → IsPath es from xs no_slot
-    → 0 < occurs x xs → IsTag (item_at es x).after → ⊥
-untagged-after es from x [] short path on tag = omega (arith, on)
-untagged-after es from x (y ∷ ys) short path on tag =
-    elim (cases_eq x y) [
-      | inl e ↦ untagged-path es (item_at es y).after ys short path.2 (subst (λ n. IsTag (item_at es n).after) e tag)
-      | inr ne ↦ untagged-after es (item_at es y).after x ys short path.2 (omega (arith, on, same-ne x y ne)) tag
-    ]
-
 -- ---- an entry is taken
 
-chained-same : (o : Options) (heads : List ListHead) (es es' : List Item) → ((i : ℕ) → item_at es' i ≡ item_at es i)
+listed-same : (o : Options) (heads : List Link) (es es' : List Item) → ((i : ℕ) → item_at es' i ≡ item_at es i)
     → length es ≤ length es' → length es' ≤ 4261412864
-    → AreChained o heads es → AreChained o heads es'
-chained-same o heads es es' at longer short c =
-    record {
-      listed = record {
-        free_lists = c.listed.free_lists;
-        valid = c.listed.valid;
-        short = short;
-        lists = λ k l. inl (paths k l);
-        own = λ k i l h. subst (λ (t : Item). (t.is_free ≡ true) × (list_of o (item_sides t) ≡ k)) (sym (at i)) (c.listed.own k i l h);
-        each = λ i f.
-            subst (λ (t : Item). 0 < occurs i (c.listed.free_lists (list_of o (item_sides t)))) (sym (at i))
-            (c.listed.each i (ap (λ (t : Item). t.is_free) (sym (at i)) ∙ f));
-        once = c.listed.once;
-        exact = λ i f. subst (λ (t : Item). IsSolid t.area) (sym (at i)) (c.listed.exact i (ap (λ (t : Item). t.is_free) (sym (at i)) ∙ f));
-        low = λ i f.
-            subst (λ (t : Item). low_of heads (list_of o (item_sides t)) ≤ (item_box t).min.y) (sym (at i))
-            (c.listed.low i (ap (λ (t : Item). t.is_free) (sym (at i)) ∙ f));
-      };
-      chains = paths;
-    }
-  where
-    paths : (k : ℕ) → k < 2704 → IsPath es' (head_of heads k).number (c.listed.free_lists k) no_slot
-    paths k l = path-frame es es' (head_of heads k).number (c.listed.free_lists k) no_slot longer (λ i _. ap (λ (t : Item). t.after) (at i)) (c.chains k l)
+    → AreListed o heads es → AreListed o heads es'
+listed-same o heads es es' at longer short c = record {
+  free_lists = c.free_lists;
+  valid = c.valid;
+  short = short;
+  lists = λ k l. let list = c.lists k l in (list.0, heap-longer es es' (tag_of k) (head_of heads k).number list.0 longer (λ i _. at i) list.1, list.2);
+  own = λ k i l h. subst (λ (t : Item). (t.is_free ≡ true) × (list_of o (item_sides t) ≡ k)) (sym (at i)) (c.own k i l h);
+  each = λ i f.
+      subst (λ (t : Item). 0 < occurs i (c.free_lists (list_of o (item_sides t)))) (sym (at i))
+      (c.each i (ap (λ (t : Item). t.is_free) (sym (at i)) ∙ f));
+  once = c.once;
+  exact = λ i f. subst (λ (t : Item). IsSolid t.area) (sym (at i)) (c.exact i (ap (λ (t : Item). t.is_free) (sym (at i)) ∙ f));
+}
 
 past-idle : (es : List Item) → (item_at es (length es)).is_free ≡ false
 past-idle [] = refl
 past-idle (t ∷ es) = past-idle es
 
 -- A new entry at the end.
-pub taken-new : (o : Options) (heads : List ListHead) (es : List Item) (unused : Link) (used : ℕ) → length es < 4261412864
+pub taken-new : (o : Options) (heads : List Link) (es : List Item) (unused : Link) (used : ℕ) → length es < 4261412864
     → AreKept o (record { entries = es; heads = heads; unused = unused; used = used })
     → IsClaimed o (record { entries = es ++ no_item ∷ []; heads = heads; unused = unused; used = used + 1 }) (length es)
 taken-new o heads es unused used short kept =
-    let c = chained-same o heads es (es ++ no_item ∷ []) (item_at-more es) (omega (arith, length-more es)) (omega (arith, length-more es, short))
-    (record { listed = kept.listed; chains = kept.chains }) in
     record {
       kept = record {
-        listed = c.listed;
-        chains = c.chains;
+        listed = listed-same o heads es (es ++ no_item ∷ []) (item_at-more es) (omega (arith, length-more es))
+            (omega (arith, length-more es, short)) kept.listed;
         unused_list = kept.unused_list;
-        chain = path-frame es (es ++ no_item ∷ []) unused.number kept.unused_list no_slot (omega (arith, length-more es))
-            (λ i h. ap (λ (t : Item). t.after) (item_at-more es i)) kept.chain;
+        chain = idle-frame es (es ++ no_item ∷ []) unused.number kept.unused_list (omega (arith, length-more es))
+            (λ i h. ap (λ (t : Item). t.up) (item_at-more es i)) kept.chain;
         each = λ i l. each_by i l (cases_eq i (length es));
         used = omega (arith, kept.used, length-more es);
       };
@@ -169,7 +150,7 @@ taken-new o heads es unused used short kept =
     }
   where
     none : occurs (length es) kept.unused_list ≡ 0
-    none = grind (arith, path-inside)
+    none = grind (arith, idle-inside)
 
     each_by : (i : ℕ) → i < length (es ++ no_item ∷ []) → (i ≡ length es) ⊎ (i ≢ length es)
         → occurs i kept.unused_list + same i (length es) + free_count (item_at (es ++ no_item ∷ []) i) ≡ 1
@@ -185,35 +166,34 @@ taken-new o heads es unused used short kept =
     each_by i l (inr ne) =
         omega (arith, same-ne i (length es) ne, kept.each i (omega (arith, l, length-more es)), ap free_count (item_at-more es i))
 
-pub unused-inside : (o : Options) (heads : List ListHead) (es : List Item) (unused : Link) (used : ℕ)
+pub unused-inside : (o : Options) (heads : List Link) (es : List Item) (unused : Link) (used : ℕ)
     → unused.number ≢ no_slot
     → AreKept o (record { entries = es; heads = heads; unused = unused; used = used }) → unused.number < length es
 unused-inside o heads es unused used some kept = go kept.unused_list kept.chain
   where
-    go : (xs : List ℕ) → IsPath es unused.number xs no_slot → unused.number < length es
+    go : (xs : List ℕ) → IsIdleFrom es unused.number xs → unused.number < length es
     go [] p = absurd (some p)
     go (x ∷ xs) p = omega (arith, p.0, p.1)
 
 -- The first of the unused entries.
-pub taken-again : (o : Options) (heads : List ListHead) (es : List Item) (unused after : Link) (used : ℕ)
+pub taken-again : (o : Options) (heads : List Link) (es : List Item) (unused next : Link) (used : ℕ)
     → unused.number ≢ no_slot
-    → after.number ≡ (item_at es unused.number).after
+    → next.number ≡ (item_at es unused.number).up
     → AreKept o (record { entries = es; heads = heads; unused = unused; used = used })
-    → IsClaimed o (record { entries = es; heads = heads; unused = after; used = used + 1 }) unused.number
-taken-again o heads es unused after used some leads kept = go kept.unused_list kept.chain kept.each kept.used
+    → IsClaimed o (record { entries = es; heads = heads; unused = next; used = used + 1 }) unused.number
+taken-again o heads es unused next used some leads kept = go kept.unused_list kept.chain kept.each kept.used
   where
-    go : (xs : List ℕ) → IsPath es unused.number xs no_slot
+    go : (xs : List ℕ) → IsIdleFrom es unused.number xs
         → ((i : ℕ) → i < length es → occurs i xs + 0 + free_count (item_at es i) ≡ 1)
         → used + length xs ≡ length es
-        → IsClaimed o (record { entries = es; heads = heads; unused = after; used = used + 1 }) unused.number
+        → IsClaimed o (record { entries = es; heads = heads; unused = next; used = used + 1 }) unused.number
     go [] p each count = absurd (some p)
     go (x ∷ xs) p each count =
         record {
           kept = record {
             listed = kept.listed;
-            chains = kept.chains;
             unused_list = xs;
-            chain = subst (λ n. IsPath es n xs no_slot) (ap (λ n. (item_at es n).after) (sym p.0) ∙ sym leads) p.2;
+            chain = subst (λ n. IsIdleFrom es n xs) (ap (λ n. (item_at es n).up) (sym p.0) ∙ sym leads) p.2;
             each = λ i l. omega (arith, each i l, ap (λ n. same i n) p.0);
             used = omega (arith, count);
           };
@@ -222,253 +202,427 @@ taken-again o heads es unused after used some leads kept = go kept.unused_list k
 
 -- ---- a box is put into an entry
 
-pub put-kept : (o : Options) (heads heads' : List ListHead) (es : List Item) (unused : Link) (used : ℕ) (x k : ℕ)
-    (e : Item)
-    → (claimed : IsClaimed o (record { entries = es; heads = heads; unused = unused; used = used }) x)
-    → e.is_free ≡ true → e.after ≡ (head_of heads k).number → IsSolid e.area → list_of o (item_sides e) ≡ k → k < 2704
-    → (head_of heads' k).number ≡ x → ((j : ℕ) → j ≢ k → head_of heads' j ≡ head_of heads j)
-    → low_of heads' k ≤ (item_box e).min.y → (is_used_at heads k ≡ true → low_of heads' k ≤ low_of heads k)
-    → ((j : ℕ) → j ≢ k → low_of heads' j ≡ low_of heads j)
-    → AreKept o (record { entries = slice_set es x e; heads = heads'; unused = unused; used = used })
-put-kept o heads heads' es unused used x k e claimed free after exact list few head other_heads low lower other_lows =
-    let c = listed-with o heads heads' es (slice_set es x e) (record { listed = claimed.kept.listed; chains = claimed.kept.chains }) x k e idle claimed.inside (length-set es x e)
-    (item_at-same es x e claimed.inside) (λ i ne. item_at-other es x i e ne) free after exact list head other_heads low lower other_lows few in
-    record {
-      listed = c.listed;
-      chains = c.chains;
-      unused_list = claimed.kept.unused_list;
-      chain = path-frame es (slice_set es x e) unused.number claimed.kept.unused_list no_slot (omega (arith, length-set es x e))
-          (λ i h. ap (λ (t : Item). t.after) (item_at-other es x i e (not_unused i h))) claimed.kept.chain;
-      each = λ i l. each_by i l (cases_eq i x);
-      used = omega (arith, claimed.kept.used, length-set es x e);
-    }
-  where
-    here : occurs x claimed.kept.unused_list + same x x + free_count (item_at es x) ≡ 1
-    here = claimed.kept.each x claimed.inside
+-- The entry that is claimed is given a box, and then joins list k.
+module _ (o : Options) (heads : List Link) (es : List Item) (unused : Link) (used : ℕ) (x k : ℕ) (e : Item)
+    (claimed : IsClaimed o (record { entries = es; heads = heads; unused = unused; used = used }) x) (free : e.is_free ≡ true)
+    (exact : IsSolid e.area) (own : list_of o (item_sides e) ≡ k) (few : k < 2704) where
+  abbrev given : List Item
+  given = slice_set es x e
 
-    idle : (item_at es x).is_free ≡ false
-    idle = kept-idle (λ i. same i x) o (record { entries = es; heads = heads; unused = unused; used = used }) claimed.kept x claimed.inside (omega (arith, same-self x))
+  pub listed : AreListed o heads es
+  listed = claimed.kept.listed
+
+  here : occurs x claimed.kept.unused_list + same x x + free_count (item_at es x) ≡ 1
+  here = claimed.kept.each x claimed.inside
+
+  idle : (item_at es x).is_free ≡ false
+  idle = kept-idle (λ i. same i x) o (record { entries = es; heads = heads; unused = unused; used = used }) claimed.kept x claimed.inside (omega (arith, same-self x))
+
+  pub given-here : item_at given x ≡ e
+  given-here = item_at-same es x e claimed.inside
+
+  given-other : (i : ℕ) → i ≢ x → item_at given i ≡ item_at es i
+  given-other i ne = item_at-other es x i e ne
+
+  -- It stands in no list.
+  nowhere : (j : ℕ) → j < 2704 → occurs x (listed.free_lists j) ≡ 0
+  nowhere j l = elim (cases_eq (occurs x (listed.free_lists j)) 0) [
+    | inl none ↦ none
+    | inr some ↦ absurd (both_ways _ idle (listed.own j x l (omega (arith, some))).0)
+  ]
+
+  abbrev pub pushed_heap : Heap
+  pushed_heap = (listed.lists k few).0
+
+  of_list : (i : ℕ) → 0 < occurs i (members pushed_heap) → i ≢ x
+  of_list i h is = omega (arith, h, (listed.lists k few).2 i, nowhere k few, ap (λ n. occurs n (listed.free_lists k)) is)
+
+  pub put-can : CanPush given (tag_of k) (head_of heads k).number no_slot x pushed_heap
+  put-can = record {
+    sound = record {
+      short = omega (arith, listed.short, length-set es x e);
+      heap = heap-frame es given (tag_of k) (head_of heads k).number pushed_heap (length-set es x e)
+          (λ i h. given-other i (of_list i h)) (listed.lists k few).1;
+      once = λ i. omega (arith, listed.once k i few, (listed.lists k few).2 i);
+      exact = λ i h.
+          subst (λ (t : Item). IsSolid t.area) (sym (given-other i (of_list i h)))
+          (listed.exact i (listed.own k i few (omega (arith, h, (listed.lists k few).2 i))).0);
+    };
+    inside = omega (arith, claimed.inside, length-set es x e);
+    solid = subst (λ (t : Item). IsSolid t.area) (sym given-here) exact;
+    apart = omega (arith, nowhere k few, (listed.lists k few).2 x);
+    near = inl refl;
+  }
+
+  module _ (heads' : List Link) (fs : List Item) (top : ℕ) (pushed : HasPushed given fs (tag_of k) top x pushed_heap)
+      (areas : KeepsAreas given fs) (head : (head_of heads' k).number ≡ top)
+      (other_heads : (j : ℕ) → j ≢ k → head_of heads' j ≡ head_of heads j) where
+    long : length fs ≡ length es
+    long = areas.long ∙ length-set es x e
+
+    free-here : (item_at fs x).is_free ≡ true
+    free-here = areas.frees x ∙ ap (λ (t : Item). t.is_free) given-here ∙ free
+
+    area-here : (item_at fs x).area ≡ e.area
+    area-here = areas.areas x ∙ ap (λ (t : Item). t.area) given-here
+
+    stays : (i : ℕ) → i ≢ x → occurs i (listed.free_lists k) ≡ 0 → item_at fs i ≡ item_at es i
+    stays i ne none = pushed.others i ne (omega (arith, none, (listed.lists k few).2 i)) ∙ given-other i ne
+
+    put-relisted : IsRelisted o heads heads' es fs listed x k (members pushed.grown)
+    put-relisted = record {
+      few = few;
+      long = long;
+      list = (pushed.grown, subst (λ n. IsHeap fs (tag_of k) n pushed.grown) (sym head) pushed.heap, λ i. refl);
+      heads_stay = other_heads;
+      has = λ i ne. omega (arith, pushed.has i, same-ne i x ne, (listed.lists k few).2 i);
+      once = omega (arith, pushed.has x, same-self x, nowhere k few, (listed.lists k few).2 x);
+      areas = λ i ne. areas.areas i ∙ ap (λ (t : Item). t.area) (given-other i ne);
+      frees = λ i ne. areas.frees i ∙ ap (λ (t : Item). t.is_free) (given-other i ne);
+      others = stays;
+      elsewhere = λ j ne l. nowhere j l;
+      own = λ h. (free-here, ap (λ (r : Rectangle). list_of o (box_sides (box_of r))) area-here ∙ own);
+      each = λ f. (omega (arith, pushed.has x, same-self x), subst IsSolid (sym area-here) exact);
+    }
 
     not_unused : (i : ℕ) → 0 < occurs i claimed.kept.unused_list → i ≢ x
     not_unused i h is = omega (arith, h, here, same-self x, ap (λ n. occurs n claimed.kept.unused_list) is)
 
-    each_by : (i : ℕ) → i < length (slice_set es x e) → (i ≡ x) ⊎ (i ≢ x)
-        → occurs i claimed.kept.unused_list + 0 + free_count (item_at (slice_set es x e) i) ≡ 1
-    each_by i l (inl is) =
+    unused-stays : (i : ℕ) → 0 < occurs i claimed.kept.unused_list → item_at fs i ≡ item_at es i
+    unused-stays i h = stays i (not_unused i h) (elim (cases_eq (occurs i (listed.free_lists k)) 0) [
+      | inl none ↦ none
+      | inr some ↦ absurd (both_ways _
+          (unused_list-idle (λ j. same j x) o (record { entries = es; heads = heads; unused = unused; used = used }) claimed.kept i h)
+          (listed.own k i few (omega (arith, some))).0)
+    ])
+
+    pub put-kept : AreKept o (record { entries = fs; heads = heads'; unused = unused; used = used })
+    put-kept = record {
+      listed = relisted o heads heads' es fs listed x k (members pushed.grown) put-relisted;
+      unused_list = claimed.kept.unused_list;
+      chain = idle-frame es fs unused.number claimed.kept.unused_list (omega (arith, long))
+          (λ i h. ap (λ (t : Item). t.up) (unused-stays i h)) claimed.kept.chain;
+      each = λ i l. each_by i l (cases_eq i x);
+      used = omega (arith, claimed.kept.used, long);
+    }
+      where
+        each_by : (i : ℕ) → i < length fs → (i ≡ x) ⊎ (i ≢ x)
+            → occurs i claimed.kept.unused_list + 0 + free_count (item_at fs i) ≡ 1
+        each_by i l (inl is) =
+            omega (
+              arith,
+              here,
+              same-self x,
+              ap (λ n. occurs n claimed.kept.unused_list) is,
+              ap (λ n. free_count (item_at fs n)) is,
+              count-of_free (item_at fs x) free-here,
+            )
+        each_by i l (inr ne) =
+            omega (
+              arith,
+              claimed.kept.each i (omega (arith, l, long)),
+              same-ne i x ne,
+              ap (λ t. cond {A = ℕ} t 1 0) (areas.frees i ∙ ap (λ (t : Item). t.is_free) (given-other i ne)),
+            )
+
+    pub put-boxes : AreSameBoxes (free_item_boxes fs) (item_box e ∷ free_item_boxes es)
+    put-boxes =
+        subst (λ bs. AreSameBoxes bs (item_box e ∷ free_item_boxes es))
+        (sym (boxes-kept given fs areas.long areas.areas areas.frees)) (boxes-with es x e claimed.inside idle free)
+
+  -- The same, with what the code reads of them.
+  module _ (gs : List Item) (is : gs ≡ given) (tag first : ℕ) (tag_is : tag ≡ tag_of k) (first_is : first ≡ (head_of heads k).number) where
+    pub can-push : CanPush gs tag first no_slot x pushed_heap
+    can-push =
+        subst (λ ts. CanPush ts tag first no_slot x pushed_heap) (sym is)
+        (subst₂ (λ m n. CanPush given m n no_slot x pushed_heap) (sym tag_is) (sym first_is) put-can)
+
+    module _ (fs : List Item) (top : ℕ) (done : HasPushed gs fs tag top x pushed_heap) where
+      pub put-some : length fs ≡ length gs → top ≢ no_slot
+      put-some same_length none =
+          let few_entries : length fs ≤ no_slot = omega (arith, same_length, ap length is, length-set es x e, listed.short) in
+          let empty = none-of fs tag top done.grown few_entries done.heap none in
+          omega (arith, done.has x, same-self x, ap (λ (h : Heap). occurs x (members h)) empty)
+
+      pub has-put : KeepsAreas gs fs → (heads' : List Link) → (head_of heads' k).number ≡ top
+          → ((j : ℕ) → j ≢ k → head_of heads' j ≡ head_of heads j)
+          → AreKept o (record { entries = fs; heads = heads'; unused = unused; used = used })
+          × AreSameBoxes (free_item_boxes fs) (item_box e ∷ free_item_boxes es)
+      has-put areas heads' head other_heads =
+          let pushed = subst₂ (λ ts m. HasPushed ts fs m top x pushed_heap) is tag_is done in
+          let kept_areas = subst (λ ts. KeepsAreas ts fs) is areas in
+          (put-kept heads' fs top pushed kept_areas head other_heads, put-boxes heads' fs top pushed kept_areas head other_heads)
+
+-- An entry for a free box that hangs nowhere.
+abbrev pub lone_box : Rectangle → FreeBox
+lone_box area = record { area = area; up = no_link; left = no_link; right = no_link }
+
+-- As the code puts a box: gs are the entries once it is written, and `new` those once it has joined its list.
+module _ (o : Options) (heads : List Link) (bs gs new : List FreeBox) (unused : Link) (used x k : ℕ) (area : Rectangle)
+    (claimed : IsClaimed o (record { entries = map stored_item bs; heads = heads; unused = unused; used = used }) x)
+    (exact : IsSolid area) (own : list_of o (box_sides (box_of area)) ≡ k) (few : k < 2704) (tag first : ℕ)
+    (written : gs ≡ slice_set bs x (lone_box area)) (tag_is : tag ≡ tag_of k) (first_is : first ≡ (head_of heads k).number) where
+  written-items : map stored_item gs ≡ slice_set (map stored_item bs) x (stored_item (lone_box area))
+  written-items = ap (map stored_item) written ∙ map-set stored_item bs x (lone_box area)
+
+  abbrev pub list_heap : Heap
+  list_heap =
+      pushed_heap o heads (map stored_item bs) unused used x k (stored_item (lone_box area)) claimed (exact-width area exact) exact own few
+
+  pub box-can : CanPush (map stored_item gs) tag first no_slot x list_heap
+  box-can =
+      can-push o heads (map stored_item bs) unused used x k (stored_item (lone_box area)) claimed (exact-width area exact) exact own few
+      (map stored_item gs) written-items tag first tag_is first_is
+
+  module _ (top : ℕ)
+      (pushes : (h : Heap) → CanPush (map stored_item gs) tag first no_slot x h → HasPushed (map stored_item gs) (map stored_item new) tag top x h)
+      (areas : KeepsAreas (map stored_item gs) (map stored_item new)) where
+    pub box-long : length new ≡ length bs
+    box-long =
         omega (
           arith,
-          here,
-          same-self x,
-          ap (λ n. occurs n claimed.kept.unused_list) is,
-          ap (λ n. free_count (item_at (slice_set es x e) n)) is,
-          ap free_count (item_at-same es x e claimed.inside),
-          count-of_free e free,
+          areas.long,
+          length-map new stored_item,
+          length-map gs stored_item,
+          ap length written,
+          length-set bs x (lone_box area),
         )
-    each_by i l (inr ne) =
-        omega (arith, claimed.kept.each i (omega (arith, l, length-set es x e)), same-ne i x ne, ap free_count (item_at-other es x i e ne))
+
+    pub box-some : top ≢ no_slot
+    box-some =
+        put-some o heads (map stored_item bs) unused used x k (stored_item (lone_box area)) claimed (exact-width area exact) exact own few
+        (map stored_item gs) written-items tag first tag_is first_is (map stored_item new) top (pushes list_heap box-can) areas.long
+
+    pub box-put : (heads' : List Link) → (head_of heads' k).number ≡ top → ((j : ℕ) → j ≢ k → head_of heads' j ≡ head_of heads j)
+        → AreKept o (record { entries = map stored_item new; heads = heads'; unused = unused; used = used })
+        × AreSameBoxes (free_item_boxes (map stored_item new)) (box_of area ∷ free_item_boxes (map stored_item bs))
+    box-put heads' =
+        has-put o heads (map stored_item bs) unused used x k (stored_item (lone_box area)) claimed (exact-width area exact) exact own few
+        (map stored_item gs) written-items tag first tag_is first_is (map stored_item new) top (pushes list_heap box-can) areas heads'
 
 -- What an index reads.
 pub read-item : (bs : List FreeBox) (i : ℕ) (b : FreeBox) → i < length bs → b ≡ get_or bs i b
     → stored_item b ≡ item_at (map stored_item bs) i
 read-item bs i b l read = ap stored_item read ∙ sym (get_or-map stored_item bs i b no_item l)
 
-pub written-after : (bs : List FreeBox) (i : ℕ) (b : FreeBox) (after : Link) → i < length bs → b ≡ get_or bs i b
-    → map stored_item (slice_set bs i (record b { after = after })) ≡ with_after (map stored_item bs) i after.number
-written-after bs i b after l read = grind (arith, map-set, read-item)
+-- The entries once one of them is written as unused.
+pub idle-written : (bs : List FreeBox) (x : ℕ) (b : FreeBox) (next unused : Link) → stored_item b ≡ idle_item next.number
+    → next ≡ unused → map stored_item (slice_set bs x b) ≡ slice_set (map stored_item bs) x (idle_item unused.number)
+idle-written bs x b next unused e f =
+    map-set stored_item bs x b ∙ ap (λ (t : Item). slice_set (map stored_item bs) x t) (e ∙ ap (λ (l : Link). idle_item l.number) f)
 
 -- ---- a box leaves its list
 
--- The entries keep their rectangles, and are free as before.
-pub IsSameButLinks : List Item → List Item → Type 0
-IsSameButLinks es es1 =
-    (length es1 ≡ length es) × ((i : ℕ) → ((item_at es1 i).area ≡ (item_at es i).area) × ((item_at es1 i).is_free ≡ (item_at es i).is_free))
-    × (free_item_boxes es1 ≡ free_item_boxes es)
+module _ (o : Options) (v : BoxShelf) (kept : AreKept o v) (x : ℕ) (free : (item_at v.entries x).is_free ≡ true) where
+  -- The number of its list.
+  abbrev pub own_list : ℕ
+  own_list = list_at o v.entries x
 
-pub same-links : (es es1 : List Item) → es1 ≡ es → IsSameButLinks es es1
-unfolding IsSameButLinks
-same-links es es1 is = (ap length is, λ i. (ap (λ ts. (item_at ts i).area) is, ap (λ ts. (item_at ts i).is_free) is), ap free_item_boxes is)
+  pub own-few : own_list < 2704
+  own-few = list_of-most o (item_sides (item_at v.entries x))
 
-pub linked-after : (es es1 : List Item) (b after : ℕ) → b < length es → es1 ≡ with_after es b after
-    → IsSameButLinks es es1
-unfolding IsSameButLinks
-linked-after es es1 b after inside is = grind (arith, length-set, boxes-with_after, item_at-same, item_at-other)
+  abbrev pub own_heap : Heap
+  own_heap = (kept.listed.lists own_list own-few).0
 
-pub boxes-left : (es es1 : List Item) (x : ℕ) (e : Item) (area : Rectangle) → IsSameButLinks es es1
-    → (item_at es x).is_free ≡ true → (item_at es x).area ≡ area
-    → e.is_free ≡ false → AreSameBoxes (box_of area ∷ free_item_boxes (slice_set es1 x e)) (free_item_boxes es)
-unfolding IsSameButLinks
-boxes-left es es1 x e area links free is idle = grind (arith, free-inside, boxes-without)
-
-module _ (o : Options) (heads heads' : List ListHead) (es es1 : List Item) (unused : Link) (used used' : ℕ) (found : Found)
-    (kept : AreKept o (record { entries = es; heads = heads; unused = unused; used = used })) (less : used' + 1 ≡ used) (standing : IsStanding o heads es found)
-    (heads_stay : (j : ℕ) → j ≢ found.list → head_of heads' j ≡ head_of heads j)
-    (low_is : low_of heads' found.list ≡ found.low)
-    (lows_stay : (j : ℕ) → j ≢ found.list → low_of heads' j ≡ low_of heads j) where
-  abbrev x : ℕ
-  x = found.at.number
-
-  abbrev k : ℕ
-  k = found.list
-
-  abbrev es' : List Item
-  es' = slice_set es1 x (idle_item unused.number)
-
-  few : k < 2704
-  few = standing.inside
-
-  inside : x < length es
-  inside = free-inside es x standing.free
-
-  not_unused : occurs x kept.unused_list ≡ 0
-  not_unused = omega (arith, kept.each x inside, count-of_free (item_at es x) standing.free)
-
-  in_list : 0 < occurs x (kept.listed.free_lists k)
-  in_list = subst (λ n. 0 < occurs x (kept.listed.free_lists n)) standing.list (kept.listed.each x standing.free)
-
-  lows : (i : ℕ) → (item_at es i).is_free ≡ true → list_at o es i ≡ k → i ≢ x
-      → low_of heads' k ≤ (item_box (item_at es i)).min.y
-  lows i f e ne = subst (λ n. n ≤ (item_box (item_at es i)).min.y) (sym low_is) (standing.low i f e ne)
-
-  finish : length es1 ≡ length es
-      → ((i : ℕ) → ((item_at es1 i).area ≡ (item_at es i).area) × ((item_at es1 i).is_free ≡ (item_at es i).is_free))
-      → IsPath es' (head_of heads' k).number (without x (kept.listed.free_lists k)) no_slot
-      → ((j i : ℕ) → j ≢ k → j < 2704 → 0 < occurs i (kept.listed.free_lists j) → (item_at es1 i).after ≡ (item_at es i).after)
-      → ((i : ℕ) → 0 < occurs i kept.unused_list → (item_at es1 i).after ≡ (item_at es i).after)
-      → AreKept o (record { entries = es'; heads = heads'; unused = found.at; used = used' })
-  finish long same_box here links unused_links =
-      let c = listed-without o heads heads' es es' (record { listed = kept.listed; chains = kept.chains }) x k standing.free standing.list (length-set es1 x _ ∙ long)
-      (ap (λ (t : Item). t.is_free) this) same_kept (λ _. here) (λ j i ne l h. still i (in_other j i ne l h) ∙ links j i ne l h) heads_stay lows lows_stay in
+  remove-can : CanRemove v.entries (tag_of own_list) (head_of v.heads own_list).number x own_heap
+  remove-can =
+      let list = kept.listed.lists own_list own-few in
       record {
-        listed = c.listed;
-        chains = c.chains;
-        unused_list = x ∷ kept.unused_list;
-        chain = (
-          refl,
-          omega (arith, length-set es1 x (idle_item unused.number), long, inside),
-          subst (λ n. IsPath es' n kept.unused_list no_slot) (ap (λ (t : Item). t.after) (sym this))
-              (path-frame es es' unused.number kept.unused_list no_slot (omega (arith, length-set es1 x (idle_item unused.number), long))
-              (λ i h. still i (not_x_unused i h) ∙ unused_links i h) kept.chain),
-        );
-        each = λ i l. each_by i l (cases_eq i x);
-        used = omega (arith, kept.used, less, length-set es1 x (idle_item unused.number), long);
+        sound = record {
+          short = omega (arith, kept.listed.short);
+          heap = list.1;
+          once = λ i. omega (arith, kept.listed.once own_list i own-few, list.2 i);
+          exact = λ i h. kept.listed.exact i (kept.listed.own own_list i own-few (omega (arith, h, list.2 i))).0;
+        };
+        tagged = omega (arith, kept.listed.short);
+        member = omega (arith, kept.listed.each x free, list.2 x);
       }
-    where
-      this : item_at es' x ≡ idle_item unused.number
-      this = item_at-same es1 x (idle_item unused.number) (omega (arith, inside, long))
 
-      other : (i : ℕ) → i ≢ x → item_at es' i ≡ item_at es1 i
-      other i ne = item_at-other es1 x i (idle_item unused.number) ne
+  pub can-remove : (gs : List Item) → gs ≡ v.entries
+      → CanRemove gs (tag_of own_list) (head_of v.heads own_list).number x own_heap
+  can-remove gs is =
+      subst (λ ts. CanRemove ts (tag_of own_list) (head_of v.heads own_list).number x own_heap) (sym is) remove-can
 
-      still : (i : ℕ) → i ≢ x → (item_at es' i).after ≡ (item_at es1 i).after
-      still i ne = ap (λ (t : Item). t.after) (other i ne)
+  own-some : (head_of v.heads own_list).number ≢ no_slot
+  own-some =
+      listed-some v.entries own_list (head_of v.heads own_list).number (kept.listed.free_lists own_list) x (omega (arith, kept.listed.short))
+      (kept.listed.lists own_list own-few) (kept.listed.each x free)
 
-      same_kept : (i : ℕ) → i ≢ x
-          → ((item_at es' i).area ≡ (item_at es i).area) × ((item_at es' i).is_free ≡ (item_at es i).is_free)
-      same_kept i ne = (ap (λ (t : Item). t.area) (other i ne) ∙ (same_box i).0, ap (λ (t : Item). t.is_free) (other i ne) ∙ (same_box i).1)
+  -- What stands above the first of a list is its tag.
+  first-up : x ≡ (head_of v.heads own_list).number → (item_at v.entries x).up ≡ tag_of own_list
+  first-up first =
+      let list = kept.listed.lists own_list own-few in
+      let top = top-of v.entries (tag_of own_list) (head_of v.heads own_list).number list.0 list.1 own-some in
+      ap (λ n. (item_at v.entries n).up) first
+      ∙ (subst (IsHeap v.entries (tag_of own_list) (head_of v.heads own_list).number) top.is list.1).0.2
 
-      in_other : (j i : ℕ) → j ≢ k → j < 2704 → 0 < occurs i (kept.listed.free_lists j) → i ≢ x
-      in_other j i ne l h e = ne (sym (kept.listed.own j i l h).1 ∙ ap (list_at o es) e ∙ standing.list)
+  pub tagged-first : 4261412864 ≤ (item_at v.entries x).up → x ≡ (head_of v.heads own_list).number
+  tagged-first tagged =
+      top-only v.entries (tag_of own_list) (head_of v.heads own_list).number x own_heap remove-can (omega (arith, tagged, kept.listed.short))
 
-      not_x_unused : (i : ℕ) → 0 < occurs i kept.unused_list → i ≢ x
-      not_x_unused i h e = omega (arith, h, not_unused, ap (λ n. occurs n kept.unused_list) e)
+  -- The list of a tag has an entry.
+  pub tagged-list : 4261412864 ≤ (item_at v.entries x).up → (item_at v.entries x).up ≡ tag_of own_list
+  tagged-list tagged = first-up (tagged-first tagged)
 
-      each_by : (i : ℕ) → i < length es' → (i ≡ x) ⊎ (i ≢ x)
-          → occurs i (x ∷ kept.unused_list) + 0 + free_count (item_at es' i) ≡ 1
-      each_by i l (inl e) =
-          omega (
-            arith,
-            same-self x,
-            not_unused,
-            ap (λ n. occurs n (x ∷ kept.unused_list)) e,
-            ap (λ n. free_count (item_at es' n)) e,
-            count-of_idle (item_at es' x) (ap (λ (t : Item). t.is_free) this),
-          )
-      each_by i l (inr ne) =
-          omega (
-            arith,
-            same-ne i x ne,
-            kept.each i (omega (arith, l, length-set es1 x (idle_item unused.number), long)),
-            ap (λ t. cond {A = ℕ} t 1 0) (same_kept i ne).1,
-          )
+  pub tagged-used : is_used_at v.heads own_list ≡ true
+  tagged-used = ap not (ne_eqb (head_of v.heads own_list).number no_slot own-some)
 
-  -- The first of its list.
-  pub first-removed : (head_of heads' k).number ≡ (item_at es x).after → (head_of heads k).number ≡ x → es1 ≡ es
-      → AreKept o (record { entries = es'; heads = heads'; unused = found.at; used = used' })
-  first-removed leads was_first is =
-      finish (ap length is) (λ i. (ap (λ ts. (item_at ts i).area) is, ap (λ ts. (item_at ts i).is_free) is))
-      (subst (λ n. IsPath es' n (without x (kept.listed.free_lists k)) no_slot) (sym leads)
-      (path-begun es es' x (kept.listed.free_lists k) (omega (arith, length-set es1 x (idle_item unused.number), ap length is))
-      (λ i. kept.listed.once k i few) in_list
-      (λ i ne. ap (λ (t : Item). t.after) (item_at-other es1 x i (idle_item unused.number) ne) ∙ ap (λ ts. (item_at ts i).after) is)
-      (subst (λ n. IsPath es n (kept.listed.free_lists k) no_slot) was_first (kept.chains k few))))
-      (λ j i ne l h. ap (λ ts. (item_at ts i).after) is) (λ i h. ap (λ ts. (item_at ts i).after) is)
+  -- As the code removes it: gs are the entries that it reads, and fs those that it leaves.
+  module _ (gs fs : List Item) (is : gs ≡ v.entries) (rest : ℕ)
+      (removes : (tag top : ℕ) (h : Heap) → CanRemove gs tag top x h → HasRemoved gs fs tag top rest x h) (kept_areas : KeepsAreas gs fs) where
+    removed : HasRemoved v.entries fs (tag_of own_list) (head_of v.heads own_list).number rest x own_heap
+    removed =
+        subst (λ ts. HasRemoved ts fs (tag_of own_list) (head_of v.heads own_list).number rest x own_heap) is
+        (removes (tag_of own_list) (head_of v.heads own_list).number own_heap (can-remove gs is))
 
-  -- Any other one, after b.
-  pub next-removed : (b : ℕ) → (item_at es b).is_free ≡ true → list_at o es b ≡ k → (item_at es b).after ≡ x
-      → head_of heads' k ≡ head_of heads k
-      → es1 ≡ with_after es b (item_at es x).after
-      → AreKept o (record { entries = es'; heads = heads'; unused = found.at; used = used' })
-  next-removed b b_free b_list b_next heads_same is =
-      finish long same_box
-      (subst (λ h. IsPath es' h.number (without x (kept.listed.free_lists k)) no_slot) (sym heads_same)
-      (path-bypassed es es' x b (head_of heads k).number (kept.listed.free_lists k) no_slot (omega (arith, length-set es1 x (idle_item unused.number), long)) (λ z. omega (arith, z, inside, kept.listed.short))
-      (λ i. kept.listed.once k i few) b_in b_next skip others_after (kept.chains k few)))
-      (λ j i ne l h. other_after i (λ e. ne (sym (kept.listed.own j i l h).1 ∙ ap (list_at o es) e ∙ b_list)))
-      (λ i h. other_after i (λ e. both_ways _ (unused_list-idle (λ i. 0) o (record { entries = es; heads = heads; unused = unused; used = used }) kept i h) (ap (λ n. (item_at es n).is_free) e ∙ b_free)))
-    where
-      leads_to : Item
-      leads_to = record (item_at es b) { after = (item_at es x).after }
+    areas : KeepsAreas v.entries fs
+    areas = subst (λ ts. KeepsAreas ts fs) is kept_areas
 
-      b_inside : b < length es
-      b_inside = free-inside es b b_free
+    unlisted : (heads : List Link)
+        → (head_of heads own_list).number ≡ (if x == (head_of v.heads own_list).number then rest else (head_of v.heads own_list).number)
+        → ((j : ℕ) → j ≢ own_list → head_of heads j ≡ head_of v.heads j)
+        → HasUnlisted o v kept (record { entries = fs; heads = heads; unused = v.unused; used = v.used }) x
+    unlisted heads head stay = record {
+      k = own_list;
+      own = refl;
+      rest = removed.less;
+      heap = subst (λ n. IsHeap fs (tag_of own_list) n removed.less) (sym head) removed.heap;
+      has = λ i. omega (arith, removed.has i, (kept.listed.lists own_list own-few).2 i);
+      heads = stay;
+      areas = areas;
+      others = λ i none. removed.others i (omega (arith, none, (kept.listed.lists own_list own-few).2 i));
+      unused = refl;
+      used = refl;
+    }
 
-      b_in : 0 < occurs b (kept.listed.free_lists k)
-      b_in = subst (λ n. 0 < occurs b (kept.listed.free_lists n)) b_list (kept.listed.each b b_free)
+    -- It was the first.
+    pub first-unlisted : (heads : List Link) → 4261412864 ≤ (item_at v.entries x).up → (head_of heads own_list).number ≡ rest
+        → ((j : ℕ) → j ≢ own_list → head_of heads j ≡ head_of v.heads j)
+        → HasUnlisted o v kept (record { entries = fs; heads = heads; unused = v.unused; used = v.used }) x
+    first-unlisted heads tagged head stay =
+        unlisted heads (head ∙ sym (cond-true _ rest (head_of v.heads own_list).number (eq-eqb x _ (tagged-first tagged)))) stay
 
-      long : length es1 ≡ length es
-      long = ap length is ∙ length-set es b _
+    -- It hung below another.
+    pub next-unlisted : (item_at v.entries x).up < 4261412864
+        → HasUnlisted o v kept (record { entries = fs; heads = v.heads; unused = v.unused; used = v.used }) x
+    next-unlisted below =
+        unlisted v.heads
+        (sym (cond-false _ rest (head_of v.heads own_list).number (ne_eqb x _ (λ first. omega (arith, below, first-up first))))) (λ j ne. refl)
 
-      at_b : item_at es1 b ≡ record (item_at es b) { after = (item_at es x).after }
-      at_b = ap (λ ts. item_at ts b) is ∙ item_at-same es b _ b_inside
+  -- Its entry is unused from now on.
+  module _ (w : BoxShelf) (u : HasUnlisted o v kept w x) (used' : ℕ) (less : used' + 1 ≡ v.used) where
+    abbrev emptied : List Item
+    emptied = slice_set w.entries x (idle_item v.unused.number)
 
-      not_b : (i : ℕ) → i ≢ b → item_at es1 i ≡ item_at es i
-      not_b i ne = ap (λ ts. item_at ts i) is ∙ item_at-other es b i _ ne
+    gone-few : u.k < 2704
+    gone-few = omega (arith, u.own, own-few)
 
-      other_after : (i : ℕ) → i ≢ b → (item_at es1 i).after ≡ (item_at es i).after
-      other_after i ne = ap (λ (t : Item). t.after) (not_b i ne)
+    emptied-long : length emptied ≡ length v.entries
+    emptied-long = length-set w.entries x (idle_item v.unused.number) ∙ u.areas.long
 
-      same_box : (i : ℕ)
-          → ((item_at es1 i).area ≡ (item_at es i).area) × ((item_at es1 i).is_free ≡ (item_at es i).is_free)
-      same_box i =
-          elim (cases_eq i b) [
-            | inl e ↦ subst (λ n. ((item_at es1 n).area ≡ (item_at es n).area) × ((item_at es1 n).is_free ≡ (item_at es n).is_free)) (sym e)
-                (ap (λ (t : Item). t.area) at_b, ap (λ (t : Item). t.is_free) at_b)
-            | inr ne ↦ (ap (λ (t : Item). t.area) (not_b i ne), ap (λ (t : Item). t.is_free) (not_b i ne))
-          ]
+    gone-inside : x < length v.entries
+    gone-inside = free-inside v.entries x free
 
-      apart : b ≢ x
-      apart e = no_loop (kept.listed.free_lists k) (head_of heads k).number (λ i. kept.listed.once k i few) b_in (kept.chains k few)
-        where
-          no_loop : (xs : List ℕ) (from : ℕ) → ((i : ℕ) → occurs i xs ≤ 1) → 0 < occurs b xs → IsPath es from xs no_slot
-              → ⊥
-          no_loop [] from once h p = omega (arith, h)
-          no_loop (y ∷ ys) from once h p =
-              elim (path-next es from y ys no_slot b p h) [
-                | inl z ↦ omega (arith, sym z ∙ b_next, inside, kept.listed.short)
-                | inr g ↦
-                    let g_b : 0 < occurs b ys = subst (λ n. 0 < occurs n ys) (b_next ∙ sym e) g in
-                    no_loop ys (item_at es y).after (λ i. omega (arith, once i)) g_b p.2
-              ]
+    emptied-here : item_at emptied x ≡ idle_item v.unused.number
+    emptied-here = item_at-same w.entries x (idle_item v.unused.number) (omega (arith, gone-inside, u.areas.long))
 
-      skip : (item_at es' b).after ≡ (item_at es x).after
-      skip = ap (λ (t : Item). t.after) (item_at-other es1 x b (idle_item unused.number) apart ∙ at_b)
+    emptied-other : (i : ℕ) → i ≢ x → item_at emptied i ≡ item_at w.entries i
+    emptied-other i ne = item_at-other w.entries x i (idle_item v.unused.number) ne
 
-      others_after : (i : ℕ) → i ≢ x → i ≢ b → (item_at es' i).after ≡ (item_at es i).after
-      others_after i nx nb = ap (λ (t : Item). t.after) (item_at-other es1 x i (idle_item unused.number) nx ∙ not_b i nb)
+    on : 0 < occurs x (kept.listed.free_lists u.k)
+    on = subst (λ n. 0 < occurs x (kept.listed.free_lists n)) (sym u.own) (kept.listed.each x free)
+
+    gone : occurs x (members u.rest) ≡ 0
+    gone = omega (arith, u.has x, same-self x, kept.listed.once u.k x gone-few)
+
+    emptied-stays : (i : ℕ) → i ≢ x → occurs i (kept.listed.free_lists u.k) ≡ 0 → item_at emptied i ≡ item_at v.entries i
+    emptied-stays i ne none = emptied-other i ne ∙ u.others i none
+
+    emptied-frees : (i : ℕ) → i ≢ x → (item_at emptied i).is_free ≡ (item_at v.entries i).is_free
+    emptied-frees i ne = ap (λ (t : Item). t.is_free) (emptied-other i ne) ∙ u.areas.frees i
+
+    idle-now : (item_at emptied x).is_free ≡ false
+    idle-now = ap (λ (t : Item). t.is_free) emptied-here
+
+    removed-relisted : IsRelisted o v.heads w.heads v.entries emptied kept.listed x u.k (members u.rest)
+    removed-relisted = record {
+      few = gone-few;
+      long = emptied-long;
+      list = (
+        u.rest,
+        heap-frame w.entries emptied (tag_of u.k) (head_of w.heads u.k).number u.rest (length-set w.entries x (idle_item v.unused.number))
+            (λ i h. emptied-other i (λ e. omega (arith, h, gone, ap (λ n. occurs n (members u.rest)) e))) u.heap,
+        λ i. refl,
+      );
+      heads_stay = u.heads;
+      has = λ i ne. omega (arith, u.has i, same-ne i x ne);
+      once = omega (arith, gone);
+      areas = λ i ne. ap (λ (t : Item). t.area) (emptied-other i ne) ∙ u.areas.areas i;
+      frees = emptied-frees;
+      others = emptied-stays;
+      elsewhere = λ j ne l. elim (cases_eq (occurs x (kept.listed.free_lists j)) 0) [
+        | inl none ↦ none
+        | inr some ↦ absurd (ne (sym (kept.listed.own j x l (omega (arith, some))).1 ∙ sym u.own))
+      ];
+      own = λ h. absurd (omega (arith, h, gone));
+      each = λ f. absurd (both_ways _ idle-now f);
+    }
+
+    not-unused : occurs x kept.unused_list ≡ 0
+    not-unused = omega (arith, kept.each x gone-inside, count-of_free (item_at v.entries x) free)
+
+    emptied-unused : (i : ℕ) → 0 < occurs i kept.unused_list → item_at emptied i ≡ item_at v.entries i
+    emptied-unused i h =
+        emptied-stays i (λ e. omega (arith, h, not-unused, ap (λ n. occurs n kept.unused_list) e)) (elim (cases_eq (occurs i (kept.listed.free_lists u.k)) 0) [
+          | inl none ↦ none
+          | inr some ↦ absurd (both_ways _ (unused_list-idle (λ j. 0) o v kept i h) (kept.listed.own u.k i gone-few (omega (arith, some))).0)
+        ])
+
+    pub remove-kept : (at : Link) → at.number ≡ x
+        → AreKept o (record { entries = emptied; heads = w.heads; unused = at; used = used' })
+    remove-kept at is = record {
+      listed = relisted o v.heads w.heads v.entries emptied kept.listed x u.k (members u.rest) removed-relisted;
+      unused_list = x ∷ kept.unused_list;
+      chain = (
+        is,
+        omega (arith, gone-inside, emptied-long),
+        subst (λ n. IsIdleFrom emptied n kept.unused_list) (ap (λ (t : Item). t.up) (sym emptied-here))
+            (idle-frame v.entries emptied v.unused.number kept.unused_list (omega (arith, emptied-long))
+            (λ i h. ap (λ (t : Item). t.up) (emptied-unused i h)) kept.chain),
+      );
+      each = λ i l. each_by i l (cases_eq i x);
+      used = omega (arith, kept.used, less, emptied-long);
+    }
+      where
+        each_by : (i : ℕ) → i < length emptied → (i ≡ x) ⊎ (i ≢ x)
+            → occurs i (x ∷ kept.unused_list) + 0 + free_count (item_at emptied i) ≡ 1
+        each_by i l (inl e) =
+            omega (
+              arith,
+              same-self x,
+              not-unused,
+              ap (λ n. occurs n (x ∷ kept.unused_list)) e,
+              ap (λ n. free_count (item_at emptied n)) e,
+              count-of_idle (item_at emptied x) idle-now,
+            )
+        each_by i l (inr ne) =
+            omega (
+              arith,
+              same-ne i x ne,
+              kept.each i (omega (arith, l, emptied-long)),
+              ap (λ t. cond {A = ℕ} t 1 0) (emptied-frees i ne),
+            )
+
+    pub remove-boxes : (area : Rectangle) → (item_at v.entries x).area ≡ area
+        → AreSameBoxes (box_of area ∷ free_item_boxes emptied) (free_item_boxes v.entries)
+    remove-boxes area is =
+        subst (λ bs. AreSameBoxes (box_of area ∷ free_item_boxes emptied) bs) (boxes-kept v.entries w.entries u.areas.long u.areas.areas u.areas.frees)
+        (subst (λ (r : Rectangle). AreSameBoxes (box_of r ∷ free_item_boxes emptied) (free_item_boxes w.entries)) (u.areas.areas x ∙ is)
+        (boxes-without w.entries x (idle_item v.unused.number) (omega (arith, gone-inside, u.areas.long)) (u.areas.frees x ∙ free) refl))
 
 -- ---- no box, and one box
 
-pub empty-kept : (o : Options) (heads : List ListHead) (unused : Link) → AreValid o
+pub empty-kept : (o : Options) (heads : List Link) (unused : Link) → AreValid o
     → ((k : ℕ) → is_used_at heads k ≡ false) → unused.number ≡ no_slot
     → AreKept o (record { entries = []; heads = heads; unused = unused; used = 0 })
 empty-kept o heads unused valid none last =
@@ -478,14 +632,12 @@ empty-kept o heads unused valid none last =
             free_lists = λ k. [];
             valid = valid;
             short = omega arith;
-            lists = λ k l. inl (empty k);
+            lists = λ k l. (None, empty k, λ i. refl);
             own = λ k i l h. absurd (omega (arith, h));
             each = λ i f. absurd (both_ways false refl f);
             once = λ k i l. omega arith;
             exact = λ i f. absurd (both_ways false refl f);
-            low = λ i f. absurd (both_ways false refl f);
           };
-      chains = λ k l. empty k;
       unused_list = [];
       chain = last;
       each = λ i l. absurd (omega (arith, l));

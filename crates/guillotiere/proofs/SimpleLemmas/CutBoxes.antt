@@ -7,7 +7,7 @@ use Rattle.std.proofs.lemmas.List.Sums.{sum_by-cons, sum_by-append}
 use Rattle.atlas_search.specs.declared.best.Found.{Found}
 use Rattle.atlas_search.specs.declared.cut.Rest.{Rest}
 use Rattle.atlas_model.specs.declared.geometry.Rectangle.{Rectangle}
-use Rattle.atlas_search.specs.declared.table.ListHead.{ListHead}
+use Rattle.atlas_search.specs.declared.link.Link.{Link}
 use Rattle.atlas_model.specs.Boxes.{Box, Sides, AreSameBoxes}
 use Rattle.atlas_model.specs.Choice.{Options}
 use Rattle.guillotiere.specs.FreeBoxes.FreeLists.{kept_of}
@@ -23,8 +23,8 @@ at_error (Ok x) p = tt
 at_error (Err e) p = p
 
 -- The picked rectangle is exact.
-pub picked-exact : (o : Options) (heads : List ListHead) (es : List Item) (found : Found) → AreListed o heads es
-    → IsStanding o heads es found → IsSolid found.rectangle
+pub picked-exact : (o : Options) (heads : List Link) (es : List Item) (found : Found) → AreListed o heads es
+    → IsStanding es found → IsSolid found.rectangle
 picked-exact o heads es found listed standing = subst IsSolid standing.area (listed.exact found.at.number standing.free)
 
 pub count-kept : (p : Box → Bool) (o : Options) (f : Box) (r : Sides) (rest : Rest) → IsRestOf f r rest

@@ -3,12 +3,24 @@ use Rattle.std.proofs.Common.{◌≡◌, ℕ, zero, suc, ◌+◌, ◌<◌, ◌�
 use Rattle.std.proofs.Math.Nat.{max-eq_left}
 use Rattle.std.proofs.lemmas.Bool.{cases_eq, cases_Bool, cond-true, cond-false}
 use Rattle.atlas_model.specs.Choice.{Options}
-use Rattle.atlas_search.specs.Items.{Item, item_at, item_box, IsPath}
+use Rattle.atlas_search.specs.Items.{Item, item_at, item_box}
 use Rattle.atlas_search.specs.Numbers.{no_slot, occurs, same}
-use Rattle.guillotiere.specs.FreeBoxes.BoxShelves.{BoxShelf, AddsWhatIsUsed, AreKept, AreKeptWith, free_count, free_item_boxes}
+use Rattle.guillotiere.specs.FreeBoxes.BoxShelves.{BoxShelf, AddsWhatIsUsed, AreKept, AreKeptWith, IsIdleFrom, free_count, free_item_boxes}
 use Rattle.atlas_search.proofs.Occurrences.{same-self, same-ne}
-use Rattle.atlas_search.proofs.SearchLemmas.ShownItems.{path-inside}
 use Rattle.guillotiere.proofs.SimpleLemmas.FreeItems.{are-free}
+
+-- ---- the chain of unused entries
+
+pub idle-inside : (es : List Item) (from : ℕ) (xs : List ℕ) → IsIdleFrom es from xs → (i : ℕ) → 0 < occurs i xs → i < length es
+idle-inside es from [] p i h = absurd (omega arith)
+idle-inside es from (x ∷ xs) p i h = grind (arith, same-ne, idle-inside es (item_at es x).up xs p.2 i)
+
+-- It reads only the links of its own entries.
+pub idle-frame : (es fs : List Item) (from : ℕ) (xs : List ℕ) → length es ≤ length fs
+    → ((i : ℕ) → 0 < occurs i xs → (item_at fs i).up ≡ (item_at es i).up) → IsIdleFrom es from xs → IsIdleFrom fs from xs
+idle-frame es fs from [] long same_up p = p
+idle-frame es fs from (x ∷ xs) long same_up p =
+    grind (arith, same-self, idle-frame es fs (item_at es x).up xs long (λ i h. same_up i (omega arith)) p.2)
 
 -- ---- one entry
 
@@ -30,7 +42,7 @@ kept-idle claimed o v kept i inside some = idle-of_count (item_at v.entries i) (
 pub unused_list-idle : (claimed : ℕ → ℕ) (o : Options) (v : BoxShelf) (kept : AreKeptWith claimed o v) (i : ℕ)
     → 0 < occurs i kept.unused_list → (item_at v.entries i).is_free ≡ false
 unused_list-idle claimed o v kept i some =
-    kept-idle claimed o v kept i (path-inside v.entries v.unused.number kept.unused_list no_slot kept.chain i some) (omega arith)
+    kept-idle claimed o v kept i (idle-inside v.entries v.unused.number kept.unused_list kept.chain i some) (omega arith)
 
 -- ---- all entries
 
@@ -68,11 +80,11 @@ sums-same j (suc m) l =
       | inr ne ↦ omega (arith, same-ne m j ne, sums-same j m (omega arith))
     ]
 
-sums-occurs : (es : List Item) (from m : ℕ) (xs : List ℕ) (to : ℕ) → length es ≤ m → IsPath es from xs to
+sums-occurs : (es : List Item) (from m : ℕ) (xs : List ℕ) → length es ≤ m → IsIdleFrom es from xs
     → sums (λ i. occurs i xs) m ≡ length xs
-sums-occurs es from m [] to l path = sums-none (λ i. 0) m (λ i b. refl)
-sums-occurs es from m (x ∷ xs) to l path =
-    omega (arith, sums-add (λ i. same i x) (λ i. occurs i xs) m, sums-same x m (omega (arith, path.1)), sums-occurs es (item_at es x).after m xs to l path.2)
+sums-occurs es from m [] l path = sums-none (λ i. 0) m (λ i b. refl)
+sums-occurs es from m (x ∷ xs) l path =
+    omega (arith, sums-add (λ i. same i x) (λ i. occurs i xs) m, sums-same x m (omega (arith, path.1)), sums-occurs es (item_at es x).up m xs l path.2)
 
 count-first : (t : Item) (es : List Item)
     → length (free_item_boxes (t ∷ es)) ≡ free_count t + length (free_item_boxes es)
@@ -94,7 +106,7 @@ used-free o v kept =
     let f : ℕ → ℕ = λ i. occurs i kept.unused_list in
     let g : ℕ → ℕ = λ i. free_count (item_at v.entries i) in
     let all : sums (λ i. f i + g i) m ≡ m = sums-all (λ i. f i + g i) m (λ i l. omega (arith, kept.each i l)) in
-    let unused_list : sums f m ≡ length kept.unused_list = sums-occurs v.entries v.unused.number m kept.unused_list no_slot (omega arith) kept.chain in
+    let unused_list : sums f m ≡ length kept.unused_list = sums-occurs v.entries v.unused.number m kept.unused_list (omega arith) kept.chain in
     omega (arith, all, sums-add f g m, unused_list, sums-free v.entries, kept.used)
 
 -- A free box is used.
@@ -109,7 +121,7 @@ used-few claimed o v kept = omega (arith, kept.used)
 pub used-all : (o : Options) (v : BoxShelf) → AreKept o v → v.unused.number ≡ no_slot → v.used ≡ length v.entries
 used-all o v kept none = go kept.unused_list kept.chain kept.used
   where
-    go : (xs : List ℕ) → IsPath v.entries v.unused.number xs no_slot → v.used + length xs ≡ length v.entries
+    go : (xs : List ℕ) → IsIdleFrom v.entries v.unused.number xs → v.used + length xs ≡ length v.entries
         → v.used ≡ length v.entries
     go [] path count = omega arith
     go (x ∷ xs) path count = absurd (omega (arith, none, path.0, path.1, kept.listed.short))
@@ -118,7 +130,7 @@ used-all o v kept none = go kept.unused_list kept.chain kept.used
 pub used-less : (o : Options) (v : BoxShelf) → AreKept o v → (v.unused.number ≡ no_slot → ⊥) → v.used < length v.entries
 used-less o v kept some = go kept.unused_list kept.chain kept.used
   where
-    go : (xs : List ℕ) → IsPath v.entries v.unused.number xs no_slot → v.used + length xs ≡ length v.entries
+    go : (xs : List ℕ) → IsIdleFrom v.entries v.unused.number xs → v.used + length xs ≡ length v.entries
         → v.used < length v.entries
     go [] path count = absurd (some path)
     go (x ∷ xs) path count = omega arith

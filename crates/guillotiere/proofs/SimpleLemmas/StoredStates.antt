@@ -13,8 +13,8 @@ use Rattle.atlas_search.specs.Items.{Item, no_item, item_at, item_box}
 use Rattle.atlas_search.specs.Rectangles.{IsSolid, IsUnsigned}
 use Rattle.atlas_search.specs.Lookups.{AreListed}
 use Rattle.guillotiere.specs.declared.simple.boxes.FreeBox.{FreeBox}
-use Rattle.atlas_search.specs.declared.table.ListHead.{ListHead}
-use Rattle.guillotiere.proofs.SimpleLemmas.BoxShelves.{exact-width, free-inside, read-item}
+use Rattle.atlas_search.specs.declared.link.Link.{Link}
+use Rattle.guillotiere.proofs.SimpleLemmas.BoxShelves.{exact-width, free-inside, lone_box, read-item}
 use Rattle.guillotiere.proofs.SimpleLemmas.FreeItems.{are-free}
 use Rattle.std.proofs.lemmas.List.{get_or_default, length-map}
 use Rattle.atlas_model.specs.Choice.{Options}
@@ -63,7 +63,7 @@ boxed bs r wide any =
     subst (λ (t : Item). t.is_free ≡ true) at (subst (λ (q : Rectangle). has_width q ≡ true) (sym any.4) wide) in
     subst (λ (x : Box). Contains (free_item_boxes es) x) (ap item_box (sym at) ∙ ap box_of any.4) ((are-free es).of_box any.0 free)
 
-unboxed : (o : Options) (heads : List ListHead) (bs : List FreeBox) (r : Rectangle)
+unboxed : (o : Options) (heads : List Link) (bs : List FreeBox) (r : Rectangle)
     → AreListed o heads (map stored_item bs) → IsUnsigned r
     → Contains (free_item_boxes (map stored_item bs)) (box_of r) → Any (λ b. b.area ≡ r) bs
 unboxed o heads bs r listed unsigned has =
@@ -71,7 +71,7 @@ unboxed o heads bs r listed unsigned has =
     let e = (are-free es).of_item (box_of r) has in
     let area : (item_at es e.0).area ≡ r = (listed.exact e.0 e.1).unsigned ∙ (ap rectangle_of e.2 ∙ sym unsigned) in
     let inside : e.0 < length bs = omega (arith, free-inside es e.0 e.1, length-map bs stored_item) in
-    let none : FreeBox = record { area = no_item.area; after = record { number = 0 } } in
+    let none : FreeBox = lone_box no_item.area in
     let b = get_or bs e.0 none in
     let read : get_or bs e.0 b ≡ b = get_or_default bs e.0 b none inside in
     (e.0, b, inside, read, ap (λ (t : Item). t.area) (read-item bs e.0 b inside (sym read)) ∙ area)

@@ -2,16 +2,19 @@
 use Rattle.std.specs.Prelude.{ℕ, ◌≡◌, ◌≢◌, ◌+◌, ◌≤◌, ◌++◌, List, max, vec_len, vec_capacity}
 use Rattle.guillotiere.specs.declared.simple.boxes.FreeBoxes.{FreeBoxes}
 use Rattle.atlas_search.specs.declared.best.Found.{Found}
-use Rattle.atlas_search.specs.declared.link.Link.{Link}
 use Rattle.atlas_model.specs.Boxes.{AreSameBoxes, Box, Fits, IsPositive, Sides, box_sides}
 use Rattle.atlas_model.specs.Choice.{Options}
 use Rattle.atlas_model.specs.Pixels.{box_of}
 use Rattle.atlas_search.specs.Lookups.{IsStanding}
-use Rattle.atlas_search.specs.Tables.{head_of, low_of}
-use Rattle.guillotiere.specs.FreeBoxes.BoxShelves.{AreKept, BoxShelf, box_shelf, free_item_boxes, with_after}
-use Rattle.atlas_search.specs.Numbers.{no_slot}
+use Rattle.atlas_search.specs.Bands.{list_of}
+use Rattle.atlas_search.specs.HeapCalls.{KeepsAreas}
+use Rattle.atlas_search.specs.Heaps.{Heap, IsHeap, members, tag_of}
+use Rattle.atlas_search.specs.Items.{item_at, item_sides}
+use Rattle.atlas_search.specs.Tables.{head_of}
+use Rattle.guillotiere.specs.FreeBoxes.BoxShelves.{AreKept, BoxShelf, box_shelf, free_item_boxes}
+use Rattle.atlas_search.specs.Numbers.{occurs, same}
 
--- n more entries can be used without memory, and each has a number that is no tag of a pile.
+-- n more entries can be used without memory, and each has a number that is no tag of a list.
 pub record HasEntriesFor {A : Type 0} (n : ℕ) (b : FreeBoxes A) : Type 0 where
   pub room : b.used + n ≤ vec_capacity b.entries
   pub short : b.used + n ≤ 4261412864
@@ -35,17 +38,19 @@ pub record KeepsEntries {A : Type 0} (old new : FreeBoxes A) : Type 0 where
 -- A box that was found in its list fits a request.
 pub record IsFoundFor {A : Type 0} (o : Options) (found : Found) (r : Sides) (b : FreeBoxes A) : Type 0 where
   pub kept : AreKept o (box_shelf b)
-  pub standing : IsStanding o (box_shelf b).heads (box_shelf b).entries found
+  pub standing : IsStanding (box_shelf b).entries found
   pub positive : IsPositive r
   pub fits : Fits r (box_sides (box_of found.rectangle))
 
--- `after` comes after `before` in a list, or first where that is none; no other list changes.
-pub record IsLed (s t : BoxShelf) (list : ℕ) (before after : Link) : Type 0 where
-  pub first : before.number ≡ no_slot
-      → (head_of t.heads list ≡ after) × (t.entries ≡ s.entries)
-  pub next : before.number ≢ no_slot
-      → (t.heads ≡ s.heads) × (t.entries ≡ with_after s.entries before.number after.number)
-  pub heads : (j : ℕ) → j ≢ list → head_of t.heads j ≡ head_of s.heads j
-  pub lows : (j : ℕ) → low_of t.heads j ≡ low_of s.heads j
-  pub unused : t.unused ≡ s.unused
-  pub used : t.used ≡ s.used
+-- A box has left its list, number k: the rest of that is a heap. No other list changes, and of the entries only links do.
+pub record HasUnlisted (o : Options) (old : BoxShelf) (kept : AreKept o old) (new : BoxShelf) (at : ℕ) : Type 0 where
+  pub k : ℕ
+  pub own : k ≡ list_of o (item_sides (item_at old.entries at))
+  pub rest : Heap
+  pub heap : IsHeap new.entries (tag_of k) (head_of new.heads k).number rest
+  pub has : (i : ℕ) → same i at + occurs i (members rest) ≡ occurs i (kept.listed.free_lists k)
+  pub heads : (j : ℕ) → j ≢ k → head_of new.heads j ≡ head_of old.heads j
+  pub areas : KeepsAreas old.entries new.entries
+  pub others : (i : ℕ) → occurs i (kept.listed.free_lists k) ≡ 0 → item_at new.entries i ≡ item_at old.entries i
+  pub unused : new.unused ≡ old.unused
+  pub used : new.used ≡ old.used

@@ -1,33 +1,35 @@
 //! The free boxes of the simple allocator, in the lists of a table.
-ghost use Rattle.std.specs.Prelude.{◌≡◌, ◌≢◌, ◌+◌, ◌<◌, ◌≤◌, ◌∷◌, IfOk, IsOkUnless, OnErr, OnOk, [], length, max, min, true};
+ghost use Rattle.std.specs.Prelude.{◌≡◌, ◌+◌, ◌<◌, ◌≤◌, ◌∷◌, IfOk, IsOkUnless, OnErr, OnOk, [], length, max, min, true};
 ghost use Rattle.std.specs.Prelude.{vec_capacity, vec_len};
-ghost use Rattle.guillotiere.specs.FreeBoxes.BoxCalls.{AreFiledBoxes, HasEntriesFor, HasTakenEntries, IsLed};
-ghost use Rattle.guillotiere.specs.FreeBoxes.BoxCalls.{KeepsEntries};
+ghost use Rattle.guillotiere.specs.FreeBoxes.BoxCalls.{AreFiledBoxes, HasEntriesFor, HasTakenEntries};
+ghost use Rattle.guillotiere.specs.FreeBoxes.BoxCalls.{HasUnlisted, KeepsEntries};
 ghost use Rattle.guillotiere.specs.FreeBoxes.BoxShelves.{AreKept, IsClaimed, box_shelf, free_item_boxes, idle_item};
 ghost use Rattle.guillotiere.specs.FreeBoxes.BoxShelves.{stored_item};
 ghost use Rattle.atlas_model.specs.Boxes.{AreSameBoxes};
 ghost use Rattle.atlas_model.specs.Choice.{AreValid, Options};
 ghost use Rattle.atlas_search.specs.Rectangles.{IsSolid, IsUnsigned};
+ghost use Rattle.atlas_search.specs.Items.{item_at};
 ghost use Rattle.atlas_search.specs.Lookups.{IsStanding};
 ghost use Rattle.atlas_model.specs.Pixels.{box_of, options_of};
-ghost use Rattle.atlas_search.specs.Numbers.{no_slot};
-ghost use Rattle.atlas_search.specs.Piles.{IsTag};
-ghost use Rattle.atlas_search.specs.Tables.{head_of, is_used_at};
 
 use atlas_model::{AtlasError, Rectangle, point2};
 use atlas_search::bands::Scale;
 use atlas_search::best::Found;
-use atlas_search::cut::{exact_size, top_in};
-use atlas_search::link::{Link, NO_SLOT, PILE};
+use atlas_search::cut::exact_size;
+use atlas_search::heap::{self, Linked};
+use atlas_search::link::{Link, NO_SLOT, TAG};
 use atlas_search::search::Entry;
-use atlas_search::table::{LISTS, Table};
+use atlas_search::table::Table;
 use std::alloc::Allocator;
 
-/// A free box and the entry after it in its list; or an unused entry, whose rectangle is empty, and the next one.
+/// A free box, with its links in the heap of its list; or an unused entry, whose rectangle is empty, and the next one.
 #[derive(Clone, Copy, Debug, PartialEq, Eq)]
 pub struct FreeBox {
     pub area: Rectangle,
-    pub after: Link,
+    /// What it hangs below; of an unused entry, the next one.
+    pub up: Link,
+    pub left: Link,
+    pub right: Link,
 }
 
 impl Entry for FreeBox {
@@ -39,13 +41,28 @@ impl Entry for FreeBox {
         self.area
     }
 
-    fn after(&self) -> Link {
-        self.after
+    fn up(&self) -> Link {
+        self.up
     }
 
-    // No list is a pile, which alone has such links.
-    fn before(&self) -> Link {
-        Link { number: 0 }
+    fn left(&self) -> Link {
+        self.left
+    }
+
+    fn right(&self) -> Link {
+        self.right
+    }
+}
+
+impl Linked for FreeBox {
+    ghost use Rattle.guillotiere.specs.FreeBoxes.BoxShelves.{bare_box};
+
+    ghost bare = { bare_box };
+
+    fn set_links(&mut self, up: Link, left: Link, right: Link) {
+        self.up = up;
+        self.left = left;
+        self.right = right;
     }
 }
 
@@ -58,20 +75,23 @@ pub struct FreeBoxes<A: Allocator> {
     pub table: Table<A>,
 }
 
-/// The most entries: greater numbers are tags of piles, or none.
-pub const MOST_BOXES: u32 = PILE;
+/// The most entries: greater numbers are tags of lists, or none.
+pub const MOST_BOXES: u32 = TAG;
 
 // An unused entry before this one.
-fn unused_box(after: Link) -> FreeBox
-    ensures { stored_item result ≡ idle_item after.number }
+fn unused_box(next: Link) -> FreeBox
+    ensures { stored_item result ≡ idle_item next.number }
 {
     let corner = point2(0, 0);
+    let none = Link { number: 0 };
     FreeBox {
         area: Rectangle {
             min: corner,
             max: corner,
         },
-        after,
+        up: next,
+        left: none,
+        right: none,
     }
 }
 
@@ -135,7 +155,7 @@ impl<A: Allocator> FreeBoxes<A> {
             self.entries.push_reserved(unused_box(Link { number: 0 }));
             Link { number }
         } else {
-            self.unused = self.entries[at.number as usize].after;
+            self.unused = self.entries[at.number as usize].up;
             at
         }
     }
@@ -151,9 +171,21 @@ impl<A: Allocator> FreeBoxes<A> {
         ensures entries { KeepsEntries self.old self.new }
     {
         let place = options.place_for(exact_size(area));
-        let after = self.table.head(place);
-        self.entries[at.number as usize] = FreeBox { area, after };
-        let _pushed = self.table.push(place, at, top_in(area));
+        let none = Link::NONE;
+        self.entries[at.number as usize] = FreeBox {
+            area,
+            up: none,
+            left: none,
+            right: none,
+        };
+        let top = heap::push(
+            &mut self.entries,
+            place.tag(),
+            self.table.head(place),
+            none,
+            at,
+        );
+        self.table.raise(place, top);
     }
 
     /// Makes sure that n more entries can be used; nothing but the room changes. The only error is `Memory`, which comes only
@@ -209,38 +241,33 @@ impl<A: Allocator> FreeBoxes<A> {
         self.add(area, options);
     }
 
-    // `after` comes after `before` in the list of this number, or first where that is none.
-    fn lead(&mut self, list: usize, before: Link, after: Link)
-        requires list { list < LISTS }
-        requires used { before.number ≡ no_slot → is_used_at (box_shelf self.old).heads list ≡ true }
-        requires inside { before.number ≢ no_slot → before.number < vec_len self.old.entries }
-        requires chain { before.number ≡ no_slot → IsTag (head_of (box_shelf self.old).heads list).number → ⊥ }
-        requires entry { IsTag after.number → ⊥ }
-        ensures led { IsLed (box_shelf self.old) (box_shelf self.new) list before after }
+    // Takes a box out of its list.
+    fn unlist(&mut self, at: Link)
+        requires kept { (o : Options) × AreKept o (box_shelf self.old) }
+        requires free { (item_at (box_shelf self.old).entries at.number).is_free ≡ true }
+        ensures unlisted { (o : Options) (kept : AreKept o (box_shelf self.old))
+            → HasUnlisted o (box_shelf self.old) kept (box_shelf self.new) at.number }
         ensures entries { KeepsEntries self.old self.new }
     {
-        if before.number == NO_SLOT {
-            self.table.set_first(list, after);
-        } else {
-            self.entries[before.number as usize].after = after;
+        let up = self.entries[at.number as usize].up;
+        let rest = heap::remove(&mut self.entries, at);
+        if up.number >= TAG {
+            self.table.set_first((up.number - TAG) as usize, rest);
         }
     }
 
     /// Takes a box out of its list; its entry is unused from then on.
-    pub fn remove(&mut self, found: Found, options: &Scale)
-        requires kept { AreKept (options_of options.now) (box_shelf self.old) }
-        requires standing { IsStanding (options_of options.now) (box_shelf self.old).heads (box_shelf self.old).entries
-            found }
-        ensures kept { AreKept (options_of options.now) (box_shelf self.new) }
+    pub fn remove(&mut self, found: Found)
+        requires kept { (o : Options) × AreKept o (box_shelf self.old) }
+        requires standing { IsStanding (box_shelf self.old).entries found }
+        ensures kept { (o : Options) → AreKept o (box_shelf self.old) → AreKept o (box_shelf self.new) }
         ensures boxes { AreSameBoxes (box_of found.rectangle ∷ free_item_boxes (box_shelf self.new).entries)
             (free_item_boxes (box_shelf self.old).entries) }
         ensures unused { self.new.unused ≡ found.at }
         ensures used { self.new.used + 1 ≡ self.old.used }
         ensures entries { KeepsEntries self.old self.new }
     {
-        let after = self.entries[found.at.number as usize].after;
-        self.lead(found.list, found.before, after);
-        self.table.set_low(found.list, found.low);
+        self.unlist(found.at);
         self.entries[found.at.number as usize] = unused_box(self.unused);
         self.unused = found.at;
         self.used -= 1;

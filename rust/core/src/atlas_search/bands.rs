@@ -2,6 +2,7 @@
 //! The lists of free slots by the bands of both sides.
 
 use crate::atlas_model::{AllocatorOptions, Size};
+use crate::atlas_search::link::{Link, TAG};
 
 /// How many bands a side may have: the lists have as many rows, and as many columns.
 pub const BANDS: usize = 52;
@@ -11,6 +12,17 @@ pub const BANDS: usize = 52;
 pub struct Place {
     pub row: usize,
     pub column: usize,
+}
+
+impl Place {
+    /// What stands above the first entry of the list.
+    #[inline]
+    #[must_use]
+    pub fn tag(self) -> Link {
+        Link {
+            number: TAG + (BANDS * self.row + self.column) as u32,
+        }
+    }
 }
 
 // The step of each side up to 256.

@@ -79,13 +79,6 @@ pub fn exact_size(area: Rectangle) -> Size {
     area.size()
 }
 
-/// The `min.y` of a rectangle.
-#[inline]
-#[must_use]
-pub fn top_in(area: Rectangle) -> u32 {
-    area.min.y as u32
-}
-
 /// The first `extent` pixels of a rectangle along an axis.
 #[inline]
 #[must_use]

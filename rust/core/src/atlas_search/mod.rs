@@ -7,6 +7,7 @@ pub mod bands;
 pub mod best;
 pub mod choice;
 pub mod cut;
+pub mod heap;
 pub mod link;
 pub mod marks;
 pub mod masks;

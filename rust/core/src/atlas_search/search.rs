@@ -4,8 +4,7 @@
 use crate::atlas_model::{Rectangle, Size};
 use crate::atlas_search::bands::{Place, Scale, BANDS};
 use crate::atlas_search::best::{corner, Best, Found};
-use crate::atlas_search::cut::top_in;
-use crate::atlas_search::link::{Link, NO_SLOT, PILE};
+use crate::atlas_search::link::{Link, NO_SLOT};
 use crate::atlas_search::masks::Mask;
 use crate::atlas_search::table::Table;
 use wollemigo_support::alloc::Allocator;
@@ -15,76 +14,94 @@ pub trait Entry {
     /// The entry's rectangle.
     fn rectangle(&self) -> Rectangle;
 
-    /// The entry after it in its list; in a pile, the tag of what is below it to the right.
-    fn after(&self) -> Link;
+    /// The entry that it hangs below, or the tag of its list.
+    fn up(&self) -> Link;
 
-    /// The entry before it in its list; in a pile, the tag of what is below it to the left.
-    fn before(&self) -> Link;
+    /// The entry that hangs below it to the left, or none.
+    fn left(&self) -> Link;
+
+    /// The entry that hangs below it to the right, or none.
+    fn right(&self) -> Link;
 }
 
-// Shows a pile to a search, but for what lies below an entry that can't be the best.
+// What hangs below an entry begins with this: what hangs to the left, or else to the right.
 #[inline]
-fn show_pile<E: Entry>(entries: &[E], tag: Link, depth: u32, list: usize, best: &mut Best) {
-    if tag.number != NO_SLOT {
-        let at = Link {
-            number: tag.number - PILE,
+fn below<E: Entry>(entry: &E) -> Link {
+    let left = entry.left();
+    if left.number == NO_SLOT {
+        entry.right()
+    } else {
+        left
+    }
+}
+
+// Shows an entry to a search. Answers with what the entries below it begin, or none if none of them can be the best.
+#[inline(always)]
+fn show_entry<E: Entry>(entry: &E, at: Link, best: &mut Best) -> Link {
+    let area = entry.rectangle();
+    let corner = corner(area);
+    if best.passes(corner) {
+        return Link::NONE;
+    }
+    best.look(area, corner, at);
+    if best.passes(corner) {
+        return Link::NONE;
+    }
+    below(entry)
+}
+
+// The entry after all that hangs below one, in a heap with this top; none if they are the last.
+#[inline(always)]
+fn climb<E: Entry>(entries: &[E], top: Link, from: Link) -> Link {
+    let mut at = from;
+    while at.number != top.number {
+        let up = entries[at.number as usize].up();
+        let above = &entries[up.number as usize];
+        let right = above.right();
+        if right.number != NO_SLOT && above.left().number == at.number {
+            return right;
+        }
+        at = up;
+    }
+    Link::NONE
+}
+
+// Shows the entries of a heap with this top to a search, from one on, but for what hangs below one that can't be the best.
+#[inline(never)]
+fn show_below<E: Entry>(entries: &[E], top: Link, from: Link, best: Best) -> Best {
+    let mut found = best;
+    let mut at = from;
+    while (at.number as usize) < entries.len() {
+        let next = show_entry(&entries[at.number as usize], at, &mut found);
+        at = if next.number == NO_SLOT {
+            climb(entries, top, at)
+        } else {
+            next
         };
-        let entry = &entries[at.number as usize];
-        let area = entry.rectangle();
-        if !best.passes(corner(area)) {
-            best.look(area, at, Link::NONE, list, 0);
-            show_pile(entries, entry.before(), depth + 1, list, best);
-            show_pile(entries, entry.after(), depth + 1, list, best);
+    }
+    found
+}
+
+// Shows a list that begins with this to a search.
+#[inline(always)]
+fn show_list<E: Entry>(entries: &[E], top: Link, best: &mut Best) {
+    if (top.number as usize) < entries.len() {
+        let from = show_entry(&entries[top.number as usize], top, best);
+        if from.number != NO_SLOT {
+            *best = show_below(entries, top, from, *best);
         }
     }
 }
 
-// Shows the boxes of a list that is a pile to a search. None lies above its top, so the top's `min.y` is the list's bound.
-#[inline]
-fn show_top<E: Entry>(entries: &[E], tag: Link, list: usize, best: &mut Best) {
-    let low = top_in(entries[(tag.number - PILE) as usize].rectangle());
-    show_pile(entries, tag, 0, list, best);
-    best.end_list(list, low);
-}
-
-// Shows the boxes of a list that is a chain to a search.
-#[inline(always)]
-fn show_chain<E: Entry>(entries: &[E], head: Link, list: usize, best: &mut Best) {
-    let mut least = 4294967295;
-    let mut at = head;
-    let mut before = Link::NONE;
-    while at.number != NO_SLOT {
-        let entry = &entries[at.number as usize];
-        least = best.look(entry.rectangle(), at, before, list, least);
-        before = at;
-        at = entry.after();
-    }
-    best.end_list(list, least);
-}
-
-// Shows the boxes of a list to a search. Where `any` is false, none is a pile.
-#[inline(always)]
-fn show_list<E: Entry>(entries: &[E], head: Link, list: usize, any: bool, best: &mut Best) {
-    if any && head.number >= PILE && head.number < NO_SLOT {
-        show_top(entries, head, list, best);
-    } else {
-        show_chain(entries, head, list, best);
-    }
-}
-
-// Shows the list at a place to a search, unless nothing in it can be the best.
+// Shows the list at a place to a search.
 #[inline(always)]
 fn search_list<A: Allocator, E: Entry>(
     entries: &[E],
     table: &Table<A>,
     place: Place,
-    any: bool,
     best: &mut Best,
 ) {
-    if !best.settles(table.low(place)) {
-        let list = BANDS * place.row + place.column;
-        show_list(entries, table.head(place), list, any, best);
-    }
+    show_list(entries, table.head(place), best);
 }
 
 // Shows lists of a row to a search.
@@ -94,12 +111,11 @@ fn search_row<A: Allocator, E: Entry>(
     table: &Table<A>,
     row: usize,
     columns: Mask,
-    any: bool,
     best: &mut Best,
 ) {
     let mut left = columns;
     while let Some(column) = left.take_first() {
-        search_list(entries, table, Place { row, column }, any, best);
+        search_list(entries, table, Place { row, column }, best);
     }
 }
 
@@ -110,12 +126,11 @@ fn search_column<A: Allocator, E: Entry>(
     table: &Table<A>,
     column: usize,
     rows: Mask,
-    any: bool,
     best: &mut Best,
 ) {
     let mut left = rows;
     while let Some(row) = left.take_first() {
-        search_list(entries, table, Place { row, column }, any, best);
+        search_list(entries, table, Place { row, column }, best);
     }
 }
 
@@ -137,13 +152,12 @@ fn search_rows<A: Allocator, E: Entry>(
     rows: Mask,
     first: usize,
     end: usize,
-    any: bool,
     best: &mut Best,
 ) {
     let mut left = rows;
     while let Some(row) = left.take_first() {
         let columns = table.row(row).from(first).below(end);
-        search_row(entries, table, row, columns, any, best);
+        search_row(entries, table, row, columns, best);
     }
 }
 
@@ -166,63 +180,17 @@ fn search_before<A: Allocator, E: Entry>(
     columns: Mask,
     rows: Mask,
     end: usize,
-    any: bool,
     best: &mut Best,
 ) -> bool {
-    search_row(entries, table, own.row, columns.below(end), any, best);
-    search_column(entries, table, own.column, rows.below(end), any, best);
+    search_row(entries, table, own.row, columns.below(end), best);
+    search_column(entries, table, own.column, rows.below(end), best);
     if best.has_equal_side() {
         return false;
     }
     let first = own.column + 1;
     let others = rows_with(table, first, BANDS).from(own.row + 1);
-    search_rows(entries, table, others.below(end), first, end, any, best);
+    search_rows(entries, table, others.below(end), first, end, best);
     others.is_empty()
-}
-
-// The same. Where `any` is false, no list is a pile.
-#[inline(always)]
-fn pick_from<A: Allocator, E: Entry>(
-    entries: &[E],
-    table: &Table<A>,
-    options: &Scale,
-    size: Size,
-    any: bool,
-) -> Option<Found> {
-    let own = options.place_for(size);
-    let far = own.row.max(own.column);
-    let is_large = far >= options.large();
-    let mut columns = table.row(own.row).from(own.column);
-    let mut rows = table.column(own.column).from(own.row + 1);
-    let mut least = least_from(table, own, far, columns);
-    let mut best = Best::new(size, is_large);
-    while least < BANDS {
-        let end = options.end_after(least);
-        let is_last = search_before(entries, table, own, columns, rows, end, any, &mut best);
-        if let Some(spot) = best.spot() {
-            let entry = &entries[spot.at.number as usize];
-            return Some(spot.found(entry.rectangle()));
-        }
-        columns = columns.from(end);
-        rows = rows.from(end);
-        if is_last && columns.or(rows).is_empty() {
-            return None;
-        }
-        least = end;
-    }
-    None
-}
-
-// The same where lists may be piles.
-#[cold]
-#[inline(never)]
-fn pick_any<A: Allocator, E: Entry>(
-    entries: &[E],
-    table: &Table<A>,
-    options: &Scale,
-    size: Size,
-) -> Option<Found> {
-    pick_from(entries, table, options, size, true)
 }
 
 /// The free entry that a request of this rounded size takes.
@@ -234,9 +202,26 @@ pub fn pick<A: Allocator, E: Entry>(
     options: &Scale,
     size: Size,
 ) -> Option<Found> {
-    if table.has_piles() {
-        pick_any(entries, table, options, size)
-    } else {
-        pick_from(entries, table, options, size, false)
+    let own = options.place_for(size);
+    let far = own.row.max(own.column);
+    let is_large = far >= options.large();
+    let mut columns = table.row(own.row).from(own.column);
+    let mut rows = table.column(own.column).from(own.row + 1);
+    let mut least = least_from(table, own, far, columns);
+    let mut best = Best::new(size, is_large);
+    while least < BANDS {
+        let end = options.end_after(least);
+        let is_last = search_before(entries, table, own, columns, rows, end, &mut best);
+        if let Some(at) = best.found() {
+            let rectangle = entries[at.number as usize].rectangle();
+            return Some(Found { rectangle, at });
+        }
+        columns = columns.from(end);
+        rows = rows.from(end);
+        if is_last && columns.or(rows).is_empty() {
+            return None;
+        }
+        least = end;
     }
+    None
 }

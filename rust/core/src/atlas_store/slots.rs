@@ -5,8 +5,6 @@ pub mod batch;
 pub mod entry;
 pub mod extending;
 pub mod lists;
-pub mod piles;
-pub mod piling;
 pub mod placing;
 pub mod rehearsing;
 pub mod walks;
@@ -40,11 +38,13 @@ pub struct Node {
     pub generation: u8,
 }
 
-/// The lists' part of a slot: its neighbours in its list of free or of unused slots.
+/// The lists' part of a slot: in its list of free slots, what it hangs below and the two that hang below it. The list of unused
+/// slots goes on with what is on the right.
 #[derive(Clone, Copy, Debug, PartialEq, Eq)]
 pub struct Ring {
-    pub previous: Link,
-    pub next: Link,
+    pub up: Link,
+    pub left: Link,
+    pub right: Link,
 }
 
 #[derive(Clone, Copy, Debug, PartialEq, Eq)]

@@ -7,20 +7,15 @@ pub mod start;
 pub mod turns;
 pub mod views;
 
-use crate::atlas_model::Size;
 use crate::atlas_search::bands::Scale;
 use crate::atlas_search::link::{Link, NO_SLOT};
-use crate::atlas_search::table::{Table, LISTS};
-use crate::atlas_store::slots::lists::{enlist, give_back, take_slot, unlist};
-use crate::atlas_store::slots::piling::{long_chain, pile};
+use crate::atlas_search::table::Table;
+use crate::atlas_store::slots::lists::{enlist, give_back, take_slot, unlist, Recent};
 use crate::atlas_store::slots::placing::{place_leaf, Parts, Plan};
 use crate::atlas_store::slots::{join_next, lift, mark_free, read_node, Node, NodeKind, Slot};
 use crate::atlas_store::store::turns::Turns;
 use wollemigo_support::alloc::{AllocError, Allocator};
 use wollemigo_support::prelude::Vec;
-
-// After a grant that found no long chain so many don't look for one, less one.
-const PAUSE: u32 = 64;
 
 /// The slots, the lists that run through them, and the options by which free slots are listed. `turns` counts the
 /// markings, joins and lifts, and is nothing at run time.
@@ -30,8 +25,7 @@ pub struct Store<A: Allocator> {
     unused: Link,
     options: Scale,
     turns: Turns,
-    // With how many grants one looks for a long chain.
-    due: u32,
+    recent: Recent,
 }
 
 impl<A: Allocator> Store<A> {
@@ -49,7 +43,7 @@ impl<A: Allocator> Store<A> {
             unused: self.unused,
             options: self.options.copy(),
             turns: Turns::new(),
-            due: self.due,
+            recent: self.recent,
         })
     }
 
@@ -70,43 +64,19 @@ impl<A: Allocator> Store<A> {
     /// Takes a free leaf out of its list.
     #[inline(always)]
     pub fn unlist(&mut self, at: Link) {
-        unlist(&mut self.slots, &mut self.lists, &self.options, at);
-    }
-
-    /// What a grant for a request of this rounded size does last. Once in a while it looks for a long chain along which such
-    /// requests are searched for, and makes it a pile.
-    #[inline(always)]
-    pub fn tidy(&mut self, size: Size) {
-        self.due = self.due.wrapping_sub(1);
-        if self.due == 0 {
-            self.tidy_now(size);
-        }
-    }
-
-    // Where a long chain is found another one is looked for at the next grant, and else after a pause.
-    #[cold]
-    #[inline(never)]
-    fn tidy_now(&mut self, size: Size) {
-        let place = self.options.place_for(size);
-        let list = long_chain(&self.slots, &self.lists, place);
-        if list >= LISTS {
-            self.due = PAUSE;
-            return;
-        }
-        self.due = 1;
-        pile(&mut self.slots, &mut self.lists, list);
-    }
-
-    /// `low` is at most the `min.y` of each slot of the list of this number.
-    #[inline]
-    pub fn sharpen(&mut self, list: usize, low: u32) {
-        self.lists.set_low(list, low);
+        unlist(&mut self.slots, &mut self.lists, &mut self.recent, at);
     }
 
     /// Puts a detached leaf into its list.
     #[inline(always)]
     pub fn list(&mut self, at: Link) {
-        enlist(&mut self.slots, &mut self.lists, &self.options, at);
+        enlist(
+            &mut self.slots,
+            &mut self.lists,
+            &self.options,
+            &mut self.recent,
+            at,
+        );
     }
 
     // Takes an unused slot, the one given back last, or else a new one at the end. It is claimed.

@@ -16,7 +16,6 @@ use wollemigo_support::alloc::Allocator;
 #[inline]
 pub fn grant<A: Allocator>(store: &mut Store<A>, chosen: Found, plan: Plan) -> Allocation {
     store.unlist(chosen.at);
-    store.sharpen(chosen.list, chosen.low);
     let slot = place(store, chosen.at, plan);
     let node = store.node(slot);
     Allocation {

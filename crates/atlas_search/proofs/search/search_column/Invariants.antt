@@ -10,7 +10,7 @@ invariant-loop-row g l =
     ((k : ℕ) → IsMarked l.left k → IsMarked l.fn.rows k)
     × ((o : Options) (end : ℕ) (r : Sides) → AreListed o l.table (map g.E.Entry.item l.entries)
     → ((k : ℕ) → IsMarked l.fn.rows k → AreBelow end k l.column)
-    → HasAdded o l.table (map g.E.Entry.item l.entries) end r (λ i j. IsInColumn l.column l.fn.rows i j × (has l.left i ≡ false)) l.fn.best l.best)
+    → HasAdded o (map g.E.Entry.item l.entries) end r (λ i j. IsInColumn l.column l.fn.rows i j × (has l.left i ≡ false)) l.fn.best l.best)
 
 abbrev pub decreases-loop-row : goal.decreases-loop-row
 decreases-loop-row g l = l.left.bits

@@ -10,7 +10,7 @@ invariant-loop-column g l =
     ((k : ℕ) → IsMarked l.left k → IsMarked l.fn.columns k)
     × ((o : Options) (end : ℕ) (r : Sides) → AreListed o l.table (map g.E.Entry.item l.entries)
     → ((k : ℕ) → IsMarked l.fn.columns k → AreBelow end l.row k)
-    → HasAdded o l.table (map g.E.Entry.item l.entries) end r (λ i j. IsInRow l.row l.fn.columns i j × (has l.left j ≡ false)) l.fn.best l.best)
+    → HasAdded o (map g.E.Entry.item l.entries) end r (λ i j. IsInRow l.row l.fn.columns i j × (has l.left j ≡ false)) l.fn.best l.best)
 
 abbrev pub decreases-loop-column : goal.decreases-loop-column
 decreases-loop-column g l = l.left.bits

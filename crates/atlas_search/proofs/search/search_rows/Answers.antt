@@ -6,7 +6,7 @@ use Rattle.atlas_search.proofs.search.search_rows.Goals as goal
 
 pub loop-row-init : goal.loop-row-init
 loop-row-init g c =
-    ((λ k h. h), λ o r a. rows-begin o c.args.table.now (map g.E.Entry.item c.args.entries.now) c.args.end r c.args.first c.args.rows c.args.best.now)
+    ((λ k h. h), λ o r a. rows-begin o (map g.E.Entry.item c.args.entries.now) c.args.end r c.args.first c.args.rows c.args.best.now)
 
 pub loop-row-preserved : goal.loop-row-preserved
 loop-row-preserved g c =
@@ -15,7 +15,7 @@ loop-row-preserved g c =
     let inside = l.invariant.0 k c.in-Some.ensures.first.0 in (
       λ j h. l.invariant.0 j (rest-marked l.left c.take_first.new.self k j c.in-Some.ensures.rest h),
       λ o r a.
-          rows-go_on o c.args.table.now (map g.E.Entry.item c.args.entries.now) c.args.end r k c.args.first c.args.rows l.left c.take_first.new.self
+          rows-go_on o (map g.E.Entry.item c.args.entries.now) c.args.end r c.args.table.now k c.args.first c.args.rows l.left c.take_first.new.self
           c.below-columns.result c.args.best.now l.best c.search_row.new.best a c.in-Some.ensures.rest
           (λ j past before used. marked-below c.from.result c.below-columns.result c.args.end j c.below-columns.ensures
           (marked-from c.row.result c.from.result c.args.first j c.from.ensures (grind (arith, c.row.ensures.used, used, before)) past) before)
@@ -26,4 +26,4 @@ loop-row-preserved g c =
 pub returns : goal.returns
 returns g c o r a =
     let l = c.loop-row in
-    added-of o c.args.table.now (map g.E.Entry.item c.args.entries.now) c.args.end r _ _ c.args.best.now l.best (λ i j v. (v, c.in_default.ensures.none refl i)) (l.invariant.1 o r a)
+    added-of o (map g.E.Entry.item c.args.entries.now) c.args.end r _ _ c.args.best.now l.best (λ i j v. (v, c.in_default.ensures.none refl i)) (l.invariant.1 o r a)

@@ -21,7 +21,7 @@ granted-rectangle-requires-clause-fits g c =
     let o = options_of c.args.options.now in
     let es = map stored_item c.args.boxes.now.entries.items in
     let found = c.in-Some-pick.found in
-    let standing = subst (λ xs. IsStanding o c.args.boxes.now.table (map stored_item xs) found) c.deref.ensures.value c.in-Some-pick.ensures.standing in
+    let standing = subst (λ xs. IsStanding (map stored_item xs) found) c.deref.ensures.value c.in-Some-pick.ensures.standing in
     let exact = picked-exact o c.args.boxes.now.table es found c.requires.listed standing in
     let r = sides_of c.in-Some.size in
     let all = subst (λ xs. (free : List Box) → AreFreeItems (map stored_item xs) free → IsPick free o r (box_of found.rectangle)) c.deref.ensures.value c.in-Some-pick.ensures.picked in
@@ -38,7 +38,7 @@ cut_picked-requires g c =
     let all = subst (λ xs. (free : List Box) → AreFreeItems (map stored_item xs) free → IsPick free o r (box_of found.rectangle)) c.deref.ensures.value c.in-Some-pick.ensures.picked in
     record {
       kept = c.requires;
-      standing = subst (λ xs. IsStanding o c.args.boxes.now.table (map stored_item xs) found) c.deref.ensures.value c.in-Some-pick.ensures.standing;
+      standing = subst (λ xs. IsStanding (map stored_item xs) found) c.deref.ensures.value c.in-Some-pick.ensures.standing;
       positive = size-positive o (sides_of c.args.requested_size) c.in-Some.size c.requires.listed.valid c.in-Some.ensures;
       fits = (all (free_item_boxes es) (are-free es)).best.candidate.fitting.fits;
     }
@@ -88,7 +88,7 @@ returns-clause-unsigned g c =
     let o = options_of c.args.options.now in
     let es = map stored_item c.args.boxes.now.entries.items in
     let found = c.in-Some-pick.found in
-    let standing = subst (λ xs. IsStanding o c.args.boxes.now.table (map stored_item xs) found) c.deref.ensures.value c.in-Some-pick.ensures.standing in
+    let standing = subst (λ xs. IsStanding (map stored_item xs) found) c.deref.ensures.value c.in-Some-pick.ensures.standing in
     let exact = picked-exact o c.args.boxes.now.table es found c.requires.listed standing in
     unsigned_of c.granted-rectangle.result (box_at (box_of found.rectangle).min (sides_of c.in-Some.size))
     (c.granted-rectangle.ensures.boxes (box_of found.rectangle) exact.unsigned)
@@ -98,7 +98,7 @@ returns-clause-step g c size wide high simple =
     let o = options_of c.args.options.now in
     let es = map stored_item c.args.boxes.now.entries.items in
     let found = c.in-Some-pick.found in
-    let standing = subst (λ xs. IsStanding o c.args.boxes.now.table (map stored_item xs) found) c.deref.ensures.value c.in-Some-pick.ensures.standing in
+    let standing = subst (λ xs. IsStanding (map stored_item xs) found) c.deref.ensures.value c.in-Some-pick.ensures.standing in
     let exact = picked-exact o c.args.boxes.now.table es found c.requires.listed standing in
     let r = sides_of c.in-Some.size in
     let all = subst (λ xs. (free : List Box) → AreFreeItems (map stored_item xs) free → IsPick free o r (box_of found.rectangle)) c.deref.ensures.value c.in-Some-pick.ensures.picked in

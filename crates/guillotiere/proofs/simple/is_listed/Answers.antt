@@ -6,6 +6,7 @@ use Rattle.std.proofs.lemmas.Bool.{and_from, both_ways}
 use Rattle.std.proofs.lemmas.List.{get_or_default}
 use Rattle.guillotiere.specs.declared.simple.boxes.FreeBox.{FreeBox}
 use Rattle.atlas_model.specs.declared.geometry.Rectangle.{Rectangle}
+use Rattle.guillotiere.proofs.SimpleLemmas.BoxShelves.{lone_box}
 use Rattle.guillotiere.proofs.simple.is_listed.Goals as goal
 
 holds : (t : Bool) (P : Type 0) → Decides t P → P → t ≡ true
@@ -21,7 +22,7 @@ not_equal : (a r : Rectangle) → false ≡ test a r → a ≡ r → ⊥
 not_equal a r e is = grind (arith, both_ways, and_from, itself)
 
 abbrev blank : FreeBox
-blank = record { area = record { min = record { x = pos 0; y = pos 0 }; max = record { x = pos 0; y = pos 0 } }; after = record { number = 0 } }
+blank = lone_box (record { min = record { x = pos 0; y = pos 0 }; max = record { x = pos 0; y = pos 0 } })
 
 pub loop-entry-preserved : goal.loop-entry-preserved
 loop-entry-preserved c = grind (arith, not_equal, get_or_default)

@@ -29,7 +29,6 @@ impl<A: Allocator + Copy> AtlasAllocator<A> {
         let needed = slots_needed(plan);
         self.store.make_room(self.used, self.limit, needed)?;
         self.used += needed;
-        self.store.tidy(size);
         Ok(Some(grant(&mut self.store, chosen, plan)))
     }
 }

@@ -1,9 +1,10 @@
 // Erased from crates/atlas_store/src/slots/entry.rt by rust/erase: don't edit.
-//! A slot as an entry that a search reads.
+//! A slot as an entry of a list.
 use crate::atlas_model::Rectangle;
+use crate::atlas_search::heap::Linked;
 use crate::atlas_search::link::Link;
 use crate::atlas_search::search::Entry;
-use crate::atlas_store::slots::Slot;
+use crate::atlas_store::slots::{Ring, Slot};
 
 impl Entry for Slot {
     #[inline]
@@ -12,12 +13,24 @@ impl Entry for Slot {
     }
 
     #[inline]
-    fn after(&self) -> Link {
-        self.ring.next
+    fn up(&self) -> Link {
+        self.ring.up
     }
 
     #[inline]
-    fn before(&self) -> Link {
-        self.ring.previous
+    fn left(&self) -> Link {
+        self.ring.left
+    }
+
+    #[inline]
+    fn right(&self) -> Link {
+        self.ring.right
+    }
+}
+
+impl Linked for Slot {
+    #[inline]
+    fn set_links(&mut self, up: Link, left: Link, right: Link) {
+        self.ring = Ring { up, left, right };
     }
 }

@@ -6,9 +6,10 @@ use crate::atlas_search::bands::Scale;
 use crate::atlas_search::cut::Orientation;
 use crate::atlas_search::link::Link;
 use crate::atlas_search::table::Table;
+use crate::atlas_store::slots::lists::Recent;
 use crate::atlas_store::slots::{Node, NodeKind, Ring, Slot};
 use crate::atlas_store::store::turns::Turns;
-use crate::atlas_store::store::{Store, PAUSE};
+use crate::atlas_store::store::Store;
 use wollemigo_support::alloc::{AllocError, Allocator};
 use wollemigo_support::prelude::Vec;
 
@@ -26,8 +27,9 @@ fn whole_slot(size: Size) -> Slot {
         generation: 0,
     };
     let ring = Ring {
-        previous: none,
-        next: none,
+        up: none,
+        left: none,
+        right: none,
     };
     Slot { node, ring }
 }
@@ -45,7 +47,7 @@ impl<A: Allocator> Store<A> {
             unused: Link::NONE,
             options: Scale::new(options),
             turns: Turns::new(),
-            due: PAUSE,
+            recent: Recent::NONE,
         };
         store.start(size, options);
         Ok(store)
@@ -58,7 +60,7 @@ impl<A: Allocator> Store<A> {
         self.slots.push_reserved(whole_slot(size));
         self.lists.clear();
         self.unused = Link::NONE;
-        self.due = PAUSE;
+        self.recent = Recent::NONE;
         self.options.set(options);
         self.list(Link { number: 0 });
     }
@@ -70,6 +72,6 @@ impl<A: Allocator> Store<A> {
         self.lists = other.lists;
         self.unused = other.unused;
         self.options = other.options;
-        self.due = other.due;
+        self.recent = other.recent;
     }
 }

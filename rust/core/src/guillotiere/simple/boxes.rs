@@ -4,18 +4,22 @@
 use crate::atlas_model::{point2, AtlasError, Rectangle};
 use crate::atlas_search::bands::Scale;
 use crate::atlas_search::best::Found;
-use crate::atlas_search::cut::{exact_size, top_in};
-use crate::atlas_search::link::{Link, NO_SLOT, PILE};
+use crate::atlas_search::cut::exact_size;
+use crate::atlas_search::heap::{self, Linked};
+use crate::atlas_search::link::{Link, NO_SLOT, TAG};
 use crate::atlas_search::search::Entry;
-use crate::atlas_search::table::{Table, LISTS};
+use crate::atlas_search::table::Table;
 use wollemigo_support::alloc::Allocator;
 use wollemigo_support::prelude::Vec;
 
-/// A free box and the entry after it in its list; or an unused entry, whose rectangle is empty, and the next one.
+/// A free box, with its links in the heap of its list; or an unused entry, whose rectangle is empty, and the next one.
 #[derive(Clone, Copy, Debug, PartialEq, Eq)]
 pub struct FreeBox {
     pub area: Rectangle,
-    pub after: Link,
+    /// What it hangs below; of an unused entry, the next one.
+    pub up: Link,
+    pub left: Link,
+    pub right: Link,
 }
 
 impl Entry for FreeBox {
@@ -25,14 +29,27 @@ impl Entry for FreeBox {
     }
 
     #[inline]
-    fn after(&self) -> Link {
-        self.after
+    fn up(&self) -> Link {
+        self.up
     }
 
-    // No list is a pile, which alone has such links.
     #[inline]
-    fn before(&self) -> Link {
-        Link { number: 0 }
+    fn left(&self) -> Link {
+        self.left
+    }
+
+    #[inline]
+    fn right(&self) -> Link {
+        self.right
+    }
+}
+
+impl Linked for FreeBox {
+    #[inline]
+    fn set_links(&mut self, up: Link, left: Link, right: Link) {
+        self.up = up;
+        self.left = left;
+        self.right = right;
     }
 }
 
@@ -44,19 +61,22 @@ pub struct FreeBoxes<A: Allocator> {
     pub table: Table<A>,
 }
 
-/// The most entries: greater numbers are tags of piles, or none.
-pub const MOST_BOXES: u32 = PILE;
+/// The most entries: greater numbers are tags of lists, or none.
+pub const MOST_BOXES: u32 = TAG;
 
 // An unused entry before this one.
 #[inline]
-fn unused_box(after: Link) -> FreeBox {
+fn unused_box(next: Link) -> FreeBox {
     let corner = point2(0, 0);
+    let none = Link { number: 0 };
     FreeBox {
         area: Rectangle {
             min: corner,
             max: corner,
         },
-        after,
+        up: next,
+        left: none,
+        right: none,
     }
 }
 
@@ -107,7 +127,7 @@ impl<A: Allocator> FreeBoxes<A> {
             self.entries.push_reserved(unused_box(Link { number: 0 }));
             Link { number }
         } else {
-            self.unused = self.entries[at.number as usize].after;
+            self.unused = self.entries[at.number as usize].up;
             at
         }
     }
@@ -116,9 +136,21 @@ impl<A: Allocator> FreeBoxes<A> {
     #[inline]
     fn put(&mut self, at: Link, area: Rectangle, options: &Scale) {
         let place = options.place_for(exact_size(area));
-        let after = self.table.head(place);
-        self.entries[at.number as usize] = FreeBox { area, after };
-        let _pushed = self.table.push(place, at, top_in(area));
+        let none = Link::NONE;
+        self.entries[at.number as usize] = FreeBox {
+            area,
+            up: none,
+            left: none,
+            right: none,
+        };
+        let top = heap::push(
+            &mut self.entries,
+            place.tag(),
+            self.table.head(place),
+            none,
+            at,
+        );
+        self.table.raise(place, top);
     }
 
     /// Makes sure that n more entries can be used; nothing but the room changes. The only error is `Memory`, which comes only
@@ -153,22 +185,20 @@ impl<A: Allocator> FreeBoxes<A> {
         self.add(area, options);
     }
 
-    // `after` comes after `before` in the list of this number, or first where that is none.
+    // Takes a box out of its list.
     #[inline]
-    fn lead(&mut self, list: usize, before: Link, after: Link) {
-        if before.number == NO_SLOT {
-            self.table.set_first(list, after);
-        } else {
-            self.entries[before.number as usize].after = after;
+    fn unlist(&mut self, at: Link) {
+        let up = self.entries[at.number as usize].up;
+        let rest = heap::remove(&mut self.entries, at);
+        if up.number >= TAG {
+            self.table.set_first((up.number - TAG) as usize, rest);
         }
     }
 
     /// Takes a box out of its list; its entry is unused from then on.
     #[inline]
-    pub fn remove(&mut self, found: Found, options: &Scale) {
-        let after = self.entries[found.at.number as usize].after;
-        self.lead(found.list, found.before, after);
-        self.table.set_low(found.list, found.low);
+    pub fn remove(&mut self, found: Found) {
+        self.unlist(found.at);
         self.entries[found.at.number as usize] = unused_box(self.unused);
         self.unused = found.at;
         self.used -= 1;

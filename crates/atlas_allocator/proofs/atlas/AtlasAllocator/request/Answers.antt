@@ -11,10 +11,7 @@ use Rattle.atlas_store.specs.Stored.{state_of}
 use Rattle.atlas_store.proofs.WalkLemmas.StoredAtlas.{used-IsAtlas}
 use Rattle.atlas_store.proofs.StoreLemmas.Sizes.{natural-fits}
 use Rattle.atlas_allocator.proofs.AtlasLemmas.UnsignedRectangles.{sides_of-size, unsigned-measurable}
-use Rattle.atlas_allocator.proofs.AtlasLemmas.GrantedAtlas.{no_room-unrounded, no_room-none, taken-inside, taken-exact, taken-fits, refused-step}
-use Rattle.atlas_allocator.proofs.AtlasLemmas.TidiedAtlas.{held-atlas}
-use Rattle.atlas_allocator.proofs.AtlasLemmas.TidiedGrants.{tidied-done, tidied-grantable}
-use Rattle.atlas_store.specs.Store.Holdings.{IsHeld}
+use Rattle.atlas_allocator.proofs.AtlasLemmas.GrantedAtlas.{grant-done, some-grantable, no_room-unrounded, no_room-none, taken-inside, taken-exact, taken-fits, refused-step}
 use Rattle.atlas_store.proofs.StoreLemmas.TakenOnce.{first-once, once-first, once-shelf}
 use Rattle.atlas_allocator.proofs.AtlasLemmas.Reserves.{request-few, plan-few}
 use Rattle.atlas_model.proofs.StepLemmas.CallerGrants.{no_room_answer, refused_answer, request_granted}
@@ -59,29 +56,26 @@ returns-in_err-make_room-clause-step g c =
 
 pub grant-requires : goal.grant-requires
 grant-requires g c =
-    tidied-grantable c.make_room.new.self c.tidy.new.self c.tidy.ensures _ c.self.invariant (sides_of c.args.requested_size) c.in-Some.size c.in-Some.ensures c.in-Some-choose.chosen c.in-Some-choose.ensures.some
-    c.node.result c.node.ensures c.plan_for-plan.result c.plan_for-plan.ensures.line c.plan_for-plan.ensures.feasible c.make_room.ensures.same.shelf c.slots_needed-needed.result c.slots_needed-needed.ensures c.in_ok-make_room.ensures.ok
-
-pub tidy-requires-clause-held : goal.tidy-requires-clause-held
-tidy-requires-clause-held g c = subst IsHeld (sym c.make_room.ensures.same.shelf) (held-atlas _ c.self.invariant)
+    some-grantable _ c.self.invariant (sides_of c.args.requested_size) c.in-Some.size c.in-Some.ensures c.in-Some-choose.chosen c.in-Some-choose.ensures.some
+    c.node.result c.node.ensures c.plan_for-plan.result c.plan_for-plan.ensures.line c.plan_for-plan.ensures.feasible c.make_room.new.self c.make_room.ensures.same.shelf c.slots_needed-needed.result c.slots_needed-needed.ensures c.in_ok-make_room.ensures.ok
 
 pub invariant_of-self-2 : goal.invariant_of-self-2
 invariant_of-self-2 g c =
-    (tidied-done c.make_room.new.self c.tidy.new.self c.tidy.ensures _ c.self.invariant (sides_of c.args.requested_size) c.in-Some.size c.in-Some.ensures c.in-Some-choose.chosen c.in-Some-choose.ensures.some
-    c.node.result c.node.ensures c.plan_for-plan.result c.plan_for-plan.ensures.line c.plan_for-plan.ensures.feasible c.make_room.ensures.same.shelf c.slots_needed-needed.result c.slots_needed-needed.ensures c.in_ok-make_room.ensures.ok
+    (grant-done _ c.self.invariant (sides_of c.args.requested_size) c.in-Some.size c.in-Some.ensures c.in-Some-choose.chosen c.in-Some-choose.ensures.some
+    c.node.result c.node.ensures c.plan_for-plan.result c.plan_for-plan.ensures.line c.plan_for-plan.ensures.feasible c.make_room.new.self c.make_room.ensures.same.shelf c.slots_needed-needed.result c.slots_needed-needed.ensures c.in_ok-make_room.ensures.ok
     c.grant.new.store c.grant.result c.grant.ensures).atlas
 
 pub returns-clause-step : goal.returns-clause-step
 returns-clause-step g c =
-    let done = tidied-done c.make_room.new.self c.tidy.new.self c.tidy.ensures _ c.self.invariant (sides_of c.args.requested_size) c.in-Some.size c.in-Some.ensures c.in-Some-choose.chosen c.in-Some-choose.ensures.some
-    c.node.result c.node.ensures c.plan_for-plan.result c.plan_for-plan.ensures.line c.plan_for-plan.ensures.feasible c.make_room.ensures.same.shelf c.slots_needed-needed.result c.slots_needed-needed.ensures c.in_ok-make_room.ensures.ok
+    let done = grant-done _ c.self.invariant (sides_of c.args.requested_size) c.in-Some.size c.in-Some.ensures c.in-Some-choose.chosen c.in-Some-choose.ensures.some
+    c.node.result c.node.ensures c.plan_for-plan.result c.plan_for-plan.ensures.line c.plan_for-plan.ensures.feasible c.make_room.new.self c.make_room.ensures.same.shelf c.slots_needed-needed.result c.slots_needed-needed.ensures c.in_ok-make_room.ensures.ok
     c.grant.new.store c.grant.result c.grant.ensures in
     rw (← c.self.view_is) (done.granted c.grant.new.store.turns.count c.self.inside.store.turns.count)
 
 pub returns-clause-exact : goal.returns-clause-exact
 returns-clause-exact g c =
-    (tidied-done c.make_room.new.self c.tidy.new.self c.tidy.ensures _ c.self.invariant (sides_of c.args.requested_size) c.in-Some.size c.in-Some.ensures c.in-Some-choose.chosen c.in-Some-choose.ensures.some
-    c.node.result c.node.ensures c.plan_for-plan.result c.plan_for-plan.ensures.line c.plan_for-plan.ensures.feasible c.make_room.ensures.same.shelf c.slots_needed-needed.result c.slots_needed-needed.ensures c.in_ok-make_room.ensures.ok
+    (grant-done _ c.self.invariant (sides_of c.args.requested_size) c.in-Some.size c.in-Some.ensures c.in-Some-choose.chosen c.in-Some-choose.ensures.some
+    c.node.result c.node.ensures c.plan_for-plan.result c.plan_for-plan.ensures.line c.plan_for-plan.ensures.feasible c.make_room.new.self c.make_room.ensures.same.shelf c.slots_needed-needed.result c.slots_needed-needed.ensures c.in_ok-make_room.ensures.ok
     c.grant.new.store c.grant.result c.grant.ensures).exact
 
 pub returns-clause-slots : goal.returns-clause-slots
@@ -91,7 +85,7 @@ returns-clause-slots g c = record {
       (Allocated (grant_of c.grant.result))
       (subst (λ w. IsSound (state_of w)) c.self.view_is c.self.invariant.sound) (returns-clause-step g c);
   capacity =
-      omega (arith, ap (λ v. v.capacity) c.self.view_is, c.make_room.ensures.same.capacity, c.grant.ensures.takes.capacity, c.tidy.ensures.takes.capacity);
+      omega (arith, ap (λ v. v.capacity) c.self.view_is, c.make_room.ensures.same.capacity, c.grant.ensures.takes.capacity);
 }
 
 pub returns-in_err-make_room-clause-memory : goal.returns-in_err-make_room-clause-memory
@@ -129,7 +123,7 @@ returns-clause-answer g c =
 pub returns-clause-first : goal.returns-clause-first
 returns-clause-first g c =
     rw (← c.self.view_is) (λ f.
-    once-first _ (c.grant.ensures.takes.once (c.tidy.ensures.takes.once (once-shelf _ _ c.make_room.ensures.same.shelf (first-once _ f)))))
+    once-first _ (c.grant.ensures.takes.once (once-shelf _ _ c.make_room.ensures.same.shelf (first-once _ f))))
 
 pub returns-in_err-make_room-clause-first : goal.returns-in_err-make_room-clause-first
 returns-in_err-make_room-clause-first g c =

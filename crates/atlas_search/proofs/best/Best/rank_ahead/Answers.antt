@@ -4,13 +4,8 @@ use Rattle.std.proofs.lemmas.Bool.{true≢false}
 use Rattle.atlas_model.specs.Boxes.{Sides, Fits, box_sides}
 use Rattle.atlas_model.specs.Pixels.{box_of}
 use Rattle.atlas_search.specs.Searches.{shown_at}
-use Rattle.atlas_search.proofs.SearchLemmas.Bests.{asked, past-bar, ranked-ahead, ranked-behind, seen-unfit}
+use Rattle.atlas_search.proofs.SearchLemmas.Bests.{asked, ranked-ahead, ranked-behind, seen-unfit}
 use Rattle.atlas_search.proofs.best.Best.rank_ahead.Goals as goal
-
-pub returns-then-corner-self-clause-passed : goal.returns-then-corner-self-clause-passed
-returns-then-corner-self-clause-passed c none is_large r shown seen =
-    past-bar c.args.self.now is_large r shown seen c.args.rectangle c.args.corner (search rules) (search rules) c.requires.corner
-    (search rules) c.if-corner-self.true
 
 pub returns-then-margin-lt0-clause-passed : goal.returns-then-margin-lt0-clause-passed
 returns-then-margin-lt0-clause-passed c none is_large r shown seen at =

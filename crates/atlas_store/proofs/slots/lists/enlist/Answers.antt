@@ -1,62 +1,69 @@
-use Rattle.std.proofs.Common.{◌≡◌, ◌<◌, ◌≤◌, ◌∙◌, List, ℕ, length, refl, ap, sym, subst, arith}
-use Rattle.std.proofs.lemmas.List.{length-map}
-use Rattle.atlas_model.specs.Trees.{most_slots}
-use Rattle.atlas_store.specs.declared.slots.Slot.{Slot}
-use Rattle.atlas_store.specs.Slots.{nodes, node_at, rings}
+use Rattle.std.proofs.Common.{◌∙◌, refl, ap, sym, subst, subst₂}
+use Rattle.atlas_model.specs.Pixels.{options_of}
 use Rattle.atlas_search.specs.Bands.{number_of}
-use Rattle.atlas_search.specs.Piles.{IsTag}
+use Rattle.atlas_search.specs.HeapCalls.{CanPush, HasPushed}
+use Rattle.atlas_search.specs.Heaps.{Heap, tag_of}
 use Rattle.atlas_search.specs.Tables.{head_of}
 use Rattle.atlas_search.specs.declared.link.Link.{Link}
-use Rattle.atlas_store.specs.Slots.Links.{IsUnlisted}
-use Rattle.atlas_store.specs.Slots.Lists.{AreFiled, IsLinked, IsList, node_top, tag_of}
-use Rattle.atlas_model.specs.Pixels.{options_of}
 use Rattle.atlas_store.proofs.SlotLemmas.SlotAreas.{free-inside}
-use Rattle.atlas_store.proofs.StoreLemmas.FiledSlots.{IsPutIn, is-unlisted, list_for, number-is, listed-by, length-rings}
-use Rattle.atlas_store.proofs.StoreLemmas.LinkedLists.{chain-linked, untagged-chain}
+use Rattle.atlas_store.proofs.StoreLemmas.FiledSlots.{number-is}
+use Rattle.atlas_store.proofs.StoreLemmas.ListedSlots.{IsNear, joined, joined-some, joins, nodes-bare, recent-joined}
+use Rattle.atlas_store.proofs.StoreLemmas.SlotLists.{items}
 use Rattle.atlas_store.proofs.slots.lists.enlist.Goals as goal
 
 pub read_node-node-requires : goal.read_node-node-requires
 read_node-node-requires g c = free-inside c.args.slots.now c.args.at.number c.requires.free
 
-pub push-requires-clause-slot : goal.push-requires-clause-slot
-push-requires-clause-slot g c = omega (arith, c.requires.short, free-inside c.args.slots.now c.args.at.number c.requires.free)
-
-pub push_front-requires-clause-inside : goal.push_front-requires-clause-inside
-push_front-requires-clause-inside g c = free-inside c.args.slots.now c.args.at.number c.requires.free
-
-pub returns-then-not-push-clause-filed : goal.returns-then-not-push-clause-filed
-returns-then-not-push-clause-filed g c = λ unused p filed kept.
-    c.join_pile.ensures.filed unused p
-    (subst (λ hs. AreFiled (options_of c.args.options.now) (nodes c.args.slots.now) (rings c.args.slots.now) hs unused p) (sym (c.if-not-push.ensures.stays refl)) filed) kept
-
-pub push_front-requires-clause-list : goal.push_front-requires-clause-list
-push_front-requires-clause-list g c =
+pub push-first-requires : goal.push-first-requires
+push-first-requires g c =
     let o = options_of c.args.options.now in
-    let m = number_of c.place_for-place.result in
+    let i = c.args.at.number in
+    let n = number_of c.place_for-place.result in
     let em = number-is o c.place_for-place.result c.exact_size.result _ _ c.place_for-place.ensures.number c.exact_size.ensures.sides c.read_node-node.ensures in
-    subst (λ (l : Link). IsUnlisted (rings c.args.slots.now) c.before_first.result.number l c.args.at.number) (sym c.head-first.ensures)
-    (subst (λ n. IsUnlisted (rings c.args.slots.now) n (head_of c.args.lists.now m) c.args.at.number) (sym c.before_first.ensures)
-    (is-unlisted o c.args.slots.now c.args.lists.now c.args.at.number m (omega (arith, c.requires.short)) c.requires.detached em (c.if-not-push.ensures.chain refl)))
+    let k = c.requires.detached in
+    let near = subst (λ m. IsNear c.in_list.result.number (k.places.free_lists m)) em (c.in_list.ensures k.places.free_lists k.is_recent) in
+    subst₂ (λ t f. (h : Heap) × CanPush (items c.args.slots.now) t f c.in_list.result.number i h)
+    (sym (c.tag.ensures ∙ ap tag_of em)) (sym (ap (λ (l : Link). l.number) (c.head.ensures ∙ ap (head_of c.args.lists.now) em)))
+    (joins o c.args.slots.now c.args.lists.now i c.requires.free c.requires.exact c.requires.short k.unused k.places k.filed k.is_detached
+    c.in_list.result.number near)
+
+pub raise-requires-clause-slot : goal.raise-requires-clause-slot
+raise-requires-clause-slot g c =
+    let o = options_of c.args.options.now in
+    let i = c.args.at.number in
+    let n = number_of c.place_for-place.result in
+    let em = number-is o c.place_for-place.result c.exact_size.result _ _ c.place_for-place.ensures.number c.exact_size.ensures.sides c.read_node-node.ensures in
+    let k = c.requires.detached in
+    let near = subst (λ m. IsNear c.in_list.result.number (k.places.free_lists m)) em (c.in_list.ensures k.places.free_lists k.is_recent) in
+    joined-some o c.args.slots.now c.args.lists.now i c.requires.free c.requires.exact c.requires.short k.unused k.places k.filed k.is_detached
+    c.in_list.result.number near c.push-first.new.entries c.push-first.result.number
+    (subst₂ (λ t f. (h : Heap) → CanPush (items c.args.slots.now) t f c.in_list.result.number i h
+    → HasPushed (items c.args.slots.now) (items c.push-first.new.entries) t c.push-first.result.number i h)
+    (c.tag.ensures ∙ ap tag_of em) (ap (λ (l : Link). l.number) (c.head.ensures ∙ ap (head_of c.args.lists.now) em)) c.push-first.ensures.pushed)
+    c.push-first.auto.entries
 
 pub returns-clause-filed : goal.returns-clause-filed
-returns-clause-filed g c =
+returns-clause-filed g c unused p filed is_recent kept =
     let o = options_of c.args.options.now in
+    let i = c.args.at.number in
+    let n = number_of c.place_for-place.result in
     let em = number-is o c.place_for-place.result c.exact_size.result _ _ c.place_for-place.ensures.number c.exact_size.ensures.sides c.read_node-node.ensures in
-    let m = number_of c.place_for-place.result in
-    let few : length c.args.slots.now ≤ most_slots = c.requires.short in
-    let short : length (rings c.args.slots.now) < 2147483648 = omega (arith, few, length-map c.args.slots.now (λ (s : Slot). s.ring)) in
-    let untagged : IsTag c.head-first.result.number → ⊥ =
-    subst (λ (l : Link). IsTag l.number → ⊥) (sym c.head-first.ensures) (c.if-not-push.ensures.chain refl) in
-    let ns = nodes c.args.slots.now in
-    let rs = rings c.args.slots.now in
-    let chain : (xs : List ℕ) → IsLinked ns rs c.before_first.result.number c.head-first.result xs → IsList rs c.before_first.result.number c.head-first.result xs =
-    (λ xs h. untagged-chain ns rs c.before_first.result.number c.head-first.result xs short h untagged) in
-    let put : IsPutIn ns rs (rings c.push_front.new.slots) c.before_first.result.number c.head-first.result c.args.at c.args.at.number = record {
-      same_length = length-rings c.args.slots.now c.push_front.new.slots c.push_front.auto.slots;
-      links = λ xs h own none. chain-linked ns (rings c.push_front.new.slots) c.before_first.result.number c.args.at _ (c.push_front.ensures.list xs (chain xs h) none);
-      others = λ xs k h own none ne z. c.push_front.ensures.others xs k (chain xs h) ne z;
-    } in
-    listed-by o ns _ rs (rings c.push_front.new.slots) c.args.lists.now c.push.new.self c.args.at.number m c.top_in.result c.args.at short
-    c.push_front.ensures.same_nodes em c.requires.free (record { firsts = (c.if-not-push.ensures.pushed refl).heads; lows = (c.if-not-push.ensures.pushed refl).lows }) (c.if-not-push.ensures.pushed refl).head (c.top_in.ensures ∙ ap node_top c.read_node-node.ensures) (c.if-not-push.ensures.pushed refl).low (c.if-not-push.ensures.pushed refl).lower
-    (subst (λ l. IsPutIn ns rs (rings c.push_front.new.slots) (tag_of m) l c.args.at c.args.at.number) c.head-first.ensures
-    (subst (λ b. IsPutIn ns rs (rings c.push_front.new.slots) b c.head-first.result c.args.at c.args.at.number) c.before_first.ensures put))
+    let near = subst (λ m. IsNear c.in_list.result.number (p.free_lists m)) em (c.in_list.ensures p.free_lists is_recent) in
+    joined o c.args.slots.now c.args.lists.now i c.requires.free c.requires.exact c.requires.short unused p filed kept
+    c.in_list.result.number near c.push-first.new.entries c.raise.new.self c.push-first.result
+    (subst₂ (λ t f. (h : Heap) → CanPush (items c.args.slots.now) t f c.in_list.result.number i h
+    → HasPushed (items c.args.slots.now) (items c.push-first.new.entries) t c.push-first.result.number i h)
+    (c.tag.ensures ∙ ap tag_of em) (ap (λ (l : Link). l.number) (c.head.ensures ∙ ap (head_of c.args.lists.now) em)) c.push-first.ensures.pushed)
+    c.push-first.ensures.bare c.push-first.auto.entries (ap (head_of c.raise.new.self) (sym em) ∙ c.raise.ensures.head)
+    (λ k ne. c.raise.ensures.heads k (λ e. ne (e ∙ em)))
+
+pub returns-clause-recent : goal.returns-clause-recent
+returns-clause-recent g c p =
+    let o = options_of c.args.options.now in
+    let i = c.args.at.number in
+    let n = number_of c.place_for-place.result in
+    let em = number-is o c.place_for-place.result c.exact_size.result _ _ c.place_for-place.ensures.number c.exact_size.ensures.sides c.read_node-node.ensures in
+    recent-joined (record { at = c.args.at; list = n }) p.free_lists _ i refl em
+
+pub returns-clause-same_nodes : goal.returns-clause-same_nodes
+returns-clause-same_nodes g c = nodes-bare c.args.slots.now c.push-first.new.entries c.push-first.ensures.bare

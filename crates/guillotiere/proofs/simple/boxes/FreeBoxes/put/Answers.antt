@@ -1,35 +1,68 @@
-use Rattle.std.proofs.Common.{◌≡◌, ◌<◌, ◌≤◌, ◌∙◌, true, inl, inr, List, map, subst, sym, ap, arith}
-use Rattle.std.proofs.lemmas.Bool.{cases_Bool}
-use Rattle.std.proofs.lemmas.List.{map-set}
+use Rattle.std.proofs.Common.{◌∙◌, [], List, map, subst, sym, ap, arith, ◌∷◌}
+use Rattle.std.specs.Vec.{with_item}
+use Rattle.std.proofs.lemmas.List.{with_items_is}
+use Rattle.guillotiere.specs.declared.simple.boxes.FreeBox.{FreeBox}
 use Rattle.atlas_search.specs.declared.link.Link.{Link}
 use Rattle.atlas_search.specs.Bands.{list_of, number_of}
-use Rattle.guillotiere.specs.FreeBoxes.BoxShelves.{AreKept, stored_item}
-use Rattle.atlas_search.specs.Items.{Item}
-use Rattle.atlas_model.specs.Pixels.{options_of}
-use Rattle.atlas_search.specs.Tables.{low_of}
-use Rattle.guillotiere.proofs.SimpleLemmas.BoxShelves.{put-kept, boxes-with, exact-width, untagged-path}
+use Rattle.atlas_model.specs.Boxes.{AreSameBoxes}
+use Rattle.atlas_model.specs.Pixels.{box_of, options_of}
+use Rattle.guillotiere.specs.FreeBoxes.BoxShelves.{AreKept, free_item_boxes, stored_item}
+use Rattle.guillotiere.proofs.SimpleLemmas.BoxShelves.{box-can, box-long, box-put, box-some, lone_box}
 use Rattle.guillotiere.proofs.simple.boxes.FreeBoxes.put.Goals as goal
+
+pub push-top-requires : goal.push-top-requires
+push-top-requires g c = (
+  _,
+  box-can (options_of c.args.options.now) c.args.self.now.table c.args.self.now.entries.items c.deref_mut.result.now [] c.args.self.now.unused
+      c.args.self.now.used c.args.at.number (number_of c.place_for-place.result) c.args.area c.requires.claimed c.requires.exact
+      (ap (list_of (options_of c.args.options.now)) (sym c.exact_size.ensures.sides) ∙ sym c.place_for-place.ensures.number)
+      (omega (arith, c.place_for-place.ensures.row_inside, c.place_for-place.ensures.column_inside)) c.tag.result.number c.head.result.number
+      c.deref_mut.ensures.value c.tag.ensures (ap (λ (l : Link). l.number) c.head.ensures),
+)
+
+pub raise-requires-clause-slot : goal.raise-requires-clause-slot
+raise-requires-clause-slot g c =
+    box-some (options_of c.args.options.now) c.args.self.now.table c.args.self.now.entries.items c.deref_mut.result.now c.push-top.new.entries c.args.self.now.unused
+    c.args.self.now.used c.args.at.number (number_of c.place_for-place.result) c.args.area c.requires.claimed c.requires.exact
+    (ap (list_of (options_of c.args.options.now)) (sym c.exact_size.ensures.sides) ∙ sym c.place_for-place.ensures.number)
+    (omega (arith, c.place_for-place.ensures.row_inside, c.place_for-place.ensures.column_inside)) c.tag.result.number c.head.result.number
+    c.deref_mut.ensures.value c.tag.ensures (ap (λ (l : Link). l.number) c.head.ensures) c.push-top.result.number
+    c.push-top.ensures.pushed c.push-top.ensures.areas
 
 pub returns-clause-kept : goal.returns-clause-kept
 returns-clause-kept g c =
-    let o = options_of c.args.options.now in
-    let es = map stored_item c.args.self.now.entries.items in
-    let k = number_of c.place_for-place.result in
-    let e = stored_item (record { area = c.args.area; after = c.head-after.result }) in
-    let place = c.place_for-place.ensures in
-    let few : k < 2704 = omega (arith, place.row_inside, place.column_inside) in
-    let list = ap (list_of o) (sym c.exact_size.ensures.sides) ∙ sym place.number in
-    let kept = c.requires.claimed.kept in
-    let untagged = untagged-path es _ _ kept.listed.short (kept.chains k few) in
-    let done : c.push-pushed.result ≡ true =
-    elim (cases_Bool c.push-pushed.result) [ inl t ↦ t | inr f ↦ absurd (untagged (c.push-pushed.ensures.pile f)) ] in
-    let pushed = c.push-pushed.ensures.pushed done in
-    let low = subst (λ n. low_of c.push-pushed.new.self k ≤ n) c.top_in.ensures pushed.low in
-    subst (λ (ts : List Item). AreKept o (record { entries = ts; heads = c.push-pushed.new.self; unused = c.args.self.now.unused; used = c.args.self.now.used }))
-    (sym (map-set stored_item c.args.self.now.entries.items c.args.at.number (record { area = c.args.area; after = c.head-after.result })))
-    (put-kept o c.args.self.now.table c.push-pushed.new.self es c.args.self.now.unused c.args.self.now.used c.args.at.number k e c.requires.claimed
-    (exact-width c.args.area c.requires.exact) (ap (λ (l : Link). l.number) c.head-after.ensures) c.requires.exact list few
-    (ap (λ (l : Link). l.number) pushed.head) pushed.heads low pushed.lower pushed.lows)
+    let done = box-put (options_of c.args.options.now) c.args.self.now.table c.args.self.now.entries.items c.deref_mut.result.now c.push-top.new.entries c.args.self.now.unused
+    c.args.self.now.used c.args.at.number (number_of c.place_for-place.result) c.args.area c.requires.claimed c.requires.exact
+    (ap (list_of (options_of c.args.options.now)) (sym c.exact_size.ensures.sides) ∙ sym c.place_for-place.ensures.number)
+    (omega (arith, c.place_for-place.ensures.row_inside, c.place_for-place.ensures.column_inside)) c.tag.result.number c.head.result.number
+    c.deref_mut.ensures.value c.tag.ensures (ap (λ (l : Link). l.number) c.head.ensures) c.push-top.result.number
+    c.push-top.ensures.pushed c.push-top.ensures.areas c.raise.new.self (ap (λ (l : Link). l.number) c.raise.ensures.head) c.raise.ensures.heads in
+    let long = box-long (options_of c.args.options.now) c.args.self.now.table c.args.self.now.entries.items c.deref_mut.result.now c.push-top.new.entries c.args.self.now.unused
+    c.args.self.now.used c.args.at.number (number_of c.place_for-place.result) c.args.area c.requires.claimed c.requires.exact
+    (ap (list_of (options_of c.args.options.now)) (sym c.exact_size.ensures.sides) ∙ sym c.place_for-place.ensures.number)
+    (omega (arith, c.place_for-place.ensures.row_inside, c.place_for-place.ensures.column_inside)) c.tag.result.number c.head.result.number
+    c.deref_mut.ensures.value c.tag.ensures (ap (λ (l : Link). l.number) c.head.ensures) c.push-top.result.number
+    c.push-top.ensures.pushed c.push-top.ensures.areas in
+    let items = with_items_is (with_item c.args.self.now.entries c.args.at.number (lone_box c.args.area)) c.push-top.new.entries
+    (long ∙ sym c.args.self.now.entries.ok.0) in
+    subst (λ (bs : List FreeBox). AreKept (options_of c.args.options.now) (record { entries = map stored_item bs; heads = c.raise.new.self; unused = c.args.self.now.unused; used = c.args.self.now.used }))
+    (sym items) done.0
 
 pub returns-clause-boxes : goal.returns-clause-boxes
-returns-clause-boxes g c = grind (arith, map-set, boxes-with, exact-width)
+returns-clause-boxes g c =
+    let done = box-put (options_of c.args.options.now) c.args.self.now.table c.args.self.now.entries.items c.deref_mut.result.now c.push-top.new.entries c.args.self.now.unused
+    c.args.self.now.used c.args.at.number (number_of c.place_for-place.result) c.args.area c.requires.claimed c.requires.exact
+    (ap (list_of (options_of c.args.options.now)) (sym c.exact_size.ensures.sides) ∙ sym c.place_for-place.ensures.number)
+    (omega (arith, c.place_for-place.ensures.row_inside, c.place_for-place.ensures.column_inside)) c.tag.result.number c.head.result.number
+    c.deref_mut.ensures.value c.tag.ensures (ap (λ (l : Link). l.number) c.head.ensures) c.push-top.result.number
+    c.push-top.ensures.pushed c.push-top.ensures.areas c.raise.new.self (ap (λ (l : Link). l.number) c.raise.ensures.head) c.raise.ensures.heads in
+    let long = box-long (options_of c.args.options.now) c.args.self.now.table c.args.self.now.entries.items c.deref_mut.result.now c.push-top.new.entries c.args.self.now.unused
+    c.args.self.now.used c.args.at.number (number_of c.place_for-place.result) c.args.area c.requires.claimed c.requires.exact
+    (ap (list_of (options_of c.args.options.now)) (sym c.exact_size.ensures.sides) ∙ sym c.place_for-place.ensures.number)
+    (omega (arith, c.place_for-place.ensures.row_inside, c.place_for-place.ensures.column_inside)) c.tag.result.number c.head.result.number
+    c.deref_mut.ensures.value c.tag.ensures (ap (λ (l : Link). l.number) c.head.ensures) c.push-top.result.number
+    c.push-top.ensures.pushed c.push-top.ensures.areas in
+    let items = with_items_is (with_item c.args.self.now.entries c.args.at.number (lone_box c.args.area)) c.push-top.new.entries
+    (long ∙ sym c.args.self.now.entries.ok.0) in
+    subst (λ (bs : List FreeBox). AreSameBoxes (free_item_boxes (map stored_item bs)) (box_of c.args.area ∷ free_item_boxes (map stored_item c.args.self.now.entries.items)))
+    (sym items) done.1

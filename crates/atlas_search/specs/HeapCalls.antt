@@ -1,0 +1,86 @@
+-- What the calls that change heaps need, and what they leave. No public clause cites this module.
+use Rattle.std.specs.Prelude.{ℕ, ◌+◌, ◌≡◌, ◌≢◌, ◌<◌, ◌≤◌, ◌⊎◌, ◌==◌, List, length, if◌then◌else◌}
+use Rattle.atlas_search.specs.Numbers.{occurs, no_slot, same}
+use Rattle.atlas_search.specs.Rectangles.{IsSolid}
+use Rattle.atlas_search.specs.Heaps.{Heap, IsHeap, members}
+use Rattle.atlas_search.specs.Items.{Item, item_at, linked}
+
+-- Of the entries nothing changed but links.
+pub record KeepsAreas (es fs : List Item) : Type 0 where
+  pub long : length fs ≡ length es
+  pub areas : (k : ℕ) → (item_at fs k).area ≡ (item_at es k).area
+  pub frees : (k : ℕ) → (item_at fs k).is_free ≡ (item_at es k).is_free
+
+-- One entry has these links, and nothing else changed.
+pub record IsLinked (es fs : List Item) (at up left right : ℕ) : Type 0 where
+  pub long : length fs ≡ length es
+  pub here : item_at fs at ≡ linked (item_at es at) up left right
+  pub others : (k : ℕ) → k ≢ at → item_at fs k ≡ item_at es k
+
+-- Entry `less` hangs to the left below entry `above`, and what was there hangs to the right.
+pub record IsHungLeft (es fs : List Item) (above less : ℕ) : Type 0 where
+  pub long : length fs ≡ length es
+  pub upper : item_at fs above ≡ linked (item_at es above) (item_at es above).up less (item_at es above).left
+  pub lower : item_at fs less ≡ linked (item_at es less) above (item_at es less).left (item_at es less).right
+  pub others : (k : ℕ) → k ≢ above → k ≢ less → item_at fs k ≡ item_at es k
+
+-- A heap has each of its entries once, and all have exact rectangles.
+pub record IsSoundHeap (es : List Item) (up top : ℕ) (h : Heap) : Type 0 where
+  pub short : length es ≤ no_slot
+  pub heap : IsHeap es up top h
+  pub once : (k : ℕ) → occurs k (members h) ≤ 1
+  pub exact : (k : ℕ) → 0 < occurs k (members h) → IsSolid (item_at es k).area
+
+-- Two heaps that aren't empty have no entry in common, and all have exact rectangles.
+pub record AreApart (es : List Item) (up one : ℕ) (g : Heap) (under other : ℕ) (h : Heap) : Type 0 where
+  pub short : length es ≤ no_slot
+  pub heap : IsHeap es up one g
+  pub part : IsHeap es under other h
+  pub some : one ≢ no_slot
+  pub more : other ≢ no_slot
+  pub once : (k : ℕ) → occurs k (members g) + occurs k (members h) ≤ 1
+  pub exact : (k : ℕ) → 0 < occurs k (members g) + occurs k (members h) → IsSolid (item_at es k).area
+
+-- Two heaps are one with this top, above which `up` stands; all other entries keep their links.
+pub record IsMelded (es fs : List Item) (up top : ℕ) (g h : Heap) : Type 0 where
+  pub both : Heap
+  pub heap : IsHeap fs up top both
+  pub has : (k : ℕ) → occurs k (members both) ≡ occurs k (members g) + occurs k (members h)
+  pub others : (k : ℕ) → occurs k (members g) + occurs k (members h) ≡ 0 → item_at fs k ≡ item_at es k
+
+-- Entry `at` can join a heap; `hint` is none or one of its entries.
+pub record CanPush (es : List Item) (up top hint at : ℕ) (h : Heap) : Type 0 where
+  pub sound : IsSoundHeap es up top h
+  pub inside : at < length es
+  pub solid : IsSolid (item_at es at).area
+  pub apart : occurs at (members h) ≡ 0
+  pub near : (hint ≡ no_slot) ⊎ (0 < occurs hint (members h))
+
+-- Entry `at` has joined a heap; all other entries keep their links.
+pub record HasPushed (es fs : List Item) (up top at : ℕ) (h : Heap) : Type 0 where
+  pub grown : Heap
+  pub heap : IsHeap fs up top grown
+  pub has : (k : ℕ) → occurs k (members grown) ≡ same k at + occurs k (members h)
+  pub others : (k : ℕ) → k ≢ at → occurs k (members h) ≡ 0 → item_at fs k ≡ item_at es k
+
+-- Entry `at` can leave a heap, above which a tag stands.
+pub record CanRemove (es : List Item) (tag top at : ℕ) (h : Heap) : Type 0 where
+  pub sound : IsSoundHeap es tag top h
+  pub tagged : length es ≤ tag
+  pub member : 0 < occurs at (members h)
+
+-- Entry `at` has left a heap, whose top is `rest` if it was `at`; all other entries keep their links.
+pub record HasRemoved (es fs : List Item) (tag top rest at : ℕ) (h : Heap) : Type 0 where
+  pub less : Heap
+  pub heap : IsHeap fs tag (if at == top then rest else top) less
+  pub has : (k : ℕ) → same k at + occurs k (members less) ≡ occurs k (members h)
+  pub others : (k : ℕ) → occurs k (members h) ≡ 0 → item_at fs k ≡ item_at es k
+
+-- These heaps hang below entry `at`, and all have exact rectangles.
+pub record ArePartsBelow (es : List Item) (at : ℕ) (left right : Heap) : Type 0 where
+  pub short : length es ≤ no_slot
+  pub inside : at < length es
+  pub low : IsHeap es at (item_at es at).left left
+  pub high : IsHeap es at (item_at es at).right right
+  pub once : (k : ℕ) → same k at + (occurs k (members left) + occurs k (members right)) ≤ 1
+  pub exact : (k : ℕ) → 0 < occurs k (members left) + occurs k (members right) → IsSolid (item_at es k).area
