@@ -36,7 +36,7 @@ def listed(form, out):
         return [[told['filename'] for told in part['frames']] for part in readers.read_json(path)['textures']]
     if form == 'starling':
         return [[told.get('name') for told in xml.etree.ElementTree.parse(each).getroot()] for each in readers.numbered(path)]
-    if form == 'cocos':
+    if form in ('cocos', 'cocos3'):
         return [re.findall('<key>(.*\\.png)</key>', open(each).read()) for each in readers.numbered(path)
                 if plistlib.load(open(each, 'rb'))]
     with open(path) as file:
@@ -152,7 +152,7 @@ def timed(room):
     for form in [*readers.READERS, 'unity', 'css']:
         out = os.path.join(room, 'timed ' + form)
         told = run(folder, out, '--form', form, '--frame-rate', '7').stderr
-        is_lost = form in ('libgdx', 'libgdx-new', 'starling', 'cocos', 'css')
+        is_lost = form in ('libgdx', 'libgdx-new', 'starling', 'cocos', 'cocos3', 'css')
         assert told == ('guillotiere-sheet: this form has no place for what animations.txt tells\n' if is_lost else ''), (form, told)
         if form in ('json-hash', 'json-array'):
             data = readers.read_json(out + '.json')

@@ -254,3 +254,10 @@ pub fn cocos() -> Result<Template, Fault> {
         include_str!("../../templates/cocos.each.plist.tera"),
     )
 }
+
+pub fn cocos3() -> Result<Template, Fault> {
+    Template::new(
+        "cocos3.each.plist.tera",
+        include_str!("../../templates/cocos3.each.plist.tera"),
+    )
+}
