@@ -2,6 +2,7 @@
 mod anchor;
 mod animation;
 mod colour;
+mod config;
 mod decode;
 mod dropped;
 mod fault;
@@ -68,6 +69,7 @@ impl Done {
     fn new(words: &Words, listed: &Listed) -> Done {
         let texts = fresh::texts(words).into_iter().filter(|path| path.exists());
         let pictures = listed.files.iter().map(|(_, path)| path.clone());
+        let texts = texts.chain(words.config.clone());
         Done {
             files: Vec::new(),
             lines: Vec::new(),
@@ -431,7 +433,8 @@ fn main() -> ExitCode {
     };
     stop::listen();
     if words.watch {
-        return ExitCode::from(told(&watch::watch(&words)));
+        let again = || words::words(std::env::args_os());
+        return ExitCode::from(told(&watch::watch(words, again)));
     }
     ExitCode::from(told(&run(&words)))
 }

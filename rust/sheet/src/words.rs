@@ -1,5 +1,6 @@
 //! The words of the command line.
 use crate::anchor::Anchor;
+use crate::config;
 use crate::fault::{Fault, WORDS};
 use crate::forms::{self, Filter, Form, Style, Template, Wrap};
 use crate::man;
@@ -45,6 +46,10 @@ pub struct Words {
     pub folder: PathBuf,
     /// OUT.png is the sheet, with the data file of --form next to it; with --pages the sheets are OUT-0.png, OUT-1.png ..
     pub out: PathBuf,
+    /// Takes options from FILE in TOML, whose keys are those of here without --, as `trim = true` and `size = [512, 512]`; an option of the
+    /// command line takes the place of the file's
+    #[arg(long, value_name = "FILE")]
+    pub config: Option<PathBuf>,
     /// What is written next to the pictures
     #[arg(long, value_enum, default_value_t = Form::JsonHash)]
     pub form: Form,
@@ -379,11 +384,12 @@ pub fn words(given: impl IntoIterator<Item = std::ffi::OsString>) -> Result<Word
             };
             say(&error.to_string()).err().unwrap_or(told)
         }
-        ErrorKind::MissingRequiredArgument => {
+        ErrorKind::MissingRequiredArgument if !one_line(&error).contains(" --") => {
             Fault::new(WORDS, "FOLDER and OUT are required; see --help")
         }
         _ => Fault::new(WORDS, one_line(&error)),
     };
+    let given = config::with_file(given.into_iter().collect(), &Words::command(), one_line)?;
     let matches = Words::command()
         .try_get_matches_from(given)
         .map_err(refused)?;
