@@ -129,7 +129,7 @@ def beside_others():
         def names():
             return json.load(open(room + '/sheet.json'))['frames'] if os.path.exists(room + '/sheet.json') else {}
         with open(room + '/errors', 'w') as errors:
-            common.begun([PROGRAM, 'in', 'sheet', '--config', 'options.toml', '--watch'], cwd=room, stderr=errors, stdout=errors)
+            running = common.begun([PROGRAM, 'in', 'sheet', '--config', 'options.toml', '--watch'], cwd=room, stderr=errors, stdout=errors)
         check('a file of options, followed: first', comes(lambda: len(names()) == 6))
         put(room, {'options.toml': b'exclude = "a*"'})
         check('a file of options, followed: changed', comes(lambda: len(names()) == 5))
@@ -138,6 +138,8 @@ def beside_others():
               and len(names()) == 5)
         put(room, {'options.toml': b'drop-extension = true'})
         check('a file of options, followed: good again', comes(lambda: sorted(names()) == sorted('abcdef')), names())
+        running.terminate()
+        running.wait()
 
 
 # Kinds of pictures, seeds and words for which changes of the order alone ended at a larger set with --turn.
