@@ -500,6 +500,9 @@ def on_the_page():
     check('on the page: lines', len(lines) >= 9, lines)
     options = ''.join(re.search(r'^`sheet\.toml` is .*\n\n((?:    .*\n)+)', page, re.M).group(1).split('    '))
     for line in lines:
+        if ' webp' in line and shutil.which('cwebp') is None:
+            SUITE.skip('on the page: ' + line, 'there is no cwebp')
+            continue
         with tempfile.TemporaryDirectory() as room:
             put(room + '/icons', {'%d/%d.png' % (number % 2, number): png(8 + number, 8, number) for number in range(9)})
             os.mkdir(room + '/game')

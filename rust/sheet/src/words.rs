@@ -37,6 +37,24 @@ pub enum Names {
     Content,
 }
 
+/// The form of the sheets' pictures.
+#[derive(Clone, Copy, Debug, PartialEq, Eq, ValueEnum)]
+pub enum Image {
+    Png,
+    /// Without loss, by the program cwebp of libwebp
+    Webp,
+}
+
+impl Image {
+    /// How a file's name ends.
+    pub fn ending(self) -> &'static str {
+        match self {
+            Image::Png => ".png",
+            Image::Webp => ".webp",
+        }
+    }
+}
+
 /// Packs the pictures of a folder into sheets that engines load.
 #[derive(Parser, Clone, Debug)]
 #[command(name = "guillotiere-sheet", version, override_usage = USAGE, after_help = AFTER)]
@@ -66,6 +84,9 @@ pub struct Words {
     /// How the pictures of the sheets are called
     #[arg(long, value_enum, default_value_t = Names::Fixed)]
     pub names: Names,
+    /// The form of the sheets' pictures; with webp OUT.webp is the sheet
+    #[arg(long, value_enum, default_value_t = Image::Png)]
+    pub image: Image,
     /// Leaves out the transparent borders of the pictures
     #[arg(long)]
     pub trim: bool,
@@ -302,7 +323,8 @@ impl Words {
         if self.template.is_some() {
             self.form = Form::Template;
         }
-        if let Some(name) = self.out.to_str().and_then(|out| out.strip_suffix(".png")) {
+        let ending = self.image.ending();
+        if let Some(name) = self.out.to_str().and_then(|out| out.strip_suffix(ending)) {
             self.out = PathBuf::from(name);
         }
         // A path's own parts pass over a `.` at its end.
@@ -328,7 +350,7 @@ impl Words {
         } else if self.turn && forms::no_turn(self.form).is_some() {
             forms::no_turn(self.form)
         } else {
-            self.fault_of_sides()
+            self.fault_of_image().or_else(|| self.fault_of_sides())
         };
         if let Some(line) = fault {
             return Err(Fault::new(WORDS, line));
@@ -340,6 +362,19 @@ impl Words {
             }
         }
         Ok(())
+    }
+
+    fn fault_of_image(&self) -> Option<&'static str> {
+        match self.image {
+            Image::Png => None,
+            Image::Webp if self.manage_colours => {
+                Some("--image webp can't be used with --manage-colours: a WebP has no place for what it tells")
+            }
+            Image::Webp if !forms::reads_webp(self.form) => {
+                Some("--image webp can't be used with this form: its engine reads no WebP")
+            }
+            Image::Webp => None,
+        }
     }
 
     fn has_filter(&self) -> bool {

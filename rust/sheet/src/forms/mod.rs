@@ -127,6 +127,14 @@ pub fn no_turn(form: Form) -> Option<&'static str> {
     }
 }
 
+/// Whether the engines of a form read sheets that are WebP.
+pub fn reads_webp(form: Form) -> bool {
+    !matches!(
+        form,
+        Form::Libgdx | Form::LibgdxNew | Form::Starling | Form::Unity
+    )
+}
+
 /// How a turned sprite lies in the pictures that the engines of a form read.
 pub fn turned(form: Form) -> Lie {
     match form {
