@@ -1,7 +1,7 @@
 /* guillotiere.c: printed by c/printer from what the prover proved. Don't edit.
  *
  * It needs a compiler for C99 or C++17 and guillotiere.h. Of the C library it needs malloc, realloc and free, in place of which
- * guillotiere_set_memory may name another function. Each function has its place in the sources above it; numbers are without signs, and
+ * guillotiere_set_memory may name another function. Each function has its file in the sources above it; numbers are without signs, and
  * where one is compared or divided with its sign it is cast. */
 #include "guillotiere.h"
 #include <stdlib.h>

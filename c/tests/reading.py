@@ -1,22 +1,16 @@
-"""A second reading of the MIR, which shares nothing with the printer: each function becomes one in Python, which works on bytes of a memory.
+"""A second reading of the MIR, which shares nothing with the printer: each function becomes one in Python, over the bytes of a memory.
 
 Numbers and pointers are numbers without a sign, structs, variants and arrays are bytes. What has bytes and isn't one number lies in memory,
 as does what is lent. Each statement does what it says, at its place: nothing is printed elsewhere, and no local is shared.
 """
 import struct
 
+from layout import Strange, Types, one
+
 FRAMES, HEAP, NOTHING = 1 << 20, 1 << 24, 64
 SCALARS = {1: 'B', 2: 'H', 4: 'I', 8: 'Q'}
 SIGNS = {'Add': '+', 'Sub': '-', 'Mul': '*', 'WrapAdd': '+', 'WrapSub': '-', 'WrapMul': '*', 'And': '&', 'Or': '|', 'Xor': '^', 'Shl': '<<'}
 COMPARED = {'Lt': '<', 'Le': '<=', 'Eq': '==', 'Ne': '!=', 'PtrEq': '=='}
-
-
-class Strange(Exception):
-    """What this reading doesn't know."""
-
-
-def one(node):
-    return (node, None) if isinstance(node, str) else next(iter(node.items()))
 
 
 def with_sign(value, bits):
@@ -28,91 +22,6 @@ def divided(first, second, bits, is_rest):
     first, second = with_sign(first, bits), with_sign(second, bits)
     quotient = abs(first) // abs(second) * (-1 if (first < 0) != (second < 0) else 1)
     return (first - quotient * second if is_rest else quotient) & (1 << bits) - 1
-
-
-class Types:
-    """Types with their parameters in place, and where their parts lie."""
-
-    def __init__(self, shapes):
-        self.shapes, self.known = shapes, {}
-
-    def of(self, node, given):
-        kind, held = one(node)
-        if kind in ('Bool', 'Unit', 'Ptr'):
-            return (kind,)
-        if kind in ('Int', 'Const'):
-            return (kind, held)
-        if kind == 'Param':
-            return given[held]
-        if kind == 'Ref':
-            return ('Ptr',)
-        if kind == 'Named':
-            return ('Named', held[0]['name'], tuple(self.of(each, given) for each in held[1]))
-        if kind == 'Struct':
-            return ('Struct', held[0], tuple(self.of(each, given) for each in held[1]))
-        if kind in ('Array', 'Vector'):
-            return ('Array', self.of(held[0], given), self.number(held[1], given))
-        raise Strange('type ' + kind)
-
-    def number(self, node, given):
-        kind, held = one(node)
-        return held if kind == 'Lit' else given[held][1]
-
-    def parts(self, kind, variant=None):
-        """The types of its fields, and where the first may begin."""
-        if kind[0] == 'Struct':
-            return list(kind[2]), 0
-        form, held = one(self.shapes[kind[1]])
-        if form == 'Fields':
-            return [self.of(each, kind[2]) for each in held], 0
-        rows = [[self.of(each, kind[2]) for each in row] for row in held]
-        to = max([1] + [self.size(part)[1] for row in rows for part in row])
-        return (rows[variant] if variant is not None else rows), to
-
-    def is_choice(self, kind):
-        return kind[0] == 'Named' and one(self.shapes[kind[1]])[0] == 'Variants'
-
-    def size(self, kind):
-        if kind not in self.known:
-            self.known[kind] = self.measured(kind)
-        return self.known[kind]
-
-    def measured(self, kind):
-        """Bytes and alignment."""
-        if kind[0] == 'Int':
-            return kind[1] // 8, kind[1] // 8
-        if kind[0] in ('Bool', 'Unit', 'Ptr', 'Const'):
-            return {'Bool': (1, 1), 'Ptr': (8, 8)}.get(kind[0], (0, 1))
-        if kind[0] == 'Array':
-            bytes_, to = self.size(kind[1])
-            return bytes_ * kind[2], to
-        parts, begin = self.parts(kind)
-        if not self.is_choice(kind):
-            return self.row(parts, 0)[1:]
-        ends = [self.row(row, begin)[1:] for row in parts]
-        to = max([1] + [each[1] for each in ends])
-        return (max(-(-end // to) * to for end, _ in ends), to) if ends else (0, 1)
-
-    def row(self, parts, at):
-        """Where each of these lies, one behind the other; the end, and the alignment of all."""
-        places, most = [], 1
-        for part in parts:
-            bytes_, to = self.size(part)
-            at = -(-at // to) * to
-            places.append(at)
-            at, most = at + bytes_, max(most, to)
-        return places, -(-at // most) * most, most
-
-    def field(self, kind, variant, index):
-        """The type of a field and where it lies; the first of a variant is its tag."""
-        if variant is not None and index == 0:
-            return ('Int', 8), 0
-        parts, begin = self.parts(kind, variant)
-        index -= variant is not None
-        return parts[index], self.row(parts, begin)[0][index]
-
-    def is_scalar(self, kind):
-        return kind[0] in ('Int', 'Bool', 'Ptr')
 
 
 class Machine:
@@ -163,17 +72,19 @@ class Machine:
         return at
 
     def give_back(self, at):
-        self.memory[at:at + self.blocks[at]] = b'\xdd' * self.blocks.pop(at)
+        bytes_ = self.blocks.pop(at)
+        self.memory[at:at + bytes_] = b'\xdd' * bytes_
 
     def foreign(self, name, given):
-        kind = self.types.of(self.functions[name]['locals'][0]['ty'], ())
+        kinds = [self.types.of(each['ty'], ()) for each in self.functions[name]['locals']]
+        kind, given = kinds[0], [each for of, each in zip(kinds[1:], given) if self.types.size(of)[0]]
         if name == 'libc::heap::rattle_dealloc':
-            return self.give_back(given[0])
+            return self.give_back(given[0]) if given[0] else None
         if name == 'libc::heap::rattle_alloc':
             at = self.take(given[0] or given[1])
         elif name == 'libc::heap::rattle_realloc':
             at = self.take(given[2] or given[3])
-            if at:
+            if at and given[0]:
                 before = min(self.blocks[given[0]], self.blocks[at])
                 self.memory[at:at + before] = self.memory[given[0]:given[0] + before]
                 self.give_back(given[0])
@@ -224,7 +135,8 @@ class Machine:
             return dicts[held]
         if kind != 'Impl':
             raise Strange('methods ' + kind)
-        return (held[0], tuple(self.types.of(each, types) for each in held[1]), tuple(self.dictionary(each, types, dicts) for each in held[2]))
+        return (held[0], tuple(self.types.of(each, types) for each in held[1]),
+                tuple(self.dictionary(each, types, dicts) for each in held[2]))
 
     def static(self, kind, constant):
         """Where a constant lies for good."""

@@ -1,5 +1,5 @@
-"""Random calls of the exports, by the second reading of the MIR (reading.py) and by a program over guillotiere.c: each answer, and each number
-that is written, must be the same. Also a program: second.py FOLDER [CALLS], with the MIR of each crate in the folder.
+"""Random calls of the exports, by the second reading of the MIR (reading.py) and by a program over guillotiere.c: each answer, and each
+number that is written, must be the same. Also a program: second.py FOLDER [CALLS], with the MIR of each crate in the folder.
 """
 import json
 import os
@@ -12,16 +12,42 @@ import tempfile
 HERE = os.path.dirname(os.path.abspath(__file__))
 ROOT = os.path.dirname(os.path.dirname(HERE))
 sys.path[:0] = [HERE, os.path.join(ROOT, 'gate'), os.path.join(ROOT, 'bindings'), os.path.join(os.path.dirname(HERE), 'printer')]
-from reading import Machine, one  # noqa: E402
+from reading import Machine  # noqa: E402
 from runner import Failure, call  # noqa: E402
 
 SIZES = {'int32_t': 4, 'uint32_t': 4, 'uint64_t': 8, 'size_t': 8, 'void *': 8, 'bool': 1}
 HANDLES = ('guillotiere_atlas', 'guillotiere_simple', 'guillotiere_cache')
 KINDS, ROOM, SPRITES = 3, 48, 5
 # How often these are called, where others are once.
-OFTEN = {'guillotiere_atlas_allocate': 40, 'guillotiere_atlas_deallocate': 20, 'guillotiere_simple_allocate': 12, 'guillotiere_cache_insert': 30,
-         'guillotiere_cache_next_change': 20, 'guillotiere_cache_get': 5, 'guillotiere_cache_begin_frame': 4, 'guillotiere_atlas_get': 4}
-SELDOM = ('guillotiere_atlas_free', 'guillotiere_simple_free', 'guillotiere_cache_free', 'guillotiere_cache_clear', 'guillotiere_atlas_clear')
+OFTEN = {'atlas_allocate': 40, 'atlas_deallocate': 20, 'atlas_get': 4, 'simple_allocate': 12, 'cache_insert': 30, 'cache_next_change': 20,
+         'cache_get': 5, 'cache_begin_frame': 4}
+SELDOM = {'atlas_free', 'atlas_clear', 'simple_free', 'cache_free', 'cache_clear'}
+
+
+CASTS = {1: 'uint8_t', 4: 'uint32_t', 8: 'uint64_t'}
+HEAD = """#include <guillotiere.h>
+#include <inttypes.h>
+#include <stdio.h>
+#include <stdlib.h>
+#include <string.h>
+static uint64_t drawn = 99;
+static int is_refusing;
+static uint64_t next(void) { uint64_t it = 0; if (scanf("%" SCNu64, &it) != 1) exit(0); return it; }
+static void show(uint64_t it) { printf(" %" PRIu64, it); }
+static void *resize(void *user, void *block, size_t before, size_t size) {
+    (void)user;
+    (void)before;
+    if (size == 0) return free(block), NULL;
+    drawn = drawn * 6364136223846793005u + 1442695040888963407u;
+    return is_refusing && (drawn >> 33) % 12 == 0 ? NULL : realloc(block, size);
+}"""
+MAIN = """int main(int count, char **words) {
+    (void)words;
+    is_refusing = count > 1;
+    guillotiere_set_memory(resize, NULL);
+    for (;;) { calls[next()](); fflush(stdout); }
+}
+"""
 
 
 class Header:
@@ -62,62 +88,38 @@ class Header:
 
 def player(header):
     """A program that makes calls as lines of numbers say, and prints what each answers and writes."""
-    lines = ['#include <guillotiere.h>', '#include <inttypes.h>', '#include <stdio.h>', '#include <stdlib.h>', '#include <string.h>',
-             'static uint64_t next(void) { uint64_t it = 0; if (scanf("%" SCNu64, &it) != 1) exit(0); return it; }',
-             'static void show(uint64_t it) { printf(" %" PRIu64, it); }', 'static uint64_t drawn; static int is_refusing; static long refused;',
-             'static void *resize(void *user, void *block, size_t before, size_t size) {', '    (void)user; (void)before;',
-             '    if (size == 0) { free(block); return NULL; }', '    drawn = drawn * 6364136223846793005u + 1442695040888963407u;',
-             '    if (is_refusing && (drawn >> 33) % 12 == 0) { refused++; return NULL; }', '    return realloc(block, size);', '}']
-    lines += ['static %s %s_s[%d];' % (each, each, KINDS) for each in HANDLES]
-    for number, (result, name, words) in enumerate(header.functions):
-        lines.append('static void call_%d(void) {' % number)
-        given, after = [], []
-        rest = list(words)
-        while rest:
-            is_const, kind, star, word = rest.pop(0)
-            if star and rest and rest[0][3] == word + '_len':
-                rest.pop(0)
-                lines += ['    size_t %s_len = (size_t)next(), %s_i;' % (word, word), '    %s *%s = calloc(%s_len + 1, sizeof *%s);'
-                          % (kind, word, word, word)]
-                lines += reads(header, kind, word, is_const)
-                after += shows(header, kind, word, is_const) + ['    free(%s);' % word]
-                given += [word, word + '_len']
-            elif kind in HANDLES:
-                lines.append('    %s *%s = &%s_s[next()];' % (kind, word, kind))
-                given.append(word)
-            elif star:
-                lines += ['    %s %s;' % (kind, word), '    memset(&%s, 0, sizeof %s);' % (word, word)]
-                lines += ['    %s%s = (%s)next();' % (word, path, casts(bytes_)) for path, _, bytes_ in header.rows(kind) if is_const]
-                after += ['    show((uint%d_t)%s%s);' % (8 * bytes_, word, path) for path, _, bytes_ in header.rows(kind) if not is_const]
-                given.append('&' + word)
-            else:
-                lines.append('    %s %s = (%s)next();' % (kind, word, kind))
-                given.append(word)
-        called = '%s(%s)' % (name, ', '.join(given))
-        lines.append('    %s;' % ('printf("%%u", (unsigned)%s)' % called if result != 'void' else '%s; printf("0")' % called))
-        lines += after + ['    printf("\\n");', '}']
-    lines += ['static void (*const calls[])(void) = {%s};' % ', '.join('call_%d' % each for each in range(len(header.functions))),
-              'int main(int count, char **words) {', '    is_refusing = count > 1 && strcmp(words[1], "refusing") == 0; drawn = 99;',
-              '    guillotiere_set_memory(resize, NULL);', '    for (;;) { calls[next()](); fflush(stdout); }', '}']
-    return '\n'.join(lines) + '\n'
+    lines = [HEAD] + ['static %s %s_s[%d];' % (each, each, KINDS) for each in HANDLES]
+    for number, function in enumerate(header.functions):
+        lines += ['static void call_%d(void) {' % number] + called(header, *function) + ['    printf("\\n");', '}']
+    names = ', '.join('call_%d' % each for each in range(len(header.functions)))
+    return '\n'.join(lines + ['static void (*const calls[])(void) = {%s};' % names, MAIN])
 
 
-def casts(bytes_):
-    return {1: 'uint8_t', 4: 'uint32_t', 8: 'uint64_t'}[bytes_]
-
-
-def reads(header, kind, word, is_const):
-    if not is_const:
-        return []
-    return ['    for (%s_i = 0; %s_i < %s_len; %s_i++) {' % (word, word, word, word)] + [
-        '        %s[%s_i]%s = (%s)next();' % (word, word, path, casts(bytes_)) for path, _, bytes_ in header.rows(kind)] + ['    }']
-
-
-def shows(header, kind, word, is_const):
-    if is_const:
-        return []
-    return ['    for (%s_i = 0; %s_i < %s_len; %s_i++) {' % (word, word, word, word)] + [
-        '        show((uint%d_t)%s[%s_i]%s);' % (8 * bytes_, word, word, path) for path, _, bytes_ in header.rows(kind)] + ['    }']
+def called(header, result, name, words):
+    """The lines that read what a call is given, make it, and print what it writes."""
+    lines, given, after, rest = [], [], [], list(words)
+    while rest:
+        is_const, kind, star, word = rest.pop(0)
+        rows = header.rows(kind)
+        given.append('&' + word if star and kind not in HANDLES else word)
+        if star and rest and rest[0][3] == word + '_len':
+            given[-1:] = [word, rest.pop(0)[3]]
+            lines.append('    size_t {0}_len = (size_t)next(), {0}_i; {1} *{0} = calloc({0}_len + 1, sizeof *{0});'.format(word, kind))
+            each = '    for ({0}_i = 0; {0}_i < {0}_len; {0}_i++) {{ %s }}'.format(word)
+            reads = ' '.join('%s[%s_i]%s = (%s)next();' % (word, word, path, CASTS[bytes_]) for path, _, bytes_ in rows)
+            shows = ' '.join('show((%s)%s[%s_i]%s);' % (CASTS[bytes_], word, word, path) for path, _, bytes_ in rows)
+            (lines if is_const else after).append(each % (reads if is_const else shows))
+            after.append('    free(%s);' % word)
+        elif kind in HANDLES:
+            lines.append('    %s *%s = &%s_s[next()];' % (kind, word, kind))
+        elif star:
+            lines += ['    %s %s;' % (kind, word), '    memset(&%s, 0, sizeof %s);' % (word, word)]
+            lines += ['    %s%s = (%s)next();' % (word, path, CASTS[bytes_]) for path, _, bytes_ in rows if is_const]
+            after += ['    show((%s)%s%s);' % (CASTS[bytes_], word, path) for path, _, bytes_ in rows if not is_const]
+        else:
+            lines.append('    %s %s = (%s)next();' % (kind, word, kind))
+    call_text = '%s(%s)' % (name, ', '.join(given))
+    return lines + ['    printf("%%u", (unsigned)%s);' % call_text if result != 'void' else '    %s; printf("0");' % call_text] + after
 
 
 class Drawing:
@@ -125,7 +127,8 @@ class Drawing:
 
     def __init__(self, header, seed):
         self.header, self.random, self.ids = header, random.Random(seed), [1]
-        self.weights = [OFTEN.get(name, 0.3 if name in SELDOM else 1) for _, name, _ in header.functions]
+        names = [name[len('guillotiere_'):] for _, name, _ in header.functions]
+        self.weights = [OFTEN.get(name, 0.3 if name in SELDOM else 1) for name in names]
 
     def side(self):
         return self.random.choice([self.random.randint(1, 20)] * 12 + [0, self.random.randint(20, 70), 0xffffffff, 0x7fffffff])
@@ -154,7 +157,8 @@ class Drawing:
             if star and words and words[0][3] == word + '_len':
                 words.pop(0)
                 length = self.random.randint(0, SPRITES) if is_const else self.random.choice([ROOM, ROOM, self.random.randint(0, 3)])
-                numbers += [length] + [self.number(word + path, bytes_) for _ in range(length if is_const else 0) for path, _, bytes_ in rows]
+                rows = rows * length if is_const else []
+                numbers += [length] + [self.number(word + path, bytes_) for path, _, bytes_ in rows]
             elif kind in HANDLES:
                 numbers.append(self.random.randint(0, KINDS - 1))
             elif star and is_const:
