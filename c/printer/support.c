@@ -14,7 +14,7 @@
 /* What has no bytes has this address. */
 static uint64_t nothing;
 
-/* MAKER: makes a value of its parts. SMALL: has few lines. PART: any other function. By measurement GCC does better where it chooses. */
+/* MAKER: makes a value of its parts. SMALL: has few lines. PART: any other function, where GCC by measurement does better with a hint. */
 #if defined(__clang__)
 #define MAKER static inline __attribute__((always_inline, unused))
 #define SMALL static inline __attribute__((always_inline))
@@ -22,7 +22,7 @@ static uint64_t nothing;
 #define UNREACHABLE() __builtin_unreachable()
 #elif defined(__GNUC__)
 #define MAKER static inline __attribute__((always_inline, unused))
-#define SMALL static inline
+#define SMALL static inline __attribute__((always_inline))
 #define PART static inline
 #define UNREACHABLE() __builtin_unreachable()
 #else

@@ -1,5 +1,5 @@
-"""guillotiere.c under other tools: ThreadSanitizer, MemorySanitizer, the front end of clang for MSVC, GCC's analyzer, which takes long, and as
-a module of WebAssembly.
+"""guillotiere.c under other tools: ThreadSanitizer, MemorySanitizer, the front end of clang for MSVC, GCC's analyzer, which takes long, and
+as a module of WebAssembly.
 """
 import os
 import re

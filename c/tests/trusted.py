@@ -5,6 +5,8 @@ import re
 from runner import Failure
 
 ROOT = os.path.dirname(os.path.dirname(os.path.dirname(os.path.abspath(__file__))))
+# What isn't there until it is printed.
+PRINTED = 'c/guillotiere.c'
 ENDINGS = ('.rs', '.py', '.c', '.js')
 
 
@@ -25,7 +27,9 @@ def check_trusted():
     if len(named) < 10:
         raise Failure('the table is gone')
     for path, told in named:
-        if not os.path.exists(os.path.join(ROOT, path)) and path not in ('rust/install', 'bindings/build'):
+        if not os.path.exists(os.path.join(ROOT, path)):
+            if path == PRINTED:
+                continue
             raise Failure('there is no ' + path)
         count, told = lines_of(os.path.join(ROOT, path)), int(told.replace(',', '') or 0)
         if told and abs(told - count) > count / 20:
