@@ -58,7 +58,7 @@ def check_sizes(libraries):
     """What the page says of the sizes of the three forms, and of their glibc, where it was measured by this rustc."""
     with open(os.path.join(BINDINGS, 'README.md')) as file:
         page = file.read()
-    table = re.search(r'On x86-64, by\s+rustc\s(\S+);.*?\n\n((?:\|.*\n)+)', page, re.S)
+    table = re.search(r'On x86-64, by\s+rustc\s(\S+);.*?\n\n((?:\|[^\n]*\n)+)', page, re.S)
     version = re.search(r'1\.\d+', call([os.path.join(os.path.dirname(cargo_here.cargo()), 'rustc'), '--version']))[0]
     if os.uname().machine != 'x86_64' or version != table[1]:
         raise Absent('they were measured by rustc %s on x86-64' % table[1])
