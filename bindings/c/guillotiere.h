@@ -19,6 +19,11 @@
  * guillotiere_atlas_free it holds nothing again, so freeing twice does nothing. An allocator's memory is from malloc, or from what
  * guillotiere_set_memory names, and guillotiere_atlas_free gives all of it back.
  *
+ * Ids. The id of a box that is freed may be that of the next box: in a full atlas the next request of its size has it, after this one
+ * freeing. Where the freed box joins with others, its slot is taken anew for another box, and an id comes again once that has happened
+ * 256 times. After guillotiere_atlas_clear, _reset, _rearrange and _resize_and_rearrange ids begin anew. So forget an id as soon as you
+ * free it: a call by a forgotten one is answered by GUILLOTIERE_NOT_LIVE only as long as its number isn't that of another box.
+ *
  * Statuses. A call returns a status. It is total: sizes, options, ids and limits may be any numbers, and what is wrong
  * is reported. After any status other than GUILLOTIERE_DONE all handles hold what they held, and nothing was written, except
  * the number of a bad sprite (of a sheet), and except by three calls of a cache: guillotiere_cache_insert answers
@@ -53,7 +58,9 @@
 extern "C" {
 #endif
 
-/* Before a call that makes or grants something: a compiler warns where its status isn't looked at. */
+/* Before a call that may refuse a handle that holds something: a compiler warns where its status isn't looked at. What GCC's attribute
+ * marks it warns of behind `(void)` too, and not behind `(void)!`. guillotiere_cache_remove isn't marked: after it the key isn't held,
+ * whatever it answered. */
 #if defined(__GNUC__)
 #define GUILLOTIERE_CHECKED __attribute__((warn_unused_result))
 #else
@@ -353,9 +360,11 @@ uint32_t guillotiere_atlas_allocate(guillotiere_atlas *atlas, int32_t width, int
                                     guillotiere_allocation *granted);
 
 /* Frees the box of a live id: it joins the free space next to it. Takes no memory. DONE; NOT_LIVE; EMPTY. */
+GUILLOTIERE_CHECKED
 uint32_t guillotiere_atlas_deallocate(guillotiere_atlas *atlas, uint32_t id);
 
 /* The rectangle of a live id. DONE: it is in `found`. NOT_LIVE; EMPTY. */
+GUILLOTIERE_CHECKED
 uint32_t guillotiere_atlas_get(const guillotiere_atlas *atlas, uint32_t id, guillotiere_rectangle *found);
 
 /* Makes the atlas larger; every live id keeps its rectangle. DONE; BAD_CALL if a side shrinks; SLOTS; MEMORY;
@@ -382,6 +391,7 @@ uint32_t guillotiere_atlas_clear(guillotiere_atlas *atlas);
 
 /* Starts again at this size and with these options; the limit stays. Takes no memory.
  * DONE; BAD_CALL if a side isn't above 0 or the options aren't valid; EMPTY. */
+GUILLOTIERE_CHECKED
 uint32_t guillotiere_atlas_reset(guillotiere_atlas *atlas, int32_t width, int32_t height,
                                  const guillotiere_options *options);
 
@@ -404,10 +414,12 @@ bool guillotiere_atlas_is_empty(const guillotiere_atlas *atlas);
 
 /* Writes the live boxes, by rising slot, which is the low 24 bits of the id: as many as there is room for, and into `count`
  * how many there are. What `found` has after them stays. DONE; MEMORY; EMPTY. */
+GUILLOTIERE_CHECKED
 uint32_t guillotiere_atlas_live(const guillotiere_atlas *atlas, guillotiere_allocation *found, size_t found_len,
                                 size_t *count);
 
 /* The same of the free boxes, in an order that is left open. */
+GUILLOTIERE_CHECKED
 uint32_t guillotiere_atlas_free_boxes(const guillotiere_atlas *atlas, guillotiere_rectangle *found, size_t found_len,
                                       size_t *count);
 
@@ -429,6 +441,7 @@ uint32_t guillotiere_atlas_resize_and_rearrange(guillotiere_atlas *atlas, int32_
 
 /* Frees the boxes of a list of ids, all or none. DONE; NOT_LIVE if one isn't live or is listed twice; MEMORY, as the
  * list is copied first; EMPTY. */
+GUILLOTIERE_CHECKED
 uint32_t guillotiere_atlas_deallocate_all(guillotiere_atlas *atlas, const uint32_t *ids, size_t ids_len);
 
 /* --- A simple allocator ---------------------------------------------------------------------------------------------- */
@@ -464,6 +477,7 @@ uint32_t guillotiere_simple_clear(guillotiere_simple *simple);
 
 /* Starts again at this size and with these options. Keeps the room of the entries, and takes no memory.
  * DONE; BAD_CALL if a side isn't above 0 or the options aren't valid; EMPTY. */
+GUILLOTIERE_CHECKED
 uint32_t guillotiere_simple_reset(guillotiere_simple *simple, int32_t width, int32_t height,
                                   const guillotiere_options *options);
 
@@ -501,9 +515,11 @@ void guillotiere_cache_free(guillotiere_cache *cache);
 uint32_t guillotiere_cache_begin_frame(guillotiere_cache *cache);
 
 /* The place of a key, which is used in this frame from now on. Counts a hit or a miss. DONE; NOT_HELD; EMPTY. */
+GUILLOTIERE_CHECKED
 uint32_t guillotiere_cache_get(guillotiere_cache *cache, uint64_t key, guillotiere_place *place);
 
 /* The place of a key; it doesn't count as a use, a hit or a miss. DONE; NOT_HELD; EMPTY. */
+GUILLOTIERE_CHECKED
 uint32_t guillotiere_cache_peek(const guillotiere_cache *cache, uint64_t key, guillotiere_place *place);
 
 /* A place for a key, which is used in this frame. A key that is held keeps its place, and is the most recently used; that
@@ -539,6 +555,7 @@ uint32_t guillotiere_cache_remove(guillotiere_cache *cache, uint64_t key, guillo
 
 /* Hands over the first change that wasn't handed over yet; each is handed over once, in the order in which they were made.
  * Takes no memory. DONE; NO_CHANGE if there is none; EMPTY. */
+GUILLOTIERE_CHECKED
 uint32_t guillotiere_cache_next_change(guillotiere_cache *cache, guillotiere_cache_change *change);
 
 /* Removes all keys. The pages stay, with their sizes and nothing on them. No change reports this. The changes that weren't
@@ -548,12 +565,14 @@ uint32_t guillotiere_cache_clear(guillotiere_cache *cache);
 /* Evicts the keys that weren't used for at least this many frames, each reported by a change, the least recently used first:
  * with 1, what this frame didn't use; with 0, all. DONE; MEMORY, and then all is as it was: never if
  * guillotiere_cache_reserve_changes made room for as many changes as keys are held, and for one at least; EMPTY. */
+GUILLOTIERE_CHECKED
 uint32_t guillotiere_cache_trim(guillotiere_cache *cache, uint64_t frames);
 
 /* Removes the pages after the last one with a key, each reported by a change, GUILLOTIERE_PAGE_REMOVED, the last one
  * first. The others stay, with their sizes, and so do all keys; after guillotiere_cache_clear all pages go. DONE;
  * MEMORY, and then all is as it was: never if guillotiere_cache_reserve_changes made room for as many changes as there
  * are pages, and for one at least; EMPTY. */
+GUILLOTIERE_CHECKED
 uint32_t guillotiere_cache_shrink(guillotiere_cache *cache);
 
 /* Repacks the keys of a page, the largest first, and among equal areas the most recently used, so that what is free comes
@@ -566,13 +585,16 @@ GUILLOTIERE_CHECKED
 uint32_t guillotiere_cache_repack(guillotiere_cache *cache, uint32_t page);
 
 /* The most recently used key, and its place; it doesn't count as a use. DONE; NOT_HELD if no key is held; EMPTY. */
+GUILLOTIERE_CHECKED
 uint32_t guillotiere_cache_newest(const guillotiere_cache *cache, uint64_t *key, guillotiere_place *place);
 
 /* The least recently used key, and its place; it doesn't count as a use. DONE; NOT_HELD if no key is held; EMPTY. */
+GUILLOTIERE_CHECKED
 uint32_t guillotiere_cache_oldest(const guillotiere_cache *cache, uint64_t *key, guillotiere_place *place);
 
 /* The next less recently used key, and its place; this doesn't count as a use. From the newest key on, this gives each key
  * once. DONE: it is in `older`. NOT_HELD if `key` is the least recently used, or isn't held; EMPTY. */
+GUILLOTIERE_CHECKED
 uint32_t guillotiere_cache_older(const guillotiere_cache *cache, uint64_t key, uint64_t *older, guillotiere_place *place);
 
 /* Takes memory for this many more keys; nothing else changes. An insertion also takes slots of pages and room for changes:
@@ -607,11 +629,13 @@ uint32_t guillotiere_cache_numbers(const guillotiere_cache *cache, uint32_t *num
 uint32_t guillotiere_cache_page_count(const guillotiere_cache *cache, uint32_t *pages);
 
 /* The size of a page, counted from 0. DONE; NO_PAGE; EMPTY. */
+GUILLOTIERE_CHECKED
 uint32_t guillotiere_cache_page_size(const guillotiere_cache *cache, uint32_t page, guillotiere_size *size);
 
 /* The areas of a page, counted from 0: that of its keys, with their padding and what the alignment added, and that which is
  * free; together that of the page. Takes one pass over the slots of the page. A page with much that is free, from which keys
  * are evicted all the same, is worth a repacking. DONE; NO_PAGE; EMPTY. */
+GUILLOTIERE_CHECKED
 uint32_t guillotiere_cache_areas(const guillotiere_cache *cache, uint32_t page, guillotiere_areas *areas);
 
 /* Of the area of a page that is free, what lies in free boxes which have no room for a key of this size, with its padding
@@ -619,6 +643,7 @@ uint32_t guillotiere_cache_areas(const guillotiere_cache *cache, uint32_t page, 
  * size takes no room. Asked with the size of a usual key it says how fragmented the page is: where much is of no use, it is
  * time to repack it. Takes memory for a list of the page's free boxes, if there is such a page.
  * DONE; NO_PAGE; MEMORY; EMPTY. */
+GUILLOTIERE_CHECKED
 uint32_t guillotiere_cache_unusable_area(const guillotiere_cache *cache, uint32_t page, int32_t width, int32_t height,
                                          uint64_t *area);
 

@@ -118,6 +118,36 @@ static void an_occupied_handle_is_told_first(void) {
     CHECK(guillotiere_cache_new(&wrong, &cache) == GUILLOTIERE_EMPTY_PAGE);
 }
 
+/* "In a full atlas the next request of its size has it, after this one freeing." And "where the freed box joins with others, its slot is
+ * taken anew for another box, and an id comes again once that has happened 256 times." And "after _clear, _reset, _rearrange ids begin
+ * anew". */
+static void an_id_comes_again_after(void) {
+    guillotiere_atlas atlas = GUILLOTIERE_NONE;
+    guillotiere_allocation first, last;
+    uint32_t tile = 0, freed = 0;
+    CHECK(guillotiere_atlas_new(32, 32, &atlas) == GUILLOTIERE_DONE);
+    for (int i = 0; i < 16; i++) {
+        CHECK(guillotiere_atlas_allocate(&atlas, 8, 8, &last) == GUILLOTIERE_DONE);
+        if (i == 9) tile = last.id;
+    }
+    CHECK(guillotiere_atlas_deallocate(&atlas, tile) == GUILLOTIERE_DONE);
+    CHECK(guillotiere_atlas_allocate(&atlas, 8, 8, &last) == GUILLOTIERE_DONE && last.id == tile);
+    CHECK(guillotiere_atlas_clear(&atlas) == GUILLOTIERE_DONE);
+    CHECK(guillotiere_atlas_allocate(&atlas, 20, 20, &first) == GUILLOTIERE_DONE);
+    last = first;
+    do {
+        CHECK(guillotiere_atlas_deallocate(&atlas, last.id) == GUILLOTIERE_DONE);
+        CHECK(guillotiere_atlas_allocate(&atlas, 20, 20, &last) == GUILLOTIERE_DONE);
+        freed++;
+    } while (last.id != first.id);
+    CHECK(freed == 256);
+    CHECK(guillotiere_atlas_deallocate(&atlas, last.id) == GUILLOTIERE_DONE);
+    CHECK(guillotiere_atlas_allocate(&atlas, 20, 20, &last) == GUILLOTIERE_DONE && last.id != first.id);
+    CHECK(guillotiere_atlas_reset(&atlas, 32, 32, &defaults) == GUILLOTIERE_DONE);
+    CHECK(guillotiere_atlas_allocate(&atlas, 20, 20, &last) == GUILLOTIERE_DONE && last.id == first.id);
+    guillotiere_atlas_free(&atlas);
+}
+
 /* "An id that was freed may be issued again, even by the next call." */
 static void an_id_comes_again(void) {
     guillotiere_atlas atlas = GUILLOTIERE_NONE;
@@ -165,6 +195,7 @@ int main(void) {
     a_repacking_is_followed_first();
     numbers_come_again();
     an_occupied_handle_is_told_first();
+    an_id_comes_again_after();
     an_id_comes_again();
     padding_comes_after_the_alignment();
     of_sheets();
