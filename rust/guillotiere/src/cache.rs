@@ -265,7 +265,7 @@ impl<K: Copy + Eq + Hash, S: BuildHasher> TextureCache<K, S> {
             .map(inserted_of)
     }
 
-    /// Removes a key, and gives the place that it had; None if it isn't held. No change reports it.
+    /// Removes a key, and gives the place that it had; None if it isn't held. No change reports it. Takes no memory.
     ///
     /// ```
     /// use guillotiere::cache::{CacheOptions, TextureCache};
@@ -325,7 +325,7 @@ impl<K: Copy + Eq + Hash, S: BuildHasher> TextureCache<K, S> {
         Ok(self.waiting.added(|changes| call(cache, changes))?)
     }
 
-    /// Removes all keys; the pages stay. No change reports it, and the changes that weren't handed over stay.
+    /// Removes all keys; the pages stay. No change reports it, and the changes that weren't handed over stay. Takes no memory.
     pub fn clear(&mut self) {
         self.cache.clear()
     }
