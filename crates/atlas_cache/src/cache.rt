@@ -235,7 +235,8 @@ impl<K: Copy + Eq + Hash, S: BuildHasher, A: Allocator + Copy> TextureCache<K, S
     /// can't be while this frame has used nothing; `NeverFits` if the size, with the padding and rounded up to the alignment, exceeds the
     /// largest page, and then nothing changes. What was done is added to the changes, whose room is never given back, also after
     /// `FrameFull` and after an error: `Memory`, `Slots` if those of the first page that has room, or of the one that would grow, don't
-    /// suffice, or `Numbers` only where 4,294,967,295 entries are still held.
+    /// suffice (no later frame helps then, but `remove`, `trim` and `clear` do), or `Numbers` only where 4,294,967,295 entries are still
+    /// held.
     ///
     /// A new key with an empty size, of which a side is 0 or below, becomes a blank entry: `Placed` with a place that is
     /// empty. It takes no room, so no page changes and nothing is evicted for it, nor is it ever evicted for another key.

@@ -71,6 +71,7 @@
 //! | `iter`, `keys` of a cache | the keys, by a step each, without a look-up |
 //! | `drain_changes` | the changes |
 //! | `trim` | the keys that go |
+//! | `reserve_slots`, `clear` of a cache | the pages; `clear` also by the keys |
 //! | `repack` | all keys, and the sorting of those on that page |
 //! | `unusable_area` | the slots of that page |
 //! | `sheet::pack`, `fill` and the others | a request for each sprite, times the ways and sheets that are tried, times `effort` |
