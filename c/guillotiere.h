@@ -278,7 +278,8 @@ typedef struct guillotiere_cache_options {
 /* Where a key lies: its number, which stays until the key is gone, and which no other key has meanwhile; its page, counted
  * from 0; `rectangle`, which no other entry overlaps; and `inner` in it, which has the sides that were asked for; the
  * padding lies to its left and above it. To its right and below it, `rectangle` has the padding as well, and more where an
- * alignment rounds up.
+ * alignment rounds up. Numbers of keys that are gone are given out again before new ones, which of them isn't said: so what a
+ * caller keeps of each key fits an array of guillotiere_cache_numbers elements.
  *
  * The border of a new entry shows what lay there before. A linear filter reads it, so write all of `rectangle`: the pixels
  * in `inner`, and cleared ones around it. With a padding of 1 draw at most half a pixel beyond `inner`. */
@@ -472,10 +473,10 @@ uint32_t guillotiere_simple_grow(guillotiere_simple *simple, int32_t width, int3
 /* Whether the allocator may be grown to this size, in pixels: no side shrinks. False of a handle that holds nothing. */
 bool guillotiere_simple_can_grow_to(const guillotiere_simple *simple, int32_t width, int32_t height);
 
-/* Starts again with one free box of the allocator's size. Takes no memory. DONE; EMPTY. */
+/* Starts again with one free box of the allocator's size. Keeps the room of the entries, and takes no memory. DONE; EMPTY. */
 uint32_t guillotiere_simple_clear(guillotiere_simple *simple);
 
-/* Starts again at this size and with these options. Takes no memory.
+/* Starts again at this size and with these options. Keeps the room of the entries, and takes no memory.
  * DONE; BAD_CALL if a side isn't above 0 or the options aren't valid; EMPTY. */
 GUILLOTIERE_CHECKED
 uint32_t guillotiere_simple_reset(guillotiere_simple *simple, int32_t width, int32_t height,
@@ -528,7 +529,7 @@ uint32_t guillotiere_cache_peek(const guillotiere_cache *cache, uint64_t key, gu
  * page. If none can grow, one is added; and if no more are allowed, the least recently used key that lies on a page and
  * that this frame didn't use is evicted; and so on, up to 16 keys. If there still is no room then, only keys that lie in one
  * box go: the first box that would come free and that the new key fits, if all that this frame didn't use went in that
- * order. Where memory for looking it up is refused, a byte for each slot of a page, they go on in that order. What was done
+ * order. Where memory for looking it up is refused, a byte for each slot of the pages, they go on in that order. What was done
  * is handed over by guillotiere_cache_next_change, also
  * after FRAME_FULL and after an error: take all of it after each insertion, before the place or its number is noted. A
  * key that was evicted and came back is reported as evicted all the same.
@@ -541,7 +542,7 @@ uint32_t guillotiere_cache_peek(const guillotiere_cache *cache, uint64_t key, gu
  * would never fit: then nothing changed. NUMBERS if 4294967295 keys are still held; SLOTS if the page that has room, or
  * that would grow, can't use the slots that this takes, of 16777216; MEMORY if memory is refused. Either ends the call: another
  * page that has room isn't tried, and no more keys are evicted for the new one. After SLOTS that is so in each later frame
- * too, until keys of that page were removed or trimmed. EMPTY.
+ * too: guillotiere_cache_remove, guillotiere_cache_trim and guillotiere_cache_clear help. EMPTY.
  * A key with an empty size (a side below 1) takes no room, and is never evicted to make room for another.
  * Both rectangles of its place are 0, and so is its page, but it is on no page: nothing is to be written or drawn, no
  * repacking reports it, and no page stays for it. */
@@ -562,14 +563,16 @@ uint32_t guillotiere_cache_next_change(guillotiere_cache *cache, guillotiere_cac
  * handed over stay: follow them, then forget all places. Takes no memory. DONE; EMPTY. */
 uint32_t guillotiere_cache_clear(guillotiere_cache *cache);
 
-/* Evicts the keys that weren't used for at least this many frames, each reported by a change, the least recently used first:
- * with 1, what this frame didn't use; with 0, all. DONE; MEMORY, and then all is as it was: never if
- * guillotiere_cache_reserve_changes made room for as many changes as keys are held, and for one at least; EMPTY. */
+/* Evicts the keys that weren't used for at least this many frames, each reported by a change, the least recently used first.
+ * A frame is a call of guillotiere_cache_begin_frame: with 1 all goes that wasn't used since the last one, with 0 all.
+ * DONE; MEMORY, and then all is as it was: never if guillotiere_cache_reserve_changes made room for as many changes as
+ * keys are held, and for one at least; EMPTY. */
 GUILLOTIERE_CHECKED
 uint32_t guillotiere_cache_trim(guillotiere_cache *cache, uint64_t frames);
 
 /* Removes the pages after the last one with a key, each reported by a change, GUILLOTIERE_PAGE_REMOVED, the last one
- * first. The others stay, with their sizes, and so do all keys; after guillotiere_cache_clear all pages go. DONE;
+ * first. The others stay, with their sizes, and so do all keys; after guillotiere_cache_clear all pages go. A page that goes
+ * takes its slots in reserve along, and one that is added later has none; keys in reserve stay. DONE;
  * MEMORY, and then all is as it was: never if guillotiere_cache_reserve_changes made room for as many changes as there
  * are pages, and for one at least; EMPTY. */
 GUILLOTIERE_CHECKED
@@ -579,8 +582,8 @@ uint32_t guillotiere_cache_shrink(guillotiere_cache *cache);
  * together; pages are counted from 0. Each key of the page is reported by a change, the most recently used first:
  * GUILLOTIERE_MOVED, also where it stays, or GUILLOTIERE_EVICTED, where it found no room. A place that a key moves to
  * can overlap one that a later change moves from: take the changes that wait, then copy the page, then call this, and copy
- * all pixels from that copy. DONE; NO_PAGE, SLOTS (only of a page with more than 4194303 keys) or MEMORY, and then all
- * is as it was; EMPTY. */
+ * all pixels from that copy. The page may have no slots in reserve then; keys in reserve stay. DONE; NO_PAGE, SLOTS
+ * (only of a page with more than 4194303 keys) or MEMORY, and then all is as it was; EMPTY. */
 GUILLOTIERE_CHECKED
 uint32_t guillotiere_cache_repack(guillotiere_cache *cache, uint32_t page);
 
@@ -597,16 +600,17 @@ uint32_t guillotiere_cache_oldest(const guillotiere_cache *cache, uint64_t *key,
 GUILLOTIERE_CHECKED
 uint32_t guillotiere_cache_older(const guillotiere_cache *cache, uint64_t key, uint64_t *older, guillotiere_place *place);
 
-/* Takes memory for this many more keys; nothing else changes. An insertion also takes slots of pages and room for changes:
+/* Makes sure that there is memory for this many more keys; nothing else changes. A key that is added takes one of them; one
+ * that goes gives none back, but guillotiere_cache_clear does. An insertion also takes slots of pages and room for changes:
  * for these there are the next two calls. DONE; MEMORY; EMPTY. */
 GUILLOTIERE_CHECKED
 uint32_t guillotiere_cache_reserve(guillotiere_cache *cache, size_t additional);
 
 /* Makes sure that this many slots are in reserve on each page. An insertion that neither adds a page nor grows one uses at
- * most 4 of each page; a page that is added later has none in reserve, one that grows uses up to 3, and one that is repacked
- * may have none. So once guillotiere_cache_reserve(n), this with 4 times n and guillotiere_cache_reserve_changes for n and
- * all keys that are held were DONE, and every page is there and at its largest, none of n insertions is refused with SLOTS
- * or MEMORY.
+ * most 4 of each page; a page that is added later has none in reserve, one that grows uses up to 3, one that is repacked may
+ * have none, and one that goes takes its own along; removing, trimming and clearing take none. So once
+ * guillotiere_cache_reserve(n), this with 4 times n and guillotiere_cache_reserve_changes for n and all keys that are
+ * held were DONE, and every page is there and at its largest, none of n insertions is refused with SLOTS or MEMORY.
  * DONE; SLOTS if those of a page don't suffice; MEMORY; EMPTY. The pages before the one that was refused have theirs
  * then, and it and those after it are as they were. */
 GUILLOTIERE_CHECKED
@@ -620,9 +624,8 @@ uint32_t guillotiere_cache_reserve_changes(guillotiere_cache *cache, size_t addi
 /* How many keys are held, at most 4294967295. DONE; EMPTY. */
 uint32_t guillotiere_cache_len(const guillotiere_cache *cache, size_t *len);
 
-/* How many numbers keys have had since the cache was made or cleared: the number of each place is below this. The numbers of
- * keys that are gone are given out again before new ones, that of the key that went last first (which no contract promises), so
- * there are never more than there ever were keys at once, and what a caller keeps of each key fits an array. DONE; EMPTY. */
+/* How many numbers keys have had since the cache was made or cleared: the number of each place is below this, and there are
+ * never more than there ever were keys at once. DONE; EMPTY. */
 uint32_t guillotiere_cache_numbers(const guillotiere_cache *cache, uint32_t *numbers);
 
 /* How many pages there are. DONE; EMPTY. */

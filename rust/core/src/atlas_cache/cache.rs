@@ -150,9 +150,10 @@ impl<K: Copy + Eq + Hash, S: BuildHasher, A: Allocator + Copy> TextureCache<K, S
     /// if all that this frame didn't use went in that order. Where memory for its search is refused, a byte for each slot of the pages, they
     /// go on in that order. `FrameFull` if no page has room, nor would one have it, were all entries gone that this frame didn't use, which
     /// can't be while this frame has used nothing; `NeverFits` if the size, with the padding and rounded up to the alignment, exceeds the
-    /// largest page, and then nothing changes. What was done is added to the changes, also after `FrameFull` and after an error: `Memory`,
-    /// `Slots` if those of a page don't suffice (no later frame helps then, but `remove`, `trim` and `clear` do), or `Numbers` only where
-    /// 4,294,967,295 entries are still held.
+    /// largest page, and then nothing changes. What was done is added to the changes, whose room is never given back, also after
+    /// `FrameFull` and after an error: `Memory`, `Slots` if those of the first page that has room, or of the one that would grow, don't
+    /// suffice (no later frame helps then, but `remove`, `trim` and `clear` do), or `Numbers` only where 4,294,967,295 entries are still
+    /// held.
     ///
     /// A new key with an empty size, of which a side is 0 or below, becomes a blank entry: `Placed` with a place that is
     /// empty. It takes no room, so no page changes and nothing is evicted for it, nor is it ever evicted for another key.
@@ -166,10 +167,10 @@ impl<K: Copy + Eq + Hash, S: BuildHasher, A: Allocator + Copy> TextureCache<K, S
     /// between them take nothing of it.
     ///
     /// Takes one look-up by a hash. A new key that isn't blank also takes a few steps for each page, and a request of an atlas for each
-    /// page that isn't known to have no room: one that refused a size no larger in width and height, and hasn't changed since, is. An
-    /// eviction takes a freeing and another request of its page; it passes each blank key that was used before what it evicts once, and
-    /// not again until that key is used. The search for one box takes, until it is found, a step for each entry that this
-    /// frame didn't use, and what a freeing takes for each of them that lies there.
+    /// page that isn't known to have no room: one that refused a size no larger in width and height, of the last two, and hasn't changed
+    /// since, is. An eviction takes a freeing and another request of its page; it passes each blank key that was used before what it evicts
+    /// once, and not again until that key is used. The search for one box takes, until it is found, a step for each entry that this frame
+    /// didn't use, and what a freeing takes for each of them that lies there.
     #[inline]
     pub fn insert(
         &mut self,
