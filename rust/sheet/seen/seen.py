@@ -359,7 +359,8 @@ def as_webp(folder, originals, room):
     assert '--manage-colours' in run(folder, out, '--image', 'webp', '--manage-colours', status=2).stderr
     # A program that isn't there, that fails, that gives another picture, or none.
     for script, line in ((None, 'there is no command cwebp'), ('echo no room >&2; exit 3', 'cwebp failed: exit status: 3 no room'),
-                         ("cat > /dev/null; cat '%s.webp'" % out, 'cwebp changed its pixels'), ('cat > /dev/null', 'cwebp wrote not a PNG, ')):
+                         ("cat > /dev/null; cat '%s.webp'" % out, 'cwebp changed its pixels'),
+                         ('cat > /dev/null', 'cwebp wrote not a PNG, ')):
         path = os.path.join(room, 'path %d' % len(line))
         os.mkdir(path)
         if script:
