@@ -1,6 +1,7 @@
 -- The entries in a box of a page freed one after another, and the room that this leaves.
 use Rattle.std.proofs.Common.{ℕ, ◌≡◌, ◌||◌, ◌&&◌, true, false, eqb, Bool, List, [], ◌∷◌, ◌++◌, Some}
 use Rattle.std.proofs.Common.{refl, sym, ap, subst, ◌∙◌, option_map, slice_get, Contains, inl, inr}
+use Rattle.std.proofs.Math.Bool.{or-true, or_comm}
 use Rattle.std.proofs.lemmas.Bool.{and_from, cases_Bool, eq-eqb, le-leb, false≢true}
 use Rattle.std.proofs.lemmas.Bool.Decides.{eqb_tells}
 use Rattle.std.proofs.lemmas.List.Elements.{All-contains_itself, All-weaker}
@@ -28,24 +29,7 @@ use Rattle.atlas_cache.specs.Placing.{FreesOn}
 use Rattle.atlas_cache.specs.Vacating.{is_inside, ids_inside, ids_on, lies_in, IsRoomWithout}
 use Rattle.atlas_cache.proofs.BlankLemmas.{lying-append}
 use Rattle.atlas_cache.proofs.HoldingLemmas.{id_cases, IsLiveOn}
-
-or-true : (x : Bool) → (x || true) ≡ true
-or-true true = refl
-or-true false = refl
-
-or-swap : (x y : Bool) → (x || y) ≡ (y || x)
-or-swap true y = sym (or-true y)
-or-swap false true = refl
-or-swap false false = refl
-
-eqb-sym : (a b : ℕ) → eqb a b ≡ eqb b a
-eqb-sym a b = elim (eqb_tells a b) [
-  | inl same ↦ rw same.1 refl
-  | inr other ↦ elim (eqb_tells b a) [
-    | inl back ↦ absurd (other.1 (sym back.1))
-    | inr neither ↦ other.0 ∙ sym neither.0
-  ]
-]
+use Rattle.atlas_cache.proofs.VacateLemmas.{eqb-sym}
 
 inside-true : (b c : Box) → IsInside b c → is_inside b c ≡ true
 inside-true b c h =
@@ -168,7 +152,7 @@ module _ {K : Type 0} where
   inside-more page box e es lies = λ i k. at_each k i
     where
       at_each : (k : ℕ) → and_id (ids_inside page box es) e.id k ≡ ids_inside page box (e ∷ es) k
-      at_each k = rw (lies, eqb-sym k e.id) (or-swap (ids_inside page box es k) (eqb e.id k))
+      at_each k = rw (lies, eqb-sym k e.id) (or_comm (ids_inside page box es k) (eqb e.id k))
 
   inside-other : (page : ℕ) (box : Box) (e : Entry K) (es : List (Entry K)) → lies_in page box e ≡ false
       → ids_inside page box es ≡ ids_inside page box (e ∷ es)

@@ -20,6 +20,7 @@ pub mod InsertLemmas
 pub mod LoopLemmas
 pub mod NumberLemmas
 pub mod PictureLemmas
+pub mod ShownLemmas
 pub mod StandLemmas
 pub mod TrimLemmas
 pub mod UsableLemmas

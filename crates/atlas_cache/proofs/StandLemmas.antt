@@ -2,6 +2,7 @@
 use Rattle.std.proofs.Common.{ℕ, ◌<◌, ◌≤◌, ◌≡◌, ◌&&◌, ◌||◌, ◌==◌, true, false, Bool, eqb, ltb, not, filter, find, option_map}
 use Rattle.std.proofs.Common.{List, [], ◌∷◌, length, slice_get}
 use Rattle.std.proofs.Common.{Some, refl, sym, ap, subst, ◌∙◌, arith, inl, inr, eq-eqb}
+use Rattle.std.proofs.Math.Bool.{and-false, or-true}
 use Rattle.std.proofs.lemmas.{Bool.{cases_Bool}}
 use Rattle.std.proofs.lemmas.Bool.Decides.{eqb_tells}
 use Rattle.std.proofs.lemmas.List.{length-map}
@@ -43,14 +44,6 @@ none-shown asked pages o kept none page v is room =
     let same = nothing_shown (state_of v) own.sound in
     none page v (slice_get_within pages page v is) is
     (subst (λ (free : List Box). HasRoom free (state_of v).options (sides_of asked)) same room)
-
-and-false : (x : Bool) → (x && false) ≡ false
-and-false true = refl
-and-false false = refl
-
-or-true : (x : Bool) → (x || true) ≡ true
-or-true true = refl
-or-true false = refl
 
 less-true : (a b : ℕ) → a < b → ltb a b ≡ true
 less-true a b less = grind (arith, less)

@@ -1,6 +1,7 @@
 -- A walk from the least recently used entry over those that are shown as gone.
 use Rattle.std.proofs.Common.{ℕ, ◌+◌, ◌≤◌, ◌<◌, ◌≡◌, ◌||◌, ◌&&◌, true, false, eqb, ltb, Bool, List, [], ◌∷◌, ◌++◌, length, Option, None, Some, refl, sym, ap, subst, ◌∙◌, arith, append_assoc}
 use Rattle.std.proofs.Common.{inl, inr}
+use Rattle.std.proofs.Math.Bool.{and-false, and-true, or_comm}
 use Rattle.std.proofs.lemmas.{Bool.{cases_Bool}}
 use Rattle.std.proofs.lemmas.Bool.Decides.{eqb_tells}
 use Rattle.std.specs.List.{AllByRecursion, IsDistinct}
@@ -18,7 +19,8 @@ use Rattle.atlas_cache.proofs.ListLemmas.{falls-all}
 use Rattle.atlas_cache.proofs.PassLemmas.{last-counted, last-of, Last, no-last, no-length}
 use Rattle.atlas_cache.proofs.WalkLemmas.{at-number, entries-append, numbers-append}
 
-eqb-sym : (a b : ℕ) → eqb a b ≡ eqb b a
+-- Whether numbers are equal doesn't depend on their order.
+pub eqb-sym : (a b : ℕ) → eqb a b ≡ eqb b a
 eqb-sym a b = elim (eqb_tells a b) [
   | inl same ↦ rw same.1 refl
   | inr other ↦ elim (eqb_tells b a) [
@@ -26,26 +28,6 @@ eqb-sym a b = elim (eqb_tells a b) [
     | inr neither ↦ other.0 ∙ sym neither.0
   ]
 ]
-
-or-true : (x : Bool) → (x || true) ≡ true
-or-true true = refl
-or-true false = refl
-
-or-false : (x : Bool) → (x || false) ≡ x
-or-false true = refl
-or-false false = refl
-
-or-swap : (x y : Bool) → (x || y) ≡ (y || x)
-or-swap true y = sym (or-true y)
-or-swap false y = sym (or-false y)
-
-and-true : (x : Bool) → (x && true) ≡ x
-and-true true = refl
-and-true false = refl
-
-and-false : (x : Bool) → (x && false) ≡ false
-and-false true = refl
-and-false false = refl
 
 ltb-less : (a b : ℕ) → a < b → ltb a b ≡ true
 ltb-less a b less = grind (arith, less)
@@ -130,7 +112,7 @@ module _ {K : Type 0} where
     where
       at_each : (k : ℕ) → and_id (ids_on page es) e.id k ≡ ids_on page (e ∷ es) k
       at_each k = elim (eqb_tells e.page page) [
-        | inl here ↦ rw (here.0, eqb-sym k e.id) (or-swap (ids_on page es k) (eqb e.id k))
+        | inl here ↦ rw (here.0, eqb-sym k e.id) (or_comm (ids_on page es k) (eqb e.id k))
         | inr other ↦ absurd (other.1 same)
       ]
 
@@ -261,10 +243,10 @@ module _ {K : Type 0} where
     | inr differ ↦ differ.0
   ]
 
-  -- What lies on a page under an entry that is looked at.
-  pub entry-fresh : (pages : List AtlasValue) (page : ℕ) (es older : List (ℕ × Entry K)) (n : ℕ) (e : Entry K) (count : ℕ)
-      (l : IsLookedAt es older n e count) → HoldsEntries pages (lying (entries_of es)) → page < length pages
-      → length pages ≤ no_page → e.page ≡ page → ids_on page (entries_of older) e.id ≡ false
-  entry-fresh pages page es older n e count l held within few same =
+  -- The id of an entry that is looked at isn't shown yet.
+  pub entry-fresh : (pages : List AtlasValue) (es older : List (ℕ × Entry K)) (n : ℕ) (e : Entry K) (count : ℕ)
+      (l : IsLookedAt es older n e count) → HoldsEntries pages (lying (entries_of es)) → is_blank e ≡ false
+      → ids_on e.page (entries_of older) e.id ≡ false
+  entry-fresh pages es older n e count l held lies =
       let is = looked-entries es older n e count l in
-      rw (← same) (id-fresh pages (entries_of l.newer) (entries_of older) e (rw is at held) (page-lies pages page e within few same))
+      id-fresh pages (entries_of l.newer) (entries_of older) e (rw is at held) lies

@@ -183,8 +183,8 @@ module _ {K : Type 0} where
     pub others : KeepsPages s.pages t.pages page
 
   -- Of the least recently used entries, none of which this frame used, those go that lie on a page inside a box, and no others. The
-  -- request had room on no page, and would have none on this one if all of those but the most recently used one of them went; if all
-  -- went, that box would be free, and the request fits it.
+  -- request had room on no page, and would have none if all of those but the most recently used one of them went; if all went, that
+  -- box would be free, and the request fits it.
   pub record Vacates (asked : Size) (cs : List (CacheChange K)) (s t : CacheState K) : Type 0 where
     pub none : HasNoPageFor asked s
     pub page : ℕ
@@ -194,7 +194,7 @@ module _ {K : Type 0} where
     pub older : List (Entry K)
     pub was : s.entries ≡ newer ++ last ∷ older
     pub unused : AllByRecursion (λ e. e.frame < s.frame) (last ∷ older)
-    pub least : HasNoRoomWithout asked s.pages page (ids_on page older)
+    pub least : (other : ℕ) → HasNoRoomWithout asked s.pages other (ids_on other older)
     pub room : IsRoomWithout asked s.pages page (ids_on page (last ∷ older)) box
     pub clears : ClearsBox page box cs s t
     pub left : t.entries ≡ newer ++ without_inside page box (last ∷ older)

@@ -1,6 +1,6 @@
 -- Room that would be, were some entries gone, and the entries in a box.
 use Rattle.std.specs.List.{AllByRecursion}
-use Rattle.std.specs.Prelude.{◌≡◌, ◌<◌, ◌++◌, ◌==◌, ◌&&◌, ◌||◌, ◌+◌, ℕ, Bool, false, nat_le, nat_lt, List, [], ◌∷◌, Contains, Some, length, slice_get}
+use Rattle.std.specs.Prelude.{◌≡◌, ◌<◌, ◌≤◌, ◌++◌, ◌==◌, ◌&&◌, ◌||◌, ◌+◌, ℕ, Bool, false, nat_le, nat_lt, List, [], ◌∷◌, Contains, Some, length, slice_get, Vec}
 use Rattle.std.specs.Prelude.{if◌then◌else◌}
 use Rattle.guillotiere.specs.declared.Size.{Size}
 use Rattle.guillotiere.specs.Boxes.{Box, box_sides, Fits}
@@ -39,6 +39,12 @@ pub record AreShownOn (pages : List AtlasValue) (page : ℕ) (marks : List Bool)
   pub as_many : (v : AtlasValue) → slice_get pages page ≡ Some v → length marks ≡ (state_of v).kept
   pub shown : (v : AtlasValue) → slice_get pages page ≡ Some v → AreShown v marks ids
 
+-- By the marks of each page, these of its ids are shown as freed.
+pub record AreAllShown {Z : Type 0} (pages : List AtlasValue) (marks : List (Vec Bool Z)) (ids : (page : ℕ) → ℕ → Bool) : Type 0 where
+  pub each : (page : ℕ) (own : Vec Bool Z) → slice_get marks page ≡ Some own → page < length pages
+      → AreShownOn pages page own.items (ids page)
+  pub many : length pages ≤ length marks
+
 module _ {K : Type 0} where
   -- The ids on a page of some entries.
   abbrev pub ids_on : (page : ℕ) → List (Entry K) → ℕ → Bool
@@ -70,7 +76,8 @@ module _ {K : Type 0} where
   without_inside page box (e ∷ es) =
       if lies_in page box e then without_inside page box es else e ∷ without_inside page box es
 
-  -- What was found on a page: a box that is free once so many of the least recently used entries go.
+  -- What was found: a box of a page that is free once so many of the least recently used entries go, where no page has room once one
+  -- fewer go.
   pub record IsVacancy (asked : Size) (frame page : ℕ) (pages : List AtlasValue) (count : ℕ) (box : Box)
       (es : List (ℕ × Entry K)) : Type 0 where
     pub newer : List (ℕ × Entry K)
@@ -79,7 +86,7 @@ module _ {K : Type 0} where
     pub was : es ≡ newer ++ last ∷ older
     pub counted : count ≡ length older + 1
     pub unused : AllByRecursion (λ e. e.frame < frame) (last.1 ∷ entries_of older)
-    pub least : HasNoRoomWithout asked pages page (ids_on page (entries_of older))
+    pub least : (other : ℕ) → HasNoRoomWithout asked pages other (ids_on other (entries_of older))
     pub room : IsRoomWithout asked pages page (ids_on page (last.1 ∷ entries_of older)) box
 
   -- The state of a cache by its parts.

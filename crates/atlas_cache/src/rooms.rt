@@ -26,7 +26,7 @@ mod reserving;
 mod usable;
 
 use crate::options::CacheOptions;
-use crate::rooms::asking::{NO_SIZE, ask};
+use crate::rooms::asking::{NOTHING, Refusals, ask};
 use atlas_entries::error::CacheError;
 use guillotiere::pages::prove_page;
 use guillotiere::{AllocId, Allocation, AtlasAllocator, AtlasError, Size};
@@ -37,8 +37,8 @@ use std::marker::Model;
 #[derive(Drop)]
 pub struct Rooms<A: Allocator + Copy = Global> {
     pages: Vec<AtlasAllocator<A>, A>,
-    // For each page a size that it has no room for: the one that it refused last, or `NO_SIZE` if it changed since.
-    refused: Vec<Size, A>,
+    // For each page two sizes that it has no room for: those that it refused last, as long as it doesn't change.
+    refused: Vec<Refusals, A>,
     options: CacheOptions,
 }
 
@@ -255,7 +255,7 @@ impl<A: Allocator + Copy> Rooms<A> {
         ensures step { FreesOn self.old.pages self.new.pages page id }
     {
         let _freed = self.pages[page as usize].deallocate(id);
-        self.refused[page as usize] = NO_SIZE;
+        self.refused[page as usize] = NOTHING;
     }
 
     /// The first page that isn't at its largest grows: the page, and its size from now on, in pixels. Its smaller side,
@@ -290,7 +290,7 @@ impl<A: Allocator + Copy> Rooms<A> {
         if let Err(error) = self.pages[page].grow(size) {
             return Err(refusal(error));
         }
-        self.refused[page] = NO_SIZE;
+        self.refused[page] = NOTHING;
         Ok(Some((number(page, self.options.pages), size)))
     }
 
@@ -324,7 +324,7 @@ impl<A: Allocator + Copy> Rooms<A> {
         match AtlasAllocator::with_options(alloc, self.options.page, &self.options.atlas) {
             Ok(page) => {
                 self.pages.push(page)?;
-                self.refused.push_reserved(NO_SIZE);
+                self.refused.push_reserved(NOTHING);
                 Ok(Some((number, self.options.page)))
             }
             Err(_) => Err(CacheError::Memory),
@@ -360,7 +360,7 @@ impl<A: Allocator + Copy> Rooms<A> {
     {
         for page in 0..self.pages.len() {
             let _cleared = self.pages[page].clear();
-            self.refused[page] = NO_SIZE;
+            self.refused[page] = NOTHING;
         }
     }
 }

@@ -21,6 +21,7 @@ mod numbered;
 mod pages;
 mod plain;
 mod recording;
+mod rehearsed;
 mod reserved;
 mod reserving;
 mod sheet;

@@ -229,7 +229,7 @@ impl<K: Copy + Eq + Hash, S: BuildHasher> TextureCache<K, S> {
     /// doubles, but no further than the largest page. If none can grow, one is added; and if no more are allowed, the
     /// least recently used entry that lies on a page and that this frame didn't use is evicted; and so on, up to 16 entries. If there still
     /// is no room then, only entries that lie in one box go: the first box that would come free and that the new key fits, if all that
-    /// this frame didn't use went in that order. Where memory for looking it up is refused, a byte for each slot of a page, they go on in
+    /// this frame didn't use went in that order. Where memory for looking it up is refused, a byte for each slot of the pages, they go on in
     /// that order.
     ///
     /// A new key with an empty size, of which a side is 0 or below, becomes a blank entry: `Placed` with a place that is empty.

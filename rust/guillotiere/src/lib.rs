@@ -65,7 +65,7 @@
 //! | [`rearrange`](AtlasAllocator::rearrange), [`resize_and_rearrange`](AtlasAllocator::resize_and_rearrange) | sorting all live boxes, and a request for each |
 //! | [`clear`](AtlasAllocator::clear), [`reset`](AtlasAllocator::reset) | the lists that had free boxes, at most 2,704 |
 //! | `get`, `peek`, `contains_key` of a cache, `insert` of a key that is held | one look-up |
-//! | `insert` of a new key | a request to each page, until one has room, but for pages that refused a size no larger and haven't changed since; if none has room, an eviction and one more request, up to 16 times, and then, for each page until one is found that would have room, the keys that this frame didn't use |
+//! | `insert` of a new key | a request to each page, until one has room, but for pages that refused a size no larger, of the last two, and haven't changed since; if none has room, an eviction and one more request, up to 16 times, and then the keys that this frame didn't use, until without them a page would have room |
 //! | an eviction | a freeing; it passes each blank key that is older than the key that goes (see `insert`) once, and not again until it is used |
 //! | `remove`, `begin_frame` of a cache | one look-up, and a freeing; nothing |
 //! | `iter`, `keys` of a cache | the keys, by a step each, without a look-up |

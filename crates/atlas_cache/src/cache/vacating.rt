@@ -13,9 +13,9 @@ ghost use Rattle.atlas_cache.specs.Changes.{IsCleared, IsExhausted, LetsGo, Make
 ghost use Rattle.atlas_cache.specs.Reserving.{room_in, HasReserves};
 ghost use Rattle.atlas_cache.specs.Rooms.{page_sizes};
 ghost use Rattle.atlas_cache.specs.Vacating.{idle_on, ids_on, inside_count, lies_in, state_with};
-ghost use Rattle.atlas_cache.specs.Vacating.{AreShownOn, HasNoRoomWithout, IsRoomWithout, IsVacancy};
+ghost use Rattle.atlas_cache.specs.Vacating.{AreAllShown, HasNoRoomWithout, IsRoomWithout, IsVacancy};
 ghost use Rattle.atlas_entries.specs.declared.entries.Entry.{Entry};
-ghost use Rattle.atlas_entries.specs.Entries.{entry_at, lying, no_page, IsNumber};
+ghost use Rattle.atlas_entries.specs.Entries.{entry_at, is_blank, lying, no_page, IsNumber};
 
 use crate::cache::TextureCache;
 use crate::cache::holding::{oldest_lying, place_of, take_out};
@@ -28,53 +28,60 @@ use guillotiere::{Rectangle, Size};
 use std::alloc::{AllocError, Allocator};
 use std::hash::{BuildHasher, Hash};
 
-// Shows an entry as gone, if it lies on this page, with those that are shown already: the box that would come free, if the request fits it.
+// Shows an entry as gone, if it lies on a page, with those that are shown already: the box that would come free, if the request fits it.
 fn show<K: Copy, A: Allocator + Copy>(
     rooms: &Rooms<A>,
-    marks: &mut [bool],
-    page: u32,
+    marks: &mut Vec<Vec<bool, A>, A>,
     asked: Size,
     entry: Entry<K>,
 ) -> Option<Rectangle>
-    requires on_page { entry.page ≡ page → IsSome (rectangle_on rooms.now.pages page entry.id) }
-    requires showing { (older : List (Entry K)) × AreShownOn rooms.now.pages page marks.old (ids_on page older)
-        × (entry.page ≡ page → ids_on page older entry.id ≡ false) }
-    ensures shown { (older : List (Entry K)) → AreShownOn rooms.now.pages page marks.old (ids_on page older)
-        → (entry.page ≡ page → ids_on page older entry.id ≡ false)
-        → AreShownOn rooms.now.pages page marks.new (ids_on page (entry ∷ older)) }
-    ensures none { (older : List (Entry K)) → AreShownOn rooms.now.pages page marks.old (ids_on page older)
-        → (entry.page ≡ page → ids_on page older entry.id ≡ false) → result ≡ None
-        → HasNoRoomWithout asked rooms.now.pages page (ids_on page older)
-        → HasNoRoomWithout asked rooms.now.pages page (ids_on page (entry ∷ older)) }
-    ensures room { (older : List (Entry K)) → AreShownOn rooms.now.pages page marks.old (ids_on page older)
-        → (entry.page ≡ page → ids_on page older entry.id ≡ false)
-        → IfSome result (λ area. IsRoomWithout asked rooms.now.pages page (ids_on page (entry ∷ older)) (box_of area)) }
+    requires on_page { is_blank entry ≡ false → IsSome (rectangle_on rooms.now.pages entry.page entry.id) }
+    requires numbered { length rooms.now.pages ≤ no_page }
+    requires showing { (older : List (Entry K)) × AreAllShown rooms.now.pages marks.old.items (λ page. ids_on page older)
+        × (is_blank entry ≡ false → ids_on entry.page older entry.id ≡ false) }
+    ensures shown { (older : List (Entry K)) → AreAllShown rooms.now.pages marks.old.items (λ page. ids_on page older)
+        → (is_blank entry ≡ false → ids_on entry.page older entry.id ≡ false)
+        → AreAllShown rooms.now.pages marks.new.items (λ page. ids_on page (entry ∷ older)) }
+    ensures none { (older : List (Entry K)) → AreAllShown rooms.now.pages marks.old.items (λ page. ids_on page older)
+        → (is_blank entry ≡ false → ids_on entry.page older entry.id ≡ false) → result ≡ None
+        → ((page : ℕ) → HasNoRoomWithout asked rooms.now.pages page (ids_on page older))
+        → (page : ℕ) → HasNoRoomWithout asked rooms.now.pages page (ids_on page (entry ∷ older)) }
+    ensures room { (older : List (Entry K)) → AreAllShown rooms.now.pages marks.old.items (λ page. ids_on page older)
+        → (is_blank entry ≡ false → ids_on entry.page older entry.id ≡ false)
+        → IfSome result (λ area. IsRoomWithout asked rooms.now.pages entry.page (ids_on entry.page (entry ∷ older)) (box_of area)) }
+    ensures there { IfSome result (λ _. entry.page < length rooms.now.pages) }
 {
-    if entry.page != page {
+    if entry.is_blank() {
         return None;
     }
-    rooms.rehearse(page, marks, entry.id, asked)
+    rooms.rehearse(entry.page, &mut marks[entry.page as usize], entry.id, asked)
 }
 
-// On a page, as if the entries went in the order of use that a frame didn't use: with how many of them a box comes free that a request
-// fits, and the box; None if even then it has no room.
-fn box_on<K: Copy + Eq + Hash, S: BuildHasher, A: Allocator + Copy>(
+// A box of a page that would be free, were so many of the least recently used entries gone.
+#[derive(Clone, Copy)]
+struct Vacancy {
+    page: u32,
+    area: Rectangle,
+    count: usize,
+}
+
+// As if the entries went in the order of use that a frame didn't use: the first box that comes free and that a request fits; None if even
+// then no page has room.
+fn first_vacancy<K: Copy + Eq + Hash, S: BuildHasher, A: Allocator + Copy>(
     rooms: &Rooms<A>,
     entries: &Entries<K, S, A>,
-    marks: &mut [bool],
+    marks: &mut Vec<Vec<bool, A>, A>,
     frame: u64,
-    page: u32,
     asked: Size,
-) -> Option<(usize, Rectangle)>
-    requires there { page < length rooms.now.pages }
+) -> Option<Vacancy>
     requires numbered { length rooms.now.pages ≤ no_page }
     requires held { HoldsEntries rooms.now.pages (lying (entries_of entries.now.entries)) }
     requires falls { FramesFall frame (entries_of entries.now.entries) }
-    requires shown { AreShownOn rooms.now.pages page marks.old (λ id. false) }
-    requires none { HasNoRoomWithout asked rooms.now.pages page (λ id. false) }
-    ensures found { IfSome result (λ found.
-        IsVacancy asked frame page rooms.now.pages found.0 (box_of found.1) entries.now.entries) }
-    ensures crowded { result ≡ None
+    requires shown { AreAllShown rooms.now.pages marks.old.items (λ page id. false) }
+    requires none { (page : ℕ) → HasNoRoomWithout asked rooms.now.pages page (λ id. false) }
+    ensures found { IfSome result (λ v. (v.page < length rooms.now.pages)
+        × IsVacancy asked frame v.page rooms.now.pages v.count (box_of v.area) entries.now.entries) }
+    ensures crowded { result ≡ None → (page : ℕ)
         → HasNoRoomWithout asked rooms.now.pages page (idle_on frame page (entries_of entries.now.entries)) }
 {
     entries.prove_kept();
@@ -87,12 +94,37 @@ fn box_on<K: Copy + Eq + Hash, S: BuildHasher, A: Allocator + Copy>(
         if entry.frame == frame {
             return None;
         }
-        if let Some(area) = show(rooms, marks, page, asked, entry) {
-            return Some((looked + 1, area));
+        if let Some(area) = show(rooms, marks, asked, entry) {
+            return Some(Vacancy {
+                page: entry.page,
+                area,
+                count: looked + 1,
+            });
         }
         next = entries.newer(number);
     }
     None
+}
+
+// The same, with nothing shown before. An error is a refusal of memory for marks of slots.
+fn find_vacancy<K: Copy + Eq + Hash, S: BuildHasher, A: Allocator + Copy>(
+    rooms: &Rooms<A>,
+    entries: &Entries<K, S, A>,
+    marks: &mut Vec<Vec<bool, A>, A>,
+    frame: u64,
+    asked: Size,
+) -> Result<Option<Vacancy>, AllocError>
+    requires numbered { length rooms.now.pages ≤ no_page }
+    requires held { HoldsEntries rooms.now.pages (lying (entries_of entries.now.entries)) }
+    requires falls { FramesFall frame (entries_of entries.now.entries) }
+    requires none { (page : ℕ) → HasNoRoomWithout asked rooms.now.pages page (λ id. false) }
+    ensures found { IfOk result (λ found. IfSome found (λ v. (v.page < length rooms.now.pages)
+        × IsVacancy asked frame v.page rooms.now.pages v.count (box_of v.area) entries.now.entries)) }
+    ensures crowded { result ≡ Ok None → (page : ℕ)
+        → HasNoRoomWithout asked rooms.now.pages page (idle_on frame page (entries_of entries.now.entries)) }
+{
+    rooms.show_none_on_all(marks)?;
+    Ok(first_vacancy(rooms, entries, marks, frame, asked))
 }
 
 // Whether one coordinate is no greater than another, where those below 0 count as 0.
@@ -143,70 +175,6 @@ fn inside<K: Copy + Eq + Hash, S: BuildHasher, A: Allocator + Copy>(
         next = entries.newer(number);
     }
     found
-}
-
-// A box of a page that would be free, were so many of the least recently used entries gone.
-#[derive(Clone, Copy)]
-struct Vacancy {
-    page: u32,
-    area: Rectangle,
-    count: usize,
-}
-
-// The same of one page. An error is a refusal of memory for marks of its slots.
-fn vacancy_on<K: Copy + Eq + Hash, S: BuildHasher, A: Allocator + Copy>(
-    rooms: &Rooms<A>,
-    entries: &Entries<K, S, A>,
-    marks: &mut Vec<bool, A>,
-    frame: u64,
-    page: u32,
-    asked: Size,
-) -> Result<Option<Vacancy>, AllocError>
-    requires there { page < length rooms.now.pages }
-    requires numbered { length rooms.now.pages ≤ no_page }
-    requires held { HoldsEntries rooms.now.pages (lying (entries_of entries.now.entries)) }
-    requires falls { FramesFall frame (entries_of entries.now.entries) }
-    requires none { HasNoRoomWithout asked rooms.now.pages page (λ id. false) }
-    ensures found { IfOk result (λ found. IfSome found (λ v. (v.page ≡ page)
-        × IsVacancy asked frame page rooms.now.pages v.count (box_of v.area) entries.now.entries)) }
-    ensures crowded { result ≡ Ok None
-        → HasNoRoomWithout asked rooms.now.pages page (idle_on frame page (entries_of entries.now.entries)) }
-{
-    rooms.show_none(page, marks)?;
-    let Some((count, area)) = box_on(rooms, entries, marks, frame, page, asked) else {
-        return Ok(None);
-    };
-    Ok(Some(Vacancy { page, area, count }))
-}
-
-// Of the first page that can have one, where this page comes first.
-fn find_vacancy<K: Copy + Eq + Hash, S: BuildHasher, A: Allocator + Copy>(
-    rooms: &Rooms<A>,
-    entries: &Entries<K, S, A>,
-    marks: &mut Vec<bool, A>,
-    frame: u64,
-    first: u32,
-    asked: Size,
-) -> Result<Option<Vacancy>, AllocError>
-    requires there { first < length rooms.now.pages }
-    requires held { HoldsEntries rooms.now.pages (lying (entries_of entries.now.entries)) }
-    requires falls { FramesFall frame (entries_of entries.now.entries) }
-    requires none { (page : ℕ) → HasNoRoomWithout asked rooms.now.pages page (λ id. false) }
-    ensures found { IfOk result (λ found. IfSome found (λ v. (v.page < length rooms.now.pages)
-        × IsVacancy asked frame v.page rooms.now.pages v.count (box_of v.area) entries.now.entries)) }
-    ensures crowded { result ≡ Ok None → (page : ℕ)
-        → HasNoRoomWithout asked rooms.now.pages page (idle_on frame page (entries_of entries.now.entries)) }
-{
-    let pages = rooms.len();
-    if let Some(found) = vacancy_on(rooms, entries, marks, frame, first, asked)? {
-        return Ok(Some(found));
-    }
-    for page in 0..pages {
-        if let Some(found) = vacancy_on(rooms, entries, marks, frame, page, asked)? {
-            return Ok(Some(found));
-        }
-    }
-    Ok(None)
 }
 
 // An entry goes, and the change that says so is listed, if it lies on a page inside a box; whether it did.
@@ -338,7 +306,6 @@ impl<K: Copy + Eq + Hash, S: BuildHasher, A: Allocator + Copy> TextureCache<K, S
             &self.entries,
             &mut self.marks,
             self.frame,
-            oldest.page,
             asked,
         );
         let Ok(found) = found else {

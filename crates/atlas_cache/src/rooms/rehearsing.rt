@@ -1,9 +1,9 @@
 //! A rehearsal: which box of a page would be free, were some of its rectangles freed.
-ghost use Rattle.std.specs.Prelude.{◌≡◌, ◌<◌, ℕ, Bool, false, length, IfSome, IsSome, None, OnOk};
+ghost use Rattle.std.specs.Prelude.{◌≡◌, ◌<◌, ◌≤◌, ℕ, Bool, false, length, IfSome, IsSome, None, OnOk};
 ghost use Rattle.guillotiere.specs.Changes.{and_id};
 ghost use Rattle.guillotiere.specs.Pages.{rectangle_on};
 ghost use Rattle.guillotiere.specs.Pixels.{box_of};
-ghost use Rattle.atlas_cache.specs.Vacating.{AreShownOn, HasNoRoomWithout, IsRoomWithout};
+ghost use Rattle.atlas_cache.specs.Vacating.{AreAllShown, AreShownOn, HasNoRoomWithout, IsRoomWithout};
 
 use crate::rooms::Rooms;
 use guillotiere::{AllocId, Rectangle, Size};
@@ -23,15 +23,41 @@ impl<A: Allocator + Copy> Rooms<A> {
         Ok(())
     }
 
-    /// Takes memory for the marks of any page, where it uses so many more slots. An error is a refusal of it.
+    // There are marks for each page, be they none.
+    fn add_marks(&self, marks: &mut Vec<Vec<bool, A>, A>) -> Result<(), AllocError>
+        ensures { OnOk result (length self.now.pages ≤ length marks.new.items) }
+    {
+        for _page in marks.len()..self.pages.len() {
+            marks.push(Vec::new(*marks.allocator()))?;
+        }
+        Ok(())
+    }
+
+    /// The same on each page, which has marks of its own.
+    pub(crate) fn show_none_on_all(
+        &self,
+        marks: &mut Vec<Vec<bool, A>, A>,
+    ) -> Result<(), AllocError>
+        ensures { OnOk result (AreAllShown self.now.pages marks.new.items (λ page id. false)) }
+    {
+        self.add_marks(marks)?;
+        for page in 0..self.len() {
+            self.show_none(page, &mut marks[page as usize])?;
+        }
+        Ok(())
+    }
+
+    /// Takes memory for the marks of each page, where it uses so many more slots. An error is a refusal of it.
     pub(crate) fn reserve_marks(
         &self,
         additional: u32,
-        marks: &mut Vec<bool, A>,
+        marks: &mut Vec<Vec<bool, A>, A>,
     ) -> Result<(), AllocError> {
-        marks.clear();
-        for page in &self.pages {
-            marks.reserve(page.slots().kept as usize + additional as usize)?;
+        self.add_marks(marks)?;
+        for page in 0..self.pages.len() {
+            let own = &mut marks[page];
+            own.clear();
+            own.reserve(self.pages[page].slots().kept as usize + additional as usize)?;
         }
         Ok(())
     }

@@ -45,8 +45,8 @@ pub struct TextureCache<
     entries: Entries<K, S, A>,
     frame: u64,
     counts: Counts,
-    // For rehearsals: what is shown as freed, a mark for each slot of a page. They mean nothing between two calls.
-    marks: Vec<bool, A>,
+    // For rehearsals: what is shown as freed, for each page a mark for each of its slots. They mean nothing between two calls.
+    marks: Vec<Vec<bool, A>, A>,
 }
 
 impl<K: Copy + Eq + Hash, A: Allocator + Copy> TextureCache<K, DefaultHasher, A> {
@@ -146,11 +146,11 @@ impl<K: Copy + Eq + Hash, S: BuildHasher, A: Allocator + Copy> TextureCache<K, S
     /// refused with `OtherSize`, and nothing changes. A new key counts as no miss. It goes onto the first page with room for its size, in
     /// pixels, with the padding. If none has room, a page grows; if none can, one is added; and if no more are allowed,
     /// the least recently used entry that lies on a page and that this frame didn't use is evicted; and so on, up to 16 entries. If there
-    /// still is no room then, only entries that lie in one box go: the first box that would come free and that the request fits, if all
-    /// that this frame didn't use went in that order. Where memory for its search is refused, a byte for each slot of a page, they go on in
-    /// that order. `FrameFull` if no page has room, nor would one have it, were all entries gone that this frame didn't use, which can't
-    /// be while this frame has used nothing; `NeverFits` if the size, with the padding and rounded up to the alignment, exceeds the largest page, and then
-    /// nothing changes. What was done is added to the changes, also after `FrameFull` and after an error: `Memory`,
+    /// still is no room then, only entries that lie in one box go: the first box on a page that would come free and that the request fits,
+    /// if all that this frame didn't use went in that order. Where memory for its search is refused, a byte for each slot of the pages, they
+    /// go on in that order. `FrameFull` if no page has room, nor would one have it, were all entries gone that this frame didn't use, which
+    /// can't be while this frame has used nothing; `NeverFits` if the size, with the padding and rounded up to the alignment, exceeds the
+    /// largest page, and then nothing changes. What was done is added to the changes, also after `FrameFull` and after an error: `Memory`,
     /// `Slots` if those of a page don't suffice, or `Numbers` only where 4,294,967,295 entries are still held.
     ///
     /// A new key with an empty size, of which a side is 0 or below, becomes a blank entry: `Placed` with a place that is
@@ -165,10 +165,10 @@ impl<K: Copy + Eq + Hash, S: BuildHasher, A: Allocator + Copy> TextureCache<K, S
     /// between them take nothing of it.
     ///
     /// Takes one look-up by a hash. A new key that isn't blank also takes a few steps for each page, and a request of an atlas for each
-    /// page that isn't known to have no room: one that refused a size no larger in width and height, and hasn't changed since, is. An
-    /// eviction takes a freeing and another request of its page; it passes each blank key that was used before what it evicts once, and
-    /// not again until that key is used. The search for one box takes, for each page until one is found, a step for each entry that this
-    /// frame didn't use, and what a freeing takes for each of them that lies there.
+    /// page that isn't known to have no room: one that refused a size no larger in width and height, of the last two, and hasn't changed
+    /// since, is. An eviction takes a freeing and another request of its page; it passes each blank key that was used before what it evicts
+    /// once, and not again until that key is used. The search for one box takes, until it is found, a step for each entry that this frame
+    /// didn't use, and what a freeing takes for each of them that lies there.
     #[inline]
     pub fn insert(
         &mut self,

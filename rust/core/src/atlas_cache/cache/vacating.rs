@@ -13,32 +13,38 @@ use wollemigo_support::alloc::{AllocError, Allocator};
 use wollemigo_support::hash::{BuildHasher, Hash};
 use wollemigo_support::prelude::Vec;
 
-// Shows an entry as gone, if it lies on this page, with those that are shown already: the box that would come free, if the request fits it.
+// Shows an entry as gone, if it lies on a page, with those that are shown already: the box that would come free, if the request fits it.
 #[inline]
 fn show<K: Copy, A: Allocator + Copy>(
     rooms: &Rooms<A>,
-    marks: &mut [bool],
-    page: u32,
+    marks: &mut Vec<Vec<bool, A>, A>,
     asked: Size,
     entry: Entry<K>,
 ) -> Option<Rectangle> {
-    if entry.page != page {
+    if entry.is_blank() {
         return None;
     }
-    rooms.rehearse(page, marks, entry.id, asked)
+    rooms.rehearse(entry.page, &mut marks[entry.page as usize], entry.id, asked)
 }
 
-// On a page, as if the entries went in the order of use that a frame didn't use: with how many of them a box comes free that a request
-// fits, and the box; None if even then it has no room.
+// A box of a page that would be free, were so many of the least recently used entries gone.
+#[derive(Clone, Copy)]
+struct Vacancy {
+    page: u32,
+    area: Rectangle,
+    count: usize,
+}
+
+// As if the entries went in the order of use that a frame didn't use: the first box that comes free and that a request fits; None if even
+// then no page has room.
 #[inline]
-fn box_on<K: Copy + Eq + Hash, S: BuildHasher, A: Allocator + Copy>(
+fn first_vacancy<K: Copy + Eq + Hash, S: BuildHasher, A: Allocator + Copy>(
     rooms: &Rooms<A>,
     entries: &Entries<K, S, A>,
-    marks: &mut [bool],
+    marks: &mut Vec<Vec<bool, A>, A>,
     frame: u64,
-    page: u32,
     asked: Size,
-) -> Option<(usize, Rectangle)> {
+) -> Option<Vacancy> {
     let mut next = entries.oldest();
     for looked in 0..entries.len() {
         let number = next?;
@@ -46,12 +52,29 @@ fn box_on<K: Copy + Eq + Hash, S: BuildHasher, A: Allocator + Copy>(
         if entry.frame == frame {
             return None;
         }
-        if let Some(area) = show(rooms, marks, page, asked, entry) {
-            return Some((looked + 1, area));
+        if let Some(area) = show(rooms, marks, asked, entry) {
+            return Some(Vacancy {
+                page: entry.page,
+                area,
+                count: looked + 1,
+            });
         }
         next = entries.newer(number);
     }
     None
+}
+
+// The same, with nothing shown before. An error is a refusal of memory for marks of slots.
+#[inline]
+fn find_vacancy<K: Copy + Eq + Hash, S: BuildHasher, A: Allocator + Copy>(
+    rooms: &Rooms<A>,
+    entries: &Entries<K, S, A>,
+    marks: &mut Vec<Vec<bool, A>, A>,
+    frame: u64,
+    asked: Size,
+) -> Result<Option<Vacancy>, AllocError> {
+    rooms.show_none_on_all(marks)?;
+    Ok(first_vacancy(rooms, entries, marks, frame, asked))
 }
 
 // Whether one coordinate is no greater than another, where those below 0 count as 0.
@@ -98,56 +121,6 @@ fn inside<K: Copy + Eq + Hash, S: BuildHasher, A: Allocator + Copy>(
         next = entries.newer(number);
     }
     found
-}
-
-// A box of a page that would be free, were so many of the least recently used entries gone.
-#[derive(Clone, Copy)]
-struct Vacancy {
-    page: u32,
-    area: Rectangle,
-    count: usize,
-}
-
-// The same of one page. An error is a refusal of memory for marks of its slots.
-#[inline]
-fn vacancy_on<K: Copy + Eq + Hash, S: BuildHasher, A: Allocator + Copy>(
-    rooms: &Rooms<A>,
-    entries: &Entries<K, S, A>,
-    marks: &mut Vec<bool, A>,
-    frame: u64,
-    page: u32,
-    asked: Size,
-) -> Result<Option<Vacancy>, AllocError> {
-    rooms.show_none(page, marks)?;
-    let (count, area) = match box_on(rooms, entries, marks, frame, page, asked) {
-        Some((count, area)) => (count, area),
-        _ => {
-            return Ok(None);
-        }
-    };
-    Ok(Some(Vacancy { page, area, count }))
-}
-
-// Of the first page that can have one, where this page comes first.
-#[inline]
-fn find_vacancy<K: Copy + Eq + Hash, S: BuildHasher, A: Allocator + Copy>(
-    rooms: &Rooms<A>,
-    entries: &Entries<K, S, A>,
-    marks: &mut Vec<bool, A>,
-    frame: u64,
-    first: u32,
-    asked: Size,
-) -> Result<Option<Vacancy>, AllocError> {
-    let pages = rooms.len();
-    if let Some(found) = vacancy_on(rooms, entries, marks, frame, first, asked)? {
-        return Ok(Some(found));
-    }
-    for page in 0..pages {
-        if let Some(found) = vacancy_on(rooms, entries, marks, frame, page, asked)? {
-            return Ok(Some(found));
-        }
-    }
-    Ok(None)
 }
 
 // An entry goes, and the change that says so is listed, if it lies on a page inside a box; whether it did.
@@ -228,7 +201,6 @@ impl<K: Copy + Eq + Hash, S: BuildHasher, A: Allocator + Copy> TextureCache<K, S
             &self.entries,
             &mut self.marks,
             self.frame,
-            oldest.page,
             asked,
         );
         let found = match found {

@@ -17,16 +17,40 @@ impl<A: Allocator + Copy> Rooms<A> {
         Ok(())
     }
 
-    /// Takes memory for the marks of any page, where it uses so many more slots. An error is a refusal of it.
+    // There are marks for each page, be they none.
+    #[inline]
+    fn add_marks(&self, marks: &mut Vec<Vec<bool, A>, A>) -> Result<(), AllocError> {
+        for _page in marks.len()..self.pages.len() {
+            marks.push(Vec::new(*marks.allocator()))?;
+        }
+        Ok(())
+    }
+
+    /// The same on each page, which has marks of its own.
+    #[inline]
+    pub(crate) fn show_none_on_all(
+        &self,
+        marks: &mut Vec<Vec<bool, A>, A>,
+    ) -> Result<(), AllocError> {
+        self.add_marks(marks)?;
+        for page in 0..self.len() {
+            self.show_none(page, &mut marks[page as usize])?;
+        }
+        Ok(())
+    }
+
+    /// Takes memory for the marks of each page, where it uses so many more slots. An error is a refusal of it.
     #[inline]
     pub(crate) fn reserve_marks(
         &self,
         additional: u32,
-        marks: &mut Vec<bool, A>,
+        marks: &mut Vec<Vec<bool, A>, A>,
     ) -> Result<(), AllocError> {
-        marks.clear();
-        for page in &self.pages {
-            marks.reserve(page.slots().kept as usize + additional as usize)?;
+        self.add_marks(marks)?;
+        for page in 0..self.pages.len() {
+            let own = &mut marks[page];
+            own.clear();
+            own.reserve(self.pages[page].slots().kept as usize + additional as usize)?;
         }
         Ok(())
     }

@@ -1,8 +1,8 @@
-use Rattle.std.proofs.Common.{arith, refl, Ok}
+use Rattle.std.proofs.Common.{◌≡◌, ◌∙◌, ap, arith, refl, rules, Err, Ok}
 use Rattle.atlas_cache.specs.Caches.{entries_of}
 use Rattle.atlas_entries.specs.Entries.{lying}
 use Rattle.atlas_cache.proofs.HoldingLemmas.{stays}
-use Rattle.atlas_cache.proofs.ReadyLemmas.{full_stays, ready_reserved}
+use Rattle.atlas_cache.proofs.ReadyLemmas.{error_is, full_stays, ready_reserved}
 use Rattle.atlas_cache.proofs.RoomLemmas.PageReserves.{same_rectangles, same_sizes}
 use Rattle.atlas_cache.proofs.cache.TextureCache.reserve_slots.Goals as goal
 
@@ -49,3 +49,10 @@ pub returns-clause-inserts : goal.returns-clause-inserts
 returns-clause-inserts g c =
     rw (← c.self.view_is) (ready_reserved (Ok c.in_ok-reserve_slots.field-0) c.args.additional _ _ _ c.in_ok-reserve_slots.ensures.ready
     c.in_ok-reserve_slots.ensures.allowed (omega arith) refl refl)
+
+pub returns-in_err-reserve_slots-clause-had : goal.returns-in_err-reserve_slots-clause-had
+returns-in_err-reserve_slots-clause-had g c =
+    let same : c.from_residual.result ≡ Err c.in_err-reserve_slots.field-0.0 = search rules in
+    rw (← c.self.view_is) (λ had refused.
+    c.reserve_slots.ensures.had had
+    (c.in_err-reserve_slots.was ∙ ap Err (error_is c.in_err-reserve_slots.field-0.0 c.from_residual.result same refused)))

@@ -5,11 +5,10 @@ use Rattle.atlas_cache.specs.Changes.{ClearsBox}
 use Rattle.atlas_cache.specs.Vacating.{state_with}
 use Rattle.atlas_entries.specs.Entries.{Table}
 use Rattle.atlas_cache.proofs.BlankLemmas.{all-in-use}
-use Rattle.atlas_cache.proofs.CacheLemmas.{rectangle-live}
 use Rattle.atlas_cache.proofs.ClearingLemmas.{split-same}
 use Rattle.atlas_cache.proofs.ClearedLemmas.{cleared_on-room}
 use Rattle.atlas_cache.proofs.ReadyLemmas.{full_stays, reserves_left}
-use Rattle.atlas_cache.proofs.RoomLemmas.KeptPages.{as_many, page_of}
+use Rattle.atlas_cache.proofs.RoomLemmas.KeptPages.{as_many}
 use Rattle.atlas_cache.proofs.StandLemmas.{none-shown, used-up}
 use Rattle.atlas_cache.proofs.VacatedLemmas.{entries-length, page-there, cleared-reserved, cleared-slots, falls-outside, on_err}
 use Rattle.atlas_cache.proofs.WalkLemmas.{entries-append}
@@ -29,13 +28,6 @@ returns-then-oldest-self-clause-crowded g c = λ _.
     used-up c.args.asked c.args.self.now c.requires.full c.requires.none
     (rw (← c.self.view_is, w.was) (all-in-use it.frame w.newer c.in-Some.oldest w.older w.lies w.blank falls c.if-oldest-self.true))
     (rw (← c.self.view_is) c.prove_pages.ensures.kept) (rw (← c.self.view_is) c.prove_pages.ensures.numbered)
-
-pub find_vacancy-found-requires-clause-there : goal.find_vacancy-found-requires-clause-there
-find_vacancy-found-requires-clause-there g c =
-    let it = c.self.inside in
-    let w = rw c.in-Some.is at c.oldest_lying.ensures.last in
-    let e = c.in-Some.oldest in
-    page_of it.rooms.pages e.page e.id (rectangle-live it.rooms.pages _ it.entries.entries e c.self.invariant.held w.at w.lies)
 
 pub find_vacancy-found-requires-clause-none : goal.find_vacancy-found-requires-clause-none
 find_vacancy-found-requires-clause-none g c =
