@@ -528,7 +528,7 @@ uint32_t guillotiere_cache_peek(const guillotiere_cache *cache, uint64_t key, gu
  * page. If none can grow, one is added; and if no more are allowed, the least recently used key that lies on a page and
  * that this frame didn't use is evicted; and so on, up to 16 keys. If there still is no room then, only keys that lie in one
  * box go: the first box that would come free and that the new key fits, if all that this frame didn't use went in that
- * order. Where memory for looking it up is refused, a byte for each slot of a page, they go on in that order. What was done
+ * order. Where memory for looking it up is refused, a byte for each slot of the pages, they go on in that order. What was done
  * is handed over by guillotiere_cache_next_change, also
  * after FRAME_FULL and after an error: take all of it after each insertion, before the place or its number is noted. A
  * key that was evicted and came back is reported as evicted all the same.
