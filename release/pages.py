@@ -39,6 +39,26 @@ def version(name, commit, made, more=()):
     return ''.join('%s: %s\n' % each for each in lines) + VERIFY
 
 
+FILE = """# guillotiere %(version)s for C and C++, as one file
+
+An allocator of rectangles in textures, a cache of rectangles under keys, and a packer of sheets, in one file of C99 that is compiled with a
+program, by any C compiler. `program.c` is a first program, in ten lines:
+
+    cc -O2 -o program program.c guillotiere.c
+
+`guillotiere.h` says what each call means, `guillotiere.hpp` has owners for C++17, and `examples` has programs. In CMake this folder is
+taken by `add_subdirectory`, and then `target_link_libraries(program guillotiere::guillotiere)`; or it is installed, with what
+`find_package` and pkg-config look for, by `cmake -B build && cmake --build build && cmake --install build --prefix PREFIX`. Meson takes it
+as a subproject, whose dependency is `guillotiere`.
+
+It needs a compiler for C99 or C++17, and of the C library `malloc`, `realloc` and `free`, in place of which `guillotiere_set_memory` names
+another function; compilers add calls of `memcpy`, `memmove` and `memset`.
+
+**Proved** is, for pointers of 64 bits, that each function meets its contract, of the code that this file was printed from. **Not proved** is
+the printer, nor the C compiler: the file is tested. What the caller of a C function has to keep to is said in the header, and nothing
+checks it.
+"""
+
 SHEET = """# guillotiere-sheet %(version)s: %(platform)s
 
 Packs a folder of pictures into sheets that engines load: `bin/guillotiere-sheet FOLDER OUT`. `--help` and `--man` say all words.
