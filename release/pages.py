@@ -27,9 +27,9 @@ WITH_STD = """Rust's standard library is in it, which asks for that glibc: %s ma
 
 """
 
-VERIFY = """verify: SHA256SUMS stands beside this archive. `sha256sum --check --ignore-missing SHA256SUMS` compares the sums; where SHA256SUMS.asc
-or SHA256SUMS.minisig stands there too, `gpg --verify SHA256SUMS.asc SHA256SUMS` or `minisign -Vm SHA256SUMS -P KEY`, with the key of
-whoever gives it out, says who signed it. Or make it again from the commit, by `release/make`.
+VERIFY = """verify: SHA256SUMS stands beside this archive. `sha256sum --check --ignore-missing SHA256SUMS` compares the sums. Where
+SHA256SUMS.asc or SHA256SUMS.minisig stands there too, `gpg --verify SHA256SUMS.asc SHA256SUMS` or `minisign -Vm SHA256SUMS -P KEY`, with
+the key of whoever gives it out, says who signed it. Or make it again from the commit, by `release/make`.
 """
 
 
@@ -54,8 +54,8 @@ as a subproject, whose dependency is `guillotiere`.
 It needs a compiler for C99 or C++17, and of the C library `malloc`, `realloc` and `free`, in place of which `guillotiere_set_memory` names
 another function; compilers add calls of `memcpy`, `memmove` and `memset`.
 
-**Proved** is, for pointers of 64 bits, that each function meets its contract, of the code that this file was printed from. **Not proved** is
-the printer, nor the C compiler: the file is tested. What the caller of a C function has to keep to is said in the header, and nothing
+**Proved** is, for pointers of 64 bits, that each function meets its contract, of the code that this file was printed from. **Not proved**
+are the printer and the C compiler: the file is tested. What the caller of a C function has to keep to is said in the header, and nothing
 checks it.
 """
 
