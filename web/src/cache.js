@@ -91,7 +91,9 @@ export class TextureCache extends Owner {
     }, () => whyNoAtlas(1, 1, atlas, 'options.atlas'));
   }
 
+  // The pages that web/play/build makes leave out what this, `reserveSlots` and `reserveChanges` do.
   clone() {
+    if (import.meta.cut) return undefined;
     const runtime = runtimeOf(this, CACHE);
     const copy = new TextureCache(COPY, (_, cell) => runtime.calls.cache_clone(handle(this), cell), runtime);
     copy.#keys = this.#keys.copy();
@@ -292,11 +294,13 @@ export class TextureCache extends Owner {
   }
 
   reserveSlots(additional) {
+    if (import.meta.cut) return;
     const number = count(additional, 'additional');
     require(runtimeOf(this, CACHE).calls.cache_reserve_slots(handle(this), number));
   }
 
   reserveChanges(additional) {
+    if (import.meta.cut) return;
     const number = count(additional, 'additional');
     require(runtimeOf(this, CACHE).calls.cache_reserve_changes(handle(this), number));
   }
