@@ -345,7 +345,9 @@ export interface CacheOptions {
 
 /**
  * Where a key lies: its number, which stays until the key is gone, and which no other key has meanwhile; its page, counted from 0;
- * `rectangle`, with the padding, which no other entry overlaps; and `inner` in it, which has the sides that were asked for.
+ * `rectangle`, with the padding, which no other entry overlaps; and `inner` in it, which has the sides that were asked for. Numbers of
+ * keys that are gone are given out again before new ones, which of them isn't said: so what a caller keeps of each key fits an array of
+ * `numbers` elements.
  *
  * The border of a new entry shows what lay there before. A linear filter reads it, so write all of `rectangle`: the pixels in
  * `inner`, and cleared ones around it. With a padding of 1 draw at most half a pixel beyond `inner`.
@@ -398,7 +400,11 @@ export class TextureCache {
   /** Throws `EMPTY_PAGE`, `LARGEST_PAGE`, `NO_PAGES`, `BAD_PADDING`, `BAD_ATLAS`, `NOTHING_FITS`, `MEMORY`. */
   constructor(options: CacheOptions);
 
-  /** Begins a new frame: what isn't used in it may be evicted. */
+  /** A copy that shares nothing with this one, and goes on by itself: it has the same pages, keys, places, counts and changes to hand over,
+   * and is in the same frame. Its calls are answered as this one's, except that it has nothing in reserve. Throws `MEMORY`. */
+  clone(): TextureCache;
+  /** Begins a new frame: what isn't used in it may be evicted. Until the first call no key is evicted for another: all that is held
+   * counts as used in the current frame. */
   beginFrame(): void;
   /** The place of a key, which is used in this frame from now on; null where it isn't held. Counts a hit or a miss. */
   get(key: Key): Place | null;
@@ -411,8 +417,8 @@ export class TextureCache {
   /** The place of a key; null where it isn't held. This doesn't count as a use, a hit or a miss. */
   peek(key: Key): Place | null;
   /**
-   * A place for a key, which is used in this frame. A key that is held keeps its place, and counts as a hit. For a new key a page may grow, one may be
-   * added, and keys that this frame didn't use may be evicted; what was done is handed over by `changes`: follow it after each
+   * A place for a key, which is used in this frame. A key that is held keeps its place, and counts as a hit. For a new key a page may grow,
+   * one may be added, and keys that this frame didn't use may be evicted; what was done is handed over by `changes`: follow it after each
    * insertion, before the place or its number is noted, even if the call throws. Null where this frame uses all that the pages
    * have room for: draw what is batched, call `beginFrame`, and insert again.
    *
@@ -422,8 +428,8 @@ export class TextureCache {
    *
    * Quads that are drawn page by page lie in another order than they were batched in, which shows where they overlap.
    *
-   * Throws `OTHER_SIZE`, `NEVER_FITS`, and then nothing changed; `NUMBERS`, `SLOTS`, `MEMORY`. After `SLOTS` keys have to be removed or
-   * trimmed: none is evicted for the new one, in no later frame either, and another page with room isn't tried.
+   * Throws `OTHER_SIZE`, `NEVER_FITS`, and then nothing changed; `NUMBERS`, `SLOTS`, `MEMORY`. After `SLOTS` no key is evicted for the
+   * new one, in no later frame either, and another page with room isn't tried: `remove`, `trim` and `clear` help.
    */
   insert(key: Key, width: number, height: number): Entry | null;
   /**
@@ -445,17 +451,37 @@ export class TextureCache {
   changes(): IterableIterator<CacheChange>;
   /** Removes all keys. The pages stay. No change reports this. */
   clear(): void;
-  /** Evicts the keys that weren't used for at least this many frames, each reported by a change. Throws `MEMORY`. */
+  /** Evicts the keys that weren't used for at least this many frames, each reported by a change, the least recently used first. A frame is
+   * a call of `beginFrame`: with 1 all goes that wasn't used since the last one, with 0 all. Throws `MEMORY`, and then nothing changed. */
   trim(frames: number | bigint): void;
-  /** Removes the pages after the last one with a key, each reported as removed, the last one first; after `clear` all. Throws `MEMORY`. */
+  /** Removes the pages after the last one with a key, each reported as removed, the last one first; after `clear` all. A page that goes
+   * takes its slots in reserve along, and one that is added later has none; keys in reserve stay. Throws `MEMORY`, and then nothing
+   * changed. */
   shrink(): void;
   /** Repacks the keys of a page, the largest first, so that what is free comes together. Each key is reported by a change: as moved, also
    * where it stays; or as **evicted**, where it found no room when its turn came, which may be though all had room before. Follow the
-   * changes that wait, copy the page, then call this, and copy all pixels from that copy. Throws `NO_PAGE`, `SLOTS`, `MEMORY`. */
+   * changes that wait, copy the page, then call this, and copy all pixels from that copy. The page may have no slots in reserve then; keys
+   * in reserve stay. Throws `NO_PAGE`, `SLOTS`, `MEMORY`. */
   repack(page: number): void;
 
-  /** Takes memory for this many more keys. Throws `MEMORY`. */
+  /**
+   * Makes sure that there is memory for this many more keys. A key that is added takes one of them; one that goes gives none back, but
+   * `clear` does. Once `reserve(n)`, `reserveSlots(4 * n)` and `reserveChanges(cache.length + n)` were called, and every page is there and
+   * at its largest, none of the next n insertions asks the module for memory or throws `SLOTS`, whatever they evict; `get`, `remove`,
+   * `trim`, `clear` and `beginFrame` between them take nothing of that. Throws `MEMORY`, and then nothing changed.
+   */
   reserve(additional: number): void;
+  /** Makes sure that this many slots are in reserve on each page: an insertion that neither adds a page nor grows one takes at most 4 of
+   * each. A page that is added later has none in reserve, one that grows takes up to 3 of its own, and one that is repacked may have none;
+   * `remove`, `trim` and `clear` take none. Throws `SLOTS`, `MEMORY`: then the pages before the one that was refused have theirs. */
+  reserveSlots(additional: number): void;
+  /** Makes sure that the module has memory for this many changes of one call: an insertion has one for each key that it evicts, a `trim`
+   * one for each key that goes. Throws `MEMORY`, and then nothing changed. */
+  reserveChanges(additional: number): void;
+
+  /** The keys that are held now, with their places, the most recently used first: `for (const { key, place } of cache)`. None counts as a
+   * use, and the cache may be called meanwhile. */
+  [Symbol.iterator](): IterableIterator<KeyedPlace>;
 
   /** The most recently used key; null where none is held. It doesn't count as a use. */
   newest(): KeyedPlace | null;
@@ -467,8 +493,8 @@ export class TextureCache {
   /** How many keys are held. */
   readonly length: number;
   readonly pageCount: number;
-  /** How many numbers keys have had since the cache was made or cleared: the number of each place is below this. Those of keys that
-   * are gone are reused first, which of them isn't said, so what is kept of each key fits an array. */
+  /** How many numbers keys have had since the cache was made or cleared: the number of each place is below this, and this is never more
+   * than there were keys at once. */
   readonly numbers: number;
   /** Throws `NO_PAGE`. */
   pageSize(page: number): Size;

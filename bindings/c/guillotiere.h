@@ -19,6 +19,11 @@
  * guillotiere_atlas_free it holds nothing again, so freeing twice does nothing. An allocator's memory is from malloc, or from what
  * guillotiere_set_memory names, and guillotiere_atlas_free gives all of it back.
  *
+ * Ids. The id of a box that is freed may be that of the next box: in a full atlas the next request of its size has it, after this one
+ * freeing. Where the freed box joins with others, its slot is taken anew for another box, and an id comes again once that has happened
+ * 256 times. After guillotiere_atlas_clear, _reset, _rearrange and _resize_and_rearrange ids begin anew. So forget an id as soon as you
+ * free it: a call by a forgotten one is answered by GUILLOTIERE_NOT_LIVE only as long as its number isn't that of another box.
+ *
  * Statuses. A call returns a status. It is total: sizes, options, ids and limits may be any numbers, and what is wrong
  * is reported. After any status other than GUILLOTIERE_DONE all handles hold what they held, and nothing was written, except
  * the number of a bad sprite (of a sheet), and except by three calls of a cache: guillotiere_cache_insert answers
@@ -53,7 +58,9 @@
 extern "C" {
 #endif
 
-/* Before a call that makes or grants something: a compiler warns where its status isn't looked at. */
+/* Before a call that may refuse a handle that holds something: a compiler warns where its status isn't looked at. What GCC's attribute
+ * marks it warns of behind `(void)` too, and not behind `(void)!`. guillotiere_cache_remove isn't marked: after it the key isn't held,
+ * whatever it answered. */
 #if defined(__GNUC__)
 #define GUILLOTIERE_CHECKED __attribute__((warn_unused_result))
 #else
@@ -271,7 +278,8 @@ typedef struct guillotiere_cache_options {
 /* Where a key lies: its number, which stays until the key is gone, and which no other key has meanwhile; its page, counted
  * from 0; `rectangle`, which no other entry overlaps; and `inner` in it, which has the sides that were asked for; the
  * padding lies to its left and above it. To its right and below it, `rectangle` has the padding as well, and more where an
- * alignment rounds up.
+ * alignment rounds up. Numbers of keys that are gone are given out again before new ones, which of them isn't said: so what a
+ * caller keeps of each key fits an array of guillotiere_cache_numbers elements.
  *
  * The border of a new entry shows what lay there before. A linear filter reads it, so write all of `rectangle`: the pixels
  * in `inner`, and cleared ones around it. With a padding of 1 draw at most half a pixel beyond `inner`. */
@@ -353,9 +361,11 @@ uint32_t guillotiere_atlas_allocate(guillotiere_atlas *atlas, int32_t width, int
                                     guillotiere_allocation *granted);
 
 /* Frees the box of a live id: it joins the free space next to it. Takes no memory. DONE; NOT_LIVE; EMPTY. */
+GUILLOTIERE_CHECKED
 uint32_t guillotiere_atlas_deallocate(guillotiere_atlas *atlas, uint32_t id);
 
 /* The rectangle of a live id. DONE: it is in `found`. NOT_LIVE; EMPTY. */
+GUILLOTIERE_CHECKED
 uint32_t guillotiere_atlas_get(const guillotiere_atlas *atlas, uint32_t id, guillotiere_rectangle *found);
 
 /* Makes the atlas larger; every live id keeps its rectangle. DONE; BAD_CALL if a side shrinks; SLOTS; MEMORY;
@@ -382,6 +392,7 @@ uint32_t guillotiere_atlas_clear(guillotiere_atlas *atlas);
 
 /* Starts again at this size and with these options; the limit stays. Takes no memory.
  * DONE; BAD_CALL if a side isn't above 0 or the options aren't valid; EMPTY. */
+GUILLOTIERE_CHECKED
 uint32_t guillotiere_atlas_reset(guillotiere_atlas *atlas, int32_t width, int32_t height,
                                  const guillotiere_options *options);
 
@@ -404,10 +415,12 @@ bool guillotiere_atlas_is_empty(const guillotiere_atlas *atlas);
 
 /* Writes the live boxes, by rising slot, which is the low 24 bits of the id: as many as there is room for, and into `count`
  * how many there are. What `found` has after them stays. DONE; MEMORY; EMPTY. */
+GUILLOTIERE_CHECKED
 uint32_t guillotiere_atlas_live(const guillotiere_atlas *atlas, guillotiere_allocation *found, size_t found_len,
                                 size_t *count);
 
 /* The same of the free boxes, in an order that is left open. */
+GUILLOTIERE_CHECKED
 uint32_t guillotiere_atlas_free_boxes(const guillotiere_atlas *atlas, guillotiere_rectangle *found, size_t found_len,
                                       size_t *count);
 
@@ -429,6 +442,7 @@ uint32_t guillotiere_atlas_resize_and_rearrange(guillotiere_atlas *atlas, int32_
 
 /* Frees the boxes of a list of ids, all or none. DONE; NOT_LIVE if one isn't live or is listed twice; MEMORY, as the
  * list is copied first; EMPTY. */
+GUILLOTIERE_CHECKED
 uint32_t guillotiere_atlas_deallocate_all(guillotiere_atlas *atlas, const uint32_t *ids, size_t ids_len);
 
 /* --- A simple allocator ---------------------------------------------------------------------------------------------- */
@@ -459,11 +473,12 @@ uint32_t guillotiere_simple_grow(guillotiere_simple *simple, int32_t width, int3
 /* Whether the allocator may be grown to this size, in pixels: no side shrinks. False of a handle that holds nothing. */
 bool guillotiere_simple_can_grow_to(const guillotiere_simple *simple, int32_t width, int32_t height);
 
-/* Starts again with one free box of the allocator's size. Takes no memory. DONE; EMPTY. */
+/* Starts again with one free box of the allocator's size. Keeps the room of the entries, and takes no memory. DONE; EMPTY. */
 uint32_t guillotiere_simple_clear(guillotiere_simple *simple);
 
-/* Starts again at this size and with these options. Takes no memory.
+/* Starts again at this size and with these options. Keeps the room of the entries, and takes no memory.
  * DONE; BAD_CALL if a side isn't above 0 or the options aren't valid; EMPTY. */
+GUILLOTIERE_CHECKED
 uint32_t guillotiere_simple_reset(guillotiere_simple *simple, int32_t width, int32_t height,
                                   const guillotiere_options *options);
 
@@ -501,27 +516,33 @@ void guillotiere_cache_free(guillotiere_cache *cache);
 uint32_t guillotiere_cache_begin_frame(guillotiere_cache *cache);
 
 /* The place of a key, which is used in this frame from now on. Counts a hit or a miss. DONE; NOT_HELD; EMPTY. */
+GUILLOTIERE_CHECKED
 uint32_t guillotiere_cache_get(guillotiere_cache *cache, uint64_t key, guillotiere_place *place);
 
 /* The place of a key; it doesn't count as a use, a hit or a miss. DONE; NOT_HELD; EMPTY. */
+GUILLOTIERE_CHECKED
 uint32_t guillotiere_cache_peek(const guillotiere_cache *cache, uint64_t key, guillotiere_place *place);
 
 /* A place for a key, which is used in this frame. A key that is held keeps its place, and is the most recently used; that
  * counts as a hit. A new key, which counts as no miss, goes onto the first page with room for its size with the padding.
  * If none has room, a page grows: its smaller side (the width if they are equal) doubles, but no further than the largest
  * page. If none can grow, one is added; and if no more are allowed, the least recently used key that lies on a page and
- * that this frame didn't use is evicted; and so on. What was done is handed over by guillotiere_cache_next_change, also
+ * that this frame didn't use is evicted; and so on, up to 16 keys. If there still is no room then, only keys that lie in one
+ * box go: the first box that would come free and that the new key fits, if all that this frame didn't use went in that
+ * order. Where memory for looking it up is refused, a byte for each slot of the pages, they go on in that order. What was done
+ * is handed over by guillotiere_cache_next_change, also
  * after FRAME_FULL and after an error: take all of it after each insertion, before the place or its number is noted. A
  * key that was evicted and came back is reported as evicted all the same.
  * DONE: the key is new, and its place was written: its pixels are to be written to the texture. HELD: it was held, and
- * its place, where its pixels are, was written. FRAME_FULL: all pages allowed exist, at their largest, this frame uses all
- * keys on them and no page has room: draw what is batched, call guillotiere_cache_begin_frame and insert again; while a
+ * its place, where its pixels are, was written. FRAME_FULL: all pages allowed exist, at their largest, and none would have
+ * room, were all keys gone that this frame didn't use, of which 16 went at most, or more where that memory was refused: draw
+ * what is batched, call guillotiere_cache_begin_frame and insert again; while a
  * frame has used nothing this is never the answer. NEVER_FITS if the size, with the padding on all sides and rounded up to
  * the alignment, exceeds the largest page, OTHER_SIZE if the key is held with another size, even if this one is empty or
  * would never fit: then nothing changed. NUMBERS if 4294967295 keys are still held; SLOTS if the page that has room, or
  * that would grow, can't use the slots that this takes, of 16777216; MEMORY if memory is refused. Either ends the call: another
  * page that has room isn't tried, and no more keys are evicted for the new one. After SLOTS that is so in each later frame
- * too, until keys of that page were removed or trimmed. EMPTY.
+ * too: guillotiere_cache_remove, guillotiere_cache_trim and guillotiere_cache_clear help. EMPTY.
  * A key with an empty size (a side below 1) takes no room, and is never evicted to make room for another.
  * Both rectangles of its place are 0, and so is its page, but it is on no page: nothing is to be written or drawn, no
  * repacking reports it, and no page stays for it. */
@@ -535,52 +556,61 @@ uint32_t guillotiere_cache_remove(guillotiere_cache *cache, uint64_t key, guillo
 
 /* Hands over the first change that wasn't handed over yet; each is handed over once, in the order in which they were made.
  * Takes no memory. DONE; NO_CHANGE if there is none; EMPTY. */
+GUILLOTIERE_CHECKED
 uint32_t guillotiere_cache_next_change(guillotiere_cache *cache, guillotiere_cache_change *change);
 
 /* Removes all keys. The pages stay, with their sizes and nothing on them. No change reports this. The changes that weren't
  * handed over stay: follow them, then forget all places. Takes no memory. DONE; EMPTY. */
 uint32_t guillotiere_cache_clear(guillotiere_cache *cache);
 
-/* Evicts the keys that weren't used for at least this many frames, each reported by a change, the least recently used first:
- * with 1, what this frame didn't use; with 0, all. DONE; MEMORY, and then all is as it was: never if
- * guillotiere_cache_reserve_changes made room for as many changes as keys are held, and for one at least; EMPTY. */
+/* Evicts the keys that weren't used for at least this many frames, each reported by a change, the least recently used first.
+ * A frame is a call of guillotiere_cache_begin_frame: with 1 all goes that wasn't used since the last one, with 0 all.
+ * DONE; MEMORY, and then all is as it was: never if guillotiere_cache_reserve_changes made room for as many changes as
+ * keys are held, and for one at least; EMPTY. */
+GUILLOTIERE_CHECKED
 uint32_t guillotiere_cache_trim(guillotiere_cache *cache, uint64_t frames);
 
 /* Removes the pages after the last one with a key, each reported by a change, GUILLOTIERE_PAGE_REMOVED, the last one
- * first. The others stay, with their sizes, and so do all keys; after guillotiere_cache_clear all pages go. DONE;
+ * first. The others stay, with their sizes, and so do all keys; after guillotiere_cache_clear all pages go. A page that goes
+ * takes its slots in reserve along, and one that is added later has none; keys in reserve stay. DONE;
  * MEMORY, and then all is as it was: never if guillotiere_cache_reserve_changes made room for as many changes as there
  * are pages, and for one at least; EMPTY. */
+GUILLOTIERE_CHECKED
 uint32_t guillotiere_cache_shrink(guillotiere_cache *cache);
 
 /* Repacks the keys of a page, the largest first, and among equal areas the most recently used, so that what is free comes
  * together; pages are counted from 0. Each key of the page is reported by a change, the most recently used first:
  * GUILLOTIERE_MOVED, also where it stays, or GUILLOTIERE_EVICTED, where it found no room. A place that a key moves to
  * can overlap one that a later change moves from: take the changes that wait, then copy the page, then call this, and copy
- * all pixels from that copy. DONE; NO_PAGE, SLOTS (only of a page with more than 4194303 keys) or MEMORY, and then all
- * is as it was; EMPTY. */
+ * all pixels from that copy. The page may have no slots in reserve then; keys in reserve stay. DONE; NO_PAGE, SLOTS
+ * (only of a page with more than 4194303 keys) or MEMORY, and then all is as it was; EMPTY. */
 GUILLOTIERE_CHECKED
 uint32_t guillotiere_cache_repack(guillotiere_cache *cache, uint32_t page);
 
 /* The most recently used key, and its place; it doesn't count as a use. DONE; NOT_HELD if no key is held; EMPTY. */
+GUILLOTIERE_CHECKED
 uint32_t guillotiere_cache_newest(const guillotiere_cache *cache, uint64_t *key, guillotiere_place *place);
 
 /* The least recently used key, and its place; it doesn't count as a use. DONE; NOT_HELD if no key is held; EMPTY. */
+GUILLOTIERE_CHECKED
 uint32_t guillotiere_cache_oldest(const guillotiere_cache *cache, uint64_t *key, guillotiere_place *place);
 
 /* The next less recently used key, and its place; this doesn't count as a use. From the newest key on, this gives each key
  * once. DONE: it is in `older`. NOT_HELD if `key` is the least recently used, or isn't held; EMPTY. */
+GUILLOTIERE_CHECKED
 uint32_t guillotiere_cache_older(const guillotiere_cache *cache, uint64_t key, uint64_t *older, guillotiere_place *place);
 
-/* Takes memory for this many more keys; nothing else changes. An insertion also takes slots of pages and room for changes:
+/* Makes sure that there is memory for this many more keys; nothing else changes. A key that is added takes one of them; one
+ * that goes gives none back, but guillotiere_cache_clear does. An insertion also takes slots of pages and room for changes:
  * for these there are the next two calls. DONE; MEMORY; EMPTY. */
 GUILLOTIERE_CHECKED
 uint32_t guillotiere_cache_reserve(guillotiere_cache *cache, size_t additional);
 
 /* Makes sure that this many slots are in reserve on each page. An insertion that neither adds a page nor grows one uses at
- * most 4 of each page; a page that is added later has none in reserve, one that grows uses up to 3, and one that is repacked
- * may have none. So once guillotiere_cache_reserve(n), this with 4 times n and guillotiere_cache_reserve_changes for n and
- * all keys that are held were DONE, and every page is there and at its largest, none of n insertions is refused with SLOTS
- * or MEMORY.
+ * most 4 of each page; a page that is added later has none in reserve, one that grows uses up to 3, one that is repacked may
+ * have none, and one that goes takes its own along; removing, trimming and clearing take none. So once
+ * guillotiere_cache_reserve(n), this with 4 times n and guillotiere_cache_reserve_changes for n and all keys that are
+ * held were DONE, and every page is there and at its largest, none of n insertions is refused with SLOTS or MEMORY.
  * DONE; SLOTS if those of a page don't suffice; MEMORY; EMPTY. The pages before the one that was refused have theirs
  * then, and it and those after it are as they were. */
 GUILLOTIERE_CHECKED
@@ -594,20 +624,21 @@ uint32_t guillotiere_cache_reserve_changes(guillotiere_cache *cache, size_t addi
 /* How many keys are held, at most 4294967295. DONE; EMPTY. */
 uint32_t guillotiere_cache_len(const guillotiere_cache *cache, size_t *len);
 
-/* How many numbers keys have had since the cache was made or cleared: the number of each place is below this. The numbers of
- * keys that are gone are given out again before new ones, that of the key that went last first (which no contract promises), so
- * there are never more than there ever were keys at once, and what a caller keeps of each key fits an array. DONE; EMPTY. */
+/* How many numbers keys have had since the cache was made or cleared: the number of each place is below this, and there are
+ * never more than there ever were keys at once. DONE; EMPTY. */
 uint32_t guillotiere_cache_numbers(const guillotiere_cache *cache, uint32_t *numbers);
 
 /* How many pages there are. DONE; EMPTY. */
 uint32_t guillotiere_cache_page_count(const guillotiere_cache *cache, uint32_t *pages);
 
 /* The size of a page, counted from 0. DONE; NO_PAGE; EMPTY. */
+GUILLOTIERE_CHECKED
 uint32_t guillotiere_cache_page_size(const guillotiere_cache *cache, uint32_t page, guillotiere_size *size);
 
 /* The areas of a page, counted from 0: that of its keys, with their padding and what the alignment added, and that which is
  * free; together that of the page. Takes one pass over the slots of the page. A page with much that is free, from which keys
  * are evicted all the same, is worth a repacking. DONE; NO_PAGE; EMPTY. */
+GUILLOTIERE_CHECKED
 uint32_t guillotiere_cache_areas(const guillotiere_cache *cache, uint32_t page, guillotiere_areas *areas);
 
 /* Of the area of a page that is free, what lies in free boxes which have no room for a key of this size, with its padding
@@ -615,6 +646,7 @@ uint32_t guillotiere_cache_areas(const guillotiere_cache *cache, uint32_t page, 
  * size takes no room. Asked with the size of a usual key it says how fragmented the page is: where much is of no use, it is
  * time to repack it. Takes memory for a list of the page's free boxes, if there is such a page.
  * DONE; NO_PAGE; MEMORY; EMPTY. */
+GUILLOTIERE_CHECKED
 uint32_t guillotiere_cache_unusable_area(const guillotiere_cache *cache, uint32_t page, int32_t width, int32_t height,
                                          uint64_t *area);
 

@@ -448,7 +448,7 @@ public:
     cache &operator=(const cache &) = delete;
     ~cache() { guillotiere_cache_free(&handle_); }
 
-    // Begins a new frame: what isn't used in it may be evicted.
+    // Begins a new frame: what isn't used in it may be evicted. Until the first call no key is evicted for another.
     [[nodiscard]] status begin_frame() { return static_cast<status>(guillotiere_cache_begin_frame(&handle_)); }
 
     // The place of a key, which is used in this frame from now on.
@@ -459,7 +459,8 @@ public:
     std::optional<place> peek(std::uint64_t key) const {
         return found([this, key](place &at) { return guillotiere_cache_peek(&handle_, key, &at); });
     }
-    // A place for a key. Follow the changes before it is used, and also after another answer and after an error.
+    // A place for a key. Follow the changes before it is used, and also after another answer and after an error. After `slots`
+    // no later frame helps, but remove, trim and clear do.
     result<inserted> insert(std::uint64_t key, guillotiere::size of) {
         place at;
         const auto answer = guillotiere_cache_insert(&handle_, key, of.width, of.height, &at);
@@ -483,13 +484,15 @@ public:
     }
     // Removes all keys; no change reports this.
     [[nodiscard]] status clear() { return static_cast<status>(guillotiere_cache_clear(&handle_)); }
-    // Evicts what wasn't used for at least this many frames.
+    // Evicts what wasn't used for at least this many frames: with 1 what wasn't used since the last begin_frame, with 0 all.
     [[nodiscard]] status trim(std::uint64_t frames) { return static_cast<status>(guillotiere_cache_trim(&handle_, frames)); }
+    // Removes the pages after the last one with a key. Each takes its slots in reserve along; keys in reserve stay.
     [[nodiscard]] status shrink() { return static_cast<status>(guillotiere_cache_shrink(&handle_)); }
-    // A page's keys are placed anew. Copy all pixels from the page as it was before the call.
+    // A page's keys are placed anew. Copy all pixels from the page as it was before the call. The page may have no slots in
+    // reserve then; keys in reserve stay.
     [[nodiscard]] status repack(std::uint32_t page) { return static_cast<status>(guillotiere_cache_repack(&handle_, page)); }
 
-    // Takes memory for this many more keys.
+    // Makes sure that there is memory for this many more keys.
     [[nodiscard]] status reserve(std::size_t additional) {
         return static_cast<status>(guillotiere_cache_reserve(&handle_, additional));
     }
@@ -520,7 +523,7 @@ public:
         guillotiere_cache_len(&handle_, &found);
         return found;
     }
-    // How many numbers keys have had so far: the number of each place is below this.
+    // How many numbers keys have had since the cache was made or cleared: the number of each place is below this.
     std::uint32_t numbers() const {
         std::uint32_t found = 0;
         guillotiere_cache_numbers(&handle_, &found);

@@ -93,12 +93,13 @@ static void a_repacking_is_followed_first(void) {
     guillotiere_cache_free(&cache);
 }
 
-/* "The numbers of keys that are gone are given out again before new ones, that of the key that went last first." */
+/* "Numbers of keys that are gone are given out again before new ones, which of them isn't said." */
 static void numbers_come_again(void) {
     guillotiere_cache cache = cache_of((guillotiere_size){16, 4}, (guillotiere_size){16, 4});
     for (uint32_t key = 0; key < 3; key++) CHECK(inserted(&cache, key, 4, 4).number == key);
     CHECK(guillotiere_cache_remove(&cache, 0, NULL) == GUILLOTIERE_DONE && guillotiere_cache_remove(&cache, 1, NULL) == GUILLOTIERE_DONE);
-    CHECK(inserted(&cache, 10, 4, 4).number == 1 && inserted(&cache, 11, 4, 4).number == 0 && inserted(&cache, 12, 4, 4).number == 3);
+    const uint32_t one = inserted(&cache, 10, 4, 4).number, other = inserted(&cache, 11, 4, 4).number;
+    CHECK(one + other == 1 && (one == 0 || other == 0) && inserted(&cache, 12, 4, 4).number == 3);
     guillotiere_cache_free(&cache);
 }
 
@@ -116,6 +117,36 @@ static void an_occupied_handle_is_told_first(void) {
     CHECK(guillotiere_cache_new(&wrong, &cache) == GUILLOTIERE_OCCUPIED);
     guillotiere_cache_free(&cache);
     CHECK(guillotiere_cache_new(&wrong, &cache) == GUILLOTIERE_EMPTY_PAGE);
+}
+
+/* "In a full atlas the next request of its size has it, after this one freeing." And "where the freed box joins with others, its slot is
+ * taken anew for another box, and an id comes again once that has happened 256 times." And "after _clear, _reset, _rearrange ids begin
+ * anew". */
+static void an_id_comes_again_after(void) {
+    guillotiere_atlas atlas = GUILLOTIERE_NONE;
+    guillotiere_allocation first, last;
+    uint32_t tile = 0, freed = 0;
+    CHECK(guillotiere_atlas_new(32, 32, &atlas) == GUILLOTIERE_DONE);
+    for (int i = 0; i < 16; i++) {
+        CHECK(guillotiere_atlas_allocate(&atlas, 8, 8, &last) == GUILLOTIERE_DONE);
+        if (i == 9) tile = last.id;
+    }
+    CHECK(guillotiere_atlas_deallocate(&atlas, tile) == GUILLOTIERE_DONE);
+    CHECK(guillotiere_atlas_allocate(&atlas, 8, 8, &last) == GUILLOTIERE_DONE && last.id == tile);
+    CHECK(guillotiere_atlas_clear(&atlas) == GUILLOTIERE_DONE);
+    CHECK(guillotiere_atlas_allocate(&atlas, 20, 20, &first) == GUILLOTIERE_DONE);
+    last = first;
+    do {
+        CHECK(guillotiere_atlas_deallocate(&atlas, last.id) == GUILLOTIERE_DONE);
+        CHECK(guillotiere_atlas_allocate(&atlas, 20, 20, &last) == GUILLOTIERE_DONE);
+        freed++;
+    } while (last.id != first.id);
+    CHECK(freed == 256);
+    CHECK(guillotiere_atlas_deallocate(&atlas, last.id) == GUILLOTIERE_DONE);
+    CHECK(guillotiere_atlas_allocate(&atlas, 20, 20, &last) == GUILLOTIERE_DONE && last.id != first.id);
+    CHECK(guillotiere_atlas_reset(&atlas, 32, 32, &defaults) == GUILLOTIERE_DONE);
+    CHECK(guillotiere_atlas_allocate(&atlas, 20, 20, &last) == GUILLOTIERE_DONE && last.id == first.id);
+    guillotiere_atlas_free(&atlas);
 }
 
 /* "An id that was freed may be issued again, even by the next call." */
@@ -165,6 +196,7 @@ int main(void) {
     a_repacking_is_followed_first();
     numbers_come_again();
     an_occupied_handle_is_told_first();
+    an_id_comes_again_after();
     an_id_comes_again();
     padding_comes_after_the_alignment();
     of_sheets();

@@ -172,7 +172,7 @@ class Printer:
         known = self.names.function(key.name)
         if known is None:
             return ['/* %s */' % key.name]
-        lines = ['/* ' + line.replace('*/', '* /') for line in known.documentation + ['%s:%d' % (known.place, known.line)]]
+        lines = ['/* ' + line.replace('*/', '* /') for line in known.documentation + [known.place]]
         return lines[:1] + [' * ' + line[3:] for line in lines[1:]] + [' */'] if len(lines) > 1 else [lines[0] + ' */']
 
     def structs(self):

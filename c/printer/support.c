@@ -1,7 +1,7 @@
 /* guillotiere.c: printed by c/printer from what the prover proved. Don't edit.
  *
  * It needs a compiler for C99 or C++17 and guillotiere.h. Of the C library it needs malloc, realloc and free, in place of which
- * guillotiere_set_memory may name another function. Each function has its place in the sources above it; numbers are without signs, and
+ * guillotiere_set_memory may name another function. Each function has its file in the sources above it; numbers are without signs, and
  * where one is compared or divided with its sign it is cast. */
 #include "guillotiere.h"
 #include <stdlib.h>
@@ -14,7 +14,7 @@
 /* What has no bytes has this address. */
 static uint64_t nothing;
 
-/* MAKER: makes a value of its parts. SMALL: has few lines. PART: any other function. By measurement GCC does better where it chooses. */
+/* MAKER: makes a value of its parts. SMALL: has few lines. PART: any other function, where GCC by measurement does better with a hint. */
 #if defined(__clang__)
 #define MAKER static inline __attribute__((always_inline, unused))
 #define SMALL static inline __attribute__((always_inline))
@@ -22,7 +22,7 @@ static uint64_t nothing;
 #define UNREACHABLE() __builtin_unreachable()
 #elif defined(__GNUC__)
 #define MAKER static inline __attribute__((always_inline, unused))
-#define SMALL static inline
+#define SMALL static inline __attribute__((always_inline))
 #define PART static inline
 #define UNREACHABLE() __builtin_unreachable()
 #else

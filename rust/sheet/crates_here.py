@@ -5,7 +5,7 @@ import re
 from cargo_here import REGISTRY, from_debian
 
 CRATES = ['clap', 'clap_complete', 'ctrlc', 'fd-lock', 'globset', 'image', 'imagesize', 'indicatif', 'libc', 'notify', 'png', 'same-file',
-          'serde_derive', 'serde_json', 'sha2', 'sysinfo', 'tera', 'walkdir']
+          'serde_derive', 'serde_json', 'sha2', 'sysinfo', 'tera', 'toml', 'walkdir']
 
 
 def missing():

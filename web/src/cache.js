@@ -36,6 +36,14 @@ const CHANGE = 64;
 
 const first = (words, at) => words[at] >>> 0;
 
+const COPY = Symbol('copy');
+
+/** A value that shares no object with this one. */
+function apart(value) {
+  if (Object(value) !== value) return value;
+  return Object.fromEntries(Object.entries(value).map(([name, each]) => [name, apart(each)]));
+}
+
 function optionsRead(words, at) {
   const { page, largestPage, pages, padding, atlas } = cacheOptionsAt;
   return { page: reading.size(words, at + page), largestPage: reading.size(words, at + largestPage), pages: first(words, at + pages),
@@ -69,7 +77,11 @@ export class TextureCache extends Owner {
     });
   }
 
-  constructor(given) {
+  constructor(given, ...more) {
+    if (given === COPY) {
+      super(CACHE, more[0], undefined, more[1]);
+      return;
+    }
     atMost(1, arguments.length);
     const { page, largestPage, pages, padding, atlas } = options(given, 'options', OPTIONS);
     const largest = largestPage ?? page;
@@ -77,6 +89,16 @@ export class TextureCache extends Owner {
       runtime.write(runtime.at, [page.width, page.height, largest.width, largest.height, pages, padding, ...atlas]);
       return runtime.calls.cache_new(runtime.at, cell);
     }, () => whyNoAtlas(1, 1, atlas, 'options.atlas'));
+  }
+
+  // The pages that web/play/build makes leave out what this, `reserveSlots` and `reserveChanges` do.
+  clone() {
+    if (import.meta.cut) return undefined;
+    const runtime = runtimeOf(this, CACHE);
+    const copy = new TextureCache(COPY, (_, cell) => runtime.calls.cache_clone(handle(this), cell), runtime);
+    copy.#keys = this.#keys.copy();
+    copy.#waiting = this.#waiting.slice(this.#handed).map(apart);
+    return copy;
   }
 
   beginFrame() {
@@ -269,6 +291,34 @@ export class TextureCache extends Owner {
   reserve(additional) {
     const number = count(additional, 'additional');
     require(runtimeOf(this, CACHE).calls.cache_reserve(handle(this), number));
+  }
+
+  reserveSlots(additional) {
+    if (import.meta.cut) return;
+    const number = count(additional, 'additional');
+    require(runtimeOf(this, CACHE).calls.cache_reserve_slots(handle(this), number));
+  }
+
+  reserveChanges(additional) {
+    if (import.meta.cut) return;
+    const number = count(additional, 'additional');
+    require(runtimeOf(this, CACHE).calls.cache_reserve_changes(handle(this), number));
+  }
+
+  [Symbol.iterator]() {
+    const runtime = runtimeOf(this, CACHE);
+    return this.#all(runtime).values();
+  }
+
+  /** All keys with their places: a caller may use the cache while it goes through them. */
+  #all(runtime) {
+    const all = [];
+    let status = runtime.calls.cache_newest(handle(this), runtime.at, runtime.at + 8);
+    for (let next = this.#keyed(runtime, status); next !== null; next = this.#keyed(runtime, status)) {
+      all.push(next);
+      status = runtime.calls.cache_older(handle(this), this.#keys.number(next.key), runtime.at, runtime.at + 8);
+    }
+    return all;
   }
 
   newest() {

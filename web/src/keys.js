@@ -56,6 +56,13 @@ export class Keys {
     this.#names.delete(number);
   }
 
+  /** The same keys with the same numbers, which go on by themselves. */
+  copy() {
+    const copy = new Keys();
+    [copy.#numbers, copy.#names, copy.#last] = [new Map(this.#numbers), new Map(this.#names), this.#last];
+    return copy;
+  }
+
   clear() {
     this.#numbers.clear();
     this.#names.clear();

@@ -3,7 +3,7 @@ import assert from 'node:assert/strict';
 import { test } from 'node:test';
 
 import * as wollemigo from '../node.js';
-import { refused } from './support.js';
+import { NO_NUMBERS, named, refused } from './support.js';
 
 const { TextureCache } = wollemigo;
 await wollemigo.load();
@@ -209,4 +209,67 @@ test('a caller who follows the changes knows the place of each key', () => {
   }
   for (const [key, place] of known) assert.deepEqual(cache.peek(key), place);
   assert.ok(cache.statistics.evictions > 500);
+});
+
+test('a copy goes on by itself, with the changes that wait', () => {
+  const cache = new TextureCache({ page: SIDE, pages: 3 });
+  for (const key of ['a', 'b', 3]) cache.insert(key, 16, 16);
+  cache.changes().next();
+  cache.beginFrame();
+  const copy = cache.clone();
+  const added = (page) => ({ kind: 'pageAdded', page, ...SIDE });
+  const [change] = cache.changes();
+  assert.deepEqual(change, added(1));
+  change.page = 9; // it is the caller's
+  assert.deepEqual([...copy.changes()], [added(1), added(2)]);
+  assert.deepEqual([copy.options, copy.statistics, [...copy]], [cache.options, cache.statistics, [...cache]]);
+  assert.deepEqual(copy.insert('c', 16, 16), { ...whole(0, 0), isNew: true }); // in place of the least recently used
+  assert.deepEqual([...copy.changes()], [{ kind: 'evicted', key: 'a', from: whole(0, 0) }]);
+  assert.deepEqual(['a', 'c', 'b', 3].map((key) => [cache.has(key), copy.has(key)]), [[true, false], [false, true], [true, true], [true, true]]);
+  cache.insert('d', 16, 16); // a string of its own: no key of the copy is taken for it
+  assert.deepEqual([copy, cache].map((it) => [...it].map(({ key }) => key)), [['c', 3, 'b'], ['d', 3, 'b']]);
+  cache.dispose();
+  assert.deepEqual(copy.get('b'), whole(1, 1));
+  copy.dispose();
+  refused(() => copy.clone(), 'DISPOSED', 'clone');
+});
+
+test('a loop goes through the keys that are held at its start, in the order of use', () => {
+  const cache = new TextureCache({ page: { width: 64, height: 64 } });
+  assert.deepEqual([...cache], []);
+  for (const key of ['a', 2, 2n ** 60n, '']) cache.insert(key, key === '' ? 0 : 4, 4);
+  cache.get(2);
+  const known = [...cache];
+  assert.deepEqual(known.map(({ key }) => key), [2, '', 2n ** 60n, 'a']);
+  for (const { key, place } of known) assert.deepEqual(place, cache.peek(key));
+  const seen = [];
+  for (const { key } of cache) {
+    seen.push(key);
+    cache.get('a');
+    cache.remove(key);
+  }
+  assert.deepEqual([seen, cache.length], [known.map(({ key }) => key), 0]);
+});
+
+test('what is in reserve needs no memory', () => {
+  const many = 20000;
+  const cache = new TextureCache({ page: { width: 1024, height: 1024 } });
+  cache.insert('first', 1, 1);
+  const bytes = () => wollemigo.memory().bytes;
+  const took = [() => cache.reserve(many), () => cache.reserveSlots(4 * many), () => cache.reserveChanges(many + 1)].map((take) => {
+    const before = bytes();
+    take();
+    return bytes() - before;
+  });
+  // An entry, 4 slots and a change each.
+  assert.ok(took[0] >= many * 32 && took[1] >= 4 * many * 40 && took[2] >= many * 48, `${took}`);
+  const before = bytes();
+  for (let key = 0; key < many; key++) cache.insert(key, 1 + (key % 7), 1 + (key % 5));
+  cache.trim(0);
+  assert.deepEqual([bytes(), cache.length, [...cache.changes()].length], [before, 0, many + 2]);
+  refused(() => cache.reserveSlots(16777216), 'SLOTS', 'reserveSlots'); // one is used
+  for (const call of ['reserve', 'reserveChanges']) refused(() => cache[call](4294967295), 'MEMORY', call);
+  for (const call of ['reserve', 'reserveSlots', 'reserveChanges']) {
+    for (const value of NO_NUMBERS) refused(() => cache[call](value), 'BAD_NUMBER', `${call} ${named(value)}`);
+  }
 });

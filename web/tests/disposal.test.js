@@ -19,7 +19,8 @@ const USES = {
   SimpleAtlas: { allocate: [1, 1], grow: [200, 200], canGrowTo: [200, 200], clear: [], reset: [5, 5], initFrom: [new Atlas(5, 5)] },
   TextureCache: {
     beginFrame: [], get: ['a'], peek: ['a'], insert: ['a', 1, 1], remove: ['a'], has: ['a'], changes: [], clear: [], trim: [1], repack: [0],
-    shrink: [], pageSize: [0], areas: [0], newest: [], oldest: [], older: ['a'], reserve: [1],
+    shrink: [], pageSize: [0], areas: [0], newest: [], oldest: [], older: ['a'], reserve: [1], reserveSlots: [4],
+    reserveChanges: [1], clone: [],
     unusableArea: [0, 1, 1], touch: ['a'], getInto: ['a', {}], insertAll: [['a'], [1, 1], new Int32Array(11)],
   },
 };
@@ -39,6 +40,7 @@ test('each call of what was disposed of', () => {
     it.dispose();
     for (const method of methods) refused(() => it[method](...USES[name][method]), 'DISPOSED', `${name}.${method}`);
     for (const getter of getters) refused(() => it[getter], 'DISPOSED', `${name}.${getter}`);
+    if (name === 'TextureCache') refused(() => [...it], 'DISPOSED', 'a loop');
     assert.deepEqual(it.toJSON(), { state: 'DISPOSED' });
     if (Symbol.dispose !== undefined) it[Symbol.dispose]();
   }
@@ -51,12 +53,13 @@ test('what memory tells', () => {
   const before = wollemigo.memory();
   const counts = ({ atlases, simpleAtlases, caches }) => [atlases, simpleAtlases, caches];
   assert.ok(before.bytes >= 131072 && before.bytes % 65536 === 0);
-  const made = [new Atlas(5, 5), new Atlas(5, 5).clone(), new SimpleAtlas(5, 5), new TextureCache({ page })];
+  const made = [new Atlas(5, 5), new Atlas(5, 5).clone(), new SimpleAtlas(5, 5), new TextureCache({ page }),
+    new TextureCache({ page }).clone()];
   refused(() => new Atlas(0, 5), 'BAD_CALL', 'none is made');
   const [atlases, simples, caches] = counts(before);
-  assert.deepEqual(counts(wollemigo.memory()), [atlases + 3, simples + 1, caches + 1]);
+  assert.deepEqual(counts(wollemigo.memory()), [atlases + 3, simples + 1, caches + 3]);
   for (const each of made) for (let i = 0; i < 2; i++) each.dispose();
-  assert.deepEqual(counts(wollemigo.memory()), [atlases + 1, simples, caches]);
+  assert.deepEqual(counts(wollemigo.memory()), [atlases + 1, simples, caches + 1]);
 });
 
 test('a loop that disposes of what it makes takes no more than one', () => {

@@ -43,7 +43,9 @@ function useCache(): void {
   for (const change of cache.changes()) follow(change);
   [cache.remove('a'), cache.has('b'), cache.clear(), cache.trim(5n), cache.shrink(), cache.repack(0), cache.length, cache.numbers, cache.pageCount, cache.pageSize(0).width];
   for (let next = cache.newest(); next !== null; next = cache.older(next.key)) next.place.inner.x;
-  [cache.oldest()?.key, cache.reserve(5), cache.areas(0).free, cache.unusableArea(0, 1, 1), cache.options.atlas.largeSizeThreshold, cache.options.padding];
+  for (const { key, place } of cache.clone()) [key, place.inner.x];
+  [cache.reserve(5), cache.reserveSlots(20), cache.reserveChanges(cache.length + 5)];
+  [cache.oldest()?.key, cache.areas(0).free, cache.unusableArea(0, 1, 1), cache.options.atlas.largeSizeThreshold, cache.options.padding];
   const { hits, misses, evictions } = cache.statistics;
   cache.dispose();
   hits + misses + evictions;

@@ -22,9 +22,11 @@ const CALLS = {
     reset: [5, 5, {}], size: null, slots: null, toJSON: null,
   },
   TextureCache: {
-    areas: [0], beginFrame: [], changes: [], clear: [], dispose: [], get: ['a'], getInto: ['a', { rectangle: {}, inner: {} }], has: ['a'],
+    areas: [0], beginFrame: [], changes: [], clear: [], clone: [], dispose: [], get: ['a'], getInto: ['a', { rectangle: {}, inner: {} }],
+    has: ['a'],
     insert: ['b', 5, 5], insertAll: [['b'], [5, 5], out], length: null, newest: [], numbers: null, older: ['a'], oldest: [], options: null,
-    pageCount: null, pageSize: [0], peek: ['a'], remove: ['a'], repack: [0], reserve: [5], shrink: [], statistics: null, toJSON: null,
+    pageCount: null, pageSize: [0], peek: ['a'], remove: ['a'], repack: [0], reserve: [5], reserveChanges: [5],
+    reserveSlots: [5], shrink: [], statistics: null, toJSON: null,
     touch: ['a'], trim: [0], unusableArea: [0, 5, 5],
   },
 };

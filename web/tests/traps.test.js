@@ -46,7 +46,9 @@ test('a trap in a call, after which a new module is started', async () => {
     cache_get_halves: ({ cache }) => cache.get('a'), cache_insert_halves: ({ cache }) => cache.insert('a', 1, 1),
     cache_next_change: ({ cache }) => cache.trim(0), pack: () => pack([]),
     pack_dense: () => packDense([]), pack_groups: () => packGroups([], []),
-    atlas_live: ({ atlas }) => atlas.allocated(), atlas_clone: ({ atlas }) => atlas.clone(), simple_free: ({ simple }) => simple.dispose(),
+    atlas_live: ({ atlas }) => atlas.allocated(), atlas_clone: ({ atlas }) => atlas.clone(), cache_clone: ({ cache }) => cache.clone(),
+    cache_reserve_slots: ({ cache }) => cache.reserveSlots(4), cache_older: ({ cache }) => [...cache],
+    simple_free: ({ simple }) => simple.dispose(),
     atlas_resize_and_rearrange: ({ atlas }) => atlas.resizeAndRearrange(5, 5), cache_new: null,
   };
   const old = [];

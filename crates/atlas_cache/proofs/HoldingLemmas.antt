@@ -23,7 +23,7 @@ module _ {K : Type 0} where
     | inr n ↦ inr (rw n.0 refl, λ p. absurd (n.1 p))
   ]
 
-  holders-append : (page id : ℕ) (xs ys : List (Entry K))
+  pub holders-append : (page id : ℕ) (xs ys : List (Entry K))
       → holders page id (xs ++ ys) ≡ holders page id xs + holders page id ys
   holders-append page id [] ys = omega arith
   holders-append page id (x ∷ xs) ys = omega (arith, holders-append page id xs ys)

@@ -1,5 +1,5 @@
 -- What an insert of a new key answers, and what it leaves as it is.
-use Rattle.std.proofs.Common.{ℕ, ◌≡◌, ◌+◌, ◌<◌, ◌≤◌, arith, List, [], ◌∷◌, Result, Ok, Err, sym, ap, subst, ◌∙◌}
+use Rattle.std.proofs.Common.{ℕ, ◌≡◌, ◌+◌, ◌<◌, ◌≤◌, arith, List, [], ◌∷◌, Result, Ok, Err, sym, ap, subst, ◌∙◌, inl, inr}
 use Rattle.std.specs.List.{AllByRecursion}
 use Rattle.guillotiere.specs.declared.Size.{Size}
 use Rattle.atlas_cache.specs.declared.changes.CacheChange.{CacheChange}
@@ -10,7 +10,8 @@ use Rattle.atlas_cache.specs.declared.inserted.Inserted.{Inserted}
 use Rattle.atlas_cache.specs.declared.inserted.Inserted.TheVariants.{Placed, Held, FrameFull, NeverFits}
 use Rattle.atlas_cache.specs.declared.places.Place.{Place}
 use Rattle.atlas_cache.specs.Caches.{CacheState, FramesFall}
-use Rattle.atlas_cache.specs.Changes.{Does, Inserts, InsertsBlank, Leads}
+use Rattle.atlas_cache.specs.Changes.{ClearsBox, Does, Inserts, InsertsBlank, Leads, MayVacate}
+use Rattle.guillotiere.specs.Boxes.{Box}
 use Rattle.atlas_cache.proofs.LoopLemmas.{does_options}
 
 module _ {K : Type 0} where
@@ -28,7 +29,7 @@ module _ {K : Type 0} where
   does_frame : (c : CacheChange K) (s t : CacheState K) → Does c s t → t.frame ≡ s.frame
   does_frame (PageAdded page size) s t does = does.keeps.frame
   does_frame (PageGrown page size) s t does = does.keeps.frame
-  does_frame (Evicted key place) s t does = does.frame
+  does_frame (Evicted key place) s t does = does.goes.frame
   does_frame (Moved key from to) s t does = absurd does
   does_frame (PageRemoved page) s t does = absurd does
 
@@ -40,27 +41,53 @@ module _ {K : Type 0} where
       let rest = led_stays asked cs leads.0 t leads.3 in
       (rest.0 ∙ does_options c s leads.0 leads.2, rest.1 ∙ does_frame c s leads.0 leads.2)
 
+  pub cleared_stays : (page : ℕ) (box : Box) (cs : List (CacheChange K)) (s t : CacheState K) → ClearsBox page box cs s t
+      → (t.options ≡ s.options) × (t.frame ≡ s.frame)
+  cleared_stays page box [] s t same =
+      (ap (λ (u : CacheState K). u.options) (sym same), ap (λ (u : CacheState K). u.frame) (sym same))
+  cleared_stays page box (PageAdded p size ∷ cs) s t clears = absurd clears.1
+  cleared_stays page box (PageGrown p size ∷ cs) s t clears = absurd clears.1
+  cleared_stays page box (Evicted key place ∷ cs) s t clears =
+      let rest = cleared_stays page box cs clears.0 t clears.2 in
+      (rest.0 ∙ clears.1.goes.options, rest.1 ∙ clears.1.goes.frame)
+  cleared_stays page box (Moved key from to ∷ cs) s t clears = absurd clears.1
+  cleared_stays page box (PageRemoved p ∷ cs) s t clears = absurd clears.1
+
+  may_stay : (asked : Size) (cs : List (CacheChange K)) (s t : CacheState K) → MayVacate asked cs s t
+      → (t.options ≡ s.options) × (t.frame ≡ s.frame)
+  may_stay asked cs s t (inl none) =
+      (ap (λ (u : CacheState K). u.options) (sym none.1), ap (λ (u : CacheState K). u.frame) (sym none.1))
+  may_stay asked cs s t (inr v) = cleared_stays v.page v.box cs s t v.clears
+
+  -- What stays by all changes.
+  all_stay : (asked : Size) (made more : List (CacheChange K)) (s mid t : CacheState K) → Leads asked made s mid
+      → MayVacate asked more mid t → (t.options ≡ s.options) × (t.frame ≡ s.frame)
+  all_stay asked made more s mid t leads vacates =
+      let led = led_stays asked made s mid leads in
+      let left = may_stay asked more mid t vacates in
+      (left.0 ∙ led.0, left.1 ∙ led.1)
+
   pub inserts_stay : (asked : Size) (key : K) (size : Size) (result : Result Inserted CacheError)
       (before after : List (CacheChange K)) (s t : CacheState K) → Inserts asked key size result before after s t
       → (t.options ≡ s.options) × (t.frame ≡ s.frame)
   inserts_stay asked key size (Ok (Placed place)) before after s t ins =
-      let led = led_stays asked ins.made s ins.done ins.leads in
+      let led = all_stay asked ins.made ins.more s ins.so_far ins.done ins.leads ins.vacates in
       (ins.ends.options ∙ led.0, ins.ends.frame ∙ led.1)
   inserts_stay asked key size (Ok (Held place)) before after s t ins = absurd ins.ends
   inserts_stay asked key size (Ok FrameFull) before after s t ins =
-      let led = led_stays asked ins.made s ins.done ins.leads in (
+      let led = all_stay asked ins.made ins.more s ins.so_far ins.done ins.leads ins.vacates in (
         ap (λ (u : CacheState K). u.options) (sym ins.ends.0) ∙ led.0,
         ap (λ (u : CacheState K). u.frame) (sym ins.ends.0) ∙ led.1,
       )
   inserts_stay asked key size (Ok NeverFits) before after s t ins = absurd ins.ends
   inserts_stay asked key size (Err error) before after s t ins =
-      let led = led_stays asked ins.made s ins.done ins.leads in
+      let led = all_stay asked ins.made ins.more s ins.so_far ins.done ins.leads ins.vacates in
       (ins.ends.keeps.options ∙ led.0, ins.ends.keeps.frame ∙ led.1)
 
   does_reserved : (c : CacheChange K) (s t : CacheState K) → Does c s t → t.reserved ≡ s.reserved
   does_reserved (PageAdded page size) s t does = does.keeps.reserved
   does_reserved (PageGrown page size) s t does = does.keeps.reserved
-  does_reserved (Evicted key place) s t does = does.reserved
+  does_reserved (Evicted key place) s t does = does.goes.reserved
   does_reserved (Moved key from to) s t does = absurd does
   does_reserved (PageRemoved page) s t does = absurd does
 
@@ -70,18 +97,35 @@ module _ {K : Type 0} where
   led_reserved asked (c ∷ cs) s t leads =
       led_reserved asked cs leads.0 t leads.3 ∙ does_reserved c s leads.0 leads.2
 
+  cleared_reserved : (page : ℕ) (box : Box) (cs : List (CacheChange K)) (s t : CacheState K) → ClearsBox page box cs s t
+      → t.reserved ≡ s.reserved
+  cleared_reserved page box [] s t same = ap (λ (u : CacheState K). u.reserved) (sym same)
+  cleared_reserved page box (PageAdded p size ∷ cs) s t clears = absurd clears.1
+  cleared_reserved page box (PageGrown p size ∷ cs) s t clears = absurd clears.1
+  cleared_reserved page box (Evicted key place ∷ cs) s t clears =
+      cleared_reserved page box cs clears.0 t clears.2 ∙ clears.1.goes.reserved
+  cleared_reserved page box (Moved key from to ∷ cs) s t clears = absurd clears.1
+  cleared_reserved page box (PageRemoved p ∷ cs) s t clears = absurd clears.1
+
+  all_reserved : (asked : Size) (made more : List (CacheChange K)) (s mid t : CacheState K) → Leads asked made s mid
+      → MayVacate asked more mid t → t.reserved ≡ s.reserved
+  all_reserved asked made more s mid t leads (inl none) =
+      ap (λ (u : CacheState K). u.reserved) (sym none.1) ∙ led_reserved asked made s mid leads
+  all_reserved asked made more s mid t leads (inr v) =
+      cleared_reserved v.page v.box more mid t v.clears ∙ led_reserved asked made s mid leads
+
   -- An insert takes at most one of the entries in reserve.
   pub inserts_take : (asked : Size) (key : K) (size : Size) (result : Result Inserted CacheError)
       (before after : List (CacheChange K)) (s t : CacheState K) → Inserts asked key size result before after s t
       → s.reserved ≤ t.reserved + 1
   inserts_take asked key size (Ok (Placed place)) before after s t ins =
-      omega (arith, led_reserved asked ins.made s ins.done ins.leads, ins.ends.reserved)
+      omega (arith, all_reserved asked ins.made ins.more s ins.so_far ins.done ins.leads ins.vacates, ins.ends.reserved)
   inserts_take asked key size (Ok (Held place)) before after s t ins = absurd ins.ends
   inserts_take asked key size (Ok FrameFull) before after s t ins =
-      omega (arith, led_reserved asked ins.made s ins.done ins.leads, ap (λ (u : CacheState K). u.reserved) ins.ends.0)
+      omega (arith, all_reserved asked ins.made ins.more s ins.so_far ins.done ins.leads ins.vacates, ap (λ (u : CacheState K). u.reserved) ins.ends.0)
   inserts_take asked key size (Ok NeverFits) before after s t ins = absurd ins.ends
   inserts_take asked key size (Err error) before after s t ins =
-      omega (arith, led_reserved asked ins.made s ins.done ins.leads, ins.ends.keeps.reserved)
+      omega (arith, all_reserved asked ins.made ins.more s ins.so_far ins.done ins.leads ins.vacates, ins.ends.keeps.reserved)
 
   pub blank_takes : (key : K) (size : Size) (result : Result Inserted CacheError) (s t : CacheState K)
       → InsertsBlank key size result s t → s.reserved ≤ t.reserved + 1

@@ -1,4 +1,6 @@
 pub mod BlankLemmas
+pub mod ClearedLemmas
+pub mod ClearingLemmas
 pub mod PassLemmas
 pub mod GatherLemmas
 pub mod IdOrderLemmas
@@ -18,7 +20,10 @@ pub mod InsertLemmas
 pub mod LoopLemmas
 pub mod NumberLemmas
 pub mod PictureLemmas
+pub mod ShownLemmas
 pub mod StandLemmas
 pub mod TrimLemmas
 pub mod UsableLemmas
+pub mod VacateLemmas
+pub mod VacatedLemmas
 pub mod WalkLemmas

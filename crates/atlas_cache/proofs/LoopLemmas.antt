@@ -8,7 +8,8 @@ use Rattle.atlas_entries.specs.declared.entries.Entry.{Entry}
 use Rattle.atlas_entries.specs.declared.error.CacheError.{CacheError}
 use Rattle.atlas_cache.specs.declared.inserted.Inserted.{Inserted}
 use Rattle.atlas_cache.specs.Caches.{CacheState, entry_for, HasNoPageFor}
-use Rattle.atlas_cache.specs.Changes.{Does, DoesOne, Ends, Inserts, Leads}
+use Rattle.atlas_entries.proofs.AppendedLists.{append-none}
+use Rattle.atlas_cache.specs.Changes.{Does, DoesOne, Ends, Inserts, InsertsThere, Leads, MayVacate}
 
 module _ {K : Type 0} where
   -- What an insert did so far.
@@ -41,7 +42,7 @@ module _ {K : Type 0} where
   pub does_options : (c : CacheChange K) (s t : CacheState K) → Does c s t → t.options ≡ s.options
   does_options (PageAdded page size) s t does = does.keeps.options
   does_options (PageGrown page size) s t does = does.keeps.options
-  does_options (Evicted key place) s t does = does.options
+  does_options (Evicted key place) s t does = does.goes.options
   does_options (Moved key from to) s t does = absurd does
   does_options (PageRemoved page) s t does = absurd does
 
@@ -50,7 +51,7 @@ module _ {K : Type 0} where
   one_options before after s t one = does_options one.change s t one.does
 
   module _ (eq : K → K → Bool) (k : K) where
-    none_left : (xs : List (Entry K)) (e : Entry K) (ys : List (Entry K)) → entry_for eq k (xs ++ e ∷ ys) ≡ None
+    pub none_left : (xs : List (Entry K)) (e : Entry K) (ys : List (Entry K)) → entry_for eq k (xs ++ e ∷ ys) ≡ None
         → entry_for eq k (xs ++ ys) ≡ None
     none_left [] e ys none = elim (cases_Bool (eq k e.key)) [
       | inl hit ↦ let found = rw hit at none in absurd (let some : Some e ≡ None = found in cc)
@@ -65,7 +66,7 @@ module _ {K : Type 0} where
         → entry_for eq k t.entries ≡ None
     does_absent (PageAdded page size) s t does none = rw does.keeps.entries none
     does_absent (PageGrown page size) s t does none = rw does.keeps.entries none
-    does_absent (Evicted key place) s t does none = rw does.is (none_left does.newer does.entry does.older (rw does.was at none))
+    does_absent (Evicted key place) s t does none = rw does.goes.is (none_left does.goes.newer does.goes.entry does.goes.older (rw does.goes.was at none))
     does_absent (Moved key from to) s t does none = absurd does
     does_absent (PageRemoved page) s t does none = absurd does
 
@@ -76,5 +77,36 @@ module _ {K : Type 0} where
   pub inserted : (asked : Size) (key : K) (size : Size) (result : Result Inserted CacheError)
       (before after : List (CacheChange K)) (s t u : CacheState K) → Reached asked before after s t → Ends asked key size result t u
       → Inserts asked key size result before after s u
-  inserted asked key size result before after s t u was ends =
-      record { made = was.made; listed = was.listed; done = t; leads = was.leads; ends = ends }
+  inserted asked key size result before after s t u was ends = record {
+    made = was.made;
+    more = [];
+    listed = was.listed ∙ ap (λ cs. before ++ cs) (sym (append-none was.made));
+    so_far = t;
+    leads = was.leads;
+    done = t;
+    vacates = inl (refl, refl);
+    ends = ends;
+  }
+
+  -- Where what lies in a box went last.
+  pub inserted_there : (asked : Size) (key : K) (size : Size) (result : Result Inserted CacheError)
+      (before now after more : List (CacheChange K)) (s t u v : CacheState K) → Reached asked before now s t
+      → after ≡ now ++ more → MayVacate asked more t u → Ends asked key size result u v
+      → Inserts asked key size result before after s v
+  inserted_there asked key size result before now after more s t u v was listed vacates ends = record {
+    made = was.made;
+    more = more;
+    listed = listed ∙ ap (λ cs. cs ++ more) was.listed ∙ append_assoc before was.made more;
+    so_far = t;
+    leads = was.leads;
+    done = u;
+    vacates = vacates;
+    ends = ends;
+  }
+
+  pub then_there : (asked : Size) (key : K) (size : Size) (result : Result Inserted CacheError)
+      (before now after : List (CacheChange K)) (s t v : CacheState K) → Reached asked before now s t
+      → InsertsThere asked key size result now after t v
+      → Inserts asked key size result before after s v
+  then_there asked key size result before now after s t v was there =
+      inserted_there asked key size result before now after there.more s t there.done v was there.listed there.vacates there.ends

@@ -19,7 +19,7 @@ module _ {K : Type 0} where
     pub blank : AreBlank older
     pub counted : length newer + count ≤ length es
 
-  longer : (xs ys : List (ℕ × Entry K)) → length xs ≤ length (xs ++ ys)
+  pub longer : (xs ys : List (ℕ × Entry K)) → length xs ≤ length (xs ++ ys)
   longer [] ys = omega arith
   longer (x ∷ xs) ys = omega (arith, longer xs ys)
 
@@ -37,12 +37,12 @@ module _ {K : Type 0} where
   none-lie [] blank = refl
   none-lie (x ∷ es) blank = lying-past x.1 (entries_of es) blank.0 ∙ none-lie es blank.1
 
-  no-last : (xs : List (ℕ × Entry K)) → None ≡ oldest_of (numbers xs) → xs ≡ []
+  pub no-last : (xs : List (ℕ × Entry K)) → None ≡ oldest_of (numbers xs) → xs ≡ []
   no-last [] is = refl
   no-last (x ∷ []) is = absurd (let some : None ≡ Some x.0 = is in cc)
   no-last (x ∷ (y ∷ xs)) is = absurd (let none = no-last (y ∷ xs) is in cc)
 
-  no-length : (xs : List (ℕ × Entry K)) → length xs ≡ 0 → xs ≡ []
+  pub no-length : (xs : List (ℕ × Entry K)) → length xs ≡ 0 → xs ≡ []
   no-length [] is = refl
   no-length (x ∷ xs) is = absurd (omega (arith, is))
 
@@ -61,12 +61,12 @@ module _ {K : Type 0} where
       all-blank es p.newer p.older p.was (no-length p.newer (omega (arith, counted, le))) p.blank
 
   -- A list and its last entry, with its number.
-  record Last (n : ℕ) (xs : List (ℕ × Entry K)) : Type 0 where
-    rest : List (ℕ × Entry K)
-    entry : Entry K
-    was : xs ≡ rest ++ (n, entry) ∷ []
+  pub record Last (n : ℕ) (xs : List (ℕ × Entry K)) : Type 0 where
+    pub rest : List (ℕ × Entry K)
+    pub entry : Entry K
+    pub was : xs ≡ rest ++ (n, entry) ∷ []
 
-  last-of : (n : ℕ) (xs : List (ℕ × Entry K)) → Some n ≡ oldest_of (numbers xs) → Last n xs
+  pub last-of : (n : ℕ) (xs : List (ℕ × Entry K)) → Some n ≡ oldest_of (numbers xs) → Last n xs
   last-of n [] is = absurd (let none : Some n ≡ None = is in cc)
   last-of n (x ∷ []) is = record {
     rest = [];
@@ -101,7 +101,7 @@ module _ {K : Type 0} where
   next-number es n count p apart =
       let there = found es n count p (last-of n p.newer p.next) apart in rw there refl
 
-  last-counted : (xs rest : List (ℕ × Entry K)) (x : ℕ × Entry K) → xs ≡ rest ++ x ∷ [] → length xs ≡ length rest + 1
+  pub last-counted : (xs rest : List (ℕ × Entry K)) (x : ℕ × Entry K) → xs ≡ rest ++ x ∷ [] → length xs ≡ length rest + 1
   last-counted xs [] x is = ap length is
   last-counted xs (y ∷ rest) x is = omega (arith, ap length is, last-counted (rest ++ x ∷ []) rest x refl)
 
@@ -143,7 +143,7 @@ module _ {K : Type 0} where
       → numbers es ≡ numbers l.newer ++ n ∷ numbers l.older
   looked-numbers es n e count l = ap numbers l.was ∙ numbers-append l.newer (n, e) l.older
 
-  entries-both : (xs ys : List (ℕ × Entry K)) → entries_of (xs ++ ys) ≡ entries_of xs ++ entries_of ys
+  pub entries-both : (xs ys : List (ℕ × Entry K)) → entries_of (xs ++ ys) ≡ entries_of xs ++ entries_of ys
   entries-both [] ys = refl
   entries-both (x ∷ xs) ys = ap (λ es. x.1 ∷ es) (entries-both xs ys)
 

@@ -1,5 +1,6 @@
 -- What a caller makes of changes.
-use Rattle.std.proofs.Common.{◌≡◌, Bool, true, false, cond, List, [], ◌∷◌, ◌++◌, Option, None, Some, Result, Ok, Err, option_map, refl, sym, ap, subst, ◌∙◌, slice_set, take}
+use Rattle.guillotiere.specs.Boxes.{Box}
+use Rattle.std.proofs.Common.{ℕ, ◌≡◌, Bool, true, false, cond, List, [], ◌∷◌, ◌++◌, Option, None, Some, Result, Ok, Err, option_map, refl, sym, ap, subst, ◌∙◌, slice_set, take}
 use Rattle.std.proofs.Common.{inl, inr}
 use Rattle.std.proofs.lemmas.Bool.{cases_Bool}
 use Rattle.std.specs.Cmp.{IsEquivalence}
@@ -12,7 +13,7 @@ use Rattle.atlas_cache.specs.declared.inserted.Inserted.{Inserted}
 use Rattle.atlas_cache.specs.declared.inserted.Inserted.TheVariants.{Placed, Held, FrameFull, NeverFits}
 use Rattle.atlas_cache.specs.declared.places.Place.{Place}
 use Rattle.atlas_cache.specs.Caches.{CacheState, entry_for, place_for, shown, HaveOwnKeys}
-use Rattle.atlas_cache.specs.Changes.{Picture, all_changed, changed, picture_of, placed, Adds, Does, Inserts, InsertsBlank, Leads, LooksSame, Removes, ShowsSame, Uses}
+use Rattle.atlas_cache.specs.Changes.{Picture, all_changed, changed, picture_of, placed, Adds, ClearsBox, Does, Evicts, Inserts, InsertsBlank, Leads, LooksSame, MayVacate, Removes, ShowsSame, Uses}
 use Rattle.atlas_cache.specs.Telling.{Tells}
 use Rattle.atlas_cache.specs.Rooms.{page_sizes}
 use Rattle.atlas_cache.proofs.KeyLemmas.{first, fronted, gone, here, own_without}
@@ -52,6 +53,16 @@ module _ {K : Type 0} (eq : K → K → Bool) where
         let without = gone eq laws xs e ys (rw was at own) k in
         rw (is, options, was, without) (sym (map-cond (shown s.options.padding) (eq e.key k) None (entry_for eq k (xs ++ e ∷ ys))))
 
+    one_goes : (key : K) (place : Place) (s t : CacheState K) → HaveOwnKeys eq s.entries → Evicts key place s t
+        → ShowsSame (changed eq (Evicted key place) (picture_of eq s)) (picture_of eq t) × HaveOwnKeys eq t.entries
+    one_goes key place s t own goes = (
+      record {
+        places = λ k. rw goes.named (taken s t goes.newer goes.entry goes.older own goes.was goes.is goes.options k);
+        pages = sym goes.sizes;
+      },
+      rw goes.is (own_without eq goes.newer goes.entry goes.older (rw goes.was at own)),
+    )
+
     one_step : (c : CacheChange K) (s t : CacheState K) → HaveOwnKeys eq s.entries → Does c s t
         → ShowsSame (changed eq c (picture_of eq s)) (picture_of eq t) × HaveOwnKeys eq t.entries
     one_step (PageAdded page size) s t own does = (
@@ -62,13 +73,7 @@ module _ {K : Type 0} (eq : K → K → Bool) where
       record { places = places_stay s t does.keeps.entries does.keeps.options; pages = sym does.sizes },
       rw does.keeps.entries own,
     )
-    one_step (Evicted key place) s t own does = (
-      record {
-        places = λ k. rw does.named (taken s t does.newer does.entry does.older own does.was does.is does.options k);
-        pages = sym does.sizes;
-      },
-      rw does.is (own_without eq does.newer does.entry does.older (rw does.was at own)),
-    )
+    one_step (Evicted key place) s t own does = one_goes key place s t own does.goes
     one_step (Moved key from to) s t own does = absurd does
     one_step (PageRemoved page) s t own does = absurd does
 
@@ -85,6 +90,44 @@ module _ {K : Type 0} (eq : K → K → Bool) where
         let step = one_step c s next own leads.2 in
         let rest = told asked cs next t step.1 leads.3 in
         (same_both _ _ _ (all_same_after cs _ _ step.0) rest.0, rest.1)
+
+    cleared : (page : ℕ) (box : Box) (cs : List (CacheChange K)) (s t : CacheState K) → HaveOwnKeys eq s.entries
+        → ClearsBox page box cs s t
+        → ShowsSame (all_changed eq cs (picture_of eq s)) (picture_of eq t)
+    cleared page box [] s t own same = record {
+      places = λ k. ap (λ (u : CacheState K). place_for eq u k) same;
+      pages = ap (λ (u : CacheState K). (picture_of eq u).pages) same;
+    }
+    cleared page box (PageAdded p size ∷ cs) s t own clears = absurd clears.1
+    cleared page box (PageGrown p size ∷ cs) s t own clears = absurd clears.1
+    cleared page box (Evicted key place ∷ cs) s t own clears =
+        let next = clears.0 in
+        let step = one_goes key place s next own clears.1.goes in
+        same_both _ _ _ (all_same_after cs _ _ step.0) (cleared page box cs next t step.1 clears.2)
+    cleared page box (Moved key from to ∷ cs) s t own clears = absurd clears.1
+    cleared page box (PageRemoved p ∷ cs) s t own clears = absurd clears.1
+
+    may_clear : (asked : Size) (cs : List (CacheChange K)) (s t : CacheState K) → HaveOwnKeys eq s.entries
+        → MayVacate asked cs s t
+        → ShowsSame (all_changed eq cs (picture_of eq s)) (picture_of eq t)
+    may_clear asked cs s t own (inl none) = rw none.0 (record {
+      places = λ k. ap (λ (u : CacheState K). place_for eq u k) none.1;
+      pages = ap (λ (u : CacheState K). (picture_of eq u).pages) none.1;
+    })
+    may_clear asked cs s t own (inr v) = cleared v.page v.box cs s t own v.clears
+
+    changed-both : (cs ds : List (CacheChange K)) (p : Picture K)
+        → all_changed eq (cs ++ ds) p ≡ all_changed eq ds (all_changed eq cs p)
+    changed-both [] ds p = refl
+    changed-both (c ∷ cs) ds p = changed-both cs ds (changed eq c p)
+
+    all_told : (asked : Size) (made more : List (CacheChange K)) (s mid t : CacheState K) → HaveOwnKeys eq s.entries
+        → Leads asked made s mid → MayVacate asked more mid t
+        → ShowsSame (all_changed eq (made ++ more) (picture_of eq s)) (picture_of eq t)
+    all_told asked made more s mid t own leads vacates =
+        let led = told asked made s mid own leads in
+        rw (changed-both made more (picture_of eq s))
+        (same_both _ _ _ (all_same_after more _ _ led.0) (may_clear asked more mid t led.1 vacates))
 
     pub added : (asked : Size) (key : K) (size : Size) (place : Place) (s t : CacheState K)
         → Adds asked key size place s t
@@ -107,26 +150,26 @@ module _ {K : Type 0} (eq : K → K → Bool) where
         (before after : List (CacheChange K)) (s t : CacheState K) → HaveOwnKeys eq s.entries
         → Inserts asked key size result before after s t → Tells eq key result before after s t
     inserts_tell asked key size (Ok (Placed place)) before after s t own ins =
-        let so_far = (told laws asked ins.made s ins.done own ins.leads).0 in
+        let so_far = all_told laws asked ins.made ins.more s ins.so_far ins.done own ins.leads ins.vacates in
         let noted = same_after (Moved key place place) _ _ so_far in
         record {
-          made = ins.made;
+          made = ins.made ++ ins.more;
           listed = ins.listed;
           shows = same_both _ _ _ noted (added laws asked key size place ins.done t ins.ends);
         }
     inserts_tell asked key size (Ok (Held place)) before after s t own ins = absurd ins.ends
     inserts_tell asked key size (Ok NeverFits) before after s t own ins = absurd ins.ends
     inserts_tell asked key size (Ok FrameFull) before after s t own ins =
-        let so_far = (told laws asked ins.made s ins.done own ins.leads).0 in
+        let so_far = all_told laws asked ins.made ins.more s ins.so_far ins.done own ins.leads ins.vacates in
         record {
-          made = ins.made;
+          made = ins.made ++ ins.more;
           listed = ins.listed;
-          shows = subst (λ (u : CacheState K). ShowsSame (all_changed eq ins.made (picture_of eq s)) (picture_of eq u)) ins.ends.0 so_far;
+          shows = subst (λ (u : CacheState K). ShowsSame (all_changed eq (ins.made ++ ins.more) (picture_of eq s)) (picture_of eq u)) ins.ends.0 so_far;
         }
     inserts_tell asked key size (Err error) before after s t own ins =
-        let so_far = (told laws asked ins.made s ins.done own ins.leads).0 in
+        let so_far = all_told laws asked ins.made ins.more s ins.so_far ins.done own ins.leads ins.vacates in
         record {
-          made = ins.made;
+          made = ins.made ++ ins.more;
           listed = ins.listed;
           shows = same_both _ _ _ so_far (looks ins.done t ins.ends);
         }

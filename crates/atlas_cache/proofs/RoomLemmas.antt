@@ -7,4 +7,5 @@ pub mod PageRoom
 pub mod ReadySlots
 pub mod RefusedSizes
 pub mod RepackedPages
+pub mod ShownPages
 pub mod StoredPages

@@ -1,11 +1,14 @@
 -- What a cache does, change by change, and what a caller learns of it.
 use Rattle.std.specs.Prelude.{◌≡◌, ◌≢◌, ◌+◌, ◌-◌, ◌<◌, ◌≤◌, max, ℕ, Bool, true, false, List, [], ◌∷◌, ◌++◌, length, Option, Some, None}
-use Rattle.std.specs.Prelude.{if◌then◌else◌, slice_set, take, Result, Ok, Err}
+use Rattle.std.specs.Prelude.{if◌then◌else◌, slice_get, slice_set, take, Result, Ok, Err, ◌⊎◌}
+use Rattle.std.specs.List.{AllByRecursion}
 use Rattle.guillotiere.specs.declared.Size.{Size}
-use Rattle.guillotiere.specs.Boxes.{IsPositive}
+use Rattle.guillotiere.specs.Boxes.{Box, IsPositive}
 use Rattle.guillotiere.specs.Pixels.{sides_of}
-use Rattle.guillotiere.specs.Stored.{AtlasValue}
-use Rattle.guillotiere.specs.Pages.{AddsBoxOn, HasSameRectangles, KeepsPages, LeavesNoBoxOn, NoneHasRoomBelow}
+use Rattle.guillotiere.specs.Changes.{release}
+use Rattle.guillotiere.specs.Stored.{state_of, AtlasValue}
+use Rattle.guillotiere.specs.Pages.{AddsBoxOn, HasRoomOn, HasSameRectangles, KeepsPages, LeavesNoBoxOn, NoneHasRoomBelow}
+use Rattle.atlas_cache.specs.declared.counts.Counts.{Counts}
 use Rattle.atlas_cache.specs.declared.changes.CacheChange.{CacheChange}
 use Rattle.atlas_cache.specs.declared.changes.CacheChange.TheVariants.{PageAdded, PageGrown, Evicted, Moved, PageRemoved}
 use Rattle.atlas_entries.specs.declared.entries.Entry.{Entry}
@@ -15,13 +18,14 @@ use Rattle.atlas_cache.specs.declared.inserted.Inserted.{Inserted}
 use Rattle.atlas_cache.specs.declared.inserted.Inserted.TheVariants.{Placed, Held, FrameFull, NeverFits}
 use Rattle.atlas_cache.specs.declared.places.Place.{Place}
 use Rattle.atlas_cache.specs.Asking.{CanStand}
-use Rattle.atlas_cache.specs.Caches.{CacheState, entry_for, place_for, shown, AreAllInUse, HasNoPageFor, IsFull}
+use Rattle.atlas_cache.specs.Caches.{CacheState, entries_of, entry_for, place_for, shown, HasNoPageFor, IsFull}
 use Rattle.atlas_cache.specs.Counting.{one_more}
-use Rattle.atlas_entries.specs.Entries.{is_blank, lying}
-use Rattle.atlas_cache.specs.Placing.{GrantsOn, GrowsOn, StartsOn}
+use Rattle.atlas_entries.specs.Entries.{is_blank, lying, without_number, Table}
+use Rattle.atlas_cache.specs.Placing.{FreesOn, GrantsOn, GrowsOn, StartsOn}
 use Rattle.atlas_entries.specs.Limits.{IsWithoutNumber}
 use Rattle.atlas_cache.specs.Reserving.{UseAtMost}
-use Rattle.atlas_cache.specs.Rooms.{page_sizes, AreAllLargest, IsAtLeast, IsFirstToGrow, IsRounded}
+use Rattle.atlas_cache.specs.Rooms.{page_sizes, AreAllLargest, IsAtLeast, IsFirstToGrow, IsRounded, RoomsState}
+use Rattle.atlas_cache.specs.Vacating.{idle_on, ids_on, ids_inside, lies_in, without_inside, HasNoRoomWithout, IsRoomWithout}
 
 -- A caller's picture of a cache: the place of each key, and the size of each page.
 pub record Picture (K : Type 0) : Type 0 where
@@ -86,8 +90,8 @@ module _ {K : Type 0} where
     pub others : KeepsPages s.pages t.pages page
     pub keeps : KeepsEntries s t
 
-  -- Every page is there and at its largest, and of the entries that lie on a page the least recently used one goes, which
-  -- this frame didn't use. The others keep their order.
+  -- Every page is there and at its largest, and an entry that lies on a page goes, which this frame didn't use. The others keep their
+  -- order.
   pub record Evicts (key : K) (place : Place) (s t : CacheState K) : Type 0 where
     pub full : IsFull s
     pub entry : Entry K
@@ -96,7 +100,6 @@ module _ {K : Type 0} where
     pub was : s.entries ≡ newer ++ entry ∷ older
     pub is : t.entries ≡ newer ++ older
     pub lies : is_blank entry ≡ false
-    pub blank : lying older ≡ []
     pub named : key ≡ entry.key
     pub shows : place ≡ shown s.options.padding entry
     pub unused : entry.frame < s.frame
@@ -109,11 +112,21 @@ module _ {K : Type 0} where
     pub frame : t.frame ≡ s.frame
     pub counts : t.counts ≡ record s.counts { evictions = one_more s.counts.evictions }
 
-  -- What an insert does by one change.
+  -- Of the entries that lie on a page it is the least recently used one.
+  pub record EvictsOldest (key : K) (place : Place) (s t : CacheState K) : Type 0 where
+    pub goes : Evicts key place s t
+    pub oldest : lying goes.older ≡ []
+
+  -- It lies on this page inside this box.
+  pub record EvictsIn (page : ℕ) (box : Box) (key : K) (place : Place) (s t : CacheState K) : Type 0 where
+    pub goes : Evicts key place s t
+    pub here : lies_in page box goes.entry ≡ true
+
+  -- What an insert does by one change, as long as it goes by the order of use.
   abbrev pub Does : CacheChange K → (s t : CacheState K) → Type 0
   Does (PageAdded page size) s t = AddsPage page size s t
   Does (PageGrown page size) s t = GrowsPage page size s t
-  Does (Evicted key place) s t = Evicts key place s t
+  Does (Evicted key place) s t = EvictsOldest key place s t
   Does (Moved key from to) s t = ⊥
   Does (PageRemoved page) s t = ⊥
 
@@ -128,6 +141,78 @@ module _ {K : Type 0} where
   Leads asked [] s t = s ≡ t
   Leads asked (c ∷ cs) s t =
       (next : CacheState K) × HasNoPageFor asked s × Does c s next × Leads asked cs next t
+
+  -- The changes are evictions of entries that lie on a page inside a box.
+  abbrev pub ClearsOne : (page : ℕ) (box : Box) → CacheChange K → (s t : CacheState K) → Type 0
+  ClearsOne page box (PageAdded p size) s t = ⊥
+  ClearsOne page box (PageGrown p size) s t = ⊥
+  ClearsOne page box (Evicted key place) s t = EvictsIn page box key place s t
+  ClearsOne page box (Moved key from to) s t = ⊥
+  ClearsOne page box (PageRemoved p) s t = ⊥
+
+  abbrev pub ClearsBox : (page : ℕ) (box : Box) → List (CacheChange K) → (s t : CacheState K) → Type 0
+  ClearsBox page box [] s t = s ≡ t
+  ClearsBox page box (c ∷ cs) s t =
+      (next : CacheState K) × ClearsOne page box c s next × ClearsBox page box cs next t
+
+  -- An entry of a number goes, by the parts of a cache, and the change that says so is listed.
+  pub record LetsGo (number : ℕ) (entry : Entry K) (before after : List (CacheChange K)) (rooms left : RoomsState)
+      (entries others : Table K) (counts counted : Counts) : Type 0 where
+    pub without : others.entries ≡ without_number number entries.entries
+    pub made : others.made ≡ entries.made
+    pub reserved : others.reserved ≡ entries.reserved
+    pub leaves : LeavesNoBoxOn rooms.pages left.pages entry.page entry.id
+    pub sizes : page_sizes left.pages ≡ page_sizes rooms.pages
+    pub options : left.options ≡ rooms.options
+    pub slots : UseAtMost 0 rooms.pages left.pages
+    pub step : FreesOn rooms.pages left.pages entry.page entry.id
+    pub evicted : counted ≡ record counts { evictions = one_more counts.evictions }
+    pub listed : after ≡ before ++ Evicted entry.key (shown rooms.options.padding entry) ∷ []
+
+  -- Of these entries, the least recently used ones, those went that lie on a page inside a box; and what is free on that page is what
+  -- freeing their ids leaves.
+  pub record IsCleared (page : ℕ) (box : Box) (newer older : List (ℕ × Entry K)) (before after : List (CacheChange K))
+      (s t : CacheState K) : Type 0 where
+    pub made : List (CacheChange K)
+    pub listed : after ≡ before ++ made
+    pub clears : ClearsBox page box made s t
+    pub left : t.entries ≡ entries_of newer ++ without_inside page box (entries_of older)
+    pub freed : (v w : AtlasValue) → slice_get s.pages page ≡ Some v → slice_get t.pages page ≡ Some w
+        → ((state_of w).tree ≡ release (ids_inside page box (entries_of older)) (state_of v).tree)
+        × ((state_of w).size ≡ (state_of v).size) × ((state_of w).options ≡ (state_of v).options)
+    pub others : KeepsPages s.pages t.pages page
+
+  -- Of the least recently used entries, none of which this frame used, those go that lie on a page inside a box, and no others. The
+  -- request had room on no page, and would have none if all of those but the most recently used one of them went; if all went, that
+  -- box would be free, and the request fits it.
+  pub record Vacates (asked : Size) (cs : List (CacheChange K)) (s t : CacheState K) : Type 0 where
+    pub none : HasNoPageFor asked s
+    pub page : ℕ
+    pub box : Box
+    pub newer : List (Entry K)
+    pub last : Entry K
+    pub older : List (Entry K)
+    pub was : s.entries ≡ newer ++ last ∷ older
+    pub unused : AllByRecursion (λ e. e.frame < s.frame) (last ∷ older)
+    pub least : (other : ℕ) → HasNoRoomWithout asked s.pages other (ids_on other older)
+    pub room : IsRoomWithout asked s.pages page (ids_on page (last ∷ older)) box
+    pub clears : ClearsBox page box cs s t
+    pub left : t.entries ≡ newer ++ without_inside page box (last ∷ older)
+
+  -- By such changes there is room on this page, and each other page is as it was.
+  pub record MakesRoom (asked : Size) (page : ℕ) (before after : List (CacheChange K)) (s t : CacheState K) : Type 0 where
+    pub made : List (CacheChange K)
+    pub listed : after ≡ before ++ made
+    pub vacates : Vacates asked made s t
+    pub there : page < length t.pages
+    pub room : HasRoomOn asked t.pages page
+    pub others : KeepsPages s.pages t.pages page
+    pub full : IsFull t
+    pub slots : UseAtMost 0 s.pages t.pages
+
+  -- Nothing more goes, or what lies in one box.
+  abbrev pub MayVacate : (asked : Size) → List (CacheChange K) → (s t : CacheState K) → Type 0
+  MayVacate asked cs s t = ((cs ≡ []) × (s ≡ t)) ⊎ Vacates asked cs s t
 
   -- A new entry of this key and size, used in this frame, is on the first page that has room for what was asked, where a step of the
   -- page's atlas places it.
@@ -178,17 +263,19 @@ module _ {K : Type 0} where
     pub frame : t.frame ≡ s.frame
     pub counts : t.counts ≡ s.counts
 
-  -- Nothing that a caller can see changed.
+  -- Nothing that a caller can see changed. At most 4 slots of a page are used, so that what is in reserve beside them is left.
   pub record LooksSame (s t : CacheState K) : Type 0 where
     pub same : HasSameRectangles s.pages t.pages
+    pub slots : UseAtMost 4 s.pages t.pages
     pub sizes : page_sizes t.pages ≡ page_sizes s.pages
     pub keeps : KeepsEntries s t
 
-  -- The request has room on no page, every page is there and at its largest, and each entry that lies on one is in use.
+  -- Every page is there and at its largest, and the request has room on none, nor would it have, were all entries gone that this frame
+  -- didn't use.
   pub record IsExhausted (asked : Size) (s : CacheState K) : Type 0 where
     pub none : HasNoPageFor asked s
     pub full : IsFull s
-    pub in_use : AreAllInUse s
+    pub crowded : (page : ℕ) → HasNoRoomWithout asked s.pages page (idle_on s.frame page s.entries)
 
   -- How an insert ends, once its changes are made: the key is added, or nothing can be done, or it is refused.
   abbrev pub Ends : (asked : Size) (key : K) (size : Size) → Result Inserted CacheError → (s t : CacheState K) → Type 0
@@ -198,13 +285,26 @@ module _ {K : Type 0} where
   Ends asked key size (Ok NeverFits) s t = ⊥
   Ends asked key size (Err error) s t = LooksSame s t
 
-  -- What an insert of a new key did: it made changes, listed in their order, and then it ended so.
+  -- What an insert of a new key did: it made changes in the order of use, perhaps some in one box, listed in their order, and then it
+  -- ended so.
   pub record Inserts (asked : Size) (key : K) (size : Size) (result : Result Inserted CacheError)
       (before after : List (CacheChange K)) (s t : CacheState K) : Type 0 where
     pub made : List (CacheChange K)
-    pub listed : after ≡ before ++ made
+    pub more : List (CacheChange K)
+    pub listed : after ≡ before ++ (made ++ more)
+    pub so_far : CacheState K
+    pub leads : Leads asked made s so_far
     pub done : CacheState K
-    pub leads : Leads asked made s done
+    pub vacates : MayVacate asked more so_far done
+    pub ends : Ends asked key size result done t
+
+  -- How it ended, where entries of one box went last, or nothing more could be done.
+  pub record InsertsThere (asked : Size) (key : K) (size : Size) (result : Result Inserted CacheError)
+      (before after : List (CacheChange K)) (s t : CacheState K) : Type 0 where
+    pub more : List (CacheChange K)
+    pub listed : after ≡ before ++ more
+    pub done : CacheState K
+    pub vacates : MayVacate asked more s done
     pub ends : Ends asked key size result done t
 
   -- What an insert of a new key with an empty size does: the key is added, or it is refused, and then nothing changes.

@@ -12,6 +12,7 @@ pub mod Rooms
 pub mod Shrinking
 pub mod Telling
 pub mod Usable
+pub mod Vacating
 pub mod Walking
 pub use Rattle.atlas_entries.specs.Entries
 pub use Rattle.atlas_entries.specs.Limits

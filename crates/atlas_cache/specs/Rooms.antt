@@ -12,6 +12,7 @@ use Rattle.guillotiere.specs.States.{IsSound}
 use Rattle.guillotiere.specs.Stored.{AtlasValue, Stored, state_of}
 use Rattle.atlas_entries.specs.declared.error.CacheError.{CacheError}
 use Rattle.atlas_entries.specs.declared.error.CacheError.TheVariants.{Memory, Slots}
+use Rattle.atlas_cache.specs.declared.rooms.asking.Refusals.{Refusals}
 use Rattle.atlas_cache.specs.declared.options.CacheOptions.{CacheOptions}
 use Rattle.atlas_cache.specs.Asking.{AreUsable, bordered, CanStand}
 
@@ -54,11 +55,16 @@ pub record KeepsRooms (r : RoomsState) : Type 0 where
   pub few : length r.pages ≤ r.options.pages
   pub each : ArePagesOf r.options r.pages
 
--- No page has room for the size that stands at its number.
-pub record AreRefused (pages : List AtlasValue) (refused : List Size) : Type 0 where
+-- A page has room for neither of two sizes.
+pub record IsRefused (r : Refusals) (s : AtlasValue) : Type 0 where
+  pub first : HasRoomFor r.first s → ⊥
+  pub second : HasRoomFor r.second s → ⊥
+
+-- No page has room for the sizes that stand at its number.
+pub record AreRefused (pages : List AtlasValue) (refused : List Refusals) : Type 0 where
   pub as_many : length refused ≡ length pages
-  pub none : (k : ℕ) (s : AtlasValue) (size : Size) → slice_get pages k ≡ Some s → slice_get refused k ≡ Some size
-      → HasRoomFor size s → ⊥
+  pub none : (k : ℕ) (s : AtlasValue) (r : Refusals) → slice_get pages k ≡ Some s → slice_get refused k ≡ Some r
+      → IsRefused r s
 
 -- Memory was refused, or the slots of a page don't suffice.
 abbrev pub IsRefusal : CacheError → Type 0

@@ -1,13 +1,14 @@
 //! The cache.
 ghost use Rattle.std.specs.Prelude.{◌≡◌, ◌≢◌, ◌↔◌, ◌⊎◌, ◌+◌, ◌*◌, ◌<◌, ◌≤◌, ℕ, [], false, length, slice_get, IfErr, IfOk, IfSome, IsOk};
 ghost use Rattle.std.specs.Prelude.{IsSome, IsTrue};
-ghost use Rattle.std.specs.Prelude.{Err, None, Ok, OnErr, vec_capacity, vec_len};
+ghost use Rattle.std.specs.Prelude.{Err, None, Ok, OnErr, Some, vec_capacity, vec_len};
 ghost use Rattle.guillotiere.specs.Boxes.{IsPositive};
 ghost use Rattle.guillotiere.specs.Pages.{KeepsPages};
 ghost use Rattle.guillotiere.specs.Pixels.{sides_of, size_of};
 ghost use Rattle.atlas_cache.specs.Asking.{bordered, AreUsable, CanStand, IsFaultIn};
 ghost use Rattle.atlas_cache.specs.Counting.{one_more};
 ghost use Rattle.atlas_entries.specs.Entries.{lying};
+ghost use Rattle.atlas_cache.specs.Placing.{IsFirstShort, IsGrowthShort, LacksSlots};
 ghost use Rattle.atlas_cache.specs.Refusals.{IsRefusedNew};
 ghost use Rattle.atlas_cache.specs.Reserving.{room_in, AllowSlots, HasReserves, HaveSlots, IsReadyFor, IsShortOfSlots, KeepsPageSizes};
 ghost use Rattle.atlas_cache.specs.Reserving.{KeepsReady, KeepsReadyButOne, UseAtMost};
@@ -22,9 +23,11 @@ pub mod holding;
 mod iter;
 mod repacking;
 mod shrinking;
+mod vacating;
 mod walking;
 
 use crate::cache::holding::{grant, join_blank, look_up, oldest_lying, place_of, take_out};
+use crate::cache::vacating::Vacated;
 use crate::changes::{CacheChange, Changes};
 use crate::counts::{Counts, NO_COUNTS, count};
 use crate::error::OptionsError;
@@ -40,6 +43,9 @@ use std::alloc::{Allocator, Global};
 use std::hash::{BuildHasher, BuildHasherDefault, Hash};
 use std::marker::Model;
 
+// So many entries go in the order of use, where that alone makes no room, before those of one box do.
+const OLDEST_FIRST: u32 = 16;
+
 /// Rectangles under keys in the pages of a texture array. Contracts see a `CacheState`: how the cache was made, the
 /// atlas of each page, the entries (the most recently used first), how many numbers they have had, for how many more there
 /// is memory in reserve, the frame, and how the cache was used.
@@ -53,6 +59,8 @@ pub struct TextureCache<
     entries: Entries<K, S, A>,
     frame: u64,
     counts: Counts,
+    // For rehearsals: what is shown as freed, for each page a mark for each of its slots. They mean nothing between two calls.
+    marks: Vec<Vec<bool, A>, A>,
 }
 
 impl<K: Copy + Eq + Hash, S: BuildHasher, A: Allocator + Copy> Model for TextureCache<K, S, A> {
@@ -109,6 +117,7 @@ impl<K: Copy + Eq + Hash, S: BuildHasher + Drop, A: Allocator + Copy> TextureCac
             entries: Entries::with_hasher(alloc, hasher),
             frame: 0,
             counts: NO_COUNTS,
+            marks: Vec::new(alloc),
         })
     }
 }
@@ -117,7 +126,7 @@ impl<K: Copy + Eq + Hash, S: BuildHasher, A: Allocator + Copy> TextureCache<K, S
     ghost use Rattle.atlas_cache.specs.Caches.{entry_for, place_for, steps_left, AreAllInUse, EntriesLieApart};
     ghost use Rattle.atlas_cache.specs.Caches.{EntriesLieWithin, HasNoPageFor, HaveNumbersBelow, HaveOwnKeys};
     ghost use Rattle.atlas_cache.specs.Caches.{HaveOwnNumbers, IsFull, IsKept, IsNoneInUse};
-    ghost use Rattle.atlas_cache.specs.Changes.{picture_of, placed, Adds, DoesOne, FindsKnown, Inserts, InsertsBlank};
+    ghost use Rattle.atlas_cache.specs.Changes.{picture_of, placed, Adds, DoesOne, FindsKnown, Inserts, InsertsBlank, InsertsThere};
     ghost use Rattle.atlas_cache.specs.Changes.{IsExhausted, IsNewAndEmpty, IsNewAndTooLarge, LooksSame, Removes};
     ghost use Rattle.atlas_cache.specs.Changes.{ShowsSame, Uses};
     ghost use Rattle.atlas_cache.specs.Telling.{Tells};
@@ -219,11 +228,15 @@ impl<K: Copy + Eq + Hash, S: BuildHasher, A: Allocator + Copy> TextureCache<K, S
     /// used from now on, which counts as a hit; asked for with another size, be it empty or too large, it is
     /// refused with `OtherSize`, and nothing changes. A new key counts as no miss. It goes onto the first page with room for its size, in
     /// pixels, with the padding. If none has room, a page grows; if none can, one is added; and if no more are allowed,
-    /// the least recently used entry that lies on a page and that this frame didn't use is evicted; and so on. `FrameFull` if
-    /// then this frame uses each entry on a page and no page has room, which can't be while this frame has used nothing;
-    /// `NeverFits` if the size, with the padding and rounded up to the alignment, exceeds the largest page, and then
-    /// nothing changes. What was done is added to the changes, also after `FrameFull` and after an error: `Memory`,
-    /// `Slots` if those of a page don't suffice, or `Numbers` only where 4,294,967,295 entries are still held.
+    /// the least recently used entry that lies on a page and that this frame didn't use is evicted; and so on, up to 16 entries. If there
+    /// still is no room then, only entries that lie in one box go: the first box on a page that would come free and that the request fits,
+    /// if all that this frame didn't use went in that order. Where memory for its search is refused, a byte for each slot of the pages, they
+    /// go on in that order. `FrameFull` if no page has room, nor would one have it, were all entries gone that this frame didn't use, which
+    /// can't be while this frame has used nothing; `NeverFits` if the size, with the padding and rounded up to the alignment, exceeds the
+    /// largest page, and then nothing changes. What was done is added to the changes, whose room is never given back, also after
+    /// `FrameFull` and after an error: `Memory`, `Slots` if those of the first page that has room, or of the one that would grow, don't
+    /// suffice (no later frame helps then, but `remove`, `trim` and `clear` do), or `Numbers` only where 4,294,967,295 entries are still
+    /// held.
     ///
     /// A new key with an empty size, of which a side is 0 or below, becomes a blank entry: `Placed` with a place that is
     /// empty. It takes no room, so no page changes and nothing is evicted for it, nor is it ever evicted for another key.
@@ -237,9 +250,10 @@ impl<K: Copy + Eq + Hash, S: BuildHasher, A: Allocator + Copy> TextureCache<K, S
     /// between them take nothing of it.
     ///
     /// Takes one look-up by a hash. A new key that isn't blank also takes a few steps for each page, and a request of an atlas for each
-    /// page that isn't known to have no room: one that refused a size no larger in width and height, and hasn't changed since, is. An
-    /// eviction takes a freeing and another request of its page; it passes each blank key that was used before what it evicts once, and
-    /// not again until that key is used.
+    /// page that isn't known to have no room: one that refused a size no larger in width and height, of the last two, and hasn't changed
+    /// since, is. An eviction takes a freeing and another request of its page; it passes each blank key that was used before what it evicts
+    /// once, and not again until that key is used. The search for one box takes, until it is found, a step for each entry that this frame
+    /// didn't use, and what a freeing takes for each of them that lies there.
     pub fn insert(
         &mut self,
         key: K,
@@ -264,6 +278,9 @@ impl<K: Copy + Eq + Hash, S: BuildHasher, A: Allocator + Copy> TextureCache<K, S
         ensures errors { entry_for K.eq key self.old.entries ≡ None
             → IfErr result (IsRefusedNew (length self.new.entries)) }
         ensures short { result ≡ Err Slots → IsShortOfSlots self.new.pages }
+        ensures lacks { result ≡ Err Slots
+            → LacksSlots (size_of (bordered self.old.options size)) self.new.options self.new.pages }
+        ensures capacity { vec_capacity changes.old ≤ vec_capacity changes.new }
         ensures room { IsNoneInUse self.old → result ≢ Ok FrameFull }
         ensures memory { (IsPositive (sides_of size) → ⊥) → 0 < self.old.reserved → result ≢ Err Memory }
         ensures takes { self.old.reserved ≤ self.new.reserved + 1 }
@@ -345,6 +362,8 @@ impl<K: Copy + Eq + Hash, S: BuildHasher, A: Allocator + Copy> TextureCache<K, S
         ensures inserts { Inserts asked key size result changes.old.items changes.new.items self.old self.new }
         ensures errors { IfErr result (IsRefusedNew (length self.new.entries)) }
         ensures short { result ≡ Err Slots → IsShortOfSlots self.new.pages }
+        ensures lacks { result ≡ Err Slots → LacksSlots asked self.new.options self.new.pages }
+        ensures capacity { vec_capacity changes.old ≤ vec_capacity changes.new }
         ensures room { IsNoneInUse self.old → result ≢ Ok FrameFull }
         ensures reserves { (n : ℕ) → HasReserves (n + 1) (room_in changes.old) self.old
             → (HasNoPageFor asked self.old → IsFull self.old)
@@ -356,17 +375,75 @@ impl<K: Copy + Eq + Hash, S: BuildHasher, A: Allocator + Copy> TextureCache<K, S
     {
         let mut from = 0;
         let mut to = self.rooms.len() as usize;
+        let mut left = OLDEST_FIRST;
         loop {
             if let Some(place) = self.add(key, size, asked, from, to)? {
                 return Ok(Inserted::Placed(place));
             }
+            if let Some(answer) = self.insert_cleared(key, size, asked, left, changes)? {
+                return Ok(answer);
+            }
+            left = left.saturating_sub(1);
             let Some(page) = self.make_room(asked, changes)? else {
-                self.rooms.prove_kept();
+                self.rooms.prove_pages();
                 return Ok(Inserted::FrameFull);
             };
             // The others have no room still.
             from = page as usize;
             to = from + 1;
+        }
+    }
+
+    // Inserts a key that has room on no page, by the eviction of what lies in one box; None where more may go in the order of use, where
+    // a page may still grow or be added, or where memory for the marks of a rehearsal is refused, and then nothing changes.
+    fn insert_cleared(
+        &mut self,
+        key: K,
+        size: Size,
+        asked: Size,
+        left: u32,
+        changes: &mut Changes<K, A>,
+    ) -> Result<Option<Inserted>, CacheError>
+        requires absent { entry_for K.eq key self.old.entries ≡ None }
+        requires stands { CanStand self.old.options size }
+        requires asked { asked ≡ size_of (bordered self.old.options size) }
+        requires none { HasNoPageFor asked self.old }
+        ensures inserts { IfOk result (λ answer. IfSome answer (λ inserted.
+            InsertsThere asked key size (Ok inserted) changes.old.items changes.new.items self.old self.new)) }
+        ensures refused { IfErr result (λ error.
+            InsertsThere asked key size (Err error) changes.old.items changes.new.items self.old self.new) }
+        ensures stays { result ≡ Ok None → (self.new ≡ self.old) × (changes.new.items ≡ changes.old.items) }
+        ensures errors { IfErr result (IsRefusedNew (length self.new.entries)) }
+        ensures short { result ≡ Err Slots → IsShortOfSlots self.new.pages }
+        ensures lacks { result ≡ Err Slots → IsFirstShort asked self.new.pages }
+        ensures capacity { vec_capacity changes.old ≤ vec_capacity changes.new }
+        ensures already { result ≡ Err Slots → IsShortOfSlots self.old.pages }
+        ensures reserves { (n : ℕ) → HasReserves (n + 1) (room_in changes.old) self.old
+            → (result ≢ Err Memory) × HasReserves n (room_in changes.new) self.new }
+        ensures room { IsNoneInUse self.old → result ≢ Ok (Some FrameFull) }
+        ensures ready { result ≡ Ok None → (n : ℕ) → HasReserves n (room_in changes.old) self.old
+            → HasReserves n (room_in changes.new) self.new }
+        ensures full { IsFull self.old → IsFull self.new }
+        ensures slots { UseAtMost 4 self.old.pages self.new.pages }
+    {
+        self.rooms.prove_pages();
+        if left > 0 {
+            return Ok(None);
+        }
+        if !self.rooms.are_full() {
+            return Ok(None);
+        }
+        match self.vacate(asked, changes)? {
+            Vacated::Unmarked => Ok(None),
+            Vacated::Crowded => Ok(Some(Inserted::FrameFull)),
+            Vacated::Room(page) => {
+                let from = page as usize;
+                match self.add(key, size, asked, from, from + 1)? {
+                    Some(place) => Ok(Some(Inserted::Placed(place))),
+                    // There is room on that page.
+                    None => Ok(Some(Inserted::FrameFull)),
+                }
+            }
         }
     }
 
@@ -391,6 +468,7 @@ impl<K: Copy + Eq + Hash, S: BuildHasher, A: Allocator + Copy> TextureCache<K, S
         ensures refused { OnErr result (LooksSame self.old self.new) }
         ensures errors { IfErr result (IsRefusedNew (length self.new.entries)) }
         ensures short { result ≡ Err Slots → IsShortOfSlots self.new.pages }
+        ensures lacks { result ≡ Err Slots → IsFirstShort asked self.new.pages }
         ensures reserves { (n room : ℕ) → HasReserves (n + 1) room self.old
             → (result ≢ Err Memory) × HasReserves n room self.new }
         ensures slots { UseAtMost 4 self.old.pages self.new.pages }
@@ -430,6 +508,8 @@ impl<K: Copy + Eq + Hash, S: BuildHasher, A: Allocator + Copy> TextureCache<K, S
         ensures refused { OnErr result ((self.new ≡ self.old) × (changes.new.items ≡ changes.old.items)) }
         ensures errors { IfErr result IsRefusal }
         ensures short { result ≡ Err Slots → IsShortOfSlots self.new.pages }
+        ensures lacks { result ≡ Err Slots → IsGrowthShort self.new.options self.new.pages }
+        ensures capacity { vec_capacity changes.old ≤ vec_capacity changes.new }
         ensures reserves { IsFull self.old → (n : ℕ) → HasReserves n (room_in changes.old) self.old
             → HasReserves n (room_in changes.new) self.new }
         ensures memory { IsFull self.old → 0 < room_in changes.old → result ≢ Err Memory }
@@ -437,6 +517,7 @@ impl<K: Copy + Eq + Hash, S: BuildHasher, A: Allocator + Copy> TextureCache<K, S
         ensures slots { IsFull self.old → UseAtMost 0 self.old.pages self.new.pages }
         ensures ample { IsFull self.old → result ≢ Err Slots }
     {
+        self.rooms.prove_pages();
         changes.reserve(1)?;
         if let Some((page, size)) = self.rooms.grow_page()? {
             changes.push_reserved(CacheChange::PageGrown { page, size });
@@ -463,6 +544,7 @@ impl<K: Copy + Eq + Hash, S: BuildHasher, A: Allocator + Copy> TextureCache<K, S
             → HasReserves n (room_in changes.new) self.new }
         ensures full { IsFull self.new }
         ensures slots { UseAtMost 0 self.old.pages self.new.pages }
+        ensures capacity { vec_capacity changes.old ≤ vec_capacity changes.new }
     {
         let Some((number, entry)) = oldest_lying(&mut self.entries) else {
             return None;

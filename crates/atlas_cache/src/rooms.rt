@@ -10,7 +10,7 @@ ghost use Rattle.guillotiere.specs.Pixels.{natural, sides_of, size_of};
 ghost use Rattle.atlas_cache.specs.declared.options.CacheOptions.{CacheOptions};
 ghost use Rattle.atlas_cache.specs.Asking.{AreUsable};
 ghost use Rattle.atlas_entries.specs.Entries.{no_page};
-ghost use Rattle.atlas_cache.specs.Placing.{GrowsOn, PlacesFirst, StartsOn};
+ghost use Rattle.atlas_cache.specs.Placing.{FreesOn, GrowsOn, IsGrowthShort, PlacesFirst, StartsOn};
 ghost use Rattle.atlas_cache.specs.Reserving.{IsShortOfSlots, UseAtMost};
 ghost use Rattle.atlas_cache.specs.Rooms.{grown_sides, growth_left, page_sizes, rooms_of, AreAllLargest};
 ghost use Rattle.atlas_cache.specs.Rooms.{AreLargestBelow, HasRoomOnlyAmong, IsFirstToGrow, IsNothingLive};
@@ -20,12 +20,13 @@ ghost use Rattle.atlas_entries.specs.declared.error.CacheError.TheVariants.{Memo
 
 mod asking;
 mod copying;
+mod rehearsing;
 mod repacking;
 mod reserving;
 mod usable;
 
 use crate::options::CacheOptions;
-use crate::rooms::asking::{NO_SIZE, ask};
+use crate::rooms::asking::{NOTHING, Refusals, ask};
 use atlas_entries::error::CacheError;
 use guillotiere::pages::prove_page;
 use guillotiere::{AllocId, Allocation, AtlasAllocator, AtlasError, Size};
@@ -36,8 +37,8 @@ use std::marker::Model;
 #[derive(Drop)]
 pub struct Rooms<A: Allocator + Copy = Global> {
     pages: Vec<AtlasAllocator<A>, A>,
-    // For each page a size that it has no room for: the one that it refused last, or `NO_SIZE` if it changed since.
-    refused: Vec<Size, A>,
+    // For each page two sizes that it has no room for: those that it refused last, as long as it doesn't change.
+    refused: Vec<Refusals, A>,
     options: CacheOptions,
 }
 
@@ -176,6 +177,26 @@ impl<A: Allocator + Copy> Rooms<A> {
         self.pages[page as usize].size()
     }
 
+    /// States what always holds of the pages as a whole, and does nothing: each has the options of the cache, the greatest limit on slots
+    /// and a size from `page` to `largest_page`, and there are no more than the options allow.
+    pub fn prove_pages(&self)
+        ensures kept { KeepsRooms self.now }
+        ensures numbered { length self.now.pages ≤ no_page }
+        ensures usable { AreUsable self.now.options }
+    {
+        let _pages = &self.pages;
+        let _len = self.len();
+    }
+
+    /// Whether there are as many pages as the options allow, each at its largest.
+    pub(crate) fn are_full(&self) -> bool
+        ensures all { IsTrue result → length self.now.pages ≡ self.now.options.pages }
+        ensures largest { IsTrue result → AreAllLargest self.now.options (page_sizes self.now.pages) }
+    {
+        self.len() == self.options.pages
+            && first_to_grow(&self.pages, self.options.largest_page).is_none()
+    }
+
     /// States what always holds of the pages, and does nothing: each has the options of the cache, the greatest limit on slots and a
     /// size from `page` to `largest_page`, and there are no more than the options allow; the rectangles of live ids of a page lie apart and
     /// within it; an idle page of the largest size has room for whatever `CacheOptions::asked` asks for.
@@ -231,9 +252,10 @@ impl<A: Allocator + Copy> Rooms<A> {
         ensures sizes { page_sizes self.new.pages ≡ page_sizes self.old.pages }
         ensures options { self.new.options ≡ self.old.options }
         ensures slots { UseAtMost 0 self.old.pages self.new.pages }
+        ensures step { FreesOn self.old.pages self.new.pages page id }
     {
         let _freed = self.pages[page as usize].deallocate(id);
-        self.refused[page as usize] = NO_SIZE;
+        self.refused[page as usize] = NOTHING;
     }
 
     /// The first page that isn't at its largest grows: the page, and its size from now on, in pixels. Its smaller side,
@@ -258,6 +280,7 @@ impl<A: Allocator + Copy> Rooms<A> {
         ensures refused { OnErr result (self.new ≡ self.old) }
         ensures errors { IfErr result IsRefusal }
         ensures short { result ≡ Err Slots → IsShortOfSlots self.old.pages }
+        ensures lacks { result ≡ Err Slots → IsGrowthShort self.old.options self.old.pages }
         ensures step { IfOk result (λ grown. IfSome grown (λ growth.
             GrowsOn growth.1 self.old.pages self.new.pages growth.0)) }
     {
@@ -268,7 +291,7 @@ impl<A: Allocator + Copy> Rooms<A> {
         if let Err(error) = self.pages[page].grow(size) {
             return Err(refusal(error));
         }
-        self.refused[page] = NO_SIZE;
+        self.refused[page] = NOTHING;
         Ok(Some((number(page, self.options.pages), size)))
     }
 
@@ -302,7 +325,7 @@ impl<A: Allocator + Copy> Rooms<A> {
         match AtlasAllocator::with_options(alloc, self.options.page, &self.options.atlas) {
             Ok(page) => {
                 self.pages.push(page)?;
-                self.refused.push_reserved(NO_SIZE);
+                self.refused.push_reserved(NOTHING);
                 Ok(Some((number, self.options.page)))
             }
             Err(_) => Err(CacheError::Memory),
@@ -338,7 +361,7 @@ impl<A: Allocator + Copy> Rooms<A> {
     {
         for page in 0..self.pages.len() {
             let _cleared = self.pages[page].clear();
-            self.refused[page] = NO_SIZE;
+            self.refused[page] = NOTHING;
         }
     }
 }

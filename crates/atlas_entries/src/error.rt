@@ -14,7 +14,8 @@ pub enum CacheError {
     /// All 4,294,967,295 numbers of entries are in use.
     #[error("no number left for an entry")]
     Numbers,
-    /// The slots of a page's atlas don't suffice.
+    /// The slots of a page's atlas don't suffice. No entry is evicted for it, in no later frame either, and another page with
+    /// room isn't tried: `remove`, `trim` and `clear` help.
     #[error("no slot left on a page")]
     Slots,
     /// The key is held with another size.

@@ -1,5 +1,5 @@
 //! What callers write first over an atlas. All of it is proved without a proof file, except `apart::two`,
-//! `beside::place_beside`, `tiled` and `reserving`, which show how a clause, a law and a loop's invariant are cited.
+//! `beside::place_beside`, `rehearsed`, `tiled` and `reserving`, which show how a clause, a law and a loop's invariant are cited.
 #![tactic(auto)]
 
 mod apart;
@@ -21,6 +21,7 @@ mod numbered;
 mod pages;
 mod plain;
 mod recording;
+mod rehearsed;
 mod reserved;
 mod reserving;
 mod sheet;

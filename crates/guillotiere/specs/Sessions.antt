@@ -1,9 +1,10 @@
 -- Sessions: calls of an atlas as data, their replies, and what a list of calls made in turn keeps to.
-use Rattle.std.specs.Prelude.{◌≡◌, ◌+◌, ◌≤◌, true, List, [], ◌∷◌, length, map, All}
+use Rattle.std.specs.Prelude.{◌≡◌, ◌+◌, ◌≤◌, ⊤, true, List, [], ◌∷◌, length, map, All}
 use Rattle.guillotiere.specs.declared.session.Call.{Call}
 use Rattle.guillotiere.specs.declared.session.Call.TheVariants as call
 use Rattle.guillotiere.specs.declared.session.Reply.{Reply}
 use Rattle.guillotiere.specs.declared.session.Reply.TheVariants as reply
+use Rattle.atlas_model.specs.declared.error.AtlasError.TheVariants.{Memory}
 use Rattle.atlas_model.specs.Pixels.{sides_of, options_of}
 use Rattle.atlas_model.specs.States.{used_in}
 use Rattle.atlas_model.specs.Steps.{AtlasCall, AtlasReply, Step}
@@ -15,6 +16,7 @@ use Rattle.atlas_model.specs.Laws.RunLaws.{IsInOrder, IsRunInOrder, LeavesNoTrac
 use Rattle.atlas_model.specs.RunTurns.{turns_within}
 use Rattle.atlas_model.specs.Replies.{grant_of, IsExact}
 use Rattle.atlas_model.specs.Rearranging.{rearrangement_of, AreExactChanges}
+use Rattle.atlas_store.specs.Reserves.{HasReserve, UsesAtMost}
 use Rattle.atlas_store.specs.Stored.{AtlasValue, state_of}
 
 abbrev pub call_of : Call → AtlasCall
@@ -47,14 +49,31 @@ TakesTurns old (Deallocate id) Done new =
     new.turns + used_in (state_of new) ≡ old.turns + 1 + used_in (state_of old)
 TakesTurns old call reply new = new.turns ≡ old.turns
 
+-- What a call of an atlas says of slots in reserve: a request uses at most 4 more, a growth 3 and a freeing or a start
+-- none, and there is memory for no fewer. After a rearrangement there is as much as the new atlas has.
+abbrev pub TakesSlots : AtlasValue → AtlasCall → AtlasValue → Type 0
+TakesSlots old (Allocate size) new = UsesAtMost 4 old new
+TakesSlots old (Grow size) new = UsesAtMost 3 old new
+TakesSlots old Rearrange new = ⊤
+TakesSlots old (ResizeAndRearrange size) new = ⊤
+TakesSlots old call new = UsesAtMost 0 old new
+
+-- Where a call of an atlas is refused memory: it has fewer slots in reserve than it may use.
+abbrev pub MayLackSlots : AtlasValue → AtlasCall → Type 0
+MayLackSlots v (Allocate size) = HasReserve 4 v → ⊥
+MayLackSlots v (Grow size) = HasReserve 3 v → ⊥
+MayLackSlots v call = ⊤
+
 -- A call has this reply and leads to new: it is a step of the model, and its rectangles are exact; where nothing was
--- done, all is as before.
+-- done, all is as before; what is in reserve is used as the call says, and memory is refused only where too little is.
 pub record IsAnswered {A : Type 0} (old : AtlasValue) (call : AtlasCall) (reply : Reply A) (new : AtlasValue)
     : Type 0 where
   pub step : Step (state_of old) call (reply_of reply) (state_of new)
   pub exact : IsExactReply reply
   pub unchanged : is_refusal (reply_of reply) ≡ true → new ≡ old
   pub turns : TakesTurns old call (reply_of reply) new
+  pub slots : TakesSlots old call new
+  pub memory : reply_of reply ≡ Refused Memory → MayLackSlots old call
 
 -- As many replies as calls, and each call is answered from what the one before it left.
 abbrev pub AreAnswered : {A : Type 0} → AtlasValue → List Call → List (Reply A) → AtlasValue → Type 0

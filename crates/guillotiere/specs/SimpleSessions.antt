@@ -12,7 +12,7 @@ use Rattle.atlas_model.specs.Simple.{SimpleAtlasCall, SimpleAnswer, SimpleStep}
 use Rattle.atlas_model.specs.Simple.SimpleAtlasCall.{Allocate, Grow, Clear, Reset, Start}
 use Rattle.atlas_model.specs.Simple.SimpleAnswer.{Granted, NoRoom, Done, Refused, BadCall}
 use Rattle.atlas_model.specs.Simple.SimpleRuns.{SimpleRun, KeepsGuard}
-use Rattle.guillotiere.specs.SimpleStored.{SimpleValue, simple_state_of, MayAskMemory, UsesEachEntry, UsesOldEntries}
+use Rattle.guillotiere.specs.SimpleStored.{SimpleValue, simple_state_of, KeepsRoom, MayAskMemory, UsesEachEntry, UsesOldEntries}
 
 -- A start takes over from the atlas that is handed in.
 abbrev pub simple_call_of : (source : State) → SimpleCall → SimpleAtlasCall
@@ -55,7 +55,7 @@ UsesEntries old call Done new = UsesEachEntry new
 UsesEntries old call answer new = ⊤
 
 -- A call has this reply and leads to new: it is a step of the model, and a granted rectangle is exact; where nothing
--- was done, all is as before; memory is refused only to a call that may ask for it.
+-- was done, all is as before; memory is refused only to a call that may ask for it; the room is kept.
 pub record IsSimplyAnswered (old : SimpleValue) (call : SimpleAtlasCall) (reply : SimpleReply) (new : SimpleValue)
     : Type 0 where
   pub step : SimpleStep (simple_state_of old) call (simple_answer_of reply) (simple_state_of new)
@@ -63,6 +63,7 @@ pub record IsSimplyAnswered (old : SimpleValue) (call : SimpleAtlasCall) (reply 
   pub unchanged : is_denial (simple_answer_of reply) ≡ true → new ≡ old
   pub entries : UsesEntries old call (simple_answer_of reply) new
   pub memory : simple_answer_of reply ≡ Refused Memory → MayAskMemory old call
+  pub room : KeepsRoom old call new
 
 -- Each call has its reply, and leads from one stored value to the next.
 abbrev pub AreSimplyAnswered : SimpleValue → List SimpleAtlasCall → List SimpleReply → SimpleValue → Type 0

@@ -30,7 +30,7 @@ pub fn allocate_on<A: Allocator + Copy>(
 }
 
 /// Frees the box of an id of a page, as `deallocate` does. Requires that there is such a page. `NotLive` if the id isn't
-/// live there, and then nothing changes. The other pages stay as they are.
+/// live there, and then nothing changes. What the page has in reserve it keeps. The other pages stay as they are.
 pub fn deallocate_on<A: Allocator + Copy>(
     pages: &mut [AtlasAllocator<A>],
     page: usize,
@@ -40,6 +40,7 @@ pub fn deallocate_on<A: Allocator + Copy>(
     ensures ok { (result ≡ Ok tt) ↔ IsSome (rectangle_on pages.old page id) }
     ensures unless { IsOkUnless result AtlasError.NotLive }
     ensures leaves { LeavesNoBoxOn pages.old pages.new page id }
+    ensures slots { UsesAtMostOn 0 pages.old pages.new page }
     ensures refused { OnErr result (pages.new ≡ pages.old) }
     ensures length { length pages.new ≡ length pages.old }
 {

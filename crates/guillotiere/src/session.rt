@@ -6,9 +6,12 @@ ghost use Rattle.atlas_model.specs.Steps.{Step};
 ghost use Rattle.atlas_model.specs.Laws.StepLaws.{is_refusal};
 ghost use Rattle.atlas_store.specs.Stored.{state_of};
 ghost use Rattle.atlas_model.specs.Steps.AtlasCall.{Allocate, Deallocate, Grow, Reset, ResizeAndRearrange};
+ghost use Rattle.atlas_model.specs.Steps.AtlasReply.{Refused};
+ghost use Rattle.atlas_model.specs.declared.error.AtlasError.TheVariants.{Memory};
 ghost use Rattle.atlas_model.specs.Replies.{done_reply};
 ghost use Rattle.atlas_model.specs.Rearranging.{change_reply, AreExactChanges};
-ghost use Rattle.guillotiere.specs.Sessions.{call_of, reply_of, IsExactReply, TakesTurns, IsAnswered, IsSession};
+ghost use Rattle.guillotiere.specs.Sessions.{call_of, reply_of, IsExactReply, MayLackSlots, TakesSlots, TakesTurns};
+ghost use Rattle.guillotiere.specs.Sessions.{IsAnswered, IsSession};
 
 mod simple;
 
@@ -125,12 +128,15 @@ fn resize<A: Allocator + Copy>(atlas: &mut AtlasAllocator<A>, size: Size) -> Rep
 }
 
 /// Makes a call of an atlas. Where the condition of the call doesn't hold it answers `BadCall`. Unless the reply says
-/// that something was done, nothing changes.
+/// that something was done, nothing changes. Slots in reserve serve it as they serve the call itself: a request uses at most 4
+/// more, a growth 3, a freeing or a start none, and no memory is given back but by a rearrangement.
 pub fn step<A: Allocator + Copy>(atlas: &mut AtlasAllocator<A>, call: &Call) -> Reply<A>
     ensures step { Step (state_of atlas.old) (call_of call.now) (reply_of result) (state_of atlas.new) }
     ensures exact { IsExactReply result }
     ensures unchanged { is_refusal (reply_of result) ≡ true → atlas.new ≡ atlas.old }
     ensures turns { TakesTurns atlas.old (call_of call.now) (reply_of result) atlas.new }
+    ensures slots { TakesSlots atlas.old (call_of call.now) atlas.new }
+    ensures memory { reply_of result ≡ Refused Memory → MayLackSlots atlas.old (call_of call.now) }
 {
     match call {
         Call::Allocate(size) => allocate(atlas, *size),
@@ -144,9 +150,9 @@ pub fn step<A: Allocator + Copy>(atlas: &mut AtlasAllocator<A>, call: &Call) -> 
 }
 
 /// Makes calls of an atlas in turn, and appends a reply for each. Room for all replies is reserved first: `Memory` is the
-/// only error, it comes only where `replies` has less room, and after it atlas and replies are as before. Each call is
-/// answered as by `step`, from what the one before it left. So after any list of calls the boxes tile the atlas as
-/// leaves of one normal tree of cuts, and each reply is owed (docs/MODEL.md, "Sessions").
+/// only error, it comes only where `replies` has less room, and after it atlas and replies are as before. The room of the list is
+/// never given back. Each call is answered as by `step`, from what the one before it left. So after any list of calls the boxes
+/// tile the atlas as leaves of one normal tree of cuts, and each reply is owed (docs/MODEL.md, "Sessions").
 pub fn run<A: Allocator + Copy>(
     atlas: &mut AtlasAllocator<A>,
     calls: &[Call],
@@ -160,6 +166,7 @@ pub fn run<A: Allocator + Copy>(
     ensures kept { take (vec_len replies.old) replies.new.items ≡ replies.old.items }
     ensures refused { OnErr result (atlas.new ≡ atlas.old) }
     ensures no_reply { OnErr result (replies.new.items ≡ replies.old.items) }
+    ensures capacity { vec_capacity replies.old ≤ vec_capacity replies.new }
 {
     replies.reserve(calls.len())?;
     // Its contract says that the atlas is sound.

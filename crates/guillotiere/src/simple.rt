@@ -1,6 +1,6 @@
 //! An allocator that hands out boxes and never takes one back.
 ghost use Rattle.std.specs.Prelude.{◌≡◌, ◌↔◌, ◌⊎◌, Any, IsTrue, None, Ok, true, ◌+◌, ◌<◌, ◌≤◌, ◌++◌, [], ◌∷◌, List};
-ghost use Rattle.std.specs.Prelude.{OnOk, OnErr, IfOk, IfSome, IsOkUnless, length, vec_capacity};
+ghost use Rattle.std.specs.Prelude.{OnOk, OnErr, IfOk, IfSome, IsOkUnless, length, min, vec_capacity};
 ghost use Rattle.atlas_model.specs.Boxes.{AreSameBoxes, Box, Fits, IsPositive, Sides, box_sides};
 ghost use Rattle.atlas_model.specs.Choice.{AreValid, rounded};
 ghost use Rattle.guillotiere.specs.FreeBoxes.BoxCalls.{AreFiledBoxes, HasEntriesFor, HasTakenEntries, IsFoundFor};
@@ -29,12 +29,12 @@ use std::marker::Model;
 /// A simpler allocator, which hands out boxes and never takes one back: its free boxes make up no tree, and a part that
 /// is narrower or lower than the alignment is lost (docs/MODEL.md, "The simple allocator").
 ///
-/// It keeps the memory allocator that it was made with. Contracts see what it stores; `simple_state_of` reads its free boxes,
-/// its size and its options there.
+/// It keeps the memory allocator that it was made with. Contracts see what it stores, and for how many entries it has memory;
+/// `simple_state_of` reads its free boxes, its size and its options there.
 ///
 /// The table of its lists of free boxes takes 10,816 bytes on the heap, and each entry for a free box 28 more. Entries
-/// that aren't used any more are used first by later calls. There are at most 4,261,412,864 entries: where more would
-/// be used, `Memory` is the answer.
+/// that aren't used any more are used first by later calls, and the room for entries is kept until a start from an atlas. There are at
+/// most 4,261,412,864 entries: where more would be used, `Memory` is the answer.
 #[derive(Drop)]
 pub struct SimpleAtlasAllocator<A: Allocator + Copy = Global> {
     boxes: FreeBoxes<A>,
@@ -43,19 +43,25 @@ pub struct SimpleAtlasAllocator<A: Allocator + Copy = Global> {
 }
 
 impl<A: Allocator + Copy> Model for SimpleAtlasAllocator<A> {
+    ghost use Rattle.std.specs.Prelude.{vec_capacity};
     ghost use Rattle.guillotiere.specs.FreeBoxes.BoxShelves.{box_shelf};
     ghost use Rattle.guillotiere.specs.FreeBoxes.FreeLists.{IsSimpleStored};
     ghost use Rattle.guillotiere.specs.SimpleStored.{SimpleValue};
 
     ghost Value = { SimpleValue };
 
-    ghost view = { λ a. record { shelf = box_shelf a.boxes; size = a.size; options = a.options } };
+    ghost view = { λ a. record {
+      shelf = box_shelf a.boxes;
+      size = a.size;
+      options = a.options;
+      capacity = vec_capacity a.boxes.entries;
+    } };
 
     ghost invariant = { λ a. IsSimpleStored a.boxes a.size a.options };
 }
 
 impl<A: Allocator + Copy> SimpleAtlasAllocator<A> {
-    ghost use Rattle.guillotiere.specs.SimpleStored.{MayAskMemory, UsesEachEntry, UsesOldEntries, kept_entries};
+    ghost use Rattle.guillotiere.specs.SimpleStored.{MayAskMemory, UsesEachEntry, UsesOldEntries, kept_entries, room_of};
     ghost use Rattle.guillotiere.specs.SimpleStored.{simple_state_of, used_entries};
 
     /// An allocator of one free box of this size, in pixels, with `DEFAULT_OPTIONS`. Requires a size that isn't empty. The
@@ -96,8 +102,8 @@ impl<A: Allocator + Copy> SimpleAtlasAllocator<A> {
         })
     }
 
-    /// A copy: the whole stored value is equal, entries and lists included, and so are its answers to later calls, except
-    /// where memory is refused. `Memory` is the only error.
+    /// A copy: the whole stored value is equal, entries and lists included, with as much room for entries, and so are its answers to
+    /// later calls, except where memory is refused. `Memory` is the only error.
     pub fn clone(&self) -> Result<Self, AtlasError>
         ensures unless { IsOkUnless result AtlasError.Memory }
         ensures equal { IfOk result (λ it. it ≡ self.now) }
@@ -112,8 +118,8 @@ impl<A: Allocator + Copy> SimpleAtlasAllocator<A> {
 
     /// Grants a request: the box of the rounded size at the `min` of the free box that is picked. None if the size is
     /// empty, if a rounded side passes 2147483647, or if the rounded size fits no free box; then no memory is asked
-    /// for. The only error is `Memory`, if more entries would be used than there are and memory for them is refused.
-    /// Unless something is granted, nothing changes.
+    /// for. The only error is `Memory`, if more entries would be used than there is room for and memory for them is refused.
+    /// Unless something is granted, nothing changes. Keeps the room of the entries.
     pub fn allocate(&mut self, requested_size: Size) -> Result<Option<Rectangle>, AtlasError>
         ensures unless { IsOkUnless result AtlasError.Memory }
         ensures step { SimpleStep (simple_state_of self.old) (Allocate (sides_of requested_size))
@@ -124,6 +130,7 @@ impl<A: Allocator + Copy> SimpleAtlasAllocator<A> {
         ensures refused { OnErr result (self.new ≡ self.old) }
         ensures entries { UsesOldEntries self.old self.new }
         ensures memory { OnErr result (MayAskMemory self.old (Allocate (sides_of requested_size))) }
+        ensures capacity { self.old.capacity ≤ self.new.capacity }
         ensures past { (2147483647 < (rounded (simple_state_of self.old).options (sides_of requested_size)).width)
             ⊎ (2147483647 < (rounded (simple_state_of self.old).options (sides_of requested_size)).height)
             → result ≡ Ok None }
@@ -168,12 +175,14 @@ impl<A: Allocator + Copy> SimpleAtlasAllocator<A> {
         is_listed(&self.boxes.entries, &Rectangle::from(self.size))
     }
 
-    /// How many entries are used, one for each free box, how many there are, and how many there may be: 4,261,412,864.
+    /// How many entries are used, one for each free box, how many there are, and how many there may be: 4,261,412,864. There is
+    /// room for the second number at least.
     pub fn slots(&self) -> SlotCount
         ensures used { result.used ≡ used_entries self.now }
         ensures kept { result.kept ≡ kept_entries self.now }
         ensures limit { result.limit ≡ 4261412864 }
         ensures counted { used_entries self.now ≤ kept_entries self.now }
+        ensures room { kept_entries self.now ≤ room_of self.now }
     {
         SlotCount {
             used: self.boxes.used,
@@ -253,8 +262,9 @@ fn cut_picked<A: Allocator>(
         ++ free_item_boxes (box_shelf boxes.old).entries)) }
     ensures err { OnErr result (box_shelf boxes.new ≡ box_shelf boxes.old) }
     ensures entries { AddsWhatIsUsed (box_shelf boxes.old) (box_shelf boxes.new) }
-    ensures needed { OnErr result (length (box_shelf boxes.old).entries + 1 < boxes.old.used
+    ensures needed { OnErr result (min (vec_capacity boxes.old.entries) 4261412864 + 1 < boxes.old.used
         + length (kept_rest (options_of options.now) (box_of found.rectangle) (sides_of size))) }
+    ensures stays { OnErr result (vec_capacity boxes.new.entries ≡ vec_capacity boxes.old.entries) }
     ensures capacity { vec_capacity boxes.old.entries ≤ vec_capacity boxes.new.entries }
 {
     let rest = guillotine(found.rectangle, size);
@@ -285,8 +295,10 @@ fn grant<A: Allocator>(
     ensures none { result ≡ Ok None → box_shelf boxes.new ≡ box_shelf boxes.old }
     ensures refused { OnErr result (box_shelf boxes.new ≡ box_shelf boxes.old) }
     ensures entries { AddsWhatIsUsed (box_shelf boxes.old) (box_shelf boxes.new) }
-    ensures needed { OnErr result (LacksEntries (length (box_shelf boxes.old).entries)
+    ensures needed { OnErr result (LacksEntries (min (vec_capacity boxes.old.entries) 4261412864)
         (free_item_boxes (box_shelf boxes.old).entries) (options_of options.now) (sides_of requested_size)) }
+    ensures stays { OnErr result (vec_capacity boxes.new.entries ≡ vec_capacity boxes.old.entries) }
+    ensures idle { result ≡ Ok None → vec_capacity boxes.new.entries ≡ vec_capacity boxes.old.entries }
     ensures capacity { vec_capacity boxes.old.entries ≤ vec_capacity boxes.new.entries }
 {
     let Some(size) = rounded(requested_size, options) else {

@@ -18,6 +18,7 @@ use Rattle.atlas_cache.specs.Changes.{picture_of, placed, ShowsSame}
 use Rattle.atlas_cache.specs.Clearing.{all_forgotten, Clears, TellsChanges, Trims}
 use Rattle.atlas_cache.specs.Counting.{one_more}
 use Rattle.atlas_cache.specs.Entries.{lying}
+use Rattle.atlas_cache.specs.Placing.{LacksSlots}
 use Rattle.atlas_cache.specs.Refusals.{IsRefusedNew}
 use Rattle.atlas_cache.specs.Relocating.{Repacks}
 use Rattle.atlas_cache.specs.Reserving.{AllowSlots, HasReserves, HaveSlots, IsReadyFor, IsShortOfSlots, KeepsPageSizes, UseAtMost}
@@ -25,7 +26,7 @@ use Rattle.atlas_cache.specs.Reserving.{KeepsReady, KeepsReadyButOne}
 use Rattle.atlas_cache.specs.Shrinking.{Shrinks}
 use Rattle.atlas_cache.specs.Telling.{Tells}
 use Rattle.atlas_cache.specs.Walking.{ShowsOlder}
-use Rattle.guillotiere_c.specs.Following.{Followed}
+use Rattle.guillotiere_c.specs.Following.{Followed, KeepsRoom}
 
 -- What always holds of a cache, as `TextureCache::prove_kept` says: what is live on its pages is what the entries that lie there hold, each
 -- once; two of one page lie apart, and each lies within its page; and each entry has a key and a number of its own.
@@ -91,12 +92,14 @@ pub record IsInsert (key : ℕ) (size : Size) (result : Result Inserted CacheErr
   pub errors : entry_for nat_eq key f.cache.entries ≡ None → IfErr result (IsRefusedNew (length g.cache.entries))
   pub room : IsNoneInUse f.cache → result ≢ Ok FrameFull
   pub short : result ≡ Err Slots → IsShortOfSlots g.cache.pages
+  pub lacks : result ≡ Err Slots → LacksSlots (size_of (bordered f.cache.options size)) g.cache.options g.cache.pages
   pub memory : (IsPositive (sides_of size) → ⊥) → 0 < f.cache.reserved → result ≢ Err Memory
   pub one : 0 < f.cache.reserved → HaveSlots 4 f.cache.pages → length f.cache.entries < f.room
       → KeepsPageSizes size f.cache → result ≢ Err Memory
   pub reserves : (n : ℕ) → HasReserves (n + 1) f.room f.cache → KeepsPageSizes size f.cache
       → (result ≢ Err Memory) × HasReserves n g.room g.cache
   pub takes : f.cache.reserved ≤ g.cache.reserved + 1
+  pub keeps_room : KeepsRoom f g
   pub full : IsFull f.cache → IsFull g.cache
   pub slots : KeepsPageSizes size f.cache → UseAtMost 4 f.cache.pages g.cache.pages
   pub already : KeepsPageSizes size f.cache → result ≡ Err Slots → IsShortOfSlots f.cache.pages

@@ -1,5 +1,5 @@
 -- What a call does with the simple allocator that a handle holds.
-use Rattle.std.specs.Prelude.{Option, Some, None}
+use Rattle.std.specs.Prelude.{◌≤◌, Option, Some, None}
 use Rattle.guillotiere.specs.Simple.{SimpleState, SimpleAtlasCall, SimpleAnswer, SimpleStep}
 use Rattle.guillotiere.specs.Simple.SimpleAtlasCall.{Start}
 use Rattle.guillotiere.specs.Stored.{AtlasValue, state_of}
@@ -26,3 +26,9 @@ abbrev pub UseOldEntries : (old new : Option SimpleValue) → Type 0
 UseOldEntries (Some old) (Some new) = UsesOldEntries old new
 UseOldEntries (Some old) None = ⊥
 UseOldEntries None new = ⊥
+
+-- The room for entries of the allocator that is held doesn't fall, and the handle holds it still.
+abbrev pub KeepRoom : (old new : Option SimpleValue) → Type 0
+KeepRoom (Some old) (Some new) = old.capacity ≤ new.capacity
+KeepRoom (Some old) None = ⊥
+KeepRoom None new = ⊥

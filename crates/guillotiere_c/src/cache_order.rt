@@ -93,7 +93,8 @@ pub extern "C" fn guillotiere_cache_older(
     write_keyed(found, older, place)
 }
 
-/// Takes memory for this many more keys; nothing else changes. An insertion also takes slots of pages and room for changes:
+/// Makes sure that there is memory for this many more keys; nothing else changes. A key that is added takes one of them; one
+/// that goes gives none back, but `guillotiere_cache_clear` does. An insertion also takes slots of pages and room for changes:
 /// for these there are the next two calls. `DONE`; `MEMORY`; `EMPTY`.
 #[unsafe(no_mangle)]
 pub extern "C" fn guillotiere_cache_reserve(
@@ -120,10 +121,10 @@ pub extern "C" fn guillotiere_cache_reserve(
 }
 
 /// Makes sure that this many slots are in reserve on each page. An insertion that neither adds a page nor grows one uses at
-/// most 4 of each page; a page that is added later has none in reserve, one that grows uses up to 3, and one that is repacked
-/// may have none. So once `guillotiere_cache_reserve(n)`, this with 4 times n and `guillotiere_cache_reserve_changes` for n and
-/// all keys that are held were `DONE`, and every page is there and at its largest, none of n insertions is refused with `SLOTS`
-/// or `MEMORY`.
+/// most 4 of each page; a page that is added later has none in reserve, one that grows uses up to 3, one that is repacked may
+/// have none, and one that goes takes its own along; removing, trimming and clearing take none. So once
+/// `guillotiere_cache_reserve(n)`, this with 4 times n and `guillotiere_cache_reserve_changes` for n and all keys that are
+/// held were `DONE`, and every page is there and at its largest, none of n insertions is refused with `SLOTS` or `MEMORY`.
 /// `DONE`; `SLOTS` if those of a page don't suffice; `MEMORY`; `EMPTY`. The pages before the one that was refused have theirs
 /// then, and it and those after it are as they were.
 #[unsafe(no_mangle)]

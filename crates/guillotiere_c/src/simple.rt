@@ -1,5 +1,5 @@
 //! The exports of a simple allocator.
-ghost use Rattle.std.specs.Prelude.{◌≡◌, ◌≢◌, ◌↔◌, ◌⊎◌, ◌<◌, Any, IsFalse, IsTrue, IsSome, IsNone, None, Ok};
+ghost use Rattle.std.specs.Prelude.{◌≡◌, ◌≢◌, ◌↔◌, ◌⊎◌, ◌<◌, ◌≤◌, Any, IsFalse, IsTrue, IsSome, IsNone, None, Ok};
 ghost use Rattle.std.specs.Prelude.{IfOk, IfSome, OnErr};
 ghost use Rattle.guillotiere.specs.Boxes.{box_sides, Fits, IsPositive};
 ghost use Rattle.guillotiere.specs.Choice.{AreValid, rounded};
@@ -10,7 +10,7 @@ ghost use Rattle.guillotiere.specs.Simple.SimpleAtlasCall.{Allocate, Clear, Grow
 ghost use Rattle.guillotiere.specs.SimpleStored.{kept_entries, used_entries, MayAskMemory, UsesEachEntry, UsesOldEntries};
 ghost use Rattle.guillotiere.specs.TheConstants.{DEFAULT_OPTIONS};
 ghost use Rattle.guillotiere_c.specs.Numbers.{allocator_options_in, options_in, corners_in, sides_in, size_in};
-ghost use Rattle.guillotiere_c.specs.SimpleCalls.{HoldsSimple, IsHeldSimpleStep, IsHeldStart, UseOldEntries};
+ghost use Rattle.guillotiere_c.specs.SimpleCalls.{HoldsSimple, IsHeldSimpleStep, IsHeldStart, KeepRoom, UseOldEntries};
 ghost use Rattle.guillotiere_c.specs.SimpleStatuses.{plain_answer, request_answer};
 ghost use Rattle.guillotiere.specs.SimpleStored.{simple_state_of};
 
@@ -124,6 +124,7 @@ fn request(simple: &mut SimpleAtlasAllocator, size: Size) -> Result<Option<Recta
     ensures none { result ≡ Ok None → simple.new ≡ simple.old }
     ensures refused { OnErr result (simple.new ≡ simple.old) }
     ensures entries { UsesOldEntries simple.old simple.new }
+    ensures capacity { simple.old.capacity ≤ simple.new.capacity }
     ensures memory { OnErr result (MayAskMemory simple.old (Allocate (sides_of size))) }
     ensures past { (2147483647 < (rounded (simple_state_of simple.old).options (sides_of size)).width)
         ⊎ (2147483647 < (rounded (simple_state_of simple.old).options (sides_of size)).height) → result ≡ Ok None }
@@ -148,6 +149,7 @@ pub extern "C" fn guillotiere_simple_allocate(
     ensures exact { result ≡ DONE → IsExact (corners_in granted.new) }
     ensures entries { result ≡ DONE → UseOldEntries simple.old.kept simple.new.kept }
     ensures memory { result ≡ MEMORY → IfSome simple.old.kept (λ v. MayAskMemory v (Allocate (sides_in width height))) }
+    ensures room { IsSome simple.old.kept → KeepRoom simple.old.kept simple.new.kept }
     ensures past { HoldsSimple simple.old.kept (λ s. (2147483647 < (rounded s.options (sides_in width height)).width)
         ⊎ (2147483647 < (rounded s.options (sides_in width height)).height)) → result ≡ NO_ROOM }
     ensures refused { result ≢ DONE → (simple.new.kept ≡ simple.old.kept) × (granted.new ≡ granted.old) }
@@ -184,6 +186,7 @@ pub extern "C" fn guillotiere_simple_grow(
         → (result ≡ DONE) × (simple.new.kept ≡ simple.old.kept) }
     ensures entries { result ≡ DONE → UseOldEntries simple.old.kept simple.new.kept }
     ensures memory { result ≡ MEMORY → IfSome simple.old.kept (λ v. MayAskMemory v (Grow (sides_in width height))) }
+    ensures room { IsSome simple.old.kept → KeepRoom simple.old.kept simple.new.kept }
     ensures refused { result ≢ DONE → simple.new.kept ≡ simple.old.kept }
     ensures empty { IsNone simple.old.kept → result ≡ EMPTY }
 {
@@ -219,13 +222,14 @@ pub extern "C" fn guillotiere_simple_can_grow_to(
     held.can_grow_to(size2(width, height))
 }
 
-/// Starts again with one free box of the allocator's size. Takes no memory. `DONE`; `EMPTY`.
+/// Starts again with one free box of the allocator's size. Keeps the room of the entries, and takes no memory. `DONE`; `EMPTY`.
 #[unsafe(no_mangle)]
 pub extern "C" fn guillotiere_simple_clear(alloc: Global, simple: &mut SimpleHandle) -> u32
     ensures step { IsSome simple.old.kept → IsHeldSimpleStep simple.old.kept Clear (plain_answer result)
         simple.new.kept }
     ensures kept { IsSome simple.old.kept → HoldsSimple simple.new.kept IsSimple }
     ensures entries { IfSome simple.new.kept UsesEachEntry }
+    ensures room { IsSome simple.old.kept → KeepRoom simple.old.kept simple.new.kept }
     ensures done { IsSome simple.old.kept → result ≡ DONE }
     ensures empty { IsNone simple.old.kept → (result ≡ EMPTY) × (simple.new.kept ≡ None) }
 {
@@ -238,7 +242,7 @@ pub extern "C" fn guillotiere_simple_clear(alloc: Global, simple: &mut SimpleHan
     status_of_done(answer)
 }
 
-/// Starts again at this size and with these options. Takes no memory.
+/// Starts again at this size and with these options. Keeps the room of the entries, and takes no memory.
 /// `DONE`; `BAD_CALL` if a side isn't above 0 or the options aren't valid; `EMPTY`.
 #[unsafe(no_mangle)]
 pub extern "C" fn guillotiere_simple_reset(
@@ -252,6 +256,7 @@ pub extern "C" fn guillotiere_simple_reset(
         (Reset (sides_in width height) (options_in options.now)) (plain_answer result) simple.new.kept }
     ensures kept { IsSome simple.old.kept → HoldsSimple simple.new.kept IsSimple }
     ensures entries { result ≡ DONE → IfSome simple.new.kept UsesEachEntry }
+    ensures room { IsSome simple.old.kept → KeepRoom simple.old.kept simple.new.kept }
     ensures unless { IsSome simple.old.kept → result ≢ DONE → result ≡ BAD_CALL }
     ensures refused { result ≢ DONE → simple.new.kept ≡ simple.old.kept }
     ensures empty { IsNone simple.old.kept → result ≡ EMPTY }

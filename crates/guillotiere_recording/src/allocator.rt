@@ -12,6 +12,7 @@ ghost use Rattle.guillotiere.specs.Choice.{AreValid};
 ghost use Rattle.guillotiere.specs.Pixels.{sides_of, size_of, options_of};
 ghost use Rattle.guillotiere.specs.Visits.{AreFreeAreas, CalledAtGrant};
 ghost use Rattle.guillotiere.specs.Walks.{IsCallableAlong, IsCallableAlongGrants, IsShownArea};
+ghost use Rattle.guillotiere.specs.Reserves.{UsesAtMost};
 ghost use Rattle.guillotiere.specs.States.{IsSound};
 ghost use Rattle.guillotiere.specs.Steps as atlas;
 ghost use Rattle.guillotiere.specs.Steps.{Step};
@@ -112,7 +113,8 @@ impl<A: Allocator + Copy> RecordingAllocator<A> {
 
     /// Grants a request as the atlas does, under a new name. `Names` for every request once all 4294967296 names were
     /// given out; None where the atlas gives None, which is recorded; `Memory` if memory for the event, for the name or for slots is
-    /// refused, even where the answer would otherwise be `Slots` or None; `Slots` where the atlas gives `Slots`.
+    /// refused, even where the answer would otherwise be `Slots` or None; `Slots` where the atlas gives `Slots`. At most 4
+    /// more slots are used, and what is in reserve beside them stays so.
     pub fn allocate(&mut self, requested_size: Size) -> Result<Option<Allocation>, RecordingError>
         ensures recorded { IfOk result (λ answer. self.new.recording
             ≡ with_event (Allocate requested_size answer) self.old.recording) }
@@ -121,6 +123,7 @@ impl<A: Allocator + Copy> RecordingAllocator<A> {
         ensures given { IfOk result (λ answer. IfSome answer (λ granted. granted.id ≡ self.old.given)) }
         ensures next { IfOk result (λ answer. IfSome answer (λ _. self.new.given ≡ self.old.given + 1)) }
         ensures none { result ≡ Ok None → self.new.given ≡ self.old.given }
+        ensures reserve { UsesAtMost 4 self.old.atlas self.new.atlas }
         ensures names { (result ≡ Err RecordingError.Names) ↔ (self.old.given ≡ 2 ^ 32) }
         ensures slots { result ≡ Err RecordingError.Slots
             → Step (state_of self.old.atlas) (atlas.Allocate (sides_of requested_size))
@@ -156,13 +159,15 @@ impl<A: Allocator + Copy> RecordingAllocator<A> {
         }
     }
 
-    /// Frees the box of a name. `NotLive` if the name isn't live; `Memory` only where memory for the event is refused.
+    /// Frees the box of a name. `NotLive` if the name isn't live; `Memory` only where memory for the event is refused. What
+    /// is in reserve stays so.
     pub fn deallocate(&mut self, id: AllocId) -> Result<(), RecordingError>
         ensures recorded { OnOk result (self.new.recording ≡ with_event (Deallocate id) self.old.recording) }
         ensures led { OnOk result (Leads (session_of self.old) (Deallocate id) (session_of self.new)) }
         ensures not_live { (result ≡ Err RecordingError.NotLive) ↔ (IsLiveName (session_of self.old) id → ⊥) }
         ensures only { IfErr result (λ e. (e ≡ RecordingError.NotLive) ⊎ (e ≡ RecordingError.Memory)) }
         ensures given { self.new.given ≡ self.old.given }
+        ensures reserve { UsesAtMost 0 self.old.atlas self.new.atlas }
         ensures refused { OnErr result (self.new ≡ self.old) }
     {
         let Some(found) = find(&self.names, id.serialize()) else {
@@ -176,7 +181,7 @@ impl<A: Allocator + Copy> RecordingAllocator<A> {
     }
 
     /// Makes the atlas larger, as its `grow` does. Requires that neither side shrinks. `Memory` if memory for the event or
-    /// for slots is refused; `Slots` as the atlas's.
+    /// for slots is refused; `Slots` as the atlas's. At most 3 more slots are used, and what is in reserve beside them stays so.
     pub fn grow(&mut self, new_size: Size) -> Result<(), RecordingError>
         requires { Fits (state_of self.old.atlas).size (sides_of new_size) }
         ensures recorded { OnOk result (self.new.recording ≡ with_event (Grow new_size) self.old.recording) }
@@ -186,6 +191,7 @@ impl<A: Allocator + Copy> RecordingAllocator<A> {
             (atlas.Refused AtlasError.Slots) (state_of self.old.atlas) }
         ensures only { IfErr result (λ e. (e ≡ RecordingError.Slots) ⊎ (e ≡ RecordingError.Memory)) }
         ensures given { self.new.given ≡ self.old.given }
+        ensures reserve { UsesAtMost 3 self.old.atlas self.new.atlas }
         ensures refused { OnErr result (self.new ≡ self.old) }
     {
         self.log.make_room()?;

@@ -43,6 +43,7 @@ pub fn deallocate_on<A: Allocator + Copy>(
     ensures fault { IfErr result (IsPageFault (λ e. e ≡ NotLive) (length pages.old) page) }
     ensures ok { (result ≡ Ok tt) ↔ IsSome (rectangle_on pages.old page id) }
     ensures leaves { LeavesNoBoxOn pages.old pages.new page id }
+    ensures slots { UsesAtMostOn 0 pages.old pages.new page }
     ensures refused { OnErr result (pages.new ≡ pages.old) }
     ensures length { length pages.new ≡ length pages.old }
 {

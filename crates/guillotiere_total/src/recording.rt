@@ -4,6 +4,7 @@ ghost use Rattle.guillotiere.specs.Boxes.{IsPositive};
 ghost use Rattle.guillotiere.specs.Callers.{IsShortage};
 ghost use Rattle.guillotiere.specs.Choice.{AreValid};
 ghost use Rattle.guillotiere.specs.Pixels.{options_of, sides_of};
+ghost use Rattle.guillotiere.specs.Reserves.{UsesAtMost};
 ghost use Rattle.guillotiere.specs.Steps as atlas;
 ghost use Rattle.guillotiere.specs.Steps.{Step};
 ghost use Rattle.guillotiere.specs.Stored.{state_of};
@@ -63,6 +64,7 @@ pub fn grow<A: Allocator + Copy>(
         → Step (state_of session.old.atlas) (atlas.Grow (sides_of new_size))
         (atlas.Refused AtlasError.Slots) (state_of session.old.atlas) }
     ensures given { session.new.given ≡ session.old.given }
+    ensures reserve { UsesAtMost 3 session.old.atlas session.new.atlas }
     ensures refused { OnErr result (session.new ≡ session.old) }
 {
     if !session.can_grow_to(new_size) {

@@ -1,5 +1,5 @@
 //! Calls of a simple allocator.
-ghost use Rattle.std.specs.Prelude.{◌≡◌, [], List, Ok, IfErr, IfOk, OnErr, OnOk};
+ghost use Rattle.std.specs.Prelude.{◌≡◌, ◌≤◌, [], List, Ok, IfErr, IfOk, OnErr, OnOk};
 ghost use Rattle.guillotiere.specs.TheConstants.{DEFAULT_OPTIONS};
 ghost use Rattle.guillotiere.specs.Boxes.{Box, IsPositive};
 ghost use Rattle.guillotiere.specs.Choice.{AreValid};
@@ -59,6 +59,7 @@ pub fn grow<A: Allocator + Copy>(
         → (result ≡ Ok tt) × (atlas.new ≡ atlas.old) }
     ensures refused { OnErr result (atlas.new ≡ atlas.old) }
     ensures entries { UsesOldEntries atlas.old atlas.new }
+    ensures capacity { atlas.old.capacity ≤ atlas.new.capacity }
     ensures memory { IfMade result (λ answer. OnErr answer (MayAskMemory atlas.old (Grow (sides_of new_size)))) }
     ensures guarded { (held : List Box) → IsGuarded (simple_state_of atlas.old) held
         → IsGuarded (simple_state_of atlas.new) held }
@@ -84,6 +85,7 @@ pub fn reset<A: Allocator + Copy>(
     ensures fault { IfErr result (IsOptionsFault (sides_of size) (options_of options.now)) }
     ensures refused { OnErr result (atlas.new ≡ atlas.old) }
     ensures entries { OnOk result (UsesEachEntry atlas.new) }
+    ensures capacity { atlas.old.capacity ≤ atlas.new.capacity }
     ensures guarded { OnOk result (IsGuarded (simple_state_of atlas.new) []) }
     ensures simple { IsSimple (simple_state_of atlas.new) }
 {

@@ -163,18 +163,22 @@ fn write_inserted(answer: Result<Inserted, CacheError>, place: &mut PlainPlace) 
 /// counts as a hit. A new key, which counts as no miss, goes onto the first page with room for its size with the padding.
 /// If none has room, a page grows: its smaller side (the width if they are equal) doubles, but no further than the largest
 /// page. If none can grow, one is added; and if no more are allowed, the least recently used key that lies on a page and
-/// that this frame didn't use is evicted; and so on. What was done is handed over by `guillotiere_cache_next_change`, also
+/// that this frame didn't use is evicted; and so on, up to 16 keys. If there still is no room then, only keys that lie in one
+/// box go: the first box that would come free and that the new key fits, if all that this frame didn't use went in that
+/// order. Where memory for looking it up is refused, a byte for each slot of the pages, they go on in that order. What was done
+/// is handed over by `guillotiere_cache_next_change`, also
 /// after `FRAME_FULL` and after an error: take all of it after each insertion, before the place or its number is noted. A
 /// key that was evicted and came back is reported as evicted all the same.
 /// `DONE`: the key is new, and its place was written: its pixels are to be written to the texture. `HELD`: it was held, and
-/// its place, where its pixels are, was written. `FRAME_FULL`: all pages allowed exist, at their largest, this frame uses all
-/// keys on them and no page has room: draw what is batched, call `guillotiere_cache_begin_frame` and insert again; while a
+/// its place, where its pixels are, was written. `FRAME_FULL`: all pages allowed exist, at their largest, and none would have
+/// room, were all keys gone that this frame didn't use, of which 16 went at most, or more where that memory was refused: draw
+/// what is batched, call `guillotiere_cache_begin_frame` and insert again; while a
 /// frame has used nothing this is never the answer. `NEVER_FITS` if the size, with the padding on all sides and rounded up to
 /// the alignment, exceeds the largest page, `OTHER_SIZE` if the key is held with another size, even if this one is empty or
 /// would never fit: then nothing changed. `NUMBERS` if 4294967295 keys are still held; `SLOTS` if the page that has room, or
 /// that would grow, can't use the slots that this takes, of 16777216; `MEMORY` if memory is refused. Either ends the call: another
 /// page that has room isn't tried, and no more keys are evicted for the new one. After `SLOTS` that is so in each later frame
-/// too, until keys of that page were removed or trimmed. `EMPTY`.
+/// too: `guillotiere_cache_remove`, `guillotiere_cache_trim` and `guillotiere_cache_clear` help. `EMPTY`.
 /// A key with an empty size (a side below 1) takes no room, and is never evicted to make room for another.
 /// Both rectangles of its place are 0, and so is its page, but it is on no page: nothing is to be written or drawn, no
 /// repacking reports it, and no page stays for it.
@@ -277,9 +281,10 @@ pub extern "C" fn guillotiere_cache_clear(cache: Option<&mut CacheHandle>) -> u3
     DONE
 }
 
-/// Evicts the keys that weren't used for at least this many frames, each reported by a change, the least recently used first:
-/// with 1, what this frame didn't use; with 0, all. `DONE`; `MEMORY`, and then all is as it was: never if
-/// `guillotiere_cache_reserve_changes` made room for as many changes as keys are held, and for one at least; `EMPTY`.
+/// Evicts the keys that weren't used for at least this many frames, each reported by a change, the least recently used first.
+/// A frame is a call of `guillotiere_cache_begin_frame`: with 1 all goes that wasn't used since the last one, with 0 all.
+/// `DONE`; `MEMORY`, and then all is as it was: never if `guillotiere_cache_reserve_changes` made room for as many changes as
+/// keys are held, and for one at least; `EMPTY`.
 #[no_mangle]
 pub extern "C" fn guillotiere_cache_trim(cache: Option<&mut CacheHandle>, frames: u64) -> u32 {
     let alloc = Global;
@@ -300,7 +305,8 @@ pub extern "C" fn guillotiere_cache_trim(cache: Option<&mut CacheHandle>, frames
 }
 
 /// Removes the pages after the last one with a key, each reported by a change, `GUILLOTIERE_PAGE_REMOVED`, the last one
-/// first. The others stay, with their sizes, and so do all keys; after `guillotiere_cache_clear` all pages go. `DONE`;
+/// first. The others stay, with their sizes, and so do all keys; after `guillotiere_cache_clear` all pages go. A page that goes
+/// takes its slots in reserve along, and one that is added later has none; keys in reserve stay. `DONE`;
 /// `MEMORY`, and then all is as it was: never if `guillotiere_cache_reserve_changes` made room for as many changes as there
 /// are pages, and for one at least; `EMPTY`.
 #[no_mangle]
@@ -326,8 +332,8 @@ pub extern "C" fn guillotiere_cache_shrink(cache: Option<&mut CacheHandle>) -> u
 /// together; pages are counted from 0. Each key of the page is reported by a change, the most recently used first:
 /// `GUILLOTIERE_MOVED`, also where it stays, or `GUILLOTIERE_EVICTED`, where it found no room. A place that a key moves to
 /// can overlap one that a later change moves from: take the changes that wait, then copy the page, then call this, and copy
-/// all pixels from that copy. `DONE`; `NO_PAGE`, `SLOTS` (only of a page with more than 4194303 keys) or `MEMORY`, and then all
-/// is as it was; `EMPTY`.
+/// all pixels from that copy. The page may have no slots in reserve then; keys in reserve stay. `DONE`; `NO_PAGE`, `SLOTS`
+/// (only of a page with more than 4194303 keys) or `MEMORY`, and then all is as it was; `EMPTY`.
 #[no_mangle]
 pub extern "C" fn guillotiere_cache_repack(cache: Option<&mut CacheHandle>, page: u32) -> u32 {
     let alloc = Global;

@@ -28,9 +28,8 @@ pub extern "C" fn guillotiere_cache_len(
     DONE
 }
 
-/// How many numbers keys have had since the cache was made or cleared: the number of each place is below this. The numbers of
-/// keys that are gone are given out again before new ones, that of the key that went last first (which no contract promises), so
-/// there are never more than there ever were keys at once, and what a caller keeps of each key fits an array. `DONE`; `EMPTY`.
+/// How many numbers keys have had since the cache was made or cleared: the number of each place is below this, and there are
+/// never more than there ever were keys at once. `DONE`; `EMPTY`.
 #[no_mangle]
 pub extern "C" fn guillotiere_cache_numbers(
     cache: Option<&CacheReader>,

@@ -31,7 +31,8 @@ pub struct PlainCacheOptions {
 /// Where a key lies: its number, which stays until the key is gone, and which no other key has meanwhile; its page, counted
 /// from 0; `rectangle`, which no other entry overlaps; and `inner` in it, which has the sides that were asked for; the
 /// padding lies to its left and above it. To its right and below it, `rectangle` has the padding as well, and more where an
-/// alignment rounds up.
+/// alignment rounds up. Numbers of keys that are gone are given out again before new ones, which of them isn't said: so what a
+/// caller keeps of each key fits an array of `guillotiere_cache_numbers` elements.
 ///
 /// The border of a new entry shows what lay there before. A linear filter reads it, so write all of `rectangle`: the pixels
 /// in `inner`, and cleared ones around it. With a padding of 1 draw at most half a pixel beyond `inner`.

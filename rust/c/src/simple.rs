@@ -178,7 +178,7 @@ pub extern "C" fn guillotiere_simple_can_grow_to(
     held.can_grow_to(size2(width, height))
 }
 
-/// Starts again with one free box of the allocator's size. Takes no memory. `DONE`; `EMPTY`.
+/// Starts again with one free box of the allocator's size. Keeps the room of the entries, and takes no memory. `DONE`; `EMPTY`.
 #[no_mangle]
 pub extern "C" fn guillotiere_simple_clear(simple: Option<&mut SimpleHandle>) -> u32 {
     let alloc = Global;
@@ -195,7 +195,7 @@ pub extern "C" fn guillotiere_simple_clear(simple: Option<&mut SimpleHandle>) ->
     status_of_done(answer)
 }
 
-/// Starts again at this size and with these options. Takes no memory.
+/// Starts again at this size and with these options. Keeps the room of the entries, and takes no memory.
 /// `DONE`; `BAD_CALL` if a side isn't above 0 or the options aren't valid; `EMPTY`.
 #[no_mangle]
 pub extern "C" fn guillotiere_simple_reset(

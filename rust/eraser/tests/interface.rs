@@ -132,6 +132,7 @@ fn what_is_written_of_exports() {
     let (files, texts) = interface.files(&root).expect("files");
     let file = |path: &str| &files[Path::new("..").join(path).as_path()];
     assert_eq!(file("bindings/c/guillotiere.h"), HEADER);
+    assert_eq!(file("c/guillotiere.h"), HEADER);
     assert_eq!(
         texts,
         "    0 => \"done\",\n    2 => \"an array is too short\",\n    _ => \"no status\",\n"

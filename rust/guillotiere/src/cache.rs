@@ -225,9 +225,12 @@ impl<K: Copy + Eq + Hash, S: BuildHasher> TextureCache<K, S> {
     /// A place for a key, which is used in this frame. A key that is held keeps its place, and is the most recently
     /// used from now on, which counts as a hit; asked for with another size, even one that is empty or too
     /// large, it is refused with `OtherSize`, and nothing changes. A new key, which counts as no miss, goes onto the first
-    /// page with room for its size, in pixels, with the padding. If none has room, a page grows: its smaller side (the width if they are equal)
-    /// doubles, but no further than the largest page. If none can grow, one is added; and if no more are allowed, the
-    /// least recently used entry that lies on a page and that this frame didn't use is evicted; and so on.
+    /// page with room for its size, in pixels, with the padding. If none has room, a page grows: its smaller side (the width if they are
+    /// equal) doubles, but no further than the largest page. If none can grow, one is added; and if no more are allowed, the
+    /// least recently used entry that lies on a page and that this frame didn't use is evicted; and so on, up to 16 entries. If there still
+    /// is no room then, only entries that lie in one box go: the first box that would come free and that the new key fits, if all that
+    /// this frame didn't use went in that order. Where memory for looking it up is refused, a byte for each slot of the pages, they go on
+    /// in that order.
     ///
     /// A new key with an empty size, of which a side is 0 or below, becomes a blank entry: `Placed` with a place that is empty.
     /// Its page is 0, but it is on no page: no `repack` reports it, and `shrink` leaves no page for it. It takes no room, so no
@@ -253,8 +256,8 @@ impl<K: Copy + Eq + Hash, S: BuildHasher> TextureCache<K, S> {
     ///
     /// # Errors
     ///
-    /// `OtherSize` if the key is held with another size; `Slots` if those of a page don't suffice; `Numbers` if 4,294,967,295 keys are held;
-    /// `Memory` if memory is refused.
+    /// `OtherSize` if the key is held with another size; `Slots` if those of a page don't suffice; `Numbers` if 4,294,967,295 keys are
+    /// held; `Memory` if memory is refused. A key that is held asks for none, nor does one for which all was taken before (`reserve`).
     #[inline]
     pub fn insert(&mut self, key: K, size: Size) -> Result<Inserted, CacheError> {
         let size = convert::library_size(size);
@@ -262,7 +265,7 @@ impl<K: Copy + Eq + Hash, S: BuildHasher> TextureCache<K, S> {
             .map(inserted_of)
     }
 
-    /// Removes a key, and gives the place that it had; None if it isn't held. No change reports it.
+    /// Removes a key, and gives the place that it had; None if it isn't held. No change reports it. Takes no memory.
     ///
     /// ```
     /// use guillotiere::cache::{CacheOptions, TextureCache};
@@ -318,18 +321,17 @@ impl<K: Copy + Eq + Hash, S: BuildHasher> TextureCache<K, S> {
             &mut library::Changes<K>,
         ) -> Result<T, library::CacheError>,
     ) -> Result<T, CacheError> {
-        self.waiting.begin()?;
-        let answer = call(&mut self.cache, &mut self.waiting.changes);
-        self.waiting.end();
-        Ok(answer?)
+        let cache = &mut self.cache;
+        Ok(self.waiting.added(|changes| call(cache, changes))?)
     }
 
-    /// Removes all keys; the pages stay. No change reports it, and the changes that weren't handed over stay.
+    /// Removes all keys; the pages stay. No change reports it, and the changes that weren't handed over stay. Takes no memory.
     pub fn clear(&mut self) {
         self.cache.clear()
     }
 
-    /// Evicts the keys that weren't used for at least this many frames, each reported by a change, the least recently used first.
+    /// Evicts the keys that weren't used for at least this many frames, each reported by a change, the least recently used first. A frame
+    /// is a call of `begin_frame`: with 1 all goes that wasn't used since the last one, with 0 all.
     ///
     /// ```
     /// use guillotiere::cache::{CacheChange, CacheOptions, TextureCache};
@@ -346,17 +348,20 @@ impl<K: Copy + Eq + Hash, S: BuildHasher> TextureCache<K, S> {
     ///
     /// # Errors
     ///
-    /// `Memory` if memory for the changes is refused: then nothing changed.
+    /// `Memory` if memory for the changes is refused: then nothing changed. None is asked for where `reserve_changes` made room for as many
+    /// as there are keys.
     pub fn trim(&mut self, frames: u64) -> Result<(), CacheError> {
         self.reporting(|cache, changes| cache.trim(frames, changes))
     }
 
     /// Removes the pages after the last one with a key, each reported by a change, the last one first; the others stay, with
-    /// their sizes, and so do all keys. After `clear` all pages go.
+    /// their sizes, and so do all keys. After `clear` all pages go. A page that goes takes its slots in reserve along, and one that is
+    /// added later has none; entries in reserve stay (`reserve`).
     ///
     /// # Errors
     ///
-    /// `Memory` if memory for the changes is refused: then nothing changed.
+    /// `Memory` if memory for the changes is refused: then nothing changed. None is asked for where `reserve_changes` made room for as many
+    /// as there are pages.
     pub fn shrink(&mut self) -> Result<(), CacheError> {
         self.reporting(|cache, changes| cache.shrink(changes))
     }
@@ -364,7 +369,8 @@ impl<K: Copy + Eq + Hash, S: BuildHasher> TextureCache<K, S> {
     /// Repacks the keys of a page, the largest first, and among equal areas the most recently used, so that what is free
     /// comes together. Returns whether there is such a page. Each of its keys is reported by a change, as moved, even if it stays,
     /// or as evicted, where it found no room. A place that a key moves to can overlap one that a later change moves from: follow the
-    /// changes that wait, copy the page, then call this, and copy all pixels from that copy.
+    /// changes that wait, copy the page, then call this, and copy all pixels from that copy. The page may have no slots in reserve then;
+    /// entries in reserve stay (`reserve`).
     ///
     /// ```
     /// use guillotiere::cache::{CacheChange, CacheOptions, TextureCache};
@@ -390,16 +396,55 @@ impl<K: Copy + Eq + Hash, S: BuildHasher> TextureCache<K, S> {
         self.reporting(|cache, changes| cache.repack(page, changes))
     }
 
-    /// Takes memory for this many more entries. An insertion still asks for memory for slots of a page and for changes.
+    /// Makes sure that there is memory for this many more entries. A key that is added takes one of them; one that goes gives none back,
+    /// but `clear` does. With the next two calls it makes insertions that ask for no memory: once the three were Ok as below, and every
+    /// page is there and at its largest, none of the next `n` insertions is refused with `Memory` or `Slots`, whatever they evict. `get`,
+    /// `remove`, `trim`, `clear` and `begin_frame` between them take nothing of that.
+    ///
+    /// ```
+    /// use guillotiere::cache::{CacheOptions, TextureCache};
+    /// use guillotiere::size2;
+    ///
+    /// let mut glyphs = TextureCache::new(&CacheOptions::new(size2(64, 64))).unwrap();
+    /// let _ = glyphs.insert('a', size2(10, 20))?; // now the one page is there
+    /// let n = 50;
+    /// glyphs.reserve(n)?;
+    /// glyphs.reserve_slots(4 * n as u32)?;
+    /// glyphs.reserve_changes(glyphs.len() + n)?;
+    /// # Ok::<(), guillotiere::cache::CacheError>(())
+    /// ```
     ///
     /// # Errors
     ///
-    /// `Memory` if memory is refused.
+    /// `Memory` if memory is refused: then nothing changed.
     pub fn reserve(&mut self, additional: usize) -> Result<(), CacheError> {
         Ok(self.cache.reserve(additional)?)
     }
 
-    /// How many numbers entries have had since the cache was made or cleared: each entry's number is below this.
+    /// Makes sure that this many slots are in reserve on each page: an insertion that neither adds a page nor grows one takes at most 4 of
+    /// each. A page that is added later has none in reserve, one that grows takes up to 3 of its own, and one that is repacked may have
+    /// none; `remove`, `trim` and `clear` take none.
+    ///
+    /// # Errors
+    ///
+    /// `Slots` if a page would use more than 16,777,216 with them, `Memory` if memory is refused. Then the pages before that one have
+    /// theirs in reserve, and it and those after it are as they were.
+    pub fn reserve_slots(&mut self, additional: u32) -> Result<(), CacheError> {
+        Ok(self.cache.reserve_slots(additional)?)
+    }
+
+    /// Makes sure that there is memory for this many changes beside those that weren't handed over. An insertion adds one for each key that
+    /// it evicts, a `trim` one for each key that goes.
+    ///
+    /// # Errors
+    ///
+    /// `Memory` if memory is refused: then nothing changed.
+    pub fn reserve_changes(&mut self, additional: usize) -> Result<(), CacheError> {
+        self.waiting.reserve(additional)
+    }
+
+    /// How many numbers entries have had since the cache was made or cleared: each entry's number is below this, and this is never more
+    /// than there were entries at once.
     #[must_use]
     pub fn numbers(&self) -> u32 {
         self.cache.numbers()

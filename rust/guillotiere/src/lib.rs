@@ -65,12 +65,13 @@
 //! | [`rearrange`](AtlasAllocator::rearrange), [`resize_and_rearrange`](AtlasAllocator::resize_and_rearrange) | sorting all live boxes, and a request for each |
 //! | [`clear`](AtlasAllocator::clear), [`reset`](AtlasAllocator::reset) | the lists that had free boxes, at most 2,704 |
 //! | `get`, `peek`, `contains_key` of a cache, `insert` of a key that is held | one look-up |
-//! | `insert` of a new key | a request to each page, until one has room, but for pages that refused a size no larger and haven't changed since; if none has room, an eviction and one more request, again and again |
+//! | `insert` of a new key | a request to each page, until one has room, but for pages that refused a size no larger, of the last two, and haven't changed since; if none has room, an eviction and one more request, up to 16 times, and then the keys that this frame didn't use, until without them a page would have room |
 //! | an eviction | a freeing; it passes each blank key that is older than the key that goes (see `insert`) once, and not again until it is used |
 //! | `remove`, `begin_frame` of a cache | one look-up, and a freeing; nothing |
 //! | `iter`, `keys` of a cache | the keys, by a step each, without a look-up |
 //! | `drain_changes` | the changes |
 //! | `trim` | the keys that go |
+//! | `reserve_slots`, `clear` of a cache | the pages; `clear` also by the keys |
 //! | `repack` | all keys, and the sorting of those on that page |
 //! | `unusable_area` | the slots of that page |
 //! | `sheet::pack`, `fill` and the others | a request for each sprite, times the ways and sheets that are tried, times `effort` |

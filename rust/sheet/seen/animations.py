@@ -13,7 +13,7 @@ import xml.etree.ElementTree
 sys.dont_write_bytecode = True
 import icons  # noqa: E402
 import readers  # noqa: E402
-from common import frames, main, run, test  # noqa: E402
+from common import ROOT, frames, main, run, test  # noqa: E402
 from PIL import Image  # noqa: E402
 
 
@@ -36,7 +36,7 @@ def listed(form, out):
         return [[told['filename'] for told in part['frames']] for part in readers.read_json(path)['textures']]
     if form == 'starling':
         return [[told.get('name') for told in xml.etree.ElementTree.parse(each).getroot()] for each in readers.numbered(path)]
-    if form == 'cocos':
+    if form in ('cocos', 'cocos3'):
         return [re.findall('<key>(.*\\.png)</key>', open(each).read()) for each in readers.numbered(path)
                 if plistlib.load(open(each, 'rb'))]
     with open(path) as file:
@@ -70,6 +70,20 @@ def in_order(room):
                 icons.compare(dict(zip(walk, shown)), {name: originals[name] for name in walk}, False)
             elif 'gdx' not in form:
                 icons.compare(readers.read(form, out), originals, False)
+
+
+def in_order_elsewhere(room):
+    """The same of the forms that have no reader here."""
+    folder = os.path.join(room, 'elsewhere')
+    walk = draw(folder, ['hero/walk_%d.png' % number for number in range(1, 13)])
+    draw(folder, ['tools/%s.png' % letter for letter in 'abcdefghijklm'], lambda number: (9 + number, 20 - number))
+    for form, pattern in (('unity', r'"name": "(hero/walk_\d+\.png)",\s+"rect"'), ('css', r'^\.elsewhere-css-hero-walk_(\d+)-png \{')):
+        out = os.path.join(room, 'elsewhere ' + form)
+        run(folder, out, '--form', form, '--size', '50', '50', '--pages', '99')
+        with open(out + ('.json' if form == 'unity' else '.css')) as file:
+            text = file.read()
+        found = re.findall(pattern, text, re.M)
+        assert (found if form == 'unity' else ['hero/walk_%s.png' % number for number in found]) == walk, (form, found, text[:3000])
 
 
 def together(room):
@@ -139,6 +153,31 @@ def by_names(room):
     run(folder, out, '--animations', 'a', '--no-animations', status=2)
 
 
+def as_on_the_page(room):
+    """What docs/PACK.md tells of names that are near an animation, row by row."""
+    with open(os.path.join(ROOT, 'docs', 'PACK.md'), encoding='utf-8') as file:
+        table = re.search(r'^\| files \| line \|\n\|---\|---\|\n((?:\|.*\n)+)', file.read(), re.M).group(1)
+    rows = [row.strip('| ').split(' | ') for row in table.splitlines()]
+    assert len(rows) >= 6, rows
+    for number, (files, told) in enumerate(rows):
+        for names in files.split('; '):
+            names = [name.strip('`') for name in names.split(', ')]
+            folder, out = os.path.join(room, 'row %d %s' % (number, names[0])), os.path.join(room, 'out row %d' % number)
+            draw(folder, names)
+            lines = [] if told.startswith('none') else ['guillotiere-sheet: ' + re.match('`(.*?)`', told).group(1)]
+            assert run(folder, out).stderr.splitlines() == lines, (names, lines)
+            assert 'animations' not in readers.read_json(out + '.json'), names
+    # Names that make one: what may stand before a number, one width of several numbers, and numbers without a name.
+    for number, (names, name) in enumerate(((['hero/walk/01.png', 'hero/walk/02.png'], 'hero/walk'), (['walk1.png', 'walk2.png'], 'walk'),
+                                            (['walk (1).png', 'walk (2).png'], 'walk'), (['a-0.png', 'a-1.png'], 'a'),
+                                            (['a.1.png', 'a.2.png'], 'a'), (['a 1.png', 'a 2.png'], 'a'),
+                                            (['w_%02d.png' % each for each in range(1, 12)], 'w'), (['1.png', '2.png'], 'whole'))):
+        folder, out = os.path.join(room, 'names of one %d' % number), os.path.join(room, 'out of one %d' % number, 'whole')
+        os.mkdir(os.path.dirname(out))
+        draw(folder, names)
+        assert run(folder, out).stderr == '' and readers.read_json(out + '.json')['animations'] == {name: names}, names
+
+
 def timed(room):
     """Frames a second and looping of single animations, where the form has a place for them."""
     folder = os.path.join(room, 'timed')
@@ -152,7 +191,7 @@ def timed(room):
     for form in [*readers.READERS, 'unity', 'css']:
         out = os.path.join(room, 'timed ' + form)
         told = run(folder, out, '--form', form, '--frame-rate', '7').stderr
-        is_lost = form in ('libgdx', 'libgdx-new', 'starling', 'cocos', 'css')
+        is_lost = form in ('libgdx', 'libgdx-new', 'starling', 'cocos', 'cocos3', 'css')
         assert told == ('guillotiere-sheet: this form has no place for what animations.txt tells\n' if is_lost else ''), (form, told)
         if form in ('json-hash', 'json-array'):
             data = readers.read_json(out + '.json')
@@ -177,7 +216,7 @@ def timed(room):
 
 
 def all_tests(room):
-    for each in (in_order, together, common_frames, by_names, timed):
+    for each in (in_order, in_order_elsewhere, together, common_frames, by_names, as_on_the_page, timed):
         test('animations: ' + each.__name__, each, room)
 
 

@@ -497,12 +497,17 @@ def on_the_page():
     start = page.split('## ')[1]
     check('on the page: it begins', start.startswith('Quick start') and start.count('\n    ') <= 14, start)
     lines = re.findall(r'^    guillotiere-sheet (icons game/icons .*?)(?: +#.*)?$', page, re.M)
-    check('on the page: lines', len(lines) >= 8, lines)
+    check('on the page: lines', len(lines) >= 9, lines)
+    options = ''.join(re.search(r'^`sheet\.toml` is .*\n\n((?:    .*\n)+)', page, re.M).group(1).split('    '))
     for line in lines:
+        if ' webp' in line and shutil.which('cwebp') is None:
+            SUITE.skip('on the page: ' + line, 'there is no cwebp')
+            continue
         with tempfile.TemporaryDirectory() as room:
             put(room + '/icons', {'%d/%d.png' % (number % 2, number): png(8 + number, 8, number) for number in range(9)})
             os.mkdir(room + '/game')
             os.symlink(os.path.join(ROOT, 'rust'), room + '/rust')
+            put(room, {'sheet.toml': options.encode()})
             words = line.split()
             done = ended([word for word in words if word != '--watch'], cwd=room)
             check('on the page: ' + line, done.returncode == (5 if '--check' in words else 0)

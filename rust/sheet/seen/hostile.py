@@ -135,10 +135,11 @@ def short_of_memory(room):
         assert os.listdir(room) == ['in'] or done.returncode == 0, os.listdir(room)
         statuses.add(done.returncode)
     assert statuses - {0}, statuses
-    # A great picture in a small file: one that no picture may be as great as, and one that could be read where there is memory.
+    # A great picture in a small file: one that no picture may be as great as, and one that could be read where there is memory. It is
+    # alone, since others that are read at once may be the first to have none.
     for side, line in ((30000, 'it is too large'), (15000, 'there is no memory for it')):
-        put(room + '/in', {'0.png': with_lines(zlib.compress(bytes((side + 7) // 8 + 1) * side), sides=(side, side), depth=1)})
-        done = run(room + '/in', room + '/sheet', '--greatest', '65536', '--memory', '16G', most=200 << 20)
+        put(room + '/great', {'0.png': with_lines(zlib.compress(bytes((side + 7) // 8 + 1) * side), sides=(side, side), depth=1)})
+        done = run(room + '/great', room + '/sheet', '--greatest', '65536', '--memory', '16G', most=200 << 20)
         assert done.returncode == 1 and any('0.png: ' + line in told for told in done.lines), (side, done.returncode, done.lines)
 
 

@@ -106,7 +106,8 @@ def sums():
     """The records name the sums of their pictures, so that a reader can tell a picture of another set. The old .atlas has no place for
     it."""
     for form, ending in (('json-hash', 'json'), ('json-array', 'json'), ('phaser', 'json'), ('libgdx-new', 'atlas'), ('godot', 'tres'),
-                         ('godot3', 'tres'), ('starling', 'xml'), ('css', 'css'), ('unity', 'json'), ('cocos', 'plist')):
+                         ('godot3', 'tres'), ('starling', 'xml'), ('css', 'css'), ('unity', 'json'), ('cocos', 'plist'),
+                         ('cocos3', 'plist')):
         with tempfile.TemporaryDirectory() as room:
             put(room + '/in', {'%s.png' % letter: png(30, 30, ord(letter)) for letter in 'abcde'})
             done = ended([room + '/in', room + '/sheet', '--form', form, '--size', '64', '64', '--pages', '9'])

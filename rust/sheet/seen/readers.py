@@ -251,6 +251,37 @@ def cocos(path):
     return found
 
 
+def cocos3(path):
+    """The same of format 3: where the rest lies in the picture is told by `spriteOffset` alone, the way of its middle from the picture's,
+    upwards."""
+    found = {}
+    for each in numbered(path):
+        with open(each, 'rb') as file:
+            data = plistlib.load(file)
+        sheet = opened(each, data['metadata']['textureFileName'])
+        assert data['metadata']['format'] == 3 and numbers(data['metadata']['size']) == list(sheet.size)
+        for name, told in data['frames'].items():
+            x, y = numbers(told['textureRect'])[:2]
+            (wide, high), size, offset = (numbers(told[key]) for key in ('spriteSize', 'spriteSourceSize', 'spriteOffset'))
+            assert told['aliases'] == [] and numbers(told['textureRect'])[2:] == [wide, high]
+            left, top = offset[0] - wide / 2 + size[0] / 2, size[1] / 2 - high / 2 - offset[1]
+            assert left == int(left) and top == int(top)
+            part = sheet.crop((x, y, x + (high if told['textureRotated'] else wide), y + (wide if told['textureRotated'] else high)))
+            part = part.transpose(Image.ROTATE_90) if told['textureRotated'] else part
+            found[name] = put(part, tuple(map(int, size)), (int(left), int(top)))
+    return found
+
+
+def cocos3_anchors(path):
+    """Of each frame that has one: in parts of the picture, from its lower left corner."""
+    found = {}
+    for each in numbered(path):
+        with open(each, 'rb') as file:
+            frames = plistlib.load(file)['frames']
+        found.update({name: tuple(numbers(told['anchor'])) for name, told in frames.items() if 'anchor' in told})
+    return found
+
+
 def numbers(text):
     """Those of {1,2} or {{1,2},{3,4}}."""
     return [float(number) for number in re.findall(r'-?[0-9.]+', text)]
@@ -269,7 +300,8 @@ def numbered(path):
 
 READERS = {'json-hash': (json_hash, '.json', True), 'json-array': (json_array, '.json', True), 'phaser': (phaser, '.json', False),
            'libgdx': (libgdx, '.atlas', False), 'libgdx-new': (libgdx, '.atlas', False), 'godot': (godot, '.tres', False),
-           'godot3': (godot, '.tres', False), 'starling': (starling, '.xml', True), 'cocos': (cocos, '.plist', True)}
+           'godot3': (godot, '.tres', False), 'starling': (starling, '.xml', True), 'cocos': (cocos, '.plist', True),
+           'cocos3': (cocos3, '.plist', True)}
 
 
 def read(form, out, suffix=''):

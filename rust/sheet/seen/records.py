@@ -20,7 +20,7 @@ import readers  # noqa: E402
 from common import frames, main, run, test  # noqa: E402
 from PIL import Image  # noqa: E402
 
-ANCHORED = ['json-hash', 'json-array', 'phaser', 'starling']
+ANCHORED = ['json-hash', 'json-array', 'phaser', 'starling', 'cocos3']
 
 
 def walking(room):
@@ -77,6 +77,10 @@ def played(form, out, originals, names):
         return
     icons.compare(readers.read(form, out), originals, False)
     if form == 'cocos':
+        return
+    if form == 'cocos3':
+        path = out + '.plist' if os.path.exists(out + '.plist') else out + '-0.plist'
+        assert readers.cocos3_anchors(path) == {name: (0.25, 2.5) if name == names[11] else (0.5, 0) for name in names}
         return
     if form == 'starling':
         path = out + '.xml' if os.path.exists(out + '.xml') else out + '-0.xml'
@@ -190,9 +194,11 @@ def templates(folder, room):
                 found[told['name']] = sheet.crop((x, sheet.height - y - high, x + wide, sheet.height - y))
         icons.compare(found, originals, False)
     by_hand = os.path.join(HERE, '..', 'templates')
-    assert sorted(os.listdir(by_hand)) == ['cocos.each.plist.tera', 'godot_texture.sprite.tres.tera', 'love.lua.tera', 'unity.json.tera']
+    assert sorted(os.listdir(by_hand)) == ['cocos.each.plist.tera', 'cocos3.each.plist.tera', 'godot_texture.sprite.tres.tera',
+                                           'love.lua.tera', 'unity.json.tera']
     out = os.path.join(room, 'own')
-    for name, form, ending in (('cocos.each.plist.tera', 'cocos', '-0.plist'), ('unity.json.tera', 'unity', '.json')):
+    for name, form, ending in (('cocos.each.plist.tera', 'cocos', '-0.plist'), ('cocos3.each.plist.tera', 'cocos3', '-0.plist'),
+                               ('unity.json.tera', 'unity', '.json')):
         texts = []
         for words in (['--form', form], ['--template', os.path.join(by_hand, name)]):
             run(folder, out, '--size', '256', '256', '--pages', '9', *words)
@@ -306,7 +312,7 @@ def nine_patches(room):
     for name in readers.READERS:
         out = os.path.join(room, 'nine ' + name)
         told = run(folder, out, '--form', name, '--trim', '--scale', '1,0.5').stderr
-        is_lost = name in ('godot', 'godot3', 'starling', 'cocos')
+        is_lost = name in ('godot', 'godot3', 'starling', 'cocos', 'cocos3')
         assert told == ('guillotiere-sheet: button.png: this form has no place for what a nine-patch tells\n' if is_lost else ''), told
         icons.compare(readers.read(name, out), wanted, True)
     assert readers.gdx_nines(os.path.join(room, 'nine libgdx-new.atlas')) == {'button.png': {'split': split, 'pad': pad}}

@@ -320,6 +320,58 @@ def kept(folder, out, rows):
             assert {name: picture.tobytes() for name, picture in readers.read(form, out).items()} == rows
 
 
+def as_webp(folder, originals, room):
+    """Sheets that are WebP have the same pixels as those that are PNG, colours of transparent ones too."""
+    if shutil.which('cwebp') is None:
+        print('skipped WebP: there is no cwebp')
+        return
+    for form in readers.READERS:
+        out, plain = os.path.join(room, 'webp ' + form), os.path.join(room, 'png ' + form)
+        more = ['--trim', '--size', '256', '256', '--pages', '9', '--form', form]
+        if form in ('libgdx', 'libgdx-new', 'starling'):
+            assert run(folder, out, '--image', 'webp', *more, status=2).stderr.endswith("its engine reads no WebP\n")
+            continue
+        for each in ([], ['--premultiply', '--compress'], ['--names', 'content']):
+            run(folder, out, '--image', 'webp', *more, *each)
+            run(folder, plain, *more, *each)
+            if '--premultiply' not in each:
+                icons.compare(readers.read(form, out), originals, True)
+        sheets = [sorted(name for name in os.listdir(room) if name.startswith(os.path.basename(start) + '-') and name.endswith(ending))
+                  for start, ending in ((out, '.webp'), (plain, '.png'))]
+        # Those of the last run, and those of the runs before.
+        assert len(sheets[0]) == len(sheets[1]) > 3, sheets
+        for number in range(len(sheets[0]) // 2):
+            pixels = []
+            for path in (out + '-%d.webp' % number, plain + '-%d.png' % number):
+                with Image.open(path) as sheet:
+                    pixels.append(sheet.convert('RGBA').tobytes())
+            assert pixels[0] == pixels[1], number
+    out = os.path.join(room, 'webp', 'sheet')
+    os.mkdir(os.path.dirname(out))
+    run(folder, out + '.png')
+    told = run(folder, out + '.webp', '--image', 'webp').stderr
+    assert told.endswith("/sheet.png: it is of an earlier run and isn't written any more; --clean removes it\n"), told
+    run(folder, out, '--image', 'webp', '--clean')
+    before = sorted(os.listdir(os.path.dirname(out)))
+    assert before == ['.sheet.json-hash.stamp', 'sheet.json', 'sheet.webp']
+    run(folder, out, '--image', 'webp', '--check')
+    assert 'up to 16383' in run(folder, out, '--image', 'webp', '--size', '16384', '300', status=1).stderr
+    assert '--manage-colours' in run(folder, out, '--image', 'webp', '--manage-colours', status=2).stderr
+    # A program that isn't there, that fails, that gives another picture, or none.
+    for script, line in ((None, 'there is no command cwebp'), ('echo no room >&2; exit 3', 'cwebp failed: exit status: 3 no room'),
+                         ("cat > /dev/null; cat '%s.webp'" % out, 'cwebp changed its pixels'),
+                         ('cat > /dev/null', 'cwebp wrote not a PNG, ')):
+        path = os.path.join(room, 'path %d' % len(line))
+        os.mkdir(path)
+        if script:
+            with open(os.path.join(path, 'cwebp'), 'w') as file:
+                file.write('#!/bin/sh\nPATH=/usr/bin:/bin\n%s\n' % script)
+            os.chmod(os.path.join(path, 'cwebp'), 0o755)
+        told = run(folder, out, '--image', 'webp', '--padding', '9', status=1, env=dict(os.environ, PATH=path)).stderr
+        assert told.startswith('guillotiere-sheet: sheet.webp: ' + line), told
+        assert sorted(os.listdir(os.path.dirname(out))) == before
+
+
 def screenshot(chromium, page, size, room, factor=1):
     shot = os.path.join(room, 'shot.png')
     with tempfile.TemporaryDirectory(ignore_cleanup_errors=True) as profile:
@@ -399,6 +451,7 @@ def all_tests(room):
     test('scaled', scaled, folder, originals, room)
     test('other kinds', others, room)
     test('colours', colours, room)
+    test('WebP', as_webp, folder, originals, room)
     for place in THEMES:
         if os.path.isdir(place):
             test(place, theme, place, room)

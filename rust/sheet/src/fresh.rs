@@ -23,6 +23,7 @@ pub fn asked(words: &Words, listed: &Listed) -> String {
         check: false,
         clean: false,
         depfile: None,
+        config: None,
         ..words.clone()
     };
     let all = format!(

@@ -2,6 +2,7 @@
 mod anchor;
 mod animation;
 mod colour;
+mod config;
 mod decode;
 mod dropped;
 mod fault;
@@ -32,6 +33,7 @@ mod stop;
 mod sums;
 mod watch;
 mod webp;
+mod webp_file;
 mod words;
 
 use animation::{animations, Animation};
@@ -47,7 +49,7 @@ use std::path::{Path, PathBuf};
 use std::process::ExitCode;
 use std::sync::Arc;
 use std::thread;
-use words::Words;
+use words::{Image, Words};
 
 /// What one run wrote and tells.
 pub struct Done {
@@ -68,6 +70,7 @@ impl Done {
     fn new(words: &Words, listed: &Listed) -> Done {
         let texts = fresh::texts(words).into_iter().filter(|path| path.exists());
         let pictures = listed.files.iter().map(|(_, path)| path.clone());
+        let texts = texts.chain(words.config.clone());
         Done {
             files: Vec::new(),
             lines: Vec::new(),
@@ -119,27 +122,22 @@ fn lines(built: &Built) -> Vec<String> {
     built.sheet.pages.iter().map(line).collect()
 }
 
-// The bytes of all pictures, each by a thread of its own, where there can be one.
-fn encoded(
-    built: &[Built],
-    chunks: &[colour::Chunk],
-    is_small: bool,
+// The bytes of pictures, each by a thread of its own, where there can be one.
+fn encoded_together(
+    pages: &[(&sheet::Page, &picture::Picture)],
+    make: impl Fn(&picture::Picture) -> Result<Vec<u8>, String> + Copy + Send,
+    shown: &Progress,
 ) -> Result<Vec<forms::File>, Fault> {
-    let count = built.iter().map(|one| one.pictures.len()).sum();
-    let shown = Progress::counted("encoding", count);
     thread::scope(|scope| {
         let mut running = Vec::new();
-        for (page, picture) in built
-            .iter()
-            .flat_map(|one| one.sheet.pages.iter().zip(&one.pictures))
-        {
-            let make = move || png_file::bytes(picture, chunks, is_small);
+        for (page, picture) in pages {
+            let make = move || make(picture);
             let thread = thread::Builder::new().spawn_scoped(scope, make);
             running.push((page.image.clone(), thread.map_err(|_| make)));
         }
         let mut files = Vec::new();
         for (name, one) in running {
-            let failed = |_| Err("it can't be written as a PNG".to_string());
+            let failed = |_| Err("its picture can't be written".to_string());
             let bytes = match one {
                 Ok(thread) => thread.join().unwrap_or_else(failed),
                 // No thread could be had for it.
@@ -151,6 +149,34 @@ fn encoded(
         }
         Ok(files)
     })
+}
+
+// The bytes of all pictures.
+fn encoded(
+    built: &[Built],
+    chunks: &[colour::Chunk],
+    words: &Words,
+) -> Result<Vec<forms::File>, Fault> {
+    let pages = built
+        .iter()
+        .flat_map(|one| one.sheet.pages.iter().zip(&one.pictures));
+    let pages: Vec<_> = pages.collect();
+    let shown = Progress::counted("encoding", pages.len());
+    let (image, is_small) = (words.image, words.compress);
+    let make = |picture: &picture::Picture| match image {
+        Image::Png => png_file::bytes(picture, chunks, is_small),
+        Image::Webp => webp_file::bytes(picture, is_small),
+    };
+    // Each WebP takes a program, and that several times the memory of its picture.
+    let together = match image {
+        Image::Png => pages.len(),
+        Image::Webp => thread::available_parallelism().map_or(1, usize::from),
+    };
+    let mut files = Vec::new();
+    for some in pages.chunks(together.max(1)) {
+        files.extend(encoded_together(some, make, &shown)?);
+    }
+    Ok(files)
 }
 
 // What is told of a run that has nothing to do.
@@ -185,7 +211,8 @@ fn up_to_date(words: &Words, target: &Target, is_alone: bool) -> Option<Done> {
 /// Reads the folder, packs, and writes, if anything has changed.
 pub fn run(words: &Words) -> Result<Done, Fault> {
     check_folders(words)?;
-    let target = Target::new(words.target(), words.stem(), &words.form_name());
+    let ending = words.image.ending();
+    let target = Target::new(words.target(), words.stem(), &words.form_name(), ending);
     let early = match words.check || !target.is_busy() {
         true => up_to_date(words, &target, false),
         false => None,
@@ -363,10 +390,10 @@ fn run_alone(words: &Words, target: &Target) -> Result<Done, Fault> {
         );
         all.push(built);
     }
-    let mut files = encoded(&all, &read.settled.chunks, words.compress)?;
+    let mut files = encoded(&all, &read.settled.chunks, words)?;
     let pages = all.iter_mut().flat_map(|one| &mut one.sheet.pages);
     for (page, (name, bytes)) in pages.zip(&mut files) {
-        page.take(bytes, words.names);
+        page.take(bytes, words.names, words.image);
         *name = page.image.clone();
     }
     done.lines.extend(all.iter().flat_map(lines));
@@ -431,7 +458,8 @@ fn main() -> ExitCode {
     };
     stop::listen();
     if words.watch {
-        return ExitCode::from(told(&watch::watch(&words)));
+        let again = || words::words(std::env::args_os());
+        return ExitCode::from(told(&watch::watch(words, again)));
     }
     ExitCode::from(told(&run(&words)))
 }

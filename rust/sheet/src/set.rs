@@ -26,15 +26,17 @@ pub struct Target {
     folder: PathBuf,
     stem: String,
     form: String,
+    ending: &'static str,
 }
 
 impl Target {
-    /// By the form of the records, since several forms can have the same OUT.
-    pub fn new(folder: PathBuf, stem: &str, form: &str) -> Target {
+    /// By the form of the records, since several forms can have the same OUT. `ending` is that of the pictures.
+    pub fn new(folder: PathBuf, stem: &str, form: &str, ending: &'static str) -> Target {
         Target {
             folder,
             stem: stem.to_string(),
             form: form.to_string(),
+            ending,
         }
     }
 
@@ -147,8 +149,9 @@ impl Target {
         Fault::file(&path, format!("it can't be written there: {}", error))
     }
 
+    // The picture of the sheet.
     fn sheet(&self) -> String {
-        format!("{}.png", self.stem)
+        format!("{}{}", self.stem, self.ending)
     }
 
     /// Does this only if no other run writes the same OUT just now.
@@ -398,7 +401,7 @@ impl Target {
 }
 
 pub fn is_picture(name: &str) -> bool {
-    name.ends_with(".png")
+    name.ends_with(".png") || name.ends_with(".webp")
 }
 
 fn remove(path: &Path) -> io::Result<()> {

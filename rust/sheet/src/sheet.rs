@@ -14,7 +14,7 @@ use crate::room::{check_memory, size, too_large};
 use crate::scale::Scale;
 use crate::search;
 use crate::sums;
-use crate::words::{Names, Words};
+use crate::words::{Image, Names, Words};
 use guillotiere::sheet::SheetError;
 use guillotiere::Size;
 use std::collections::{HashMap, HashSet};
@@ -71,10 +71,11 @@ impl Page {
     }
 
     /// Takes the bytes of the picture for its own, and by them its name, if that is asked for.
-    pub fn take(&mut self, bytes: &[u8], names: Names) {
+    pub fn take(&mut self, bytes: &[u8], names: Names, image: Image) {
         self.sum = sums::of(bytes);
         if names == Names::Content {
-            self.image = format!("{}.{}.png", self.record, sums::short(&self.sum));
+            let (sum, ending) = (sums::short(&self.sum), image.ending());
+            self.image = format!("{}.{}{}", self.record, sum, ending);
         }
     }
 }
@@ -377,7 +378,11 @@ fn record_name(words: &Words, scale: Scale, page: usize) -> String {
 // The sheets, still without sprites.
 fn empty_pages(laid: &Laid, scale: Scale, words: &Words) -> Vec<Page> {
     let page = |(number, size): (usize, &Size)| Page {
-        image: format!("{}.png", record_name(words, scale, number)),
+        image: format!(
+            "{}{}",
+            record_name(words, scale, number),
+            words.image.ending()
+        ),
         record: record_name(words, scale, number),
         sum: String::new(),
         width: size.width as u32,

@@ -5,7 +5,7 @@ use crate::fault::{Fault, FILES};
 use crate::folder::{self, Patterns};
 use crate::inputs::Input;
 use crate::words::Words;
-use crate::{run, told, Done};
+use crate::{run, tell_fault, told, Done};
 use notify::event::{AccessKind, AccessMode, EventKind};
 use notify::{Event, RecommendedWatcher, RecursiveMode, Watcher};
 use same_file::Handle;
@@ -109,14 +109,14 @@ fn seen(words: &Words) -> Seen {
     };
     paths.push(words.folder.join(anchor::FILE));
     paths.push(words.folder.join(animation::FILE));
-    paths.extend(words.template.clone());
+    paths.extend(words.template.iter().chain(&words.config).cloned());
     (paths.iter().map(|path| Input::look(path)).collect(), lines)
 }
 
 /// Writes the sheets, and anew after each change of what is read, until the program is ended. Files of earlier runs that aren't written
 /// any more are removed, and one that is taken away is written again. A fault is told, and the last sheets stay; where the folder is
-/// removed, they follow the next one of its name.
-pub fn watch(words: &Words) -> Result<Done, Fault> {
+/// removed, they follow the next one of its name. `again` gives the words anew, with those of a changed file.
+pub fn watch(mut words: Words, again: impl Fn() -> Result<Words, Fault>) -> Result<Done, Fault> {
     let mut watched = Watched::new(&words.folder);
     if watched.folder.is_none() {
         return Err(Fault::new(
@@ -126,31 +126,38 @@ pub fn watch(words: &Words) -> Result<Done, Fault> {
     }
     let mut earlier: Vec<PathBuf> = Vec::new();
     loop {
-        let before = seen(words);
-        let done = run(words);
+        let before = seen(&words);
+        match again() {
+            Ok(new) => words = Words { watch: true, ..new },
+            Err(fault) => {
+                tell_fault(&fault);
+            }
+        }
+        let done = run(&words);
         told(&done);
         if let Ok(done) = done {
             earlier = done.files;
         }
-        let there = held(&earlier, words);
+        let there = held(&earlier, &words);
         // There may be links to other folders than before.
         let next = Watched::new(&words.folder);
         if next.folder.is_some() {
             watched = next;
         }
-        // The template, and what a link leads to, may lie in another folder.
+        // The template, the file of options, and what a link leads to, may lie in another folder.
         let is_elsewhere = |one: &&Input| {
             let path = Path::new(&one.path);
-            Some(path) == words.template.as_deref() || path.is_symlink()
+            let own = [words.template.as_deref(), words.config.as_deref()];
+            own.contains(&Some(path)) || path.is_symlink()
         };
         let elsewhere: Vec<&Input> = before.0.iter().filter(is_elsewhere).collect();
-        let is_lost = || held(&earlier, words) != there;
+        let is_lost = || held(&earlier, &words) != there;
         let is_new = || {
             let is_other = |one: &&Input| Input::look(Path::new(&one.path)) != **one;
             elsewhere.iter().any(is_other) || is_lost()
         };
         // What changed while it ran was told, and what doesn't count changes nothing.
-        while seen(words) == before && !is_lost() {
+        while seen(&words) == before && !is_lost() {
             if !watched.wait(&words.folder, is_new) {
                 watched = Watched::new(&words.folder);
             }

@@ -1,5 +1,6 @@
 //! The words of the command line.
 use crate::anchor::Anchor;
+use crate::config;
 use crate::fault::{Fault, WORDS};
 use crate::forms::{self, Filter, Form, Style, Template, Wrap};
 use crate::man;
@@ -36,6 +37,24 @@ pub enum Names {
     Content,
 }
 
+/// The form of the sheets' pictures.
+#[derive(Clone, Copy, Debug, PartialEq, Eq, ValueEnum)]
+pub enum Image {
+    Png,
+    /// Without loss, by the program cwebp of libwebp
+    Webp,
+}
+
+impl Image {
+    /// How a file's name ends.
+    pub fn ending(self) -> &'static str {
+        match self {
+            Image::Png => ".png",
+            Image::Webp => ".webp",
+        }
+    }
+}
+
 /// Packs the pictures of a folder into sheets that engines load.
 #[derive(Parser, Clone, Debug)]
 #[command(name = "guillotiere-sheet", version, override_usage = USAGE, after_help = AFTER)]
@@ -45,6 +64,10 @@ pub struct Words {
     pub folder: PathBuf,
     /// OUT.png is the sheet, with the data file of --form next to it; with --pages the sheets are OUT-0.png, OUT-1.png ..
     pub out: PathBuf,
+    /// Takes options from FILE in TOML, whose keys are those of here without --, as `trim = true` and `size = [512, 512]`; an option of the
+    /// command line takes the place of the file's
+    #[arg(long, value_name = "FILE")]
+    pub config: Option<PathBuf>,
     /// What is written next to the pictures
     #[arg(long, value_enum, default_value_t = Form::JsonHash)]
     pub form: Form,
@@ -61,6 +84,9 @@ pub struct Words {
     /// How the pictures of the sheets are called
     #[arg(long, value_enum, default_value_t = Names::Fixed)]
     pub names: Names,
+    /// The form of the sheets' pictures; with webp OUT.webp is the sheet
+    #[arg(long, value_enum, default_value_t = Image::Png)]
+    pub image: Image,
     /// Leaves out the transparent borders of the pictures
     #[arg(long)]
     pub trim: bool,
@@ -297,7 +323,8 @@ impl Words {
         if self.template.is_some() {
             self.form = Form::Template;
         }
-        if let Some(name) = self.out.to_str().and_then(|out| out.strip_suffix(".png")) {
+        let ending = self.image.ending();
+        if let Some(name) = self.out.to_str().and_then(|out| out.strip_suffix(ending)) {
             self.out = PathBuf::from(name);
         }
         // A path's own parts pass over a `.` at its end.
@@ -323,7 +350,7 @@ impl Words {
         } else if self.turn && forms::no_turn(self.form).is_some() {
             forms::no_turn(self.form)
         } else {
-            self.fault_of_sides()
+            self.fault_of_image().or_else(|| self.fault_of_sides())
         };
         if let Some(line) = fault {
             return Err(Fault::new(WORDS, line));
@@ -335,6 +362,19 @@ impl Words {
             }
         }
         Ok(())
+    }
+
+    fn fault_of_image(&self) -> Option<&'static str> {
+        match self.image {
+            Image::Png => None,
+            Image::Webp if self.manage_colours => {
+                Some("--image webp can't be used with --manage-colours: a WebP has no place for what it tells")
+            }
+            Image::Webp if !forms::reads_webp(self.form) => {
+                Some("--image webp can't be used with this form: its engine reads no WebP")
+            }
+            Image::Webp => None,
+        }
     }
 
     fn has_filter(&self) -> bool {
@@ -379,11 +419,12 @@ pub fn words(given: impl IntoIterator<Item = std::ffi::OsString>) -> Result<Word
             };
             say(&error.to_string()).err().unwrap_or(told)
         }
-        ErrorKind::MissingRequiredArgument => {
+        ErrorKind::MissingRequiredArgument if !one_line(&error).contains(" --") => {
             Fault::new(WORDS, "FOLDER and OUT are required; see --help")
         }
         _ => Fault::new(WORDS, one_line(&error)),
     };
+    let given = config::with_file(given.into_iter().collect(), &Words::command(), one_line)?;
     let matches = Words::command()
         .try_get_matches_from(given)
         .map_err(refused)?;

@@ -1,4 +1,5 @@
-//! The module for JavaScript (web/): the exports for C, whose modules `build.rs` lists, and what only JavaScript has beside them.
+//! The module for JavaScript (web/): the exports for C, whose modules `build.rs` lists, and what only JavaScript has beside them. One of
+//! these, `copying`, stands within a module of the library.
 #![allow(dead_code, unused_imports, unused_labels, unused_variables)]
 
 #[cfg(not(feature = "only-cache"))]

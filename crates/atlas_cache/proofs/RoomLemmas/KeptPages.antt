@@ -15,12 +15,14 @@ use Rattle.guillotiere.specs.Choice.{rounded, Options}
 use Rattle.guillotiere.specs.Pages.{rectangle_on, AddsBoxOn, HasRoomFor, HasRoomOn, HasSameRectangles, KeepsPages, LeavesNoBoxOn, NoneHasRoomBelow}
 use Rattle.guillotiere.specs.Pixels.{box_of, options_of, sides_of, size_of}
 use Rattle.guillotiere.specs.Replies.{IsExact}
-use Rattle.guillotiere.specs.States.{IsSound, live_in, started, State}
+use Rattle.guillotiere.specs.Changes.{only}
+use Rattle.guillotiere.specs.States.{after_freeing, IsLive, IsSound, live_in, started, State}
 use Rattle.guillotiere.specs.Stored.{AtlasValue, state_of}
-use Rattle.guillotiere.proofs.Callers.{page_adds, page_keeps, page_leaves, page_stays}
+use Rattle.guillotiere.proofs.Callers.{page_adds, page_goes, page_is, page_keeps, page_leaves, page_lives, page_stays}
 use Rattle.guillotiere.proofs.ListLemmas.CallerLemmas.{slice_get-set_here, slice_get-set_other}
 use Rattle.atlas_cache.specs.declared.options.CacheOptions.{CacheOptions}
 use Rattle.atlas_cache.specs.Asking.{AreUsable}
+use Rattle.atlas_cache.specs.Placing.{FreesOn}
 use Rattle.atlas_cache.specs.Rooms.{ArePagesOf, HasRoomOnlyAmong, IsPageOf, IsRounded, KeepsRooms, page_sizes, rooms_of, size_of_page}
 
 -- A page of a cache that stays sound, keeps its options and grows no further than it may is one still.
@@ -80,7 +82,7 @@ page_at pages page size is = elim (slice_get_cases pages page).1 [
 
 -- One page of a list, a, becomes b.
 module _ (pages : List AtlasValue) (page : ℕ) (a b : AtlasValue) (is : a ≡ get_or pages page a) (within : page < length pages) where
-  has_a : slice_get pages page ≡ Some a
+  pub has_a : slice_get pages page ≡ Some a
   has_a = slice_get-get_or pages page a within ∙ ap Some (sym is)
 
   pub takes : (granted : Option Allocation) → IfSome granted (λ g. IsExact g.rectangle)
@@ -98,6 +100,20 @@ module _ (pages : List AtlasValue) (page : ℕ) (a b : AtlasValue) (is : a ≡ g
       → LeavesNoBoxOn pages (slice_set pages page b) page id
   gives_back id leaves =
       page_leaves pages page a b within id (subst (λ s. LeavesNoBox (state_of s) (state_of b) id) is leaves)
+
+  pub frees : (id : ℕ) → state_of b ≡ after_freeing (state_of a) (only id)
+      → FreesOn pages (slice_set pages page b) page id
+  frees id step =
+      page_goes pages page a b within (λ s t. state_of t ≡ after_freeing (state_of s) (only id))
+      (subst (λ s. state_of b ≡ after_freeing (state_of s) (only id)) is step)
+
+  pub id_lives : (id : ℕ) → IsSome (rectangle_on pages page id) → IsLive (state_of a) id
+  id_lives id shown =
+      subst (λ s. IsLive (state_of s) id) (sym is) ((page_lives pages page a b within id).1 shown)
+
+  -- What holds of the page that was read holds of the one with its number.
+  pub page_has : (P : AtlasValue → Type 0) → P a → (s : AtlasValue) → slice_get pages page ≡ Some s → P s
+  page_has P holds = page_is pages page a b within P (subst P is holds)
 
   pub rectangles_stay : live_in (state_of b) ≡ live_in (state_of a) → HasSameRectangles pages (slice_set pages page b)
   rectangles_stay live =

@@ -13,7 +13,7 @@ use Rattle.guillotiere.specs.declared.Size.{Size}
 use Rattle.guillotiere.specs.Boxes.{Fits, Sides}
 use Rattle.guillotiere.specs.Callers.{rectangle_in}
 use Rattle.guillotiere.specs.Choice.{rounded}
-use Rattle.guillotiere.specs.Pages.{HasSameRectangles, KeepsPages}
+use Rattle.guillotiere.specs.Pages.{HasSameRectangles, KeepsPages, NoneHasRoomBelow}
 use Rattle.guillotiere.specs.Pixels.{options_of, sides_of, size_of}
 use Rattle.guillotiere.specs.Replies.{allocate_reply, grant_of}
 use Rattle.guillotiere.specs.Reserves.{HasReserve, UsesAtMost}
@@ -26,9 +26,9 @@ use Rattle.guillotiere.proofs.ChoiceLemmas.RoundedSides.{rounded_positive}
 use Rattle.guillotiere.proofs.TreeLemmas.TreeCounts.{grow_most, place_most}
 use Rattle.guillotiere.proofs.ListLemmas.CallerLemmas.{slice_get-set_here, slice_get-set_other}
 use Rattle.atlas_cache.specs.declared.options.CacheOptions.{CacheOptions}
-use Rattle.atlas_cache.specs.Placing.{GrantsOn, GrowsOn, StartsOn}
+use Rattle.atlas_cache.specs.Placing.{GrantsOn, GrowsOn, IsFirstShort, IsGrowthShort, StartsOn}
 use Rattle.atlas_cache.specs.Reserving.{AllowSlots, HaveSlots, IsShortFor, IsShortOfSlots, UseAtMost}
-use Rattle.atlas_cache.specs.Rooms.{page_sizes, rooms_of, size_of_page, KeepsRooms}
+use Rattle.atlas_cache.specs.Rooms.{page_sizes, rooms_of, size_of_page, IsFirstToGrow, KeepsRooms}
 
 -- Where nothing changes, no slot is used.
 pub none_used : (n : ℕ) (pages : List AtlasValue) → UseAtMost n pages pages
@@ -122,6 +122,37 @@ module _ (pages : List AtlasValue) (page : ℕ) (a b : AtlasValue) (is : a ≡ g
   growth_short o kept n t step =
       let s = state_of a in
       (page, a, there, omega (arith, step.1, grow_most s.size n s.tree, (kept.each page a there).limit))
+
+  -- So the first page that has room for a request is short of slots, if that request is refused them.
+  pub first_short : (o : CacheOptions) → KeepsRooms (rooms_of o pages) → (asked : Size) (t : State)
+      → NoneHasRoomBelow asked pages page → Step (state_of a) (Allocate (sides_of asked)) (Refused Slots) t
+      → IsFirstShort asked pages
+  first_short o kept asked t none step =
+      let own = kept.each page a there in
+      let s = state_of a in
+      record {
+        page = page;
+        here = a;
+        is = there;
+        room = record { positive = step.1.positive; box = step.0; fitting = step.1.pick.best.candidate.fitting };
+        first = none;
+        most = omega (arith, request_needs s t (sides_of asked) own.sound step, own.limit);
+      }
+
+  -- And the first page that isn't at its largest, if its growth is.
+  pub first_growth_short : (o : CacheOptions) → KeepsRooms (rooms_of o pages) → (size : Size)
+      → IsFirstToGrow o (page_sizes pages) page size → (n : Sides) (t : State)
+      → Step (state_of a) (Grow n) (Refused Slots) t → IsGrowthShort o pages
+  first_growth_short o kept size first n t step =
+      let s = state_of a in
+      record {
+        page = page;
+        size = size;
+        first = first;
+        here = a;
+        is = there;
+        most = omega (arith, step.1, grow_most s.size n s.tree, (kept.each page a there).limit);
+      }
 
   -- What the page grants by a step of its own.
   pub page_grants : (asked : Size) (granted : Option Allocation)

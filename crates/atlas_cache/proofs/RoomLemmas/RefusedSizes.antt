@@ -12,15 +12,22 @@ use Rattle.guillotiere.specs.States.{free_in, State}
 use Rattle.guillotiere.specs.Stored.{AtlasValue, state_of}
 use Rattle.guillotiere.proofs.ChoiceLemmas.RoundedSides.{rounded_monotone}
 use Rattle.guillotiere.proofs.ListLemmas.CallerLemmas.{slice_get-set_here, slice_get-set_other}
-use Rattle.atlas_cache.specs.Rooms.{AreRefused}
+use Rattle.atlas_cache.specs.declared.rooms.asking.Refusals.{Refusals}
+use Rattle.atlas_cache.specs.Rooms.{AreRefused, IsRefused}
 use Rattle.atlas_cache.proofs.RoomLemmas.PageReserves.{as_long, was_there}
 
 -- A size with no pixel has room nowhere.
 abbrev pub no_size : Size
 no_size = record { width = pos 0; height = pos 0 }
 
-pub no_size_has_none : (s : AtlasValue) → HasRoomFor no_size s → ⊥
-no_size_has_none s room = let some = room.positive in omega (arith, some.0)
+abbrev pub nothing : Refusals
+nothing = record { first = no_size; second = no_size }
+
+pub nothing_has_none : (s : AtlasValue) → IsRefused nothing s
+nothing_has_none s = record { first = none; second = none }
+  where
+    none : HasRoomFor no_size s → ⊥
+    none room = let some = room.positive in omega (arith, some.0)
 
 -- A size has none where a smaller one has none.
 pub larger_has_none : (refused asked : Size) (s : AtlasValue) → IsPositive (sides_of refused)
@@ -38,8 +45,8 @@ larger_has_none refused asked s positive fits none room =
     })
 
 -- One page becomes another.
-pub refused_set : (pages : List AtlasValue) (refused : List Size) (page : ℕ) (b : AtlasValue) (size : Size)
-    → page < length pages → (HasRoomFor size b → ⊥) → AreRefused pages refused
+pub refused_set : (pages : List AtlasValue) (refused : List Refusals) (page : ℕ) (b : AtlasValue) (size : Refusals)
+    → page < length pages → IsRefused size b → AreRefused pages refused
     → AreRefused (slice_set pages page b) (slice_set refused page size)
 refused_set pages refused page b size within none was = record {
   as_many = length-set refused page size ∙ was.as_many ∙ sym (length-set pages page b);
@@ -49,37 +56,37 @@ refused_set pages refused page b size within none was = record {
         let at_r = rw (here.1, slice_get-set_here refused page size (omega (arith, within, was.as_many))) at r_is in
         let same : b ≡ s = cc in
         let own : size ≡ r = cc in
-        subst (λ t. HasRoomFor r t → ⊥) same (subst (λ z. HasRoomFor z b → ⊥) own none)
+        subst (λ t. IsRefused r t) same (subst (λ z. IsRefused z b) own none)
     | inr other ↦ was.none k s r (sym (slice_get-set_other pages page k b other.1) ∙ s_is)
         (sym (slice_get-set_other refused page k size other.1) ∙ r_is)
   ];
 }
 
 -- A page that changed has no size but the empty one.
-pub refused_changed : (pages : List AtlasValue) (refused : List Size) (page : ℕ) (b : AtlasValue) → page < length pages
-    → AreRefused pages refused → AreRefused (slice_set pages page b) (slice_set refused page no_size)
+pub refused_changed : (pages : List AtlasValue) (refused : List Refusals) (page : ℕ) (b : AtlasValue) → page < length pages
+    → AreRefused pages refused → AreRefused (slice_set pages page b) (slice_set refused page nothing)
 refused_changed pages refused page b within was =
-    refused_set pages refused page b no_size within (no_size_has_none b) was
+    refused_set pages refused page b nothing within (nothing_has_none b) was
 
 -- A page comes last.
-joined_none : (pages : List AtlasValue) (refused : List Size) (b : AtlasValue) → length refused ≡ length pages
-    → ((k : ℕ) (s : AtlasValue) (size : Size) → slice_get pages k ≡ Some s → slice_get refused k ≡ Some size
-    → HasRoomFor size s → ⊥)
-    → (k : ℕ) (s : AtlasValue) (size : Size) → slice_get (pages ++ b ∷ []) k ≡ Some s
-    → slice_get (refused ++ no_size ∷ []) k ≡ Some size → HasRoomFor size s → ⊥
+joined_none : (pages : List AtlasValue) (refused : List Refusals) (b : AtlasValue) → length refused ≡ length pages
+    → ((k : ℕ) (s : AtlasValue) (size : Refusals) → slice_get pages k ≡ Some s → slice_get refused k ≡ Some size
+    → IsRefused size s)
+    → (k : ℕ) (s : AtlasValue) (size : Refusals) → slice_get (pages ++ b ∷ []) k ≡ Some s
+    → slice_get (refused ++ nothing ∷ []) k ≡ Some size → IsRefused size s
 joined_none [] [] b long none zero s size s_is r_is =
-    let own : no_size ≡ size = cc in subst (λ z. HasRoomFor z s → ⊥) own (no_size_has_none s)
-joined_none [] [] b long none (suc k) s size s_is r_is = λ _. cc
-joined_none [] (r ∷ refused) b long none k s size s_is r_is = λ _. omega (arith, long)
-joined_none (p ∷ pages) [] b long none k s size s_is r_is = λ _. omega (arith, long)
+    let own : nothing ≡ size = cc in subst (λ z. IsRefused z s) own (nothing_has_none s)
+joined_none [] [] b long none (suc k) s size s_is r_is = absurd cc
+joined_none [] (r ∷ refused) b long none k s size s_is r_is = absurd (omega (arith, long))
+joined_none (p ∷ pages) [] b long none k s size s_is r_is = absurd (omega (arith, long))
 joined_none (p ∷ pages) (r ∷ refused) b long none zero s size s_is r_is = none zero s size s_is r_is
 joined_none (p ∷ pages) (r ∷ refused) b long none (suc k) s size s_is r_is =
     joined_none pages refused b (omega (arith, long)) (λ j t z. none (suc j) t z) k s size s_is r_is
 
-pub refused_joined : (pages : List AtlasValue) (refused : List Size) (b : AtlasValue) → AreRefused pages refused
-    → AreRefused (pages ++ b ∷ []) (refused ++ no_size ∷ [])
+pub refused_joined : (pages : List AtlasValue) (refused : List Refusals) (b : AtlasValue) → AreRefused pages refused
+    → AreRefused (pages ++ b ∷ []) (refused ++ nothing ∷ [])
 refused_joined pages refused b was = record {
-  as_many = omega (arith, was.as_many, length-append pages (b ∷ []), length-append refused (no_size ∷ []));
+  as_many = omega (arith, was.as_many, length-append pages (b ∷ []), length-append refused (nothing ∷ []));
   none = joined_none pages refused b was.as_many was.none;
 }
 
@@ -96,7 +103,7 @@ module _ {X : Type 0} where
   taken_length (suc n) (y ∷ xs) = omega (arith, taken_length n xs)
 
 -- The last pages go.
-pub refused_taken : (n : ℕ) (pages : List AtlasValue) (refused : List Size) → AreRefused pages refused
+pub refused_taken : (n : ℕ) (pages : List AtlasValue) (refused : List Refusals) → AreRefused pages refused
     → AreRefused (take n pages) (take n refused)
 refused_taken n pages refused was = record {
   as_many = omega (arith, was.as_many, taken_length n pages, taken_length n refused);
@@ -104,12 +111,17 @@ refused_taken n pages refused was = record {
 }
 
 -- Pages that represent what they did.
-pub refused_same : (old new : List AtlasValue) (refused : List Size) → map state_of new ≡ map state_of old
+pub refused_same : (old new : List AtlasValue) (refused : List Refusals) → map state_of new ≡ map state_of old
     → AreRefused old refused → AreRefused new refused
 refused_same old new refused same was = record {
   as_many = omega (arith, was.as_many, as_long old new same);
-  none = λ k s size s_is r_is room.
+  none = λ k s size s_is r_is.
       let had = was_there old new same k s s_is in
-      was.none k had.0 size had.1 r_is
-      (subst (λ (u : State). HasRoom (free_in u) u.options (sides_of size)) had.2 room);
+      let none = was.none k had.0 size had.1 r_is in
+      record {
+        first = λ room.
+            none.first (subst (λ (u : State). HasRoom (free_in u) u.options (sides_of size.first)) had.2 room);
+        second = λ room.
+            none.second (subst (λ (u : State). HasRoom (free_in u) u.options (sides_of size.second)) had.2 room);
+      };
 }

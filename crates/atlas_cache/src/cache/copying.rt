@@ -28,6 +28,7 @@ impl<K: Copy + Eq + Hash, S: BuildHasher + Clone, A: Allocator + Copy> TextureCa
             entries,
             frame: self.frame,
             counts: self.counts,
+            marks: Vec::new(*self.marks.allocator()),
         })
     }
 }

@@ -6,6 +6,7 @@ ghost use Rattle.atlas_cache.specs.Caches.{entries_of, entry_for, shown, HoldsEn
 ghost use Rattle.atlas_cache.specs.Changes.{GetsPlace};
 ghost use Rattle.atlas_entries.specs.Entries.{entry_at, is_blank, lying, number_of, without_number, IsNextNumber};
 ghost use Rattle.atlas_entries.specs.Limits.{IsWithoutNumber};
+ghost use Rattle.atlas_cache.specs.Placing.{FreesOn, IsFirstShort};
 ghost use Rattle.atlas_cache.specs.Refusals.{IsRefusedNew};
 ghost use Rattle.atlas_cache.specs.Reserving.{HaveSlots, IsShortOfSlots, UseAtMost};
 ghost use Rattle.atlas_cache.specs.Rooms.{page_sizes, HasRoomOnlyAmong, IsRounded};
@@ -130,6 +131,7 @@ pub fn grant<K: Copy + Eq + Hash, S: BuildHasher, A: Allocator + Copy>(
     ensures slots { UseAtMost 4 rooms.old.pages rooms.new.pages }
     ensures memory { 0 < entries.old.reserved → HaveSlots 4 rooms.old.pages → result ≢ Err Memory }
     ensures already { result ≡ Err Slots → IsShortOfSlots rooms.old.pages }
+    ensures lacks { result ≡ Err Slots → IsFirstShort asked rooms.new.pages }
 {
     let Some((page, granted)) = rooms.place_among(from, to, asked)? else {
         return Ok(None);
@@ -202,6 +204,7 @@ pub fn take_out<K: Copy + Eq + Hash, S: BuildHasher, A: Allocator + Copy>(
     ensures sizes { page_sizes rooms.new.pages ≡ page_sizes rooms.old.pages }
     ensures options { rooms.new.options ≡ rooms.old.options }
     ensures slots { UseAtMost 0 rooms.old.pages rooms.new.pages }
+    ensures step { FreesOn rooms.old.pages rooms.new.pages entry.page entry.id }
 {
     entries.remove(number);
     if entry.page < rooms.len() {

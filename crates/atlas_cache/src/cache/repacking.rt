@@ -155,7 +155,8 @@ impl<K: Copy + Eq + Hash, S: BuildHasher, A: Allocator + Copy> TextureCache<K, S
     /// `rectangle`, and among equal areas the most recently used; the page doesn't grow. Returns whether there is such a page; if
     /// not, nothing changes. Each entry of the page is added to the changes once, the most recently used first: as
     /// `Moved`, also where it stays in its place, or as `Evicted`, which is counted, where it found no room when its
-    /// turn came. Every other entry stays, and so do the order of use, the frame and the options.
+    /// turn came. Every other entry stays, and so do the order of use, the frame, the options and what entries are in reserve;
+    /// the page may have no slots in reserve then.
     ///
     /// A place that an entry moves to can overlap one that a later change moves from: copy all pixels from the page as
     /// it was before the call. `Slots` if the page has too few of them, which takes more than 4,194,303 entries on it, `Memory` if

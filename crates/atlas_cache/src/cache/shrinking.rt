@@ -13,7 +13,8 @@ use std::hash::{BuildHasher, Hash};
 impl<K: Copy + Eq + Hash, S: BuildHasher, A: Allocator + Copy> TextureCache<K, S, A> {
     /// Removes the pages after the last one with an entry, and adds each to the changes as `PageRemoved`, the last page
     /// first. The others stay, with their sizes, and so do all entries: a page that others follow stays, though it has
-    /// nothing on it. After `clear` all pages go. The list of changes is asked for room for as many as there are pages;
+    /// nothing on it. After `clear` all pages go. Entries in reserve stay; a page that goes takes its slots in reserve along,
+    /// and one that is added later has none. The list of changes is asked for room for as many as there are pages;
     /// with `Memory`, if that is refused, nothing changes.
     pub fn shrink(&mut self, changes: &mut Changes<K, A>) -> Result<(), CacheError>
         ensures shrinks { OnOk result (Shrinks changes.old.items changes.new.items self.old self.new) }

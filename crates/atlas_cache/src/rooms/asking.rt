@@ -10,15 +10,31 @@ ghost use Rattle.guillotiere.specs.States.{IsSound};
 ghost use Rattle.guillotiere.specs.Steps.{Step};
 ghost use Rattle.guillotiere.specs.Steps.AtlasCall.{Allocate};
 ghost use Rattle.guillotiere.specs.Steps.AtlasReply.{Allocated, Refused};
-ghost use Rattle.guillotiere.specs.Stored.{state_of};
+ghost use Rattle.guillotiere.specs.Stored.{state_of, AtlasValue};
+ghost use Rattle.atlas_cache.specs.Rooms.{IsRefused};
 
 use guillotiere::{Allocation, AtlasAllocator, AtlasError, Size};
 use std::alloc::Allocator;
 
-/// A size that no page has room for.
-pub const NO_SIZE: Size = Size {
+/// Two sizes that a page has no room for.
+#[derive(Clone, Copy)]
+pub struct Refusals {
+    /// What it refused last.
+    pub first: Size,
+    /// What it refused before that.
+    pub second: Size,
+}
+
+// A size that no page has room for.
+const NO_SIZE: Size = Size {
     width: 0,
     height: 0,
+};
+
+/// What is known of a page that refused nothing.
+pub const NOTHING: Refusals = Refusals {
+    first: NO_SIZE,
+    second: NO_SIZE,
 };
 
 // Whether a page with no room for one size, of which no side is below 1, has none for another either.
@@ -32,15 +48,31 @@ fn is_no_smaller(asked: Size, refused: Size) -> bool
         && refused.height <= asked.height
 }
 
-/// Asks a page, as `allocate` does. It isn't searched if it is known to have no room: it had none for the size in `refused`, which
-/// isn't larger. From then on `refused` is what it has no room for: this size, or `NO_SIZE` where it granted it.
+// One more size that a page has no room for. Where that is no larger than the first, it takes its place.
+fn with(refused: Refusals, asked: Size) -> Refusals
+    ensures { (page : AtlasValue) → IsRefused refused page → (HasRoomFor asked page → ⊥) → IsRefused result page }
+{
+    if is_no_smaller(refused.first, asked) {
+        return Refusals {
+            first: asked,
+            second: refused.second,
+        };
+    }
+    Refusals {
+        first: asked,
+        second: refused.first,
+    }
+}
+
+/// Asks a page, as `allocate` does. It isn't searched if it is known to have no room: it had none for a size in `refused`, which
+/// isn't larger. From then on `refused` is what it has no room for: this size and one of those before, or `NOTHING` where it granted it.
 pub fn ask<A: Allocator + Copy>(
     page: &mut AtlasAllocator<A>,
-    refused: &mut Size,
+    refused: &mut Refusals,
     asked: Size,
 ) -> Result<Option<Allocation>, AtlasError>
-    requires { HasRoomFor refused.old page.old → ⊥ }
-    ensures known { HasRoomFor refused.new page.new → ⊥ }
+    requires { IsRefused refused.old page.old }
+    ensures known { IsRefused refused.new page.new }
     ensures answer { IsAnswer (state_of page.old) asked result }
     ensures exact { IfOk result (λ granted. IfSome granted (λ allocation. IsExact allocation.rectangle)) }
     ensures adds { IfOk result (λ granted. IfSome granted (λ a.
@@ -57,14 +89,17 @@ pub fn ask<A: Allocator + Copy>(
     ensures memory { HasReserve 4 page.old → result ≢ Err AtlasError.Memory }
 {
     page.prove_sound();
-    if is_no_smaller(asked, *refused) {
+    if is_no_smaller(asked, refused.first) {
         return Ok(None);
     }
-    let answer = page.allocate(asked);
-    if matches!(answer, Ok(None)) {
-        *refused = asked;
-    } else {
-        *refused = NO_SIZE;
+    if is_no_smaller(asked, refused.second) {
+        return Ok(None);
     }
-    answer
+    let granted = page.allocate(asked);
+    if let Ok(None) = granted {
+        *refused = with(*refused, asked);
+        return Ok(None);
+    }
+    *refused = NOTHING;
+    granted
 }

@@ -16,7 +16,7 @@ ghost use Rattle.atlas_cache.specs.Repacking.{RepacksPage};
 ghost use Rattle.atlas_cache.specs.Rooms.{page_sizes, IsRefusal};
 ghost use Rattle.atlas_entries.specs.declared.error.CacheError.TheVariants.{Slots};
 
-use crate::rooms::asking::NO_SIZE;
+use crate::rooms::asking::NOTHING;
 use crate::rooms::usable::extent;
 use crate::rooms::{Rooms, refusal};
 use atlas_entries::error::CacheError;
@@ -135,7 +135,7 @@ impl<A: Allocator + Copy> Rooms<A> {
         let list = place_all(&mut placed, order)?;
         placed.prove_sound();
         self.pages[page] = placed;
-        self.refused[page] = NO_SIZE;
+        self.refused[page] = NOTHING;
         Ok(list)
     }
 

@@ -1,5 +1,5 @@
 //! Lists of calls of a simple allocator, and their replies.
-ghost use Rattle.std.specs.Prelude.{◌≡◌, ◌+◌, ◌<◌, All, take, drop, length, vec_capacity, vec_len};
+ghost use Rattle.std.specs.Prelude.{◌≡◌, ◌+◌, ◌<◌, ◌≤◌, All, take, drop, length, vec_capacity, vec_len};
 ghost use Rattle.std.specs.Prelude.{OnOk, OnErr, IsOkUnless};
 ghost use Rattle.atlas_model.specs.Pixels.{sides_of, options_of};
 ghost use Rattle.atlas_model.specs.Simple.{simple_done};
@@ -106,8 +106,8 @@ fn make<A: Allocator + Copy>(
 
 /// Makes calls of a simple allocator in turn, and appends a reply for each; `Start` takes over from `source`. Room for
 /// all replies is reserved first: `Memory` is the only error, if `replies` has less, and after it allocator and replies are
-/// as before. So the rectangles granted since the last start never overlap each other or what the source then held live
-/// (docs/MODEL.md, "The simple allocator").
+/// as before. The room of the list is never given back. So the rectangles granted since the last start never overlap each
+/// other or what the source then held live (docs/MODEL.md, "The simple allocator").
 pub fn run_simple<A: Allocator + Copy>(
     simple: &mut SimpleAtlasAllocator<A>,
     source: &AtlasAllocator<A>,
@@ -123,6 +123,7 @@ pub fn run_simple<A: Allocator + Copy>(
     ensures refused { OnErr result (simple.new ≡ simple.old) }
     ensures no_reply { OnErr result (replies.new.items ≡ replies.old.items) }
     ensures memory { OnErr result (vec_capacity replies.old < vec_len replies.old + length calls.now) }
+    ensures capacity { vec_capacity replies.old ≤ vec_capacity replies.new }
 {
     replies.reserve(calls.len())?;
     // Its contract says what each simple allocator keeps.

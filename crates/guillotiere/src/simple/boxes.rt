@@ -1,5 +1,5 @@
 //! The free boxes of the simple allocator, in the lists of a table.
-ghost use Rattle.std.specs.Prelude.{◌≡◌, ◌+◌, ◌<◌, ◌≤◌, ◌∷◌, IfOk, IsOkUnless, OnErr, OnOk, [], length, max, true};
+ghost use Rattle.std.specs.Prelude.{◌≡◌, ◌+◌, ◌<◌, ◌≤◌, ◌∷◌, IfOk, IsOkUnless, OnErr, OnOk, [], length, max, min, true};
 ghost use Rattle.std.specs.Prelude.{vec_capacity, vec_len};
 ghost use Rattle.guillotiere.specs.FreeBoxes.BoxCalls.{AreFiledBoxes, HasEntriesFor, HasTakenEntries};
 ghost use Rattle.guillotiere.specs.FreeBoxes.BoxCalls.{HasUnlisted, KeepsEntries};
@@ -116,17 +116,19 @@ impl<A: Allocator> FreeBoxes<A> {
         })
     }
 
-    /// A copy, in new memory of the same allocator, with room for one entry at least. The only error is `Memory`.
+    /// A copy, in new memory of the same allocator, with room for as many entries. The only error is `Memory`.
     pub fn copy(&self) -> Result<FreeBoxes<A>, AtlasError>
     where
         A: Copy,
         ensures unless { IsOkUnless result AtlasError.Memory }
         ensures same { IfOk result (λ it. box_shelf it ≡ box_shelf self.now) }
-        ensures room { IfOk result (λ it. 0 < vec_capacity it.entries) }
+        ensures capacity { IfOk result (λ it. vec_capacity it.entries ≡ vec_capacity self.now.entries) }
     {
-        let count = self.entries.len().max(1);
-        let mut entries = Vec::with_capacity(*self.entries.allocator(), count)?;
-        entries.extend_from_slice(&self.entries)?;
+        let room = self.entries.capacity();
+        let mut entries = Vec::with_capacity(*self.entries.allocator(), room)?;
+        for entry in &self.entries {
+            entries.push_reserved(*entry);
+        }
         let table = self.table.copy()?;
         Ok(FreeBoxes {
             entries,
@@ -187,7 +189,7 @@ impl<A: Allocator> FreeBoxes<A> {
     }
 
     /// Makes sure that n more entries can be used; nothing but the room changes. The only error is `Memory`, which comes only
-    /// where that takes more entries than there are.
+    /// where that takes more entries than there is room for.
     pub fn make_room(&mut self, n: u32) -> Result<(), AtlasError>
         requires few { n ≤ 2 }
         requires kept { (o : Options) × AreKept o (box_shelf self.old) }
@@ -195,6 +197,8 @@ impl<A: Allocator> FreeBoxes<A> {
         ensures same { box_shelf self.new ≡ box_shelf self.old }
         ensures room { OnOk result (HasEntriesFor n self.new) }
         ensures needed { OnErr result (vec_len self.old.entries < self.old.used + n) }
+        ensures lacks { OnErr result (min (vec_capacity self.old.entries) 4261412864 < self.old.used + n) }
+        ensures stays { OnErr result (vec_capacity self.new.entries ≡ vec_capacity self.old.entries) }
         ensures capacity { vec_capacity self.old.entries ≤ vec_capacity self.new.entries }
     {
         let all = self.used as usize + n as usize;

@@ -1,6 +1,6 @@
 //! A simple allocator that grows or begins anew.
 ghost use Rattle.std.specs.Prelude.{◌≡◌, ◌+◌, ◌<◌, ◌≤◌, ◌++◌, ◌∷◌, [], List, All, map, Ok, OnOk, OnErr, IsOkUnless};
-ghost use Rattle.std.specs.Prelude.{length, vec_capacity};
+ghost use Rattle.std.specs.Prelude.{length, min, vec_capacity};
 ghost use Rattle.atlas_model.specs.Boxes.{AreSameBoxes, Box, Fits, IsNonempty, IsPositive};
 ghost use Rattle.atlas_model.specs.Choice.{AreValid};
 ghost use Rattle.guillotiere.specs.FreeBoxes.BoxCalls.{AreFiledBoxes};
@@ -28,8 +28,8 @@ impl<A: Allocator + Copy> SimpleAtlasAllocator<A> {
 
     /// Makes the allocator larger: the new size is cut for the old one, and the split and the leftover are added, except that one
     /// that is narrower or lower than the alignment is dropped. Nothing is merged; at an equal size nothing changes. Requires
-    /// that neither side shrinks. The only error is `Memory`, if more entries would be used than there are and memory
-    /// for them is refused; then nothing changes.
+    /// that neither side shrinks. The only error is `Memory`, if more entries would be used than there is room for and memory
+    /// for them is refused; then nothing changes. Keeps the room of the entries.
     pub fn grow(&mut self, new_size: Size) -> Result<(), AtlasError>
         requires { Fits (simple_state_of self.old).size (sides_of new_size) }
         ensures unless { IsOkUnless result AtlasError.Memory }
@@ -40,6 +40,7 @@ impl<A: Allocator + Copy> SimpleAtlasAllocator<A> {
         ensures refused { OnErr result (self.new ≡ self.old) }
         ensures entries { UsesOldEntries self.old self.new }
         ensures memory { OnErr result (MayAskMemory self.old (Grow (sides_of new_size))) }
+        ensures capacity { self.old.capacity ≤ self.new.capacity }
 
         // Boxes that are held stay apart from each other and from the free boxes.
         ensures guarded { (held : List Box) → IsGuarded (simple_state_of self.old) held
@@ -60,6 +61,7 @@ impl<A: Allocator + Copy> SimpleAtlasAllocator<A> {
         ensures ok { result ≡ Ok tt }
         ensures step { SimpleStep (simple_state_of self.old) Clear (simple_done result) (simple_state_of self.new) }
         ensures entries { UsesEachEntry self.new }
+        ensures capacity { self.old.capacity ≤ self.new.capacity }
         ensures guarded { IsGuarded (simple_state_of self.new) [] }
         ensures simple { IsSimple (simple_state_of self.new) }
     {
@@ -76,6 +78,7 @@ impl<A: Allocator + Copy> SimpleAtlasAllocator<A> {
         ensures step { SimpleStep (simple_state_of self.old) (Reset (sides_of size) (options_of options.now))
             (simple_done result) (simple_state_of self.new) }
         ensures entries { UsesEachEntry self.new }
+        ensures capacity { self.old.capacity ≤ self.new.capacity }
         ensures guarded { IsGuarded (simple_state_of self.new) [] }
         ensures simple { IsSimple (simple_state_of self.new) }
     {
@@ -86,7 +89,8 @@ impl<A: Allocator + Copy> SimpleAtlasAllocator<A> {
     }
 
     /// Takes over an atlas's size, its options and each of its free rectangles, whatever their size. Live rectangles of
-    /// the atlas are never granted. The only error is `Memory`, and after it everything is as before.
+    /// the atlas are never granted. The room is that of new entries then. The only error is `Memory`, and after it everything is as
+    /// before.
     pub fn init_from_allocator(&mut self, source: &AtlasAllocator<A>) -> Result<(), AtlasError>
         ensures unless { IsOkUnless result AtlasError.Memory }
         ensures step { SimpleStep (simple_state_of self.old) (Start (state_of source.now)) (simple_done result)
@@ -122,8 +126,9 @@ fn add_rest<A: Allocator>(
         boxes.new) }
     ensures err { OnErr result (box_shelf boxes.new ≡ box_shelf boxes.old) }
     ensures entries { AddsWhatIsUsed (box_shelf boxes.old) (box_shelf boxes.new) }
-    ensures needed { OnErr result (length (box_shelf boxes.old).entries
+    ensures needed { OnErr result (min (vec_capacity boxes.old.entries) 4261412864
         < boxes.old.used + length (kept_beyond options.now size new_size)) }
+    ensures stays { OnErr result (vec_capacity boxes.new.entries ≡ vec_capacity boxes.old.entries) }
     ensures capacity { vec_capacity boxes.old.entries ≤ vec_capacity boxes.new.entries }
 {
     let rest = guillotine(Rectangle::from(new_size), size);

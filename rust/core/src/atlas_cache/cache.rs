@@ -8,11 +8,13 @@ pub mod holding;
 mod iter;
 mod repacking;
 mod shrinking;
+mod vacating;
 mod walking;
 
 use crate::atlas_cache::cache::holding::{
     grant, join_blank, look_up, oldest_lying, place_of, take_out,
 };
+use crate::atlas_cache::cache::vacating::Vacated;
 use crate::atlas_cache::changes::{CacheChange, Changes};
 use crate::atlas_cache::counts::{count, Counts, NO_COUNTS};
 use crate::atlas_cache::error::OptionsError;
@@ -26,6 +28,10 @@ use crate::guillotiere::Size;
 pub use iter::Iter;
 use wollemigo_support::alloc::{Allocator, Global};
 use wollemigo_support::hash::{BuildHasher, BuildHasherDefault, Hash};
+use wollemigo_support::prelude::Vec;
+
+// So many entries go in the order of use, where that alone makes no room, before those of one box do.
+const OLDEST_FIRST: u32 = 16;
 
 /// Rectangles under keys in the pages of a texture array. Contracts see a `CacheState`: how the cache was made, the
 /// atlas of each page, the entries (the most recently used first), how many numbers they have had, for how many more there
@@ -39,6 +45,8 @@ pub struct TextureCache<
     entries: Entries<K, S, A>,
     frame: u64,
     counts: Counts,
+    // For rehearsals: what is shown as freed, for each page a mark for each of its slots. They mean nothing between two calls.
+    marks: Vec<Vec<bool, A>, A>,
 }
 
 impl<K: Copy + Eq + Hash, A: Allocator + Copy> TextureCache<K, DefaultHasher, A> {
@@ -59,6 +67,7 @@ impl<K: Copy + Eq + Hash, S: BuildHasher, A: Allocator + Copy> TextureCache<K, S
             entries: Entries::with_hasher(alloc, hasher),
             frame: 0,
             counts: NO_COUNTS,
+            marks: Vec::new(alloc),
         })
     }
 }
@@ -136,11 +145,15 @@ impl<K: Copy + Eq + Hash, S: BuildHasher, A: Allocator + Copy> TextureCache<K, S
     /// used from now on, which counts as a hit; asked for with another size, be it empty or too large, it is
     /// refused with `OtherSize`, and nothing changes. A new key counts as no miss. It goes onto the first page with room for its size, in
     /// pixels, with the padding. If none has room, a page grows; if none can, one is added; and if no more are allowed,
-    /// the least recently used entry that lies on a page and that this frame didn't use is evicted; and so on. `FrameFull` if
-    /// then this frame uses each entry on a page and no page has room, which can't be while this frame has used nothing;
-    /// `NeverFits` if the size, with the padding and rounded up to the alignment, exceeds the largest page, and then
-    /// nothing changes. What was done is added to the changes, also after `FrameFull` and after an error: `Memory`,
-    /// `Slots` if those of a page don't suffice, or `Numbers` only where 4,294,967,295 entries are still held.
+    /// the least recently used entry that lies on a page and that this frame didn't use is evicted; and so on, up to 16 entries. If there
+    /// still is no room then, only entries that lie in one box go: the first box on a page that would come free and that the request fits,
+    /// if all that this frame didn't use went in that order. Where memory for its search is refused, a byte for each slot of the pages, they
+    /// go on in that order. `FrameFull` if no page has room, nor would one have it, were all entries gone that this frame didn't use, which
+    /// can't be while this frame has used nothing; `NeverFits` if the size, with the padding and rounded up to the alignment, exceeds the
+    /// largest page, and then nothing changes. What was done is added to the changes, whose room is never given back, also after
+    /// `FrameFull` and after an error: `Memory`, `Slots` if those of the first page that has room, or of the one that would grow, don't
+    /// suffice (no later frame helps then, but `remove`, `trim` and `clear` do), or `Numbers` only where 4,294,967,295 entries are still
+    /// held.
     ///
     /// A new key with an empty size, of which a side is 0 or below, becomes a blank entry: `Placed` with a place that is
     /// empty. It takes no room, so no page changes and nothing is evicted for it, nor is it ever evicted for another key.
@@ -154,9 +167,10 @@ impl<K: Copy + Eq + Hash, S: BuildHasher, A: Allocator + Copy> TextureCache<K, S
     /// between them take nothing of it.
     ///
     /// Takes one look-up by a hash. A new key that isn't blank also takes a few steps for each page, and a request of an atlas for each
-    /// page that isn't known to have no room: one that refused a size no larger in width and height, and hasn't changed since, is. An
-    /// eviction takes a freeing and another request of its page; it passes each blank key that was used before what it evicts once, and
-    /// not again until that key is used.
+    /// page that isn't known to have no room: one that refused a size no larger in width and height, of the last two, and hasn't changed
+    /// since, is. An eviction takes a freeing and another request of its page; it passes each blank key that was used before what it evicts
+    /// once, and not again until that key is used. The search for one box takes, until it is found, a step for each entry that this frame
+    /// didn't use, and what a freeing takes for each of them that lies there.
     #[inline]
     pub fn insert(
         &mut self,
@@ -216,10 +230,15 @@ impl<K: Copy + Eq + Hash, S: BuildHasher, A: Allocator + Copy> TextureCache<K, S
     ) -> Result<Inserted, CacheError> {
         let mut from = 0;
         let mut to = self.rooms.len() as usize;
+        let mut left = OLDEST_FIRST;
         loop {
             if let Some(place) = self.add(key, size, asked, from, to)? {
                 return Ok(Inserted::Placed(place));
             }
+            if let Some(answer) = self.insert_cleared(key, size, asked, left, changes)? {
+                return Ok(answer);
+            }
+            left = left.saturating_sub(1);
             let page = match self.make_room(asked, changes)? {
                 Some(page) => page,
                 _ => {
@@ -229,6 +248,37 @@ impl<K: Copy + Eq + Hash, S: BuildHasher, A: Allocator + Copy> TextureCache<K, S
             // The others have no room still.
             from = page as usize;
             to = from + 1;
+        }
+    }
+
+    // Inserts a key that has room on no page, by the eviction of what lies in one box; None where more may go in the order of use, where
+    // a page may still grow or be added, or where memory for the marks of a rehearsal is refused, and then nothing changes.
+    #[inline]
+    fn insert_cleared(
+        &mut self,
+        key: K,
+        size: Size,
+        asked: Size,
+        left: u32,
+        changes: &mut Changes<K, A>,
+    ) -> Result<Option<Inserted>, CacheError> {
+        if left > 0 {
+            return Ok(None);
+        }
+        if !self.rooms.are_full() {
+            return Ok(None);
+        }
+        match self.vacate(asked, changes)? {
+            Vacated::Unmarked => Ok(None),
+            Vacated::Crowded => Ok(Some(Inserted::FrameFull)),
+            Vacated::Room(page) => {
+                let from = page as usize;
+                match self.add(key, size, asked, from, from + 1)? {
+                    Some(place) => Ok(Some(Inserted::Placed(place))),
+                    // There is room on that page.
+                    None => Ok(Some(Inserted::FrameFull)),
+                }
+            }
         }
     }
 

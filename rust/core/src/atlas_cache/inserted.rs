@@ -10,8 +10,8 @@ pub enum Inserted {
     Placed(Place),
     /// The key was held, and this is its place still, with the pixels that were written there.
     Held(Place),
-    /// All pages allowed exist, at their largest, this frame used each entry on them, and no page has room: draw what this
-    /// frame has, begin a new one, and insert again.
+    /// All pages allowed exist, at their largest, and none would have room, were all entries gone that this frame didn't use: draw what
+    /// this frame has, begin a new one, and insert again.
     FrameFull,
     /// The size, with the padding on all sides and rounded up to the alignment, exceeds the largest page.
     NeverFits,

@@ -13,9 +13,9 @@ pub const NO_PIXELS: Rectangle = Rectangle {
 /// are empty.
 #[derive(Clone, Copy, Debug, PartialEq, Eq)]
 pub struct Place {
-    /// The number of the entry. It stays until the entry is gone, and no other entry has it meanwhile; the numbers of
-    /// entries that are gone are given out again before new ones are, so that what a caller keeps of each entry fits a
-    /// list.
+    /// The number of the entry. It stays until the entry is gone, and no other entry has it meanwhile. Numbers of entries that
+    /// are gone are given out again before new ones, which of them isn't said: so what a caller keeps of each entry fits a list
+    /// of `numbers` elements.
     pub number: u32,
     /// The page, counted from 0; of a blank entry 0, also where there is no page yet.
     pub page: u32,

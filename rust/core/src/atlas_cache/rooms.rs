@@ -3,12 +3,13 @@
 
 mod asking;
 mod copying;
+mod rehearsing;
 mod repacking;
 mod reserving;
 mod usable;
 
 use crate::atlas_cache::options::CacheOptions;
-use crate::atlas_cache::rooms::asking::{ask, NO_SIZE};
+use crate::atlas_cache::rooms::asking::{ask, Refusals, NOTHING};
 use crate::atlas_entries::error::CacheError;
 use wollemigo_support::prelude::Vec;
 
@@ -18,8 +19,8 @@ use wollemigo_support::alloc::{Allocator, Global};
 /// The atlases of the pages of a cache. Contracts see a `RoomsState`: the options, and what each atlas stores.
 pub struct Rooms<A: Allocator + Copy = Global> {
     pages: Vec<AtlasAllocator<A>, A>,
-    // For each page a size that it has no room for: the one that it refused last, or `NO_SIZE` if it changed since.
-    refused: Vec<Size, A>,
+    // For each page two sizes that it has no room for: those that it refused last, as long as it doesn't change.
+    refused: Vec<Refusals, A>,
     options: CacheOptions,
 }
 
@@ -125,6 +126,13 @@ impl<A: Allocator + Copy> Rooms<A> {
         self.pages[page as usize].size()
     }
 
+    /// Whether there are as many pages as the options allow, each at its largest.
+    #[inline]
+    pub(crate) fn are_full(&self) -> bool {
+        self.len() == self.options.pages
+            && first_to_grow(&self.pages, self.options.largest_page).is_none()
+    }
+
     /// Grants a request on the first page that has room for it: the page, and what it granted, which has the sides that
     /// were asked for, rounded up to the alignment. None if no page has room. No page grows and no other rectangle
     /// moves. `Slots` if that page has too few of them, `Memory` if memory is refused. Unless something is granted,
@@ -159,7 +167,7 @@ impl<A: Allocator + Copy> Rooms<A> {
     #[inline]
     pub fn free(&mut self, page: u32, id: AllocId) {
         let _freed = self.pages[page as usize].deallocate(id);
-        self.refused[page as usize] = NO_SIZE;
+        self.refused[page as usize] = NOTHING;
     }
 
     /// The first page that isn't at its largest grows: the page, and its size from now on, in pixels. Its smaller side,
@@ -178,7 +186,7 @@ impl<A: Allocator + Copy> Rooms<A> {
         if let Err(error) = self.pages[page].grow(size) {
             return Err(refusal(error));
         }
-        self.refused[page] = NO_SIZE;
+        self.refused[page] = NOTHING;
         Ok(Some((number(page, self.options.pages), size)))
     }
 
@@ -195,7 +203,7 @@ impl<A: Allocator + Copy> Rooms<A> {
         match AtlasAllocator::with_options(alloc, self.options.page, &self.options.atlas) {
             Ok(page) => {
                 self.pages.push(page)?;
-                self.refused.push_reserved(NO_SIZE);
+                self.refused.push_reserved(NOTHING);
                 Ok(Some((number, self.options.page)))
             }
             Err(_) => Err(CacheError::Memory),
@@ -223,7 +231,7 @@ impl<A: Allocator + Copy> Rooms<A> {
     pub fn clear(&mut self) {
         for page in 0..self.pages.len() {
             let _cleared = self.pages[page].clear();
-            self.refused[page] = NO_SIZE;
+            self.refused[page] = NOTHING;
         }
     }
 }

@@ -10,7 +10,8 @@ pub enum CacheError {
     Memory,
     /// All 4,294,967,295 numbers of entries are in use.
     Numbers,
-    /// The slots of a page's atlas don't suffice.
+    /// The slots of a page's atlas don't suffice. No entry is evicted for it, in no later frame either, and another page with
+    /// room isn't tried: `remove`, `trim` and `clear` help.
     Slots,
     /// The key is held with another size.
     OtherSize,

@@ -17,7 +17,7 @@ pub fn allocate_on<A: Allocator + Copy>(
 }
 
 /// Frees the box of an id of a page, as `deallocate` does. Requires that there is such a page. `NotLive` if the id isn't
-/// live there, and then nothing changes. The other pages stay as they are.
+/// live there, and then nothing changes. What the page has in reserve it keeps. The other pages stay as they are.
 #[inline]
 pub fn deallocate_on<A: Allocator + Copy>(
     pages: &mut [AtlasAllocator<A>],

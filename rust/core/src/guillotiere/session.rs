@@ -106,7 +106,8 @@ fn resize<A: Allocator + Copy>(atlas: &mut AtlasAllocator<A>, size: Size) -> Rep
 }
 
 /// Makes a call of an atlas. Where the condition of the call doesn't hold it answers `BadCall`. Unless the reply says
-/// that something was done, nothing changes.
+/// that something was done, nothing changes. Slots in reserve serve it as they serve the call itself: a request uses at most 4
+/// more, a growth 3, a freeing or a start none, and no memory is given back but by a rearrangement.
 #[inline]
 pub fn step<A: Allocator + Copy>(atlas: &mut AtlasAllocator<A>, call: &Call) -> Reply<A> {
     match call {
@@ -121,9 +122,9 @@ pub fn step<A: Allocator + Copy>(atlas: &mut AtlasAllocator<A>, call: &Call) -> 
 }
 
 /// Makes calls of an atlas in turn, and appends a reply for each. Room for all replies is reserved first: `Memory` is the
-/// only error, it comes only where `replies` has less room, and after it atlas and replies are as before. Each call is
-/// answered as by `step`, from what the one before it left. So after any list of calls the boxes tile the atlas as
-/// leaves of one normal tree of cuts, and each reply is owed.
+/// only error, it comes only where `replies` has less room, and after it atlas and replies are as before. The room of the list is
+/// never given back. Each call is answered as by `step`, from what the one before it left. So after any list of calls the boxes
+/// tile the atlas as leaves of one normal tree of cuts, and each reply is owed.
 #[inline]
 pub fn run<A: Allocator + Copy>(
     atlas: &mut AtlasAllocator<A>,

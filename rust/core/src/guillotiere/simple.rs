@@ -18,12 +18,12 @@ use wollemigo_support::alloc::{Allocator, Global};
 /// A simpler allocator, which hands out boxes and never takes one back: its free boxes make up no tree, and a part that
 /// is narrower or lower than the alignment is lost.
 ///
-/// It keeps the memory allocator that it was made with. Contracts see what it stores; `simple_state_of` reads its free boxes,
-/// its size and its options there.
+/// It keeps the memory allocator that it was made with. Contracts see what it stores, and for how many entries it has memory;
+/// `simple_state_of` reads its free boxes, its size and its options there.
 ///
 /// The table of its lists of free boxes takes 10,816 bytes on the heap, and each entry for a free box 28 more. Entries
-/// that aren't used any more are used first by later calls. There are at most 4,261,412,864 entries: where more would
-/// be used, `Memory` is the answer.
+/// that aren't used any more are used first by later calls, and the room for entries is kept until a start from an atlas. There are at
+/// most 4,261,412,864 entries: where more would be used, `Memory` is the answer.
 pub struct SimpleAtlasAllocator<A: Allocator + Copy = Global> {
     boxes: FreeBoxes<A>,
     size: Size,
@@ -56,8 +56,8 @@ impl<A: Allocator + Copy> SimpleAtlasAllocator<A> {
         })
     }
 
-    /// A copy: the whole stored value is equal, entries and lists included, and so are its answers to later calls, except
-    /// where memory is refused. `Memory` is the only error.
+    /// A copy: the whole stored value is equal, entries and lists included, with as much room for entries, and so are its answers to
+    /// later calls, except where memory is refused. `Memory` is the only error.
     #[inline]
     pub fn clone(&self) -> Result<Self, AtlasError> {
         let boxes = self.boxes.copy()?;
@@ -70,8 +70,8 @@ impl<A: Allocator + Copy> SimpleAtlasAllocator<A> {
 
     /// Grants a request: the box of the rounded size at the `min` of the free box that is picked. None if the size is
     /// empty, if a rounded side passes 2147483647, or if the rounded size fits no free box; then no memory is asked
-    /// for. The only error is `Memory`, if more entries would be used than there are and memory for them is refused.
-    /// Unless something is granted, nothing changes.
+    /// for. The only error is `Memory`, if more entries would be used than there is room for and memory for them is refused.
+    /// Unless something is granted, nothing changes. Keeps the room of the entries.
     #[inline]
     pub fn allocate(&mut self, requested_size: Size) -> Result<Option<Rectangle>, AtlasError> {
         grant(&mut self.boxes, requested_size, &self.options)
@@ -106,7 +106,8 @@ impl<A: Allocator + Copy> SimpleAtlasAllocator<A> {
         is_listed(&self.boxes.entries, &Rectangle::from(self.size))
     }
 
-    /// How many entries are used, one for each free box, how many there are, and how many there may be: 4,261,412,864.
+    /// How many entries are used, one for each free box, how many there are, and how many there may be: 4,261,412,864. There is
+    /// room for the second number at least.
     #[inline]
     #[must_use]
     pub fn slots(&self) -> SlotCount {

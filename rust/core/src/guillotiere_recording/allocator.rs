@@ -64,7 +64,8 @@ impl<A: Allocator + Copy> RecordingAllocator<A> {
 
     /// Grants a request as the atlas does, under a new name. `Names` for every request once all `1 << 32` names were
     /// given out; None where the atlas gives None, which is recorded; `Memory` if memory for the event, for the name or for slots is
-    /// refused, even where the answer would otherwise be `Slots` or None; `Slots` where the atlas gives `Slots`.
+    /// refused, even where the answer would otherwise be `Slots` or None; `Slots` where the atlas gives `Slots`. At most 4
+    /// more slots are used, and what is in reserve beside them stays so.
     #[inline]
     pub fn allocate(&mut self, requested_size: Size) -> Result<Option<Allocation>, RecordingError> {
         if self.given == NAMES {
@@ -94,7 +95,8 @@ impl<A: Allocator + Copy> RecordingAllocator<A> {
         }
     }
 
-    /// Frees the box of a name. `NotLive` if the name isn't live; `Memory` only where memory for the event is refused.
+    /// Frees the box of a name. `NotLive` if the name isn't live; `Memory` only where memory for the event is refused. What
+    /// is in reserve stays so.
     #[inline]
     pub fn deallocate(&mut self, id: AllocId) -> Result<(), RecordingError> {
         let found = match find(&self.names, id.serialize()) {
@@ -111,7 +113,7 @@ impl<A: Allocator + Copy> RecordingAllocator<A> {
     }
 
     /// Makes the atlas larger, as its `grow` does. Requires that neither side shrinks. `Memory` if memory for the event or
-    /// for slots is refused; `Slots` as the atlas's.
+    /// for slots is refused; `Slots` as the atlas's. At most 3 more slots are used, and what is in reserve beside them stays so.
     #[inline]
     pub fn grow(&mut self, new_size: Size) -> Result<(), RecordingError> {
         self.log.make_room()?;

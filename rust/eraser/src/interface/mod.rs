@@ -130,6 +130,7 @@ impl Interface {
         let statuses = header.statuses();
         let files = [
             ("bindings/c/guillotiere.h", header.text()?),
+            ("c/guillotiere.h", header.text()?),
             ("bindings/c/status_text.c", texts::texts_in_c(&statuses)),
             ("web/src/interface.js", script::script(self, &statuses)?),
         ];

@@ -1,21 +1,59 @@
 //! What calls did and no one has taken yet.
 use super::values::{change_of, CacheChange};
 use super::CacheError;
-use alloc::collections::VecDeque;
-use alloc::vec::Vec;
 use core::fmt;
 use core::iter::FusedIterator;
 use wollemigo_core::atlas_cache as library;
+use wollemigo_core::guillotiere::size2;
 use wollemigo_support::alloc::Global;
 use wollemigo_support::vec::Vec as LibraryVec;
 
-/// The changes of all calls in order, and where those of each call end.
+/// The changes of all calls in order. The last one of each call is marked, by a number of its own: so a call takes no memory beside what
+/// the library's call takes for the changes that it adds.
 pub(super) struct Waiting<K> {
-    pub(super) changes: LibraryVec<library::CacheChange<K>, Global>,
+    changes: LibraryVec<library::CacheChange<K>, Global>,
     // How many were handed over.
     handed: usize,
-    // Of each call with changes that weren't all handed over, how many there were up to its end.
-    ends: VecDeque<usize>,
+}
+
+// The number of a change that is below 0 where the change is marked, and nowhere else: a width, or a position.
+fn number_of<K>(change: &mut library::CacheChange<K>) -> Option<&mut i32> {
+    match change {
+        library::CacheChange::PageAdded { size, .. }
+        | library::CacheChange::PageGrown { size, .. } => Some(&mut size.width),
+        library::CacheChange::Evicted { place, .. } => Some(&mut place.rectangle.min.x),
+        library::CacheChange::Moved { to, .. } => Some(&mut to.rectangle.min.x),
+        library::CacheChange::PageRemoved { .. } => None,
+    }
+}
+
+// A change as the last one of its call. A page that is gone has no such number, and is kept as one that grew to a width of 0.
+fn marked<K>(mut change: library::CacheChange<K>) -> library::CacheChange<K> {
+    if let library::CacheChange::PageRemoved { page } = change {
+        let size = size2(0, 0);
+        change = library::CacheChange::PageGrown { page, size };
+    }
+    if let Some(number) = number_of(&mut change) {
+        *number = !*number;
+    }
+    change
+}
+
+// A change without its mark, if it has one, and whether it had one.
+fn unmarked<K>(mut change: library::CacheChange<K>) -> (library::CacheChange<K>, bool) {
+    let is_last = match number_of(&mut change) {
+        Some(number) if *number < 0 => {
+            *number = !*number;
+            true
+        }
+        _ => false,
+    };
+    match change {
+        library::CacheChange::PageGrown { page, size } if size.width == 0 => {
+            (library::CacheChange::PageRemoved { page }, is_last)
+        }
+        other => (other, is_last),
+    }
 }
 
 impl<K: Copy> Waiting<K> {
@@ -23,47 +61,52 @@ impl<K: Copy> Waiting<K> {
         Waiting {
             changes: LibraryVec::new(Global),
             handed: 0,
-            ends: VecDeque::new(),
         }
     }
 
     pub(super) fn try_clone(&self) -> Result<Self, CacheError> {
-        let changes = LibraryVec::from_slice(Global, self.changes.as_slice());
-        // Before Rust 1.67 an empty `VecDeque` takes memory that can't be refused, and one of a `Vec` only where its room is no
-        // power of two.
-        let mut ends = Vec::new();
-        ends.try_reserve_exact((self.ends.len().max(1) + 1).next_power_of_two())
-            .map_err(|_| CacheError::Memory)?;
-        ends.extend(&self.ends);
+        let changes = LibraryVec::from_slice(Global, &self.changes.as_slice()[self.handed..]);
         Ok(Waiting {
             changes: changes.map_err(|_| CacheError::Memory)?,
-            handed: self.handed,
-            ends: VecDeque::from(ends),
+            handed: 0,
         })
     }
 
-    /// Before a call: takes memory for its end, so that nothing is refused after it.
-    #[inline]
-    pub(super) fn begin(&mut self) -> Result<(), CacheError> {
-        self.ends.try_reserve(1).map_err(|_| CacheError::Memory)
+    /// Takes memory for so many changes beside those that wait.
+    pub(super) fn reserve(&mut self, additional: usize) -> Result<(), CacheError> {
+        self.changes.drain(..self.handed);
+        self.handed = 0;
+        let reserved = self.changes.reserve(additional);
+        reserved.map_err(|_| CacheError::Memory)
     }
 
-    /// After a call.
+    /// What a call answers that adds changes, of which the last one is marked then.
     #[inline]
-    pub(super) fn end(&mut self) {
-        let end = self.changes.len();
-        if end > self.ends.back().copied().unwrap_or(self.handed) {
-            self.ends.push_back(end);
+    pub(super) fn added<T>(&mut self, call: impl FnOnce(&mut library::Changes<K>) -> T) -> T {
+        let before = self.changes.len();
+        let answer = call(&mut self.changes);
+        if let Some(last) = self.changes.as_mut_slice()[before..].last_mut() {
+            *last = marked(*last);
         }
+        answer
     }
 
+    // The first change from a position on.
+    #[inline]
+    fn at(&self, position: usize) -> Option<(library::CacheChange<K>, bool)> {
+        self.changes.as_slice().get(position).copied().map(unmarked)
+    }
+
+    // Where the first call ends of which some weren't handed over.
     #[inline]
     fn first_end(&self) -> usize {
-        self.ends.front().copied().unwrap_or(self.handed)
+        let waiting = &self.changes.as_slice()[self.handed..];
+        let last = waiting.iter().position(|change| unmarked(*change).1);
+        last.map_or(self.handed, |at| self.handed + at + 1)
     }
 
     pub(super) fn next(&mut self) -> Option<CacheChange<K>> {
-        let change = *self.changes.as_slice().get(self.handed)?;
+        let (change, _) = self.at(self.handed)?;
         self.hand_over(self.handed + 1);
         Some(change_of(change))
     }
@@ -71,9 +114,6 @@ impl<K: Copy> Waiting<K> {
     #[inline]
     fn hand_over(&mut self, up_to: usize) {
         self.handed = up_to;
-        if self.first_end() == up_to {
-            self.ends.pop_front();
-        }
         if up_to == self.changes.len() {
             self.changes.clear();
             self.handed = 0;
@@ -113,7 +153,10 @@ impl<K: Copy> Iterator for Changes<'_, K> {
 
     #[inline]
     fn next(&mut self) -> Option<CacheChange<K>> {
-        let change = *self.waiting.changes.as_slice()[self.next..self.end].first()?;
+        if self.next == self.end {
+            return None;
+        }
+        let (change, _) = self.waiting.at(self.next)?;
         self.next += 1;
         Some(change_of(change))
     }

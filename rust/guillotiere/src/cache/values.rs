@@ -19,9 +19,8 @@ use wollemigo_core::atlas_cache as library;
 /// ```
 #[derive(Copy, Clone, Debug, PartialEq, Eq, Hash)]
 pub struct Place {
-    /// The number of the entry. It stays until the entry is gone, and no other entry has it meanwhile; the numbers of
-    /// entries that are gone are given out again before new ones, which of them isn't said, so what a caller keeps of each
-    /// entry fits a list.
+    /// The number of the entry. It stays until the entry is gone, and no other entry has it meanwhile. Numbers of entries that are gone are
+    /// given out again before new ones, which of them isn't said: so what a caller keeps of each entry fits a list of `numbers` elements.
     pub number: u32,
     /// The page, counted from 0; of a blank entry 0, also where there is no page yet.
     pub page: u32,
@@ -55,8 +54,8 @@ pub enum Inserted {
     Placed(Place),
     /// The key was held, and this is its place still, with the pixels that were written there.
     Held(Place),
-    /// All pages allowed exist, at their largest, this frame used each entry on them, and no page has room: draw what this
-    /// frame has, begin a new one, and insert again.
+    /// All pages allowed exist, at their largest, and none would have room, were all entries gone that this frame didn't use: draw what
+    /// this frame has, begin a new one, and insert again.
     FrameFull,
     /// The size, with the padding on all sides and rounded up to the alignment, exceeds the largest page.
     NeverFits,
@@ -174,7 +173,7 @@ pub enum CacheError {
     /// All 4,294,967,295 numbers of entries are in use.
     Numbers,
     /// The slots of a page's atlas don't suffice. No entry is evicted for it, in no later frame either, and another page with
-    /// room isn't tried: remove or trim some.
+    /// room isn't tried: `remove`, `trim` and `clear` help.
     Slots,
     /// The key is held with another size.
     OtherSize,

@@ -42,6 +42,8 @@ pub enum Form {
     Unity,
     /// cocos2d and what reads its .plist, format 2; a file for each sheet
     Cocos,
+    /// cocos2d-x 3 and what reads its .plist, format 3, with anchors; a file for each sheet
+    Cocos3,
     /// What --template says
     #[value(skip)]
     Template,
@@ -92,6 +94,7 @@ pub fn files(style: &Style, sheet: &Sheet) -> Result<Vec<File>, Fault> {
         Form::Starling => starling::files(sheet),
         Form::Unity => template::unity()?.files(sheet)?,
         Form::Cocos => template::cocos()?.files(sheet)?,
+        Form::Cocos3 => template::cocos3()?.files(sheet)?,
         Form::Template => match &style.template {
             Some(template) => template.files(sheet)?,
             None => Vec::new(),
@@ -122,6 +125,14 @@ pub fn no_turn(form: Form) -> Option<&'static str> {
         Form::Unity => Some("--turn can't be used with --form unity: its sprites can't be turned"),
         _ => None,
     }
+}
+
+/// Whether the engines of a form read sheets that are WebP.
+pub fn reads_webp(form: Form) -> bool {
+    !matches!(
+        form,
+        Form::Libgdx | Form::LibgdxNew | Form::Starling | Form::Unity
+    )
 }
 
 /// How a turned sprite lies in the pictures that the engines of a form read.
@@ -166,6 +177,7 @@ pub fn lost(form: Form, sprites: &[Sprite], has_rates: bool) -> Vec<String> {
             | Form::Phaser
             | Form::Starling
             | Form::Unity
+            | Form::Cocos3
             | Form::Template
     );
     let has_nines = matches!(
@@ -184,7 +196,7 @@ pub fn lost(form: Form, sprites: &[Sprite], has_rates: bool) -> Vec<String> {
     }
     let is_timeless = matches!(
         form,
-        Form::Libgdx | Form::LibgdxNew | Form::Starling | Form::Css | Form::Cocos
+        Form::Libgdx | Form::LibgdxNew | Form::Starling | Form::Css | Form::Cocos | Form::Cocos3
     );
     if has_rates && is_timeless {
         lines.push(format!(

@@ -3,6 +3,7 @@ use super::File;
 use crate::animation::Animation;
 use crate::fault::{Fault, FILES, WORDS};
 use crate::folder;
+use crate::set;
 use crate::sheet::{Frame, Page, Sheet};
 use serde_json::{json, Value};
 use std::collections::{HashMap, HashSet};
@@ -64,7 +65,7 @@ impl Template {
             ending.starts_with('.').then_some((ending, *files))
         });
         let (ending, files) = several.unwrap_or((&endings, Files::One));
-        let is_picture = ending.to_ascii_lowercase().ends_with(".png");
+        let is_picture = set::is_picture(&ending.to_ascii_lowercase());
         if ending.ends_with(['.', ' ']) || is_picture || ending.chars().any(char::is_control) {
             return Err(refused("its files can't have this ending"));
         }
@@ -252,5 +253,12 @@ pub fn cocos() -> Result<Template, Fault> {
     Template::new(
         "cocos.each.plist.tera",
         include_str!("../../templates/cocos.each.plist.tera"),
+    )
+}
+
+pub fn cocos3() -> Result<Template, Fault> {
+    Template::new(
+        "cocos3.each.plist.tera",
+        include_str!("../../templates/cocos3.each.plist.tera"),
     )
 }

@@ -89,6 +89,31 @@ fn starling() {
 }
 
 #[test]
+fn cocos() {
+    let told = text(Form::Cocos);
+    assert!(told.contains("<key>frame</key>\n      <string>{{1,2},{5,6}}</string>"));
+    let mut one = sheet();
+    let anchor = "0.25,0.7".parse().unwrap();
+    one.pages[0].frames[0].anchor = Some(anchor);
+    let files = super::template::cocos3().unwrap().files(&one).unwrap();
+    let told = String::from_utf8(files[0].1.clone()).unwrap();
+    // Upwards, the anchor from the lower left corner, and the middle of what is kept, at 3 + 2.5 and 4 + 3, from that of the picture, at 5
+    // and 10.
+    for (key, value) in [
+        ("anchor", "{0.25,0.3}"),
+        ("spriteOffset", "{0.5,3}"),
+        ("spriteSize", "{5,6}"),
+        ("spriteSourceSize", "{10,20}"),
+        ("textureRect", "{{1,2},{5,6}}"),
+    ] {
+        let line = format!("<key>{}</key>\n      <string>{}</string>", key, value);
+        assert!(told.contains(&line), "{}", told);
+    }
+    assert!(told.contains("<key>textureRotated</key>\n      <true/>"));
+    assert!(!text(Form::Cocos3).contains("<key>anchor</key>"));
+}
+
+#[test]
 fn godot() {
     let told = text(Form::Godot);
     assert!(told.contains("region = Rect2(1, 2, 5, 6)\nmargin = Rect2(3, 4, 5, 14)\n"));

@@ -4,3 +4,4 @@ mod clones;
 mod memory;
 mod plain;
 mod traces;
+mod vacating;

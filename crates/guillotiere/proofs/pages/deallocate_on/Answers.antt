@@ -1,4 +1,5 @@
-use Rattle.guillotiere.proofs.Callers.{page_leaves, page_lives, page_stays_if_refused}
+use Rattle.guillotiere.specs.Reserves.{UsesAtMost}
+use Rattle.guillotiere.proofs.Callers.{page_goes, page_leaves, page_lives, page_stays_if_refused}
 use Rattle.guillotiere.proofs.pages.deallocate_on.Goals as goal
 
 pub returns-clause-ok : goal.returns-clause-ok
@@ -13,3 +14,7 @@ returns-clause-leaves g c =
 pub returns-clause-refused : goal.returns-clause-refused
 returns-clause-refused g c =
     page_stays_if_refused _ _ c.index-pages-page.result _ c.requires c.deallocate.result c.deallocate.ensures.refused
+
+pub returns-clause-slots : goal.returns-clause-slots
+returns-clause-slots g c =
+    page_goes _ _ c.index-pages-page.result c.deallocate.new.self c.requires (UsesAtMost 0) c.deallocate.ensures.slots

@@ -18,6 +18,7 @@ loop-call-preserved g c =
     record {
       sound = i.sound;
       room = omega arith;
+      capacity = omega (arith, i.capacity, c.push_reserved.ensures.capacity);
       longer = omega (arith, ap length c.push_reserved.ensures.items, length-append items (c.step.result ∷ []));
       kept = take-longer n items c.push_reserved.new.self.items c.step.result c.push_reserved.ensures.items i.longer ∙ i.kept;
       exact = subst (All IsExactReply) (sym more)
@@ -26,7 +27,14 @@ loop-call-preserved g c =
       answered = subst₂ (λ calls replies. AreAnswered c.args.atlas.now calls replies c.step.new.atlas) (sym taken) (sym more)
           (answered-more (take c.loop-call.call-index c.args.calls.now) (drop n items) c.args.atlas.now c.loop-call.atlas
           c.step.new.atlas c.call-item.result c.step.result i.answered
-          (record { step = c.step.ensures.step; exact = c.step.ensures.exact; unchanged = c.step.ensures.unchanged; turns = c.step.ensures.turns }));
+          (record {
+            step = c.step.ensures.step;
+            exact = c.step.ensures.exact;
+            unchanged = c.step.ensures.unchanged;
+            turns = c.step.ensures.turns;
+            slots = c.step.ensures.slots;
+            memory = c.step.ensures.memory;
+          }));
       played = subst₂ (λ calls replies. IsPlayed c.args.atlas.now calls replies c.step.new.atlas) (sym made)
           (sym (ap (map reply_of) more ∙ map-append reply_of (drop n items) (c.step.result ∷ [])))
           (played_more c.args.atlas.now c.loop-call.atlas c.step.new.atlas (calls_of (take c.loop-call.call-index c.args.calls.now))

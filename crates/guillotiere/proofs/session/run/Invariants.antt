@@ -10,6 +10,7 @@ invariant-loop-call g l =
     record {
       sound : IsSound (state_of l.fn.atlas);
       room : vec_len l.replies + length l.calls ≤ vec_capacity l.replies + l.call-index;
+      capacity : vec_capacity l.fn.replies ≤ vec_capacity l.replies;
       longer : vec_len l.fn.replies ≤ length l.replies.items;
       kept : take (vec_len l.fn.replies) l.replies.items ≡ l.fn.replies.items;
       exact : All IsExactReply (drop (vec_len l.fn.replies) l.replies.items);

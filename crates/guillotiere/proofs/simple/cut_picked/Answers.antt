@@ -61,8 +61,9 @@ returns-in_err-make_room-clause-needed g c =
       kept,
       c.kept_count.ensures,
       c.saturating_sub.ensures,
-      c.in_err-make_room.ensures.needed,
+      c.in_err-make_room.ensures.lacks,
       length-map bs stored_item,
       c.args.boxes.now.entries.ok,
+      c.requires.kept.listed.short,
       used-few (λ i. 0) o (box_shelf c.args.boxes.now) c.requires.kept,
     ))

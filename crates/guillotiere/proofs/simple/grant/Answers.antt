@@ -1,4 +1,4 @@
-use Rattle.std.proofs.Common.{rules, refl, ap, subst, map, ◌≡◌, ◌+◌, ◌<◌, length, sym, List, arith}
+use Rattle.std.proofs.Common.{rules, refl, ap, subst, map, ◌≡◌, ◌+◌, ◌<◌, length, min, vec_capacity, sym, List, arith}
 use Rattle.atlas_model.specs.Boxes.{Box, Sides, box_at}
 use Rattle.guillotiere.specs.FreeBoxes.BoxShelves.{BoxShelf, box_shelf, free_item_boxes, stored_item}
 use Rattle.atlas_model.specs.Choice.{HasRoom, IsFitting, IsPick, rounded}
@@ -75,7 +75,7 @@ returns-in_err-cut_picked-clause-needed g c =
     let is = sides_of-size c.in-Some.size (rounded o s) c.in-Some.ensures.1 in
     let all = subst (λ xs. (free : List Box) → AreFreeItems (map stored_item xs) free → IsPick free o (sides_of c.in-Some.size) (box_of found.rectangle)) c.deref.ensures.value c.in-Some-pick.ensures.picked in
     let used = used-free o (box_shelf c.args.boxes.now) c.requires in
-    let more = subst (λ (r : Sides). length es + 1 < c.args.boxes.now.used + length (kept_rest o (box_of found.rectangle) r)) is c.in_err-cut_picked.ensures.needed in
+    let more = subst (λ (r : Sides). min (vec_capacity c.args.boxes.now.entries) 4261412864 + 1 < c.args.boxes.now.used + length (kept_rest o (box_of found.rectangle) r)) is c.in_err-cut_picked.ensures.needed in
     at_error c.from_residual.result
     (record {
       picked = box_of found.rectangle;

@@ -20,10 +20,10 @@ impl<K: Copy + Eq + Hash, S: BuildHasher, A: Allocator + Copy> TextureCache<K, S
         self.rooms.clear();
     }
 
-    /// Evicts the entries that weren't used for at least this many frames: with 1, what this frame didn't use; with 0, all.
-    /// Each is added to the changes as `Evicted`, the least recently used first. The others stay. The list of changes
-    /// is asked for room for as many as there are entries; with `Memory`, if that is refused, nothing changes. Takes a freeing for each
-    /// key that goes.
+    /// Evicts the entries that weren't used for at least this many frames. A frame is a call of `begin_frame`: with 1 all goes that
+    /// wasn't used since the last one, with 0 all. Each is added to the changes as `Evicted`, the least recently used first. The
+    /// others stay. The list of changes is asked for room for as many as there are entries; with `Memory`, if that is refused,
+    /// nothing changes. Takes a freeing for each key that goes.
     #[inline]
     pub fn trim(&mut self, frames: u64, changes: &mut Changes<K, A>) -> Result<(), CacheError> {
         changes.reserve(self.entries.len())?;
@@ -33,22 +33,26 @@ impl<K: Copy + Eq + Hash, S: BuildHasher, A: Allocator + Copy> TextureCache<K, S
 
     /// Makes sure that at least this many entries are in reserve: the insertions that follow ask for memory only for pages, for
     /// their slots, and for changes. Each key that is added takes one of them; one that goes gives none back, but `clear`
-    /// does. Nothing else changes, and nothing at all with `Memory`, if memory is refused.
+    /// does; `trim`, `shrink` and `repack` take none. Nothing else changes, and nothing at all with `Memory`, if memory is refused.
     #[inline]
     pub fn reserve(&mut self, additional: usize) -> Result<(), CacheError> {
         self.entries.reserve(additional)?;
         Ok(())
     }
 
-    /// Makes sure that at least this many slots are in reserve on each page, and that each page may use so many more of the 16,777,216
-    /// that there can be. An insert that neither adds a page nor grows one takes at most 4 of each page; a page that is added later
-    /// has none in reserve, one that grows takes up to 3 of its own, and one that is repacked may have none; `remove`, `trim` and
-    /// `clear` take none away. Nothing else changes. `Slots` only if a page would use more than 16,777,216 with them, `Memory` only if
-    /// some page hasn't as many in reserve and memory is refused; the pages before that one have theirs in reserve then, and it and those
-    /// after it are as they were. Takes as many steps as there are pages, and memory for those that need it.
+    /// Makes sure that at least this many slots are in reserve on each page, and that each page may use so many more of the
+    /// 16,777,216 that there can be. An insert that neither adds a page nor grows one takes at most 4 of each page; a page that is
+    /// added later has none in reserve, one that grows takes up to 3 of its own, one that is repacked may have none, and one that
+    /// goes (`shrink`) takes its own along; `remove`, `trim` and `clear` take none away. Nothing else changes. `Slots` only if a page
+    /// would use more than 16,777,216 with them, `Memory` only if some page hasn't as many in reserve and memory is refused; the
+    /// pages before that one have theirs in reserve then, and it and those after it are as they were. Takes as many steps as there
+    /// are pages, and memory for those that need it.
     #[inline]
     pub fn reserve_slots(&mut self, additional: u32) -> Result<(), CacheError> {
-        self.rooms.reserve_slots(additional)
+        self.rooms.reserve_slots(additional)?;
+        // Where it is refused, it is asked for again when it is needed.
+        let _refused = self.rooms.reserve_marks(additional, &mut self.marks);
+        Ok(())
     }
 
     // The entries that weren't used for so many frames go.

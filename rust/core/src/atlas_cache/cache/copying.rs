@@ -5,6 +5,7 @@ use crate::atlas_cache::cache::TextureCache;
 use wollemigo_support::alloc::{AllocError, Allocator};
 use wollemigo_support::clone::Clone;
 use wollemigo_support::hash::{BuildHasher, Hash};
+use wollemigo_support::prelude::Vec;
 
 impl<K: Copy + Eq + Hash, S: BuildHasher + Clone, A: Allocator + Copy> TextureCache<K, S, A> {
     /// A copy, which goes on by itself, in new memory of the same allocator: its options, its entries with their places, numbers and
@@ -19,6 +20,7 @@ impl<K: Copy + Eq + Hash, S: BuildHasher + Clone, A: Allocator + Copy> TextureCa
             entries,
             frame: self.frame,
             counts: self.counts,
+            marks: Vec::new(*self.marks.allocator()),
         })
     }
 }

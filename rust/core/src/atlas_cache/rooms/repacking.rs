@@ -1,7 +1,7 @@
 // Erased from crates/atlas_cache/src/rooms/repacking.rt by rust/erase: don't edit.
 //! A page's rectangles placed anew, and the areas of a page.
 
-use crate::atlas_cache::rooms::asking::NO_SIZE;
+use crate::atlas_cache::rooms::asking::NOTHING;
 use crate::atlas_cache::rooms::usable::extent;
 use crate::atlas_cache::rooms::{refusal, Rooms};
 use crate::atlas_entries::error::CacheError;
@@ -91,7 +91,7 @@ impl<A: Allocator + Copy> Rooms<A> {
         };
         let list = place_all(&mut placed, order)?;
         self.pages[page] = placed;
-        self.refused[page] = NO_SIZE;
+        self.refused[page] = NOTHING;
         Ok(list)
     }
 

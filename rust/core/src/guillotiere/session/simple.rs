@@ -94,7 +94,8 @@ fn make<A: Allocator + Copy>(
 
 /// Makes calls of a simple allocator in turn, and appends a reply for each; `Start` takes over from `source`. Room for
 /// all replies is reserved first: `Memory` is the only error, if `replies` has less, and after it allocator and replies are
-/// as before. So the rectangles granted since the last start never overlap each other or what the source then held live.
+/// as before. The room of the list is never given back. So the rectangles granted since the last start never overlap each
+/// other or what the source then held live.
 #[inline]
 pub fn run_simple<A: Allocator + Copy>(
     simple: &mut SimpleAtlasAllocator<A>,

@@ -97,15 +97,17 @@ impl<A: Allocator> FreeBoxes<A> {
         })
     }
 
-    /// A copy, in new memory of the same allocator, with room for one entry at least. The only error is `Memory`.
+    /// A copy, in new memory of the same allocator, with room for as many entries. The only error is `Memory`.
     #[inline]
     pub fn copy(&self) -> Result<FreeBoxes<A>, AtlasError>
     where
         A: Copy,
     {
-        let count = self.entries.len().max(1);
-        let mut entries = Vec::with_capacity(*self.entries.allocator(), count)?;
-        entries.extend_from_slice(&self.entries)?;
+        let room = self.entries.capacity();
+        let mut entries = Vec::with_capacity(*self.entries.allocator(), room)?;
+        for entry in &self.entries {
+            entries.push_reserved(*entry);
+        }
         let table = self.table.copy()?;
         Ok(FreeBoxes {
             entries,
@@ -152,7 +154,7 @@ impl<A: Allocator> FreeBoxes<A> {
     }
 
     /// Makes sure that n more entries can be used; nothing but the room changes. The only error is `Memory`, which comes only
-    /// where that takes more entries than there are.
+    /// where that takes more entries than there is room for.
     #[inline]
     pub fn make_room(&mut self, n: u32) -> Result<(), AtlasError> {
         let all = self.used as usize + n as usize;

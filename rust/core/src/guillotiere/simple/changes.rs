@@ -13,8 +13,8 @@ use wollemigo_support::alloc::Allocator;
 impl<A: Allocator + Copy> SimpleAtlasAllocator<A> {
     /// Makes the allocator larger: the new size is cut for the old one, and the split and the leftover are added, except that one
     /// that is narrower or lower than the alignment is dropped. Nothing is merged; at an equal size nothing changes. Requires
-    /// that neither side shrinks. The only error is `Memory`, if more entries would be used than there are and memory
-    /// for them is refused; then nothing changes.
+    /// that neither side shrinks. The only error is `Memory`, if more entries would be used than there is room for and memory
+    /// for them is refused; then nothing changes. Keeps the room of the entries.
     #[inline]
     pub fn grow(&mut self, new_size: Size) -> Result<(), AtlasError> {
         if new_size == self.size {
@@ -44,7 +44,8 @@ impl<A: Allocator + Copy> SimpleAtlasAllocator<A> {
     }
 
     /// Takes over an atlas's size, its options and each of its free rectangles, whatever their size. Live rectangles of
-    /// the atlas are never granted. The only error is `Memory`, and after it everything is as before.
+    /// the atlas are never granted. The room is that of new entries then. The only error is `Memory`, and after it everything is as
+    /// before.
     #[inline]
     pub fn init_from_allocator(&mut self, source: &AtlasAllocator<A>) -> Result<(), AtlasError> {
         let size = source.size();

@@ -4,6 +4,7 @@ use Rattle.atlas_cache.proofs.ListLemmas.{length-listed, not-numbered}
 use Rattle.atlas_cache.specs.Caches.{entries_of}
 use Rattle.atlas_cache.proofs.ReadyLemmas.{error_is, one_fewer, reserves_left}
 use Rattle.atlas_cache.proofs.RoomLemmas.PageReserves.{none_used, slots_left}
+use Rattle.atlas_cache.proofs.VacatedLemmas.{on_err}
 use Rattle.atlas_cache.proofs.cache.TextureCache.add.Goals as goal
 
 pub grant-requires-clause-absent : goal.grant-requires-clause-absent
@@ -113,3 +114,31 @@ returns-in_err-granted-clause-already g c = λ is.
     let same : c.from_residual.result ≡ Err c.in_err-granted.field-0.0 = search rules in
     rw (← c.self.view_is)
     (c.in_err-granted.ensures.already (ap Err (error_is c.in_err-granted.field-0.0 c.from_residual.result same is)))
+
+pub returns-in_err-granted-clause-lacks : goal.returns-in_err-granted-clause-lacks
+returns-in_err-granted-clause-lacks g c = λ is.
+    let same : c.from_residual.result ≡ Err c.in_err-granted.field-0.0 = search rules in
+    c.in_err-granted.ensures.lacks (ap Err (error_is c.in_err-granted.field-0.0 c.from_residual.result same is))
+
+pub returns-in_err-granted-clause-refused : goal.returns-in_err-granted-clause-refused
+returns-in_err-granted-clause-refused g c =
+    let was = c.in_err-granted.ensures.refused in
+    on_err c.from_residual.result _ (rw (← c.self.view_is) (record {
+      same = was.0;
+      slots = c.grant.ensures.slots;
+      sizes = c.grant.ensures.sizes;
+      keeps = record {
+        entries = ap (λ t. entries_of t.entries) was.1;
+        numbers = ap (λ t. t.made) was.1;
+        reserved = ap (λ t. t.reserved) was.1;
+        options = c.grant.ensures.options;
+        frame = refl;
+        counts = refl;
+      };
+    }))
+
+pub returns-in_err-granted-clause-errors : goal.returns-in_err-granted-clause-errors
+returns-in_err-granted-clause-errors g c =
+    let same : c.from_residual.result ≡ Err c.in_err-granted.field-0.0 = search rules in
+    let was = c.in_err-granted.ensures.refused in
+    rw (same, was.1, length-listed c.self.inside.entries.entries) c.in_err-granted.ensures.errors

@@ -65,25 +65,27 @@ returns-clause-does g c = λ _.
       change = Evicted e.key c.place_of-place.result;
       listed = c.push_reserved.ensures.items;
       does = record {
-        full = full;
-        entry = e;
-        newer = w.newer;
-        older = w.older;
-        was = w.was;
-        is = rw without w.others;
-        lies = w.lies;
-        blank = w.blank;
-        named = refl;
-        shows = rw (c.place_of-place.ensures, c.options.ensures.options, c.take_out.ensures.options) refl;
-        unused = omega (arith, least, c.if-entry-self.false);
-        leaves = c.take_out.ensures.leaves;
-        numbers = rw c.oldest_lying.ensures.stays at c.take_out.ensures.made;
-        reserved = rw c.oldest_lying.ensures.stays at c.take_out.ensures.reserved;
-        sizes = c.take_out.ensures.sizes;
-        slots = c.take_out.ensures.slots;
-        options = c.take_out.ensures.options;
-        frame = refl;
-        counts = rw c.count-self-inside.ensures refl;
+        goes = record {
+          full = full;
+          entry = e;
+          newer = w.newer;
+          older = w.older;
+          was = w.was;
+          is = rw without w.others;
+          lies = w.lies;
+          named = refl;
+          shows = rw (c.place_of-place.ensures, c.options.ensures.options, c.take_out.ensures.options) refl;
+          unused = omega (arith, least, c.if-entry-self.false);
+          leaves = c.take_out.ensures.leaves;
+          numbers = rw c.oldest_lying.ensures.stays at c.take_out.ensures.made;
+          reserved = rw c.oldest_lying.ensures.stays at c.take_out.ensures.reserved;
+          sizes = c.take_out.ensures.sizes;
+          slots = c.take_out.ensures.slots;
+          options = c.take_out.ensures.options;
+          frame = refl;
+          counts = rw c.count-self-inside.ensures refl;
+        };
+        oldest = w.blank;
       };
     })
 

@@ -1,4 +1,7 @@
-use Rattle.std.proofs.Common.{◌≡◌, ◌+◌, ap, length, refl, subst, sym, ◌∙◌, ◌∷◌, ◌++◌, [], arith, rules}
+use Rattle.std.proofs.Common.{◌≡◌, ◌+◌, ℤ, ap, false, inl, inr, length, not, refl, subst, sym, true, ◌&&◌, ◌∙◌, ◌∷◌, ◌++◌, [], arith, rules}
+use Rattle.std.proofs.lemmas.Bool.{cases_Bool}
+use Rattle.std.proofs.lemmas.Bool.Decides.{Decides-int_eq}
+use Rattle.std.specs.Ordering.{int_eq}
 use Rattle.std.proofs.Common.{vec_capacity, vec_len}
 use Rattle.atlas_cache.specs.Caches.{CacheState, entries_of}
 use Rattle.atlas_cache.specs.Changes.{Uses}
@@ -14,11 +17,24 @@ use Rattle.guillotiere.specs.declared.Size.{Size}
 use Rattle.guillotiere.specs.Pixels.{size_of}
 use Rattle.atlas_cache.specs.Asking.{bordered}
 use Rattle.atlas_cache.specs.Caches.{HasNoPageFor}
+use Rattle.atlas_cache.specs.Placing.{LacksSlots}
 use Rattle.atlas_cache.proofs.BlankLemmas.{length-less}
-use Rattle.atlas_cache.proofs.ReadyLemmas.{allowed_after, blank_full, blank_not_short, blank_reserves, blank_uses, one_fewer}
+use Rattle.atlas_cache.proofs.ReadyLemmas.{allowed_after, blank_full, blank_not_short, blank_reserves, blank_uses, full_stays, one_fewer}
 use Rattle.atlas_cache.proofs.ReadyLemmas.{one_reserved, ready_after, reserves_left, unrefused_while_ready}
 use Rattle.atlas_cache.proofs.RoomLemmas.PageReserves.{none_used}
 use Rattle.atlas_cache.proofs.cache.TextureCache.insert.Goals as goal
+
+-- Sizes are the same where neither side differs.
+same_size : (a b : Size) → not (int_eq a.width b.width && int_eq a.height b.height) ≡ false → a ≡ b
+same_size a b told = elim (cases_Bool (int_eq a.width b.width)) [
+  | inl width ↦ elim (cases_Bool (int_eq a.height b.height)) [
+    | inl height ↦
+        ap (λ (w : ℤ). record a { width = w }) ((Decides-int_eq a.width b.width).0 width)
+        ∙ ap (λ (h : ℤ). record b { height = h }) ((Decides-int_eq a.height b.height).0 height)
+    | inr other ↦ absurd (let t : true ≡ false = rw (width, other) at told in cc)
+  ]
+  | inr other ↦ absurd (let t : true ≡ false = rw other at told in cc)
+]
 
 pub place_of-requires : goal.place_of-requires
 place_of-requires g c =
@@ -46,7 +62,7 @@ returns-in-Some-clause-known g c =
     let e = c.in-Some.entry in
     let p = parts n it.entries.entries e found.at in
     let front : Entry g.row.K.Denot = record e { frame = it.frame } in
-    let sized : e.size ≡ c.args.size = first_of (search rules, grind arith) in
+    let sized = same_size e.size c.args.size (sym c.ne.ensures ∙ c.if-ne.false) in
     rw (← c.self.view_is, found.here, c.touch.ensures.entries, touched-is n it.frame it.entries.entries e found.at) (
       record {
         same = λ _. (
@@ -330,3 +346,16 @@ returns-clause-ready g c =
 pub returns-clause-unrefused : goal.returns-clause-unrefused
 returns-clause-unrefused g c =
     unrefused_while_ready c.insert_new.result c.args.size _ _ c.args.self.now c.insert_new.new.self (returns-clause-reserves g c) (returns-clause-allowed g c)
+
+pub returns-in-Some-clause-full : goal.returns-in-Some-clause-full
+returns-in-Some-clause-full g c = rw (← c.self.view_is) (full_stays _ _ refl refl)
+
+pub returns-then-not-is_positive-clause-lacks : goal.returns-then-not-is_positive-clause-lacks
+returns-then-not-is_positive-clause-lacks g c = λ is.
+    absurd (blank_not_short c.args.key c.args.size c.add_blank.result c.args.self.now c.add_blank.new.self c.add_blank.ensures.inserts is)
+
+pub returns-clause-lacks : goal.returns-clause-lacks
+returns-clause-lacks g c = λ is.
+    let asked = rw c.options-2.ensures.options at c.in-Some-asked.ensures.1 in
+    let same : c.in-Some-asked.asked ≡ size_of (bordered c.args.self.now.options c.args.size) = rw (← c.self.view_is) asked in
+    subst (λ (a : Size). LacksSlots a c.insert_new.new.self.options c.insert_new.new.self.pages) same (c.insert_new.ensures.lacks is)

@@ -1,4 +1,4 @@
-use Rattle.std.proofs.Common.{◌≡◌, ◌≤◌, ℕ, length, None}
+use Rattle.std.proofs.Common.{◌≡◌, ◌≤◌, ℕ, length, vec_capacity, None}
 use Rattle.atlas_cache.specs.Caches.{entry_for, steps_left, HasNoPageFor, IsFull}
 use Rattle.atlas_cache.specs.Reserving.{room_in, HasReserves, UseAtMost}
 use Rattle.atlas_cache.specs.Rooms.{HasRoomOnlyAmong}
@@ -10,6 +10,7 @@ invariant-loop-place g l =
     record {
       reached : Reached l.asked l.fn.changes.items l.changes.items l.fn.self l.self;
       absent : entry_for g.K.PartialEq.eq l.key l.self.entries ≡ None;
+      capacity : vec_capacity l.fn.changes ≤ vec_capacity l.changes;
       options : l.self.options ≡ l.fn.self.options;
       inside : l.to ≤ length l.self.pages;
       others : HasRoomOnlyAmong l.asked l.self.pages l.from l.to;

@@ -1,10 +1,11 @@
-use Rattle.std.proofs.Common.{◌≡◌, ap, arith, refl, rules, Err, Ok}
+use Rattle.std.proofs.Common.{◌≡◌, ap, arith, refl, rules, Err, None, Ok}
 use Rattle.atlas_cache.specs.Caches.{entries_of}
 use Rattle.atlas_entries.specs.Entries.{lying}
 use Rattle.atlas_cache.specs.declared.changes.CacheChange.TheVariants.{PageGrown}
 use Rattle.atlas_cache.proofs.HoldingLemmas.{stays}
 use Rattle.atlas_cache.proofs.ReadyLemmas.{error_is, reserves_left}
 use Rattle.atlas_cache.proofs.RoomLemmas.PageReserves.{none_used}
+use Rattle.atlas_cache.proofs.StandLemmas.{used-up}
 use Rattle.atlas_cache.proofs.cache.TextureCache.make_room.Goals as goal
 
 pub invariant_of-self-in-Some : goal.invariant_of-self-in-Some
@@ -162,3 +163,20 @@ returns-in-Some-clause-does g c = λ _.
         };
       };
     })
+
+pub returns-clause-stops : goal.returns-clause-stops
+returns-clause-stops g c = λ is.
+    let none : c.evict.result ≡ None = cc in
+    let one = c.in_ok-page.ensures.nothing (ap Ok c.in_default.is) in
+    let largest = c.in_ok-page.ensures.none.0 (ap Ok c.in_default.is) in
+    let last = rw one at c.in_ok-page-2.ensures.none in
+    let all = last.0 (ap Ok c.in_default-2.is) in
+    used-up c.args.asked c.args.self.now (rw (← c.self.view_is) (record { all = all; largest = largest })) c.requires
+    (rw (← c.self.view_is) (c.evict.ensures.stops none)) (rw (← c.self.view_is) c.prove_pages.ensures.kept)
+    (rw (← c.self.view_is) c.prove_pages.ensures.numbered)
+
+pub returns-in_err-page-clause-lacks : goal.returns-in_err-page-clause-lacks
+returns-in_err-page-clause-lacks g c = λ is.
+    let same : c.from_residual-in_err-page.result ≡ Err c.in_err-page.field-0.0 = search rules in
+    rw c.in_err-page.ensures.refused
+    (c.in_err-page.ensures.lacks (ap Err (error_is c.in_err-page.field-0.0 c.from_residual-in_err-page.result same is)))

@@ -132,3 +132,6 @@ returns-in_err-list-clause-short g c = λ is.
     let short = c.in_err-list.ensures.short (ap Err (error_is c.in_err-list.field-0.0 c.from_residual-in_err-list.result same is)) in
     let many = ap length c.in_ok-held.ensures.held in
     rw (← c.self.view_is) (omega (arith, short, many))
+
+pub returns-then-page-len-clause-told : goal.returns-then-page-len-clause-told
+returns-then-page-len-clause-told g c = none-told g.K.PartialEq.eq c.args.changes.now.items c.args.self.now

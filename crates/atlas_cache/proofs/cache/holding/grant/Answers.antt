@@ -56,3 +56,9 @@ pub returns-in_err-page-clause-already : goal.returns-in_err-page-clause-already
 returns-in_err-page-clause-already g c = λ is.
     let same : c.from_residual.result ≡ Err c.in_err-page.field-0.0 = search rules in
     c.in_err-page.ensures.short (ap Err (error_is c.in_err-page.field-0.0 c.from_residual.result same is))
+
+pub returns-in_err-page-clause-lacks : goal.returns-in_err-page-clause-lacks
+returns-in_err-page-clause-lacks g c = λ is.
+    let same : c.from_residual.result ≡ Err c.in_err-page.field-0.0 = search rules in
+    let stays : c.place_among.new.self ≡ c.args.rooms.now = c.in_err-page.ensures.refused in
+    rw stays (c.in_err-page.ensures.lacks (ap Err (error_is c.in_err-page.field-0.0 c.from_residual.result same is)))

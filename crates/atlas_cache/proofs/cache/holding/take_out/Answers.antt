@@ -1,4 +1,5 @@
-use Rattle.std.proofs.Common.{◌≡◌, false, arith, pos}
+use Rattle.std.proofs.Common.{◌≡◌, ◌∙◌, None, Some, false, arith, pos, sym}
+use Rattle.std.proofs.lemmas.Option.{slice_get_past}
 use Rattle.std.proofs.lemmas.Bool.{ne_eqb}
 use Rattle.atlas_cache.specs.Caches.{entries_of}
 use Rattle.atlas_entries.specs.Entries.{is_blank, no_page, without_number}
@@ -40,3 +41,8 @@ returns-else-entry-len-clause-leaves g c =
 
 pub returns-else-entry-len-clause-slots : goal.returns-else-entry-len-clause-slots
 returns-else-entry-len-clause-slots g c = none_used 0 c.args.rooms.now.pages
+
+pub returns-else-entry-len-clause-step : goal.returns-else-entry-len-clause-step
+returns-else-entry-len-clause-step g c = λ s t was now.
+    let none : None ≡ Some s = sym (slice_get_past c.args.rooms.now.pages c.args.entry.page (omega (arith, c.if-entry-len.false, c.len.ensures.pages))) ∙ was in
+    absurd (cc)

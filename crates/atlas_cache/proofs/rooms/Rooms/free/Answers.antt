@@ -1,5 +1,5 @@
-use Rattle.std.proofs.Common.{arith}
-use Rattle.atlas_cache.proofs.RoomLemmas.KeptPages.{gives_back, page_of, rooms_stay, sizes_stay}
+use Rattle.std.proofs.Common.{◌≡◌, Ok, arith}
+use Rattle.atlas_cache.proofs.RoomLemmas.KeptPages.{frees, gives_back, id_lives, page_of, rooms_stay, sizes_stay}
 use Rattle.atlas_cache.proofs.RoomLemmas.PageReserves.{page_uses}
 use Rattle.atlas_cache.proofs.RoomLemmas.RefusedSizes.{refused_changed}
 use Rattle.atlas_cache.proofs.rooms.Rooms.free.Goals as goal
@@ -26,6 +26,16 @@ returns-clause-slots g c =
     let within = page_of c.self.inside.pages.items c.args.page c.args.id (rw (← c.self.view_is) at c.requires) in
     rw (← c.self.view_is) (page_uses _ _ c.index_mut.result.now _ c.index_mut.ensures.value within 0
     c.deallocate-freed.ensures.slots)
+
+pub returns-clause-step : goal.returns-clause-step
+returns-clause-step g c =
+    let shown = rw (← c.self.view_is) at c.requires in
+    let pages = c.self.inside.pages.items in
+    let within = page_of pages c.args.page c.args.id shown in
+    let live = id_lives pages _ c.index_mut.result.now c.index_mut.result.now c.index_mut.ensures.value within c.args.id shown in
+    let done : c.deallocate-freed.result ≡ Ok tt = c.deallocate-freed.ensures.ok.1 live in
+    let step = rw done at c.deallocate-freed.ensures.step in
+    rw (← c.self.view_is) (frees pages _ c.index_mut.result.now c.deallocate-freed.new.self c.index_mut.ensures.value within c.args.id step.1)
 
 pub invariant_of-self : goal.invariant_of-self
 invariant_of-self g c =

@@ -9,7 +9,7 @@ use Rattle.atlas_entries.specs.declared.error.CacheError.TheVariants.{Slots}
 use Rattle.atlas_cache.specs.Rooms.{page_sizes, rooms_of, AreRefused, KeepsRooms}
 use Rattle.atlas_cache.proofs.RoomLemmas.PageGrowth.{grown_less, growth_of, not_all_largest}
 use Rattle.atlas_cache.proofs.RoomLemmas.KeptPages.{nothing_changes, others_kept, page_grows, rectangles_stay, rooms_keep, sizes_set}
-use Rattle.atlas_cache.proofs.RoomLemmas.PageReserves.{growth_short, none_used, page_steps_on, page_uses}
+use Rattle.atlas_cache.proofs.RoomLemmas.PageReserves.{first_growth_short, growth_short, none_used, page_steps_on, page_uses}
 use Rattle.atlas_cache.proofs.RoomLemmas.RefusedSizes.{refused_changed}
 use Rattle.atlas_cache.proofs.rooms.Rooms.grow_page.Goals as goal
 
@@ -89,6 +89,25 @@ returns-in-Err-clause-short g c = λ is.
     let step = subst (λ e. Step (state_of a) (Grow n) (Refused e) (state_of b)) (c.refusal.ensures.slots slots) c.in-Err.ensures.step in
     rw (← c.self.view_is) (growth_short c.self.inside.pages.items c.in-Some.page a b c.index_mut.ensures.value growth.within
     c.self.inside.options c.self.invariant.0 n (state_of b) step)
+
+pub returns-in-Err-clause-lacks : goal.returns-in-Err-clause-lacks
+returns-in-Err-clause-lacks g c = λ is.
+    let growth = growth_of (rooms_of c.self.inside.options c.self.inside.pages.items) c.self.invariant.0 c.in-Some.page c.in-Some.old
+    (rw c.deref.ensures.value at c.in-Some.ensures.here) c.in-Some.ensures.smaller in
+    let a = c.index_mut.result.now in
+    let b = c.grow.new.self in
+    let n = sides_of c.grown-size.result in
+    let slots : c.refusal.result ≡ Slots = cc in
+    let step = subst (λ e. Step (state_of a) (Grow n) (Refused e) (state_of b)) (c.refusal.ensures.slots slots) c.in-Err.ensures.step in
+    rw (← c.self.view_is) (first_growth_short c.self.inside.pages.items c.in-Some.page a b c.index_mut.ensures.value growth.within
+    c.self.inside.options c.self.invariant.0 c.grown-size.result
+    (record {
+      before = rw c.deref.ensures.value at c.in-Some.ensures.before;
+      old = c.in-Some.old;
+      here = rw c.deref.ensures.value at c.in-Some.ensures.here;
+      smaller = c.in-Some.ensures.smaller;
+      grows = c.grown-size.ensures;
+    }) n (state_of b) step)
 
 pub invariant_of-self-2 : goal.invariant_of-self-2
 invariant_of-self-2 g c =

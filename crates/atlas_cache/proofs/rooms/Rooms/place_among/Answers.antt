@@ -9,7 +9,7 @@ use Rattle.atlas_entries.specs.declared.error.CacheError.TheVariants.{Memory, Sl
 use Rattle.atlas_cache.specs.Placing.{PlacesFirst}
 use Rattle.atlas_cache.specs.Rooms.{rooms_of, KeepsRooms, RoomsState}
 use Rattle.atlas_cache.proofs.RoomLemmas.KeptPages.{none_yet, no_room, nothing_changes, rooms_stay, rounded_as, sizes_stay, takes}
-use Rattle.atlas_cache.proofs.RoomLemmas.PageReserves.{none_used, page_grants, page_has, page_uses, request_short}
+use Rattle.atlas_cache.proofs.RoomLemmas.PageReserves.{first_short, none_used, page_grants, page_has, page_uses, request_short}
 use Rattle.atlas_cache.proofs.RoomLemmas.PageRoom.{is_at_least}
 use Rattle.atlas_cache.proofs.RoomLemmas.RefusedSizes.{refused_set}
 use Rattle.atlas_cache.proofs.rooms.Rooms.place_among.Goals as goal
@@ -104,6 +104,7 @@ returns-in-Ok-Some g c =
       refused = tt;
       errors = tt;
       short = λ no. cc;
+      lacks = λ no. cc;
       sizes = sizes_stay pages page a b is within c.ask.ensures.frame;
       options = refl;
       slots = page_uses pages page a b is within 4 c.ask.ensures.slots;
@@ -147,6 +148,13 @@ returns-in-Err g c =
           let step = subst (λ e. Step (state_of a) (Allocate (sides_of c.args.asked)) (Refused e) (state_of b)) (c.refusal.ensures.slots slots)
           c.in-Err.ensures.step in
           rw (← was.same) (request_short pages page a b is_a within c.loop-page.self-inside.options kept (sides_of c.args.asked) (state_of b) step);
+      lacks = λ is.
+          let slots : c.refusal.result ≡ Slots = cc in
+          let kept = subst KeepsRooms (c.self.view_is ∙ sym was.same) c.self.invariant.0 in
+          let step = subst (λ e. Step (state_of a) (Allocate (sides_of c.args.asked)) (Refused e) (state_of b)) (c.refusal.ensures.slots slots)
+          c.in-Err.ensures.step in
+          rw (← was.same)
+          (first_short pages page a b is_a within c.loop-page.self-inside.options kept c.args.asked (state_of b) (rw (← was.same) at was.none) step);
       sizes = refl;
       options = refl;
       slots = none_used 4 old.pages;
@@ -168,6 +176,7 @@ returns g c =
       refused = tt;
       errors = tt;
       short = λ no. cc;
+      lacks = λ no. cc;
       sizes = refl;
       options = refl;
       slots = none_used 4 old.pages;

@@ -18,6 +18,7 @@ loop-call-preserved g c =
     record {
       simple = i.simple;
       room = omega arith;
+      capacity = omega (arith, i.capacity, c.push_reserved.ensures.capacity);
       longer = omega (arith, ap length c.push_reserved.ensures.items, length-append items (c.make.result ∷ []));
       kept = take-longer n items c.push_reserved.new.self.items c.make.result c.push_reserved.ensures.items i.longer ∙ i.kept;
       exact = subst (All GrantsExact) (sym more)

@@ -1,4 +1,4 @@
-use Rattle.std.proofs.Common.{◌+◌, ◌<◌, length, sym, subst, ◌∙◌, arith}
+use Rattle.std.proofs.Common.{◌+◌, ◌<◌, length, min, vec_capacity, sym, subst, ◌∙◌, arith}
 use Rattle.atlas_model.specs.Boxes.{Fits}
 use Rattle.atlas_model.specs.Pixels.{options_of, sides_of}
 use Rattle.guillotiere.specs.FreeBoxes.BoxShelves.{AreKept, box_shelf, free_item_boxes}
@@ -35,7 +35,7 @@ pub returns-in_err-add_rest-clause-memory : goal.returns-in_err-add_rest-clause-
 returns-in_err-add_rest-clause-memory g c =
     let a = c.self.inside in
     let used = used-free (options_of a.options) (box_shelf a.boxes) c.self.invariant.state.kept in
-    let more : length (box_shelf a.boxes).entries < length (free_item_boxes (box_shelf a.boxes).entries) + length (kept_beyond a.options a.size c.args.new_size) =
+    let more : min (vec_capacity a.boxes.entries) 4261412864 < length (free_item_boxes (box_shelf a.boxes).entries) + length (kept_beyond a.options a.size c.args.new_size) =
     omega (arith, used, c.in_err-add_rest.ensures.needed) in
     at_error c.from_residual.result (subst (λ w. MayAskMemory w (Grow (sides_of c.args.new_size))) c.self.view_is more)
 

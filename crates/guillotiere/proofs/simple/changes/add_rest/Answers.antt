@@ -36,7 +36,7 @@ returns-in_err-make_room-clause-needed g c =
       arith,
       length-kept o f (sides_of c.args.size) c.guillotine-rest.result is,
       c.kept_count.ensures,
-      c.in_err-make_room.ensures.needed,
+      c.in_err-make_room.ensures.lacks,
       length-map bs stored_item,
       c.args.boxes.now.entries.ok,
     ))
