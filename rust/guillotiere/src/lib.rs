@@ -56,8 +56,8 @@
 //!
 //! | call | its time grows by |
 //! |---|---|
-//! | [`AtlasAllocator::new`] | nothing; it takes 21,672 bytes |
-//! | [`allocate`](AtlasAllocator::allocate), [`can_fit`](AtlasAllocator::can_fit) | the lists of free boxes that are as wide or as high, at most 103, since boxes are listed by 52 bands of their widths and 52 of their heights; in a list of more than 96 the logarithm of their number; where none has just that side, the free boxes that are larger in both, one by one |
+//! | [`AtlasAllocator::new`] | nothing; it takes 10,860 bytes |
+//! | [`allocate`](AtlasAllocator::allocate), [`can_fit`](AtlasAllocator::can_fit) | the lists of free boxes that are as wide or as high, at most 103, since boxes are listed by 52 bands of their widths and 52 of their heights; of the boxes of a list that have just that side only the first is looked at; where none has it, the free boxes that are larger in both, one by one |
 //! | [`deallocate`](AtlasAllocator::deallocate) | the slots that go where free space is joined, each of which goes once |
 //! | `atlas[id]`, [`get`](AtlasAllocator::get), [`size`](AtlasAllocator::size), [`is_empty`](AtlasAllocator::is_empty) | nothing |
 //! | [`iter`](AtlasAllocator::iter), [`free_iter`](AtlasAllocator::free_iter) and the `for_each` calls, which take no memory; [`allocations`](AtlasAllocator::allocations) and [`free_rectangles`](AtlasAllocator::free_rectangles), which gather a list; [`areas`](AtlasAllocator::areas), `clone` | the most slots that were used at once |
@@ -82,9 +82,8 @@
 //! - An atlas has 16,777,216 slots at most ([`MOST_SLOTS`]): one for each live box, each free box and each group of boxes between cuts.
 //! - The id of a freed box is given out again once its slot was taken 256 times, and may be at once after `clear`, `reset` or a
 //!   rearrangement: don't keep ids of what is freed.
-//! - Memory, where pointers have 64 bits: 21,672 bytes for an atlas, 56 for each slot. That was 97 bytes a live box among 65,536
-//!   equal tiles, 209 among 5,320 glyphs after a million calls, and 331 for each of 35,532 entries of a cache. It stays until the
-//!   atlas is dropped or rearranged.
+//! - Memory, where pointers have 64 bits: 10,860 bytes for an atlas, 60 for each slot. That was 105 bytes a live box among 65,536
+//!   equal tiles. It stays until the atlas is dropped or rearranged.
 //! - A cache has up to 4,294,967,295 entries.
 //!
 //! # Errors
