@@ -9,7 +9,9 @@ ghost use Rattle.atlas_cache.specs.Caches.{IsFull};
 use atlas_cache::entries::{DefaultHasher, Entries, Entry};
 use atlas_cache::recency::Recency;
 use atlas_cache::{CacheError, Changes, TextureCache};
+use guillotiere::session::{Call, Reply, step};
 use guillotiere::{AllocId, AtlasAllocator, AtlasError, Size, size2};
+use guillotiere_recording::{RecordingAllocator, RecordingError};
 use std::alloc::Allocator;
 
 /// Two grants for which memory was taken first: neither finds that there is none.
@@ -37,6 +39,32 @@ pub fn freed_between<A: Allocator + Copy>(
     let _cleared = atlas.clear();
     let granted = atlas.allocate(size);
     prove!(!matches!(&granted, Err(AtlasError::Memory)));
+    Ok(())
+}
+
+/// The same by steps of a session.
+pub fn steps_between<A: Allocator + Copy>(
+    atlas: &mut AtlasAllocator<A>,
+    id: AllocId,
+    size: Size,
+) -> Result<(), AtlasError> {
+    atlas.reserve(4)?;
+    let _freed = step(atlas, &Call::Deallocate(id));
+    let _cleared = step(atlas, &Call::Clear);
+    let reply = step(atlas, &Call::Allocate(size));
+    prove!(!matches!(&reply, Reply::Refused(AtlasError::Memory)));
+    Ok(())
+}
+
+/// And of a recorder: a freeing leaves what is in reserve, so that it needn't be taken again.
+pub fn recorded_between<A: Allocator + Copy>(
+    session: &mut RecordingAllocator<A>,
+    name: AllocId,
+) -> Result<(), RecordingError> {
+    session.reserve(4)?;
+    let _freed = session.deallocate(name);
+    let again = session.reserve(4);
+    prove!(!matches!(&again, Err(RecordingError::Memory)));
     Ok(())
 }
 
