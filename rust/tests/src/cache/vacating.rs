@@ -73,8 +73,9 @@ fn lie_apart(a: Rectangle, b: Rectangle) -> bool {
 fn what_goes_after_sixteen_lies_in_one_box() -> Result<(), Fail> {
     for side in [16, 24, 40, 64, 128] {
         let Outcome { answer, gone, kept } = insert_large(side, |_| false)?;
-        let Inserted::Placed(place) = answer else {
-            panic!("no place for {} by {}: {:?}", side, side, answer);
+        let place = match answer {
+            Inserted::Placed(place) => place,
+            other => panic!("no place for {} by {}: {:?}", side, side, other),
         };
         assert!(gone.len() > OLDEST_FIRST, "{side}: {} went", gone.len());
         for (turn, (key, _)) in gone[..OLDEST_FIRST].iter().enumerate() {
