@@ -1,59 +1,141 @@
-"""The fixed list of bench/worst, counted, and as a test."""
+"""The fixed list of bench/worst, counted, beside what docs/BENCH.md says of it, and as a test."""
 import concurrent.futures
 import math
 import os
 import re
 
 import player
-from measure import ROOT
+from measure import ROOT, Failure
 from runner import Suite
 
 PATH = os.path.join(ROOT, 'bench', 'cliffs', 'list')
-# How much a call may grow from n to 4n, and how much more than it is known to.
-MOST, MORE = 1.5, 1.25
-SECONDS = 240
+PAGE = os.path.join(ROOT, 'docs', 'BENCH.md')
+# How much a call may grow from n to 4n, how much more than it is known to, and how much dearer it may be than the page says.
+MOST, MORE, WORSE = 1.5, 1.25, 1.1
+SECONDS = 900
+# How many calls of the patched copy are counted: it looks at every box.
+PATCHED_CALLS = 100
+HEAD = '| instructions of a call | n | 4n | 16n | grows by | the crate, n | 4n | ratio | patched, 4n | ratio |'
+
+
+class Line:
+    """A line of the list: its genome, its name or '', the growth that is known or None, and whether the test leaves it out."""
+
+    def __init__(self, text):
+        text, _, name = text.partition('#')
+        words = text.split()
+        self.is_dear = words[0] == 'dear'
+        words = words[self.is_dear:]
+        known = re.match(r'grows=([0-9.]+)$', words[0])
+        self.known = float(known.group(1)) if known else None
+        self.genome = ' '.join(words[bool(known):])
+        self.name = name.strip()
+        part = re.search(r' part=(\w+)', self.genome)
+        self.part = part.group(1) if part else 'ask'
+
+    def has(self, form):
+        """Whether a form has this workload."""
+        kind = self.genome.split()[0]
+        is_atlas = kind in ('atlas', 'simple', 'taken') and 'do=can_fit' not in self.genome
+        return form == 'here' or is_atlas or form == 'crate' and kind == 'cache' and 'do=keep' not in self.genome
+
+    def counted(self, program, form, at):
+        """Instructions of a call, or nan."""
+        if not self.has(form):
+            return math.nan
+        bounds = {self.part: PATCHED_CALLS} if form == 'patched' and self.part == 'ask' else {}
+        return player.counted(program, form, '%s at=%d' % (self.genome, at), self.part, bounds, SECONDS) or math.nan
 
 
 def lines(path):
-    """The growth that is known, or None, the genome, and its name or '', of each line."""
     with open(path) as file:
-        for text in file:
-            text, _, name = text.partition('#')
-            text = text.strip()
-            if text:
-                known = re.match(r'grows=([0-9.]+) ', text)
-                yield (float(known.group(1)) if known else None), text[known.end():] if known else text, name.strip()
+        return [Line(text) for text in file if text.partition('#')[0].strip()]
 
 
-def counts(program, genome, has_crate):
-    """Instructions of a call here at n and at 4n, and the crate's; nan where it isn't counted."""
-    forms = [('here', 1), ('here', 4)] + ([('crate', 1), ('crate', 4)] if has_crate and not genome.startswith('sheet') else [])
-    part = re.search(r' part=(\w+)', genome)
-    found = [player.counted(program, form, '%s at=%d' % (genome, at), part.group(1) if part else 'ask', {}, SECONDS) for form, at in forms]
-    return [each or math.nan for each in found] + [math.nan] * (4 - len(found))
+def table_lines(text):
+    """The lines of the page's table: the first one, and the one after the last."""
+    lines = text.split('\n')
+    if HEAD not in lines:
+        raise Failure('%s has no table %s' % (PAGE, HEAD))
+    first = lines.index(HEAD)
+    end = first
+    while lines[end].startswith('|'):
+        end += 1
+    return lines, first, end
 
 
-def verdict(known, growth):
+def said():
+    """What the page says of each row: instructions of a call at n and at 4n."""
+    text, first, end = table_lines(player.read(PAGE))
+    rows = [[cell.strip() for cell in line.split('|')[1:-1]] for line in text[first + 2:end]]
+    return {cells[0]: [float(cell.replace(',', '')) for cell in cells[1:3]] for cells in rows}
+
+
+def verdict(line, small, large, page):
     """What the test says of a line, and whether it passes."""
-    if known is None:
-        return ('passes', True) if growth <= MOST else ('GROWS', False)
-    if growth > MORE * known:
-        return 'GROWS more than is known', False
-    return ('no longer grows: delete its first word' if growth <= MOST else 'known to grow'), True
+    told = page.get(line.name) if line.name else None
+    if line.name and not told:
+        return 'IS NOT ON THE PAGE', False
+    if told and (small > WORSE * told[0] or large > WORSE * told[1]):
+        return 'IS WORSE than the page says, %.0f and %.0f' % tuple(told), False
+    if large / small > (MORE * line.known if line.known else MOST):
+        return 'GROWS', False
+    return ('no longer grows: delete its first word' if line.known and large / small <= MOST else 'passes'), True
 
 
-def run(mode, path, program, has_crate):
-    """Prints a row for each line, and for the test its counts."""
-    suite = Suite()
-    print('| n | 4n | growth |%s | genome |\n%s|' % (' the crate, n | 4n | ratio |' if has_crate else '', '|---' * (8 if has_crate else 5)))
+def test(path, program):
+    """Counts the lines that aren't dear, at n and at 4n."""
+    suite, page = Suite(), said()
+    listed = [line for line in lines(path) if not line.is_dear]
     with concurrent.futures.ThreadPoolExecutor(2) as pool:
-        listed = list(lines(path))
-        futures = [pool.submit(counts, program, genome, has_crate) for _, genome, _ in listed]
-        for (known, genome, name), future in zip(listed, futures):
-            here, large, crate, crate_large = future.result()
-            said, passes = verdict(known, large / here)
+        futures = [pool.submit(lambda line: [line.counted(program, 'here', at) for at in (1, 4)], line) for line in listed]
+        for line, future in zip(listed, futures):
+            small, large = future.result()
+            what, passes = verdict(line, small, large, page)
             suite.passed, suite.failed = suite.passed + passes, suite.failed + (not passes)
-            beside = ' %.0f | %.0f | %.1f |' % (crate, crate_large, large / crate_large) if has_crate else ''
-            print('| %.0f | %.0f | %.2f |%s %s | %s`%s` |' % (
-                here, large, large / here, beside, said, name + ': ' if name else '', genome), flush=True)
-    return suite.end() if mode == 'test' else 0
+            print('%s: %.0f, %.0f at 4n: %s' % (line.name or line.genome, small, large, what), flush=True)
+    return suite.end()
+
+
+def shown(number, places=0):
+    return '' if math.isnan(number) else '{:,.{}f}'.format(number, places)
+
+
+def places(ratio):
+    return 1 if ratio >= 0.1 else 2 if ratio >= 0.01 else 4
+
+
+class Row:
+    """A row of the page's table."""
+
+    def __init__(self, line, program):
+        self.name = line.name
+        self.here = [line.counted(program, 'here', at) for at in (1, 4, 16)]
+        self.crate = [line.counted(program, 'crate', at) for at in (1, 4)]
+        self.patched = line.counted(program, 'patched', 4)
+        self.growth = max((large / small for small, large in zip(self.here, self.here[1:]) if large == large), default=math.nan)
+        # At 4n, or at n where the crate's filling takes too long at 4n.
+        at = 0 if math.isnan(self.crate[1]) else 1
+        self.ratio = self.here[at] / self.crate[at]
+
+    def shown(self):
+        beside = self.here[1] / self.patched
+        cells = [self.name] + [shown(each) for each in self.here] + [shown(self.growth, 2)] + [shown(each) for each in self.crate]
+        cells += [shown(self.ratio, places(self.ratio)), shown(self.patched), shown(beside, places(beside))]
+        return '| ' + ' | '.join(cells) + ' |'
+
+
+def table(path, program, is_written):
+    """Prints the rows with a name, the worst beside the crate first, and writes them into the page if asked to."""
+    rows = []
+    with concurrent.futures.ThreadPoolExecutor(2) as pool:
+        for row in pool.map(lambda line: Row(line, program), [line for line in lines(path) if line.name]):
+            print(row.shown(), flush=True)
+            rows.append(row)
+    rows.sort(key=lambda row: (math.isnan(row.ratio), -row.ratio if row.ratio == row.ratio else -row.here[1]))
+    all_lines = [HEAD, '|---' * (HEAD.count('|') - 1) + '|'] + [row.shown() for row in rows]
+    print('\n' + '\n'.join(all_lines))
+    if is_written:
+        text, first, end = table_lines(player.read(PAGE))
+        player.write(PAGE, '\n'.join(text[:first] + all_lines + text[end:]))
+    return 0

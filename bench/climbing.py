@@ -30,9 +30,9 @@ class Find:
         return (self.way,) + genomes.likeness(self.genome, self.part)
 
 
-def bounds_of(played, divisor):
-    """The calls of all parts after the filling, divided."""
-    return {part: max(16, played.calls(part) // divisor) for part in played.parts if part not in ('fill', 'free')}
+def bounds_of(played):
+    """The calls of all parts after the filling."""
+    return {part: max(16, played.calls(part)) for part in played.parts if part not in ('fill', 'free')}
 
 
 def parts_of(genome, played):
@@ -43,7 +43,7 @@ def parts_of(genome, played):
 def growths(genome, large, small):
     """How much dearer a call of each part is at 4n. What is dear at last counts for more."""
     for part in parts_of(genome, large):
-        if min(large.calls(part), 4 * small.calls(part)) >= CALLS and large.each(part) >= DEAR and small.each(part) > 0:
+        if min(large.calls(part), small.calls(part)) >= CALLS and large.each(part) >= DEAR and small.each(part) > 0:
             growth = large.each(part) / small.each(part)
             yield Find(genome, part, min(growth, 6) * math.log(large.each(part)), 'growth', large.calls(part))
 
@@ -61,13 +61,13 @@ def found(program, genome, has_crate):
     """What is bad in a genome."""
     line = genomes.line(genome)
     large = program.play('here', line + ' at=4', BUDGET)
-    small = program.play('here', line, BUDGET, bounds_of(large, 4)) if large else None
+    small = program.play('here', line, BUDGET, bounds_of(large)) if large else None
     if not small:
         say('ended badly: ' + line)
         return []
     finds = list(growths(genome, large, small))
     if has_crate and genome[''] != 'sheet':
-        crate = program.play('crate', line + ' at=4', BUDGET, bounds_of(large, 1))
+        crate = program.play('crate', line + ' at=4', BUDGET, bounds_of(large))
         finds += list(ratios(genome, large, crate)) if crate else []
     return finds
 
@@ -118,12 +118,12 @@ def climb(program, counting, has_crate, minutes, seed):
 
 
 def row(counting, find, has_crate):
-    """A find, counted by callgrind: over the first calls of its part, a quarter of them at n."""
+    """A find, counted by callgrind: over the first calls of its part."""
     calls = min(find.calls, COUNTED_CALLS)
     is_asked = find.part not in ('fill', 'free', 'rearrange', 'clear')
 
     def count(form, at):
-        bounds = {find.part: max(16, calls * at // 4)} if is_asked else {}
+        bounds = {find.part: calls} if is_asked else {}
         each = player.counted(counting, form, '%s at=%d' % (find.line, at), find.part, bounds, SECONDS) if counting else None
         return each or math.nan
 

@@ -11,7 +11,7 @@ import time
 ROOT = os.path.dirname(os.path.dirname(os.path.abspath(__file__)))
 sys.path.append(os.path.join(ROOT, 'gate'))
 from crates import proved_program  # noqa: E402, F401
-from runner import Failure, call  # noqa: E402
+from runner import Failure, call, read, status_of, write  # noqa: E402, F401
 
 
 def say(message):
@@ -23,16 +23,6 @@ def absent(commands=(), files=()):
     wanting = ['command ' + name for name in commands if shutil.which(name) is None]
     wanting += ['file ' + path for path in files if not os.path.isfile(path)]
     return 'there is no ' + ', no '.join(wanting) if wanting else ''
-
-
-def build_library(prefix):
-    """Proves and builds the library, and installs it in a folder."""
-    say('proving and building the library')
-    call([os.path.join(ROOT, 'bindings', 'build'), prefix], timeout=None)
-
-
-# What bindings/build needs.
-LIBRARY_COMMANDS = ('rt', 'ar', 'ld', 'objcopy')
 
 
 def processor_time():

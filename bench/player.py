@@ -1,6 +1,7 @@
 """The program of bench/cliffs, which plays workloads, for bench/worst; and that of bench/uses, for bench/traces."""
 import hashlib
 import os
+import platform
 import re
 import subprocess
 import sys
@@ -31,7 +32,7 @@ lto = "fat"
 """
 EUCLID = '[package]\nname = "euclid"\nversion = "0.0.0"\nedition = "2021"\n'
 STEPS = ['--cfg steps', '-C profile-generate=' + os.devnull, '-C llvm-args=-disable-vp']
-PART = re.compile(r'([a-z]+):(\d+):(\d+)')
+PART = re.compile(r'(?<!\S)([a-z]+):(\d+):(\d+)')
 
 
 def read(path):
@@ -47,6 +48,13 @@ def write(path, text):
             file.write(text)
 
 
+def patched(oracle, allocator):
+    """The crate's own code with the two changes, after which its answers are the same as here."""
+    with tempfile.NamedTemporaryFile('r', suffix='.rs') as out:
+        call([sys.executable, os.path.join(oracle, 'patch.py'), allocator, out.name, 'stale', 'ties'])
+        return read(out.name)
+
+
 def lay_out(here, core, crate, sources):
     """Writes the package; `crate` has the two paths of the Rust crate's own code, or none."""
     support = os.path.join(os.path.dirname(core), 'support')
@@ -58,6 +66,7 @@ def lay_out(here, core, crate, sources):
         write(os.path.join(here, 'euclid', 'Cargo.toml'), EUCLID)
         write(os.path.join(here, 'euclid', 'src', 'lib.rs'), read(os.path.join(crate[0], 'euclid_shim.rs')))
         write(os.path.join(here, 'src', 'allocator.rs'), read(crate[1]))
+        write(os.path.join(here, 'src', 'patched_allocator.rs'), patched(*crate))
         write(os.path.join(here, 'src', 'cache.rs'), read(os.path.join(ROOT, 'bench', 'cache.rs')))
 
 
@@ -105,8 +114,8 @@ class Player:
         self.program = program
         self.process = None
 
-    def play(self, form, genome, budget=0, bounds=()):
-        """None where it didn't come to an end."""
+    def told(self, form, genome, budget=0, bounds=()):
+        """What it answers, or '' where it didn't come to an end."""
         if self.process is None:
             self.process = subprocess.Popen([self.program], stdin=subprocess.PIPE, stdout=subprocess.PIPE, stderr=subprocess.DEVNULL,
                                             text=True, env=dict(os.environ, LLVM_PROFILE_FILE=os.devnull))
@@ -116,24 +125,52 @@ class Player:
             line = self.process.stdout.readline()
         except BrokenPipeError:
             line = ''
-        if line:
-            return Played(line)
-        self.process.wait()
-        self.process = None
-        return None
+        if not line:
+            self.process.wait()
+            self.process = None
+        return line
+
+    def play(self, form, genome, budget=0, bounds=()):
+        """None where it didn't come to an end."""
+        line = self.told(form, genome, budget, bounds)
+        return Played(line) if line else None
+
+
+# The program says when counting begins and ends, but elsewhere, where callgrind is told the name of a function.
+CALLGRIND = ['valgrind', '--tool=callgrind', '--instr-atstart=no' if platform.machine() == 'x86_64' else '--toggle-collect=*counted*']
+
+
+def by_callgrind(program, text, seconds):
+    """Runs a program over a line. What it answered, and the instructions of each file that callgrind left, by their order; None
+    where it took longer than so many seconds."""
+    with tempfile.TemporaryDirectory() as folder:
+        command = CALLGRIND + ['--callgrind-out-file=' + os.path.join(folder, 'out'), program]
+        try:
+            done = subprocess.run(command, input=text, capture_output=True, text=True, timeout=seconds)
+        except subprocess.TimeoutExpired:
+            return None
+        if done.returncode or not done.stdout:
+            raise Failure('%s over %s\n%s' % (program, text, done.stderr[-500:]))
+        numbers = sorted(int(name[4:]) for name in os.listdir(folder) if name[4:])
+        files = [read(os.path.join(folder, name)) for name in ['out.%d' % number for number in numbers] or ['out']]
+    return done.stdout, [int(re.search(r'^(?:totals|summary): (\d+)', text, re.M).group(1)) for text in files]
 
 
 def counted(program, form, genome, part, bounds, seconds=None):
     """The instructions of a call of this part, as callgrind counts them; None where it took longer than so many seconds."""
-    with tempfile.TemporaryDirectory() as folder:
-        command = ['valgrind', '--tool=callgrind', '--callgrind-out-file=' + os.path.join(folder, 'out'), '--toggle-collect=*counted*',
-                   program]
-        try:
-            done = subprocess.run(command, input=words_of(form, 0, bounds, part, genome), capture_output=True, text=True, timeout=seconds)
-        except subprocess.TimeoutExpired:
-            return None
-    found = re.search(r'Collected : (\d+)', done.stderr)
-    if done.returncode or not done.stdout or not found:
-        raise Failure('%s over %s\n%s' % (program, genome, done.stderr[-500:]))
-    calls = Played(done.stdout).calls(part)
-    return int(found.group(1)) / calls if calls else 0
+    found = by_callgrind(program, words_of(form, 0, bounds, part, genome), seconds)
+    if found is None:
+        return None
+    calls = Played(found[0]).calls(part)
+    return found[1][0] / calls if calls else 0
+
+
+def counted_calls(program, form, genome, numbers, seconds=None):
+    """The instructions of each of these calls, by the number that `watch=steps` gave it; None where it took too long."""
+    line = '%s watch=%s' % (genome, '+'.join(str(number) for number in sorted(numbers)))
+    found = by_callgrind(program, words_of(form, 0, {}, '-', line), seconds)
+    if found is None:
+        return None
+    if len(found[1]) < len(numbers):
+        raise Failure('callgrind counted %d calls of %d: %s' % (len(found[1]), len(numbers), line))
+    return dict(zip(sorted(numbers), found[1]))

@@ -65,7 +65,8 @@ class Crate:
         built = self.rlib()
         return (built / "format").is_file() and self.is_newer(built)
 
-    def words(self, kit):
+    def words(self, kit, is_static=None):
+        """What its check is told; of a static library, as what it is in crates.txt or as a plain one."""
         words = ["--crate-name", self.name, self.root, "--extern", f"std={kit}/rlibs/std.rlib", "-L", f"dependency={kit}/rlibs"]
         for dep in self.deps:
             own = Crate.all.get(dep)
@@ -73,7 +74,7 @@ class Crate:
         for dep in self.below().values():
             words += ["-L", f"dependency={dep.rlib().parent}"]
         words += ["--antt-project", f"{kit}/rattle/logic/antt-project.json", "--logic-built", f"{kit}/logic_built"]
-        words += ["--crate-type", "staticlib"] if self.is_static else []
+        words += ["--crate-type", "staticlib"] if (self.is_static if is_static is None else is_static) else []
         return words
 
 

@@ -17,6 +17,11 @@ A line may be wrong, by hand or by mistake. So each day draws a tenth of them, w
 and each ten draw each edit once, not always on the same day of the ten. The date draws, and not the commit: whoever writes a wrong line
 could change a commit's text until its sum spares that line, but no text changes the date, and no name is spared for longer than 18 days.
 The day is that of UTC; EDITS_DATE=YYYY-MM-DD in the environment draws as on that day.
+
+The draw trusts no author. What decides between a tenth and all does: .ci/run tries all where much of the ledger is younger than a day by
+the dates of commits, which their author writes. Who forges many lines and a date is found out by the draws alone, a tenth of them on the
+first day and the last within 18. `./check all` asks nobody: it is run before a release, and by whoever doesn't trust the author of a
+change.
 """
 import datetime
 import functools

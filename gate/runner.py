@@ -2,12 +2,15 @@
 
 A test is a function that raises what is wrong. What isn't there raises Absent. A script of tests ends with a line 'N passed, M failed'.
 """
+import importlib.util
+import os
 import re
 import shutil
 import subprocess
 import sys
 import time
 import traceback
+from importlib.machinery import SourceFileLoader
 
 # The seconds that a command may take where nothing else is said.
 LONGEST = 3600
@@ -32,6 +35,23 @@ def arguments(doc, *known):
     return given
 
 
+def module_of(path):
+    """A script without an ending as a module."""
+    loader = SourceFileLoader(os.path.basename(path), str(path))
+    module = importlib.util.module_from_spec(importlib.util.spec_from_loader(loader.name, loader))
+    loader.exec_module(module)
+    return module
+
+
+def status_of(script, work):
+    """The status of a script that does this work, which gives one, or nothing where all is well. What fails is told in a line."""
+    try:
+        return work() or 0
+    except (Failure, OSError) as failure:
+        print('%s: %s' % (script, failure), file=sys.stderr)
+        return 1
+
+
 def outcome(command, **more):
     """A command that has ended, and what it printed, as text."""
     more = {'stdout': subprocess.PIPE, 'stderr': subprocess.STDOUT, 'timeout': LONGEST, 'encoding': 'utf-8', 'errors': 'replace', **more}
@@ -53,6 +73,17 @@ def call(command, **more):
 def output(command, **more):
     """The same of standard output alone."""
     return call(command, stderr=subprocess.PIPE, **more)
+
+
+def read(*path, **more):
+    """The text of a file."""
+    with open(os.path.join(*path), encoding='utf-8', **more) as file:
+        return file.read()
+
+
+def write(path, text):
+    with open(path, 'w', encoding='utf-8') as file:
+        file.write(text)
 
 
 def require(*commands):

@@ -1,4 +1,5 @@
-"""The cargo of this machine, for what builds the workspaces of rust/."""
+"""The cargo of this machine, for what builds the workspaces of rust/; the crates of others; and the targets beside its own for which a
+machine of Debian's builds."""
 import functools
 import json
 import os
@@ -12,16 +13,24 @@ import stand_in
 
 HERE = os.path.dirname(os.path.abspath(__file__))
 sys.path.append(os.path.join(os.path.dirname(HERE), 'gate'))
-from runner import Failure  # noqa: E402
+from runner import Failure, call, read  # noqa: E402
 
 # Debian's folder; CRATES in the environment is another one.
 REGISTRY = stand_in.REGISTRY
 # Debian's packages of the crates that rust/guillotiere needs, and of those that these need.
 PACKAGES = ['librust-%s-dev' % name for name in ('autocfg', 'euclid', 'libm', 'num-traits', 'proc-macro2', 'quote', 'serde', 'serde-derive',
                                              'syn', 'unicode-ident')]
+# The crates of others that guillotiere-sheet needs.
+OF_SHEET = ['clap', 'clap_complete', 'ctrlc', 'fd-lock', 'globset', 'image', 'imagesize', 'indicatif', 'libc', 'notify', 'png', 'same-file',
+            'serde_derive', 'serde_json', 'sha2', 'sysinfo', 'tera', 'toml', 'walkdir']
 UNPACKED = os.path.join(HERE, 'target', 'debian')
 # The workspace of programs and tests, which the eraser writes before they are built.
 ERASED = os.path.join(HERE, 'erased')
+# How Debian's binutils and compilers for a target begin, and what runs its programs.
+TOOLS = {'x86_64-unknown-linux-gnu': 'x86_64-linux-gnu-', 'aarch64-unknown-linux-gnu': 'aarch64-linux-gnu-',
+         'armv7-unknown-linux-gnueabihf': 'arm-linux-gnueabihf-', 'x86_64-pc-windows-gnu': 'x86_64-w64-mingw32-'}
+EMULATORS = {'aarch64-unknown-linux-gnu': 'qemu-aarch64', 'armv7-unknown-linux-gnueabihf': 'qemu-arm'}
+WINE = '/usr/lib/wine/wine64'
 
 
 def cargos():
@@ -56,6 +65,18 @@ def has_library(cargo_path, triple):
     return done.returncode == 0
 
 
+def linker(triple):
+    """What cargo is told of a target's linker."""
+    return {'CARGO_TARGET_%s_LINKER' % triple.upper().replace('-', '_'): TOOLS[triple] + 'gcc'}
+
+
+def emulator(triple):
+    """The words before a program of another target; the first of them is the command that must be there."""
+    if '-windows-' in triple:
+        return [shutil.which('wine64') or WINE]
+    return [EMULATORS[triple], '-L', '/usr/' + TOOLS[triple].rstrip('-')]
+
+
 def choose(triple):
     """From now on the first cargo whose rustc has Rust's own library for a target, such as Debian's behind the one of rustup."""
     found = cargos()
@@ -75,6 +96,22 @@ def from_debian(registry=REGISTRY):
         return []
     return ['--offline', '--config', 'source.crates-io.replace-with="debian"',
             '--config', 'source.debian.directory="%s"' % registry] + stand_in.words(registry)
+
+
+def missing_of_sheet():
+    """Those crates of guillotiere-sheet that Debian's folder lacks."""
+    there = os.listdir(REGISTRY) if os.path.isdir(REGISTRY) else []
+    return [name for name in OF_SHEET if not any(re.fullmatch(name + r'-\d.*', each) for each in there)]
+
+
+def packages_of_sheet(names):
+    """The packages of Debian that have such crates."""
+    return ' '.join('librust-%s-dev' % name.replace('_', '-') for name in names)
+
+
+def words_of_sheet():
+    """The words by which cargo takes them from there, where all are there."""
+    return [] if missing_of_sheet() else from_debian()
 
 
 def can_fetch(cargo_path, settings):
@@ -147,3 +184,18 @@ def program(name, words=(), more=()):
     build = Build('build', ['-p', name] + list(words), more, ERASED)
     build.require('this machine')
     return next(each['executable'] for each in build.made if each['target']['name'] == name and each['executable'])
+
+
+def needs(prefix):
+    """What a program that links the static library of rust/install links beside it."""
+    found = re.search(r'^Libs\.private: (.*)$', read(prefix, 'lib', 'pkgconfig', 'guillotiere.pc'), re.M)
+    return found[1].split() if found else []
+
+
+def over_library(folder, source, standard='-std=c99'):
+    """A program of one file in C over the library, which rust/install puts into the folder."""
+    prefix, made = os.path.join(folder, 'prefix'), os.path.join(folder, 'program')
+    call([os.path.join(HERE, 'install'), prefix])
+    call(['gcc', standard, '-O2', '-I' + os.path.join(prefix, 'include'), '-o', made, source,
+          os.path.join(prefix, 'lib', 'libguillotiere.a')] + needs(prefix))
+    return made

@@ -10,7 +10,7 @@ import tempfile
 import threading
 
 sys.path.append(os.path.join(os.path.dirname(os.path.dirname(os.path.abspath(__file__))), 'gate'))
-from runner import Failure  # noqa: E402
+from runner import Failure, read  # noqa: E402
 
 KINDS = {'.js': 'text/javascript', '.html': 'text/html; charset=utf-8', '.wasm': 'application/wasm', '.css': 'text/css'}
 CHROMIUM = ['--headless=new', '--no-sandbox', '--disable-gpu', '--disable-dev-shm-usage', '--no-first-run', '--disable-extensions',
@@ -105,8 +105,7 @@ def answer(name, path, folder, page, pages=(), seconds=300, words=(), environmen
                                        stderr=file, env=dict(os.environ, HOME=profile, **(environment or {})))
         try:
             if not server.has_answer.wait(seconds):
-                with open(log) as file:
-                    raise Failure('%s posted no answer in %d seconds\n%s' % (name, seconds, file.read()[-1000:]))
+                raise Failure('%s posted no answer in %d seconds\n%s' % (name, seconds, read(log)[-1000:]))
         finally:
             running.terminate()
             try:

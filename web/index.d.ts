@@ -28,8 +28,8 @@ declare global {
 export function load(source?: Source | PromiseLike<Source>): Promise<void>;
 
 /**
- * The same at once, of bytes or of a module that is compiled already. A page may ask this only of so many bytes as its browser compiles at
- * once; in a worker there is no bound.
+ * Starts the WebAssembly module at once, of bytes or of a module that is compiled already. A page may ask this only of so many bytes as
+ * its browser compiles at once; in a worker there is no bound.
  *
  * @throws {WollemigoError} `LOAD_FAILED`, with what was wrong as its `cause`.
  */
@@ -267,6 +267,13 @@ export class Atlas {
   readonly slots: Slots;
   /** In one pass over the slots. */
   readonly areas: Areas;
+  /** How much of the free area lies in free boxes which have no room for a request of this size, rounded up by the options: all of it, if a
+   * side is 0 or less. Asked with the size of a usual box it says how fragmented the atlas is: where that is much, it is time to rearrange
+   * it. In one pass over the slots. */
+  unusableArea(width: number, height: number): number;
+  /** The free box of the largest area; of several the topmost one, and of these the leftmost. null where nothing is free. In one pass over
+   * the slots. */
+  largestFree(): Rectangle | null;
   /** Whether no id is live. */
   readonly isEmpty: boolean;
   /** What `JSON.stringify` and a console show: its size, slots, areas and options; or as `state` that it is out of use. */
@@ -420,7 +427,7 @@ export class TextureCache {
    * A place for a key, which is used in this frame. A key that is held keeps its place, and counts as a hit. For a new key a page may grow,
    * one may be added, and keys that this frame didn't use may be evicted; what was done is handed over by `changes`: follow it after each
    * insertion, before the place or its number is noted, even if the call throws. Null where this frame uses all that the pages
-   * have room for: draw what is batched, call `beginFrame`, and insert again.
+   * have room for: draw what is batched, call `beginFrame`, or `endBatch` where the frame before was full too, and insert again.
    *
    * A key with an empty size (a side below 1) takes no room and is never evicted to make room for another. Both rectangles of
    * its place are 0, and so is its page, but it is on no page: there is nothing to write or to draw, no `repack` reports it, and
@@ -454,15 +461,30 @@ export class TextureCache {
   /** Evicts the keys that weren't used for at least this many frames, each reported by a change, the least recently used first. A frame is
    * a call of `beginFrame`: with 1 all goes that wasn't used since the last one, with 0 all. Throws `MEMORY`, and then nothing changed. */
   trim(frames: number | bigint): void;
+  /** Ends a batch, which was drawn, where the frame has no room for what comes next in it: this many of the most recently used keys go, all
+   * if there are no more, each reported by a change, the most recently used first. The frame goes on: an insertion evicts nothing of
+   * what is left that it used. Take few keys, a part in 512 say, and twice as many where there is no room still. Throws `MEMORY`, and then
+   * nothing changed. */
+  endBatch(keys: number): void;
   /** Removes the pages after the last one with a key, each reported as removed, the last one first; after `clear` all. A page that goes
    * takes its slots in reserve along, and one that is added later has none; keys in reserve stay. Throws `MEMORY`, and then nothing
    * changed. */
   shrink(): void;
+  /** Moves keys of the last page to the pages before it, so that `shrink` can give it back, as many as some pixels are enough for: after a
+   * burst a call in each frame empties page after page, where a `repack` would take too long for one. The most recently used key comes
+   * first; each that lies on the last page, on no more pixels, padding included, than are left, moves to the first page before it that has
+   * room for it, reported by a change. No key goes, none counts as used, and no page grows or goes. Answers how many pixels moved. All
+   * moves lead from the last page to other ones, on which nothing comes free: so the pixels can be copied one after another. Throws
+   * `SLOTS`, `MEMORY`, and then what moved before stays, and is reported. */
+  compact(pixels: number | bigint): number;
   /** Repacks the keys of a page, the largest first, so that what is free comes together. Each key is reported by a change: as moved, also
    * where it stays; or as **evicted**, where it found no room when its turn came, which may be though all had room before. Follow the
    * changes that wait, copy the page, then call this, and copy all pixels from that copy. The page may have no slots in reserve then; keys
    * in reserve stay. Throws `NO_PAGE`, `SLOTS`, `MEMORY`. */
   repack(page: number): void;
+  /** Repacks the keys of a page as `repack` does, but only where each of them finds room, so that no key is evicted. Returns whether it
+   * did; if not, nothing changed. Throws as `repack`. */
+  repackKeepingAll(page: number): boolean;
 
   /**
    * Makes sure that there is memory for this many more keys. A key that is added takes one of them; one that goes gives none back, but

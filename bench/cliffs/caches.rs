@@ -62,9 +62,13 @@ pub fn play<C: Cache>(genome: &Genome, run: &mut Run) {
     let mut random = Random::new(genome.number("seed", 1));
     let (what, pages) = (genome.word("do", "new"), shape_of(genome).pages);
     let first = u64::from(keys.next).saturating_sub(cache.len());
-    run.part("ask", genome.scaled("calls", 1000), &mut |limit, _| match what {
+    run.part("ask", genome.number("calls", 1000), &mut |limit, _| match what {
         "repack" => {
             (0..pages).for_each(|page| cache.repack(page));
+            limit.done = cache.len();
+        }
+        "keep" => {
+            (0..pages).for_each(|page| drop(cache.more(what, page)));
             limit.done = cache.len();
         }
         "trim" | "clear" => {

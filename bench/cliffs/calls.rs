@@ -168,11 +168,34 @@ fn cache_frames(live: u64) -> u64 {
     live / 2
 }
 
+fn turned(turn: u64) -> Size {
+    size2(16 + turn as i32 % 16, 16)
+}
+
+/// The calls that pass all slots. A part's calls are the boxes, free or live, that it answers of or may.
+fn walks(live: u64, run: &mut Run) {
+    const TIMES: u64 = 8;
+    let (atlas, _) = filled(live, &mut Random::new(1));
+    let free = atlas.free_iter().count() as u64;
+    run.holes = free;
+    let mut part = |name: &str, calls: u64, play: &mut dyn FnMut(u64)| {
+        run.part(name, u64::MAX, &mut |limit, _| {
+            (0..TIMES).for_each(&mut *play);
+            limit.done = TIMES * calls;
+        });
+    };
+    part("unusable", free, &mut |turn| drop(black_box(atlas.unusable_area(turned(turn)))));
+    part("largest", free, &mut |_| drop(black_box(atlas.largest_free())));
+    part("iter", live, &mut |_| drop(black_box(atlas.iter().map(black_box).count())));
+    part("freeiter", free, &mut |_| drop(black_box(atlas.free_iter().map(black_box).count())));
+}
+
 pub fn play(genome: &Genome, run: &mut Run) {
-    let live = genome.number("live", 1000);
+    let live = genome.scaled("live", 1000);
     match genome.word("of", "atlas") {
         "simple" => simple_calls(live, run),
         "cache" => cache_calls(live, run),
+        "walks" => walks(live, run),
         _ => atlas_calls(live, run),
     }
 }

@@ -44,6 +44,15 @@ impl Atlas for AtlasAllocator {
         self.deallocate(AllocId::deserialize(id)).ok().expect("a live id");
     }
 
+    #[inline]
+    fn can_fit(&self, width: i32, height: i32) -> bool {
+        AtlasAllocator::can_fit(self, size2(width, height))
+    }
+
+    fn copied(&self) -> Self {
+        self.clone().ok().expect("memory")
+    }
+
     fn grow(&mut self, size: (i32, i32)) {
         AtlasAllocator::grow(self, size2(size.0, size.1)).ok().expect("memory");
     }
@@ -132,6 +141,7 @@ impl crate::atlases::Cache for Cache {
 
     fn more(&mut self, what: &str, number: u32) -> bool {
         match what {
+            "keep" => drop(self.cache.repack_keeping_all(number, &mut self.changes).ok().expect("memory")),
             "remove" => drop(self.cache.remove(&number)),
             "trim" => self.cache.trim(0, &mut self.changes).ok().expect("memory"),
             "clear" => self.cache.clear(),

@@ -1,10 +1,11 @@
 //! Plays workloads for bench/worst.
 //!
-//! A line of standard input is `FORM BUDGET CALLS COUNTED GENOME`. FORM is `here`, this repository's library, or `crate`, the Rust
-//! crate's own code. BUDGET is how many steps a part may take before it is cut short, 0 for any number. CALLS bounds the calls of each
-//! part, as in `fill:1000,ask:400`, or is `-`. COUNTED is the part that callgrind counts, or `-`. GENOME says what is played
-//! (docs/BENCH.md). The reply is a line of words: `PART:CALLS:STEPS` for each part, and `holes:N` and `sum:N`, how many free boxes there
-//! were when asking began and a checksum of all answers.
+//! A line of standard input is `FORM BUDGET CALLS COUNTED GENOME`. FORM is `here`, this repository's library, `crate`, the Rust
+//! crate's own code, or `patched`, that code with the rule by which a box is taken here. BUDGET is how many steps a part may take
+//! before it is cut short, 0 for any number. CALLS bounds the calls of each part, as in `fill:1000,ask:400`, or is `-`. COUNTED is
+//! the part that callgrind counts, or `-`. GENOME says what is played (docs/BENCH.md). The reply is a line of words:
+//! `PART:CALLS:STEPS` for each part, `holes:N` and `sum:N`, how many free boxes there were when asking began and a checksum of all
+//! answers, and with `watch` what was watched of single calls.
 #![allow(dead_code)]
 extern crate alloc;
 
@@ -16,15 +17,28 @@ mod calls;
 mod constants;
 mod genome;
 mod here;
+mod memory;
 mod playing;
 mod sheets;
 mod sizes;
 mod steps;
 #[cfg(crates)]
+mod their_pages;
+#[cfg(crates)]
 mod theirs;
 #[cfg(crates)]
 #[path = "cache.rs"]
 mod texture_cache;
+mod watching;
+// The crate's code with two changes, after which its answers are the same as here.
+#[cfg(crates)]
+#[path = "."]
+mod patched {
+    #[path = "patched_allocator.rs"]
+    pub mod allocator;
+    #[path = "theirs.rs"]
+    pub mod theirs;
+}
 
 use genome::Genome;
 use playing::Run;
@@ -38,7 +52,7 @@ pub type Size = euclid::Size2D;
 #[cfg(crates)]
 pub type Rectangle = euclid::Box2D;
 #[cfg(crates)]
-pub use theirs::Answers;
+pub use their_pages::Answers;
 
 pub struct Random(u64);
 
@@ -64,15 +78,36 @@ impl Random {
 #[cfg(crates)]
 fn play_theirs(genome: &Genome, run: &mut Run) {
     match genome.kind.as_str() {
-        "cache" => caches::play::<theirs::Pages>(genome, run),
+        "cache" => caches::play::<their_pages::Pages>(genome, run),
         "constants" => constants::play::<theirs::Theirs>(run),
-        _ => playing::play::<theirs::Theirs>(genome, run),
+        "memory" => memory::play::<theirs::Theirs>(genome, run),
+        _ => play_atlas::<theirs::Theirs>(genome, run),
     }
+}
+
+#[cfg(crates)]
+fn play_patched(genome: &Genome, run: &mut Run) {
+    play_atlas::<patched::theirs::Theirs>(genome, run);
+}
+
+#[cfg(not(crates))]
+fn play_patched(_: &Genome, _: &mut Run) {
+    panic!("built without the crate's own code");
 }
 
 #[cfg(not(crates))]
 fn play_theirs(_: &Genome, _: &mut Run) {
     panic!("built without the crate's own code");
+}
+
+fn play_atlas<F: atlases::Form>(genome: &Genome, run: &mut Run) {
+    if genome.word("watch", "").is_empty() {
+        playing::play::<F>(genome, run);
+    } else {
+        watching::begin(genome.word("watch", ""));
+        playing::play::<watching::Watch<F>>(genome, run);
+        run.watched = watching::shown();
+    }
 }
 
 fn play_here(genome: &Genome, run: &mut Run) {
@@ -81,7 +116,8 @@ fn play_here(genome: &Genome, run: &mut Run) {
         "sheet" => sheets::play(genome, run),
         "calls" => calls::play(genome, run),
         "constants" => constants::play::<here::Here>(run),
-        _ => playing::play::<here::Here>(genome, run),
+        "memory" => memory::play::<here::Here>(genome, run),
+        _ => play_atlas::<here::Here>(genome, run),
     }
 }
 
@@ -95,6 +131,7 @@ fn main() {
         let genome = Genome::read(next());
         match form {
             "here" => play_here(&genome, &mut run),
+            "patched" => play_patched(&genome, &mut run),
             _ => play_theirs(&genome, &mut run),
         }
         println!("{}", run.shown());

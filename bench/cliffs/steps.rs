@@ -48,7 +48,36 @@ pub fn steps() -> u64 {
     time[0] as u64 * 1_000_000_000 + time[1] as u64
 }
 
-/// Where callgrind counts: it is told this name.
+/// A request of valgrind's, which does nothing without it.
+#[cfg(target_arch = "x86_64")]
+fn request(number: u64) {
+    let words = [number, 0, 0, 0, 0, 0];
+    unsafe {
+        std::arch::asm!(
+            "rol rdi, 3", "rol rdi, 13", "rol rdi, 61", "rol rdi, 51", "xchg rbx, rbx",
+            in("rax") words.as_ptr(), inout("rdx") 0u64 => _,
+        );
+    }
+}
+
+#[cfg(not(target_arch = "x86_64"))]
+fn request(_: u64) {}
+
+/// Callgrind counts from now on.
+#[inline(never)]
+pub fn start_counting() {
+    request(0x4354_0004);
+    request(0x4354_0001);
+}
+
+/// Callgrind writes what it counted, and counts no longer.
+#[inline(never)]
+pub fn stop_counting() {
+    request(0x4354_0000);
+    request(0x4354_0005);
+}
+
+/// Where callgrind counts on other processors: it is told this name.
 #[inline(never)]
 pub fn counted(part: &mut dyn FnMut()) {
     part();

@@ -1,7 +1,7 @@
-//! The Rust crate's own code, and bench/cache.rs over it.
-use crate::allocator::{AllocId, Allocation, AllocatorOptions, AtlasAllocator, SimpleAtlasAllocator};
-use crate::atlases::{Atlas, Cache, CacheShape, Form, Granted, Options, Simple};
-use crate::{texture_cache, Rectangle};
+//! The Rust crate's own code, or that of a copy of it beside this module.
+use super::allocator::{AllocId, Allocation, AllocatorOptions, AtlasAllocator, SimpleAtlasAllocator};
+use crate::atlases::{Atlas, Form, Granted, Options, Simple};
+use crate::Rectangle;
 use euclid::size2;
 
 pub struct Theirs;
@@ -40,6 +40,14 @@ impl Atlas for AtlasAllocator {
     #[inline]
     fn free(&mut self, id: u32) {
         self.deallocate(AllocId::deserialize(id));
+    }
+
+    fn can_fit(&self, _: i32, _: i32) -> bool {
+        panic!("the crate has no such call");
+    }
+
+    fn copied(&self) -> Self {
+        self.clone()
     }
 
     fn grow(&mut self, size: (i32, i32)) {
@@ -87,62 +95,5 @@ impl Simple<AtlasAllocator> for SimpleAtlasAllocator {
 
     fn reset(&mut self, size: (i32, i32), options: Options) {
         SimpleAtlasAllocator::reset(self, size2(size.0, size.1), &options_of(options));
-    }
-}
-
-/// What bench/cache.rs answers.
-pub struct Answers {
-    pub calls: u64,
-    pub checksum: u64,
-}
-
-impl Answers {
-    pub fn new() -> Answers {
-        Answers { calls: 0, checksum: 0xcbf2_9ce4_8422_2325 }
-    }
-
-    pub fn add(&mut self, word: u64) {
-        self.checksum = (self.checksum ^ word).wrapping_mul(0x100_0000_01b3);
-    }
-
-    pub fn add_box(&mut self, r: Rectangle) {
-        self.add((u64::from(r.min.x as u32) << 32) | u64::from(r.min.y as u32));
-        self.add((u64::from(r.max.x as u32) << 32) | u64::from(r.max.y as u32));
-    }
-}
-
-pub struct Pages(texture_cache::Cache);
-
-impl Cache for Pages {
-    fn new(shape: CacheShape) -> Self {
-        Pages(texture_cache::Cache::of(shape.page, shape.pages as usize, shape.padding))
-    }
-
-    fn begin_frame(&mut self) {
-        self.0.frame += 1;
-    }
-
-    fn get(&mut self, key: u32) -> bool {
-        self.0.get(key)
-    }
-
-    fn insert(&mut self, key: u32, width: i32, height: i32) {
-        self.0.insert(key, size2(width, height));
-    }
-
-    fn repack(&mut self, page: u32) {
-        self.0.repack(page as usize);
-    }
-
-    fn more(&mut self, _: &str, _: u32) -> bool {
-        false
-    }
-
-    fn len(&self) -> u64 {
-        self.0.len() as u64
-    }
-
-    fn sum(&self) -> u64 {
-        self.0.answers.checksum
     }
 }

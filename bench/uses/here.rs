@@ -32,6 +32,18 @@ impl Cache for Here {
         self.cache.get(&key).is_some()
     }
 
+    fn mark(&mut self, key: u32) {
+        let _place = self.cache.get(&key);
+    }
+
+    fn make_room(&mut self, before: u32, was_full: bool) {
+        if !was_full {
+            return self.cache.begin_frame();
+        }
+        let keys = self.cache.len() / (512 >> before).max(1) + 1;
+        self.cache.end_batch(keys, &mut Changes::new(Global)).ok().expect("memory");
+    }
+
     fn insert(&mut self, key: u32, size: (i32, i32)) -> Answer {
         self.changes.clear();
         match self.cache.insert(key, size2(size.0, size.1), &mut self.changes) {
@@ -59,6 +71,12 @@ impl Cache for Here {
 
     fn unusable_area(&self, page: u32, size: (i32, i32)) -> u64 {
         self.cache.unusable_area(page, size2(size.0, size.1)).ok().expect("memory").expect("a page")
+    }
+
+    fn compact(&mut self, pixels: u64) -> Repacked {
+        self.changes.clear();
+        let pixels = self.cache.compact(pixels, &mut self.changes).ok().expect("memory");
+        Repacked { moved: self.changes.len() as u64, pixels }
     }
 
     fn repack(&mut self, page: u32) -> Repacked {

@@ -16,7 +16,11 @@ pub struct Repacked {
 pub trait Cache {
     fn begin_frame(&mut self);
     fn get(&mut self, key: u32) -> bool;
+    /// A key that is held stays until this frame has drawn it.
+    fn mark(&mut self, key: u32);
     fn insert(&mut self, key: u32, size: (i32, i32)) -> Answer;
+    /// What was drawn goes, or a part of it, as a frame was full for a key, and so often before for the same one.
+    fn make_room(&mut self, before: u32, was_full: bool);
     /// How many keys went so far.
     fn evictions(&self) -> u64;
 
@@ -40,6 +44,11 @@ pub trait Cache {
     fn repack(&mut self, _page: u32) -> Repacked {
         unreachable!("a cache without pages that are repacked")
     }
+
+    /// Keys of the last page move to pages before it, from so many pixels at most.
+    fn compact(&mut self, _pixels: u64) -> Repacked {
+        unreachable!("a cache without pages that are emptied")
+    }
 }
 
 /// Which pages are repacked, at the end of a frame.
@@ -50,10 +59,12 @@ pub enum Rule {
     Unusable(u64),
     /// Each whose free area is more than the live area by this, if a key went in this frame.
     Free(u64),
+    /// None, but from so many pixels of the last page keys move to the pages before it.
+    Compact(u64),
 }
 
 impl Rule {
-    /// As `none`, `unusable:4`, or `free:4`.
+    /// As `none`, `unusable:4`, `free:4`, or `compact:4096`.
     pub fn named(name: &str) -> Rule {
         let (rule, part) = name.split_once(':').unwrap_or((name, "1"));
         let part = part.parse().expect("a number behind the rule");
@@ -61,13 +72,14 @@ impl Rule {
             "none" => Rule::Never,
             "unusable" => Rule::Unusable(part),
             "free" => Rule::Free(part),
+            "compact" => Rule::Compact(part),
             other => panic!("no rule {}", other),
         }
     }
 
     fn holds(self, cache: &impl Cache, page: u32, usual: (i32, i32), has_evicted: bool) -> bool {
         match self {
-            Rule::Never => false,
+            Rule::Never | Rule::Compact(_) => false,
             Rule::Unusable(part) => cache.unusable_area(page, usual) > cache.live_area(page) / part,
             Rule::Free(part) => has_evicted && cache.free_area(page) > cache.live_area(page) / part,
         }
@@ -97,6 +109,12 @@ fn measured_insert(cache: &mut impl Cache, key: u32, size: (i32, i32)) -> Answer
 
 #[inline(never)]
 fn measured_repack(cache: &mut impl Cache, rule: Rule, usual: (i32, i32), has_evicted: bool, counts: &mut Counts) {
+    if let Rule::Compact(pixels) = rule {
+        let done = cache.compact(pixels);
+        counts.repacks += u64::from(done.moved > 0);
+        counts.moved += done.moved;
+        counts.moved_pixels += done.pixels;
+    }
     for page in 0..cache.pages() {
         if rule.holds(cache, page, usual, has_evicted) {
             let before = cache.evictions();
@@ -118,8 +136,8 @@ fn usual_size(trace: &Trace) -> (i32, i32) {
     (of(|size| size.0), of(|size| size.1))
 }
 
-fn insert(cache: &mut impl Cache, key: u32, size: (i32, i32), counts: &mut Counts, is_counted: bool) {
-    loop {
+fn insert(cache: &mut impl Cache, key: u32, size: (i32, i32), counts: &mut Counts, is_counted: bool, was_full: bool) {
+    for full in 0.. {
         let before = cache.evictions();
         let answer = if is_counted { measured_insert(cache, key, size) } else { cache.insert(key, size) };
         if is_counted {
@@ -132,7 +150,7 @@ fn insert(cache: &mut impl Cache, key: u32, size: (i32, i32), counts: &mut Count
             }
             Answer::FrameFull => {
                 counts.full += 1;
-                cache.begin_frame();
+                cache.make_room(full, was_full);
             }
         }
     }
@@ -142,19 +160,25 @@ pub fn play(cache: &mut impl Cache, trace: &Trace, rule: Rule) -> Counts {
     let usual = usual_size(trace);
     let mut counts = Counts::default();
     let first = trace.frames.len() / 5;
+    let mut was_full = false;
     for (number, frame) in trace.frames.iter().enumerate() {
         if number == first {
             counts = Counts::default();
         }
         let before = cache.evictions();
         cache.begin_frame();
+        if was_full {
+            frame.iter().for_each(|key| cache.mark(*key));
+        }
+        let full = counts.full;
         for key in frame {
             counts.uses += 1;
             if !cache.get(*key) {
                 counts.misses += 1;
-                insert(cache, *key, trace.sizes[*key as usize], &mut counts, number >= first);
+                insert(cache, *key, trace.sizes[*key as usize], &mut counts, number >= first, was_full);
             }
         }
+        was_full = counts.full > full;
         let has_evicted = cache.evictions() > before;
         measured_repack(cache, rule, usual, has_evicted, &mut counts);
     }

@@ -157,6 +157,13 @@ impl Cache for Shelves {
         self.frame += 1;
     }
 
+    // They have no batches, and a new frame has used nothing.
+    fn make_room(&mut self, _before: u32, _was_full: bool) {
+        self.begin_frame();
+    }
+
+    fn mark(&mut self, _key: u32) {}
+
     fn get(&mut self, key: u32) -> bool {
         self.uses += 1;
         let (frame, now) = (self.frame, self.uses);

@@ -39,8 +39,9 @@
  * - A handle has been written by calls of this library alone, or is all zero.
  * - A handle isn't copied, by `=`, by memcpy or as a value that is passed: both would hold one allocator, and once it was freed by
  *   one of them each call of the other is a fault, which no status tells. It may be moved: the old one isn't used again. A second
- *   allocator like the first is made by guillotiere_atlas_clone. The owners of guillotiere.hpp can't be copied, which the compiler says; in
- *   C valgrind tells each call of a copy whose allocator was freed, and AddressSanitizer that it is freed again.
+ *   allocator like the first is made by guillotiere_atlas_clone, a second cache by guillotiere_cache_clone. The owners of guillotiere.hpp
+ *   can't be copied but by clone(), which the compiler says; in C valgrind tells each call of a copy whose allocator was freed, and
+ *   AddressSanitizer that it is freed again.
  * - A pointer that isn't null points to a value of its type, or to as many as the length says.
  * - What is passed by pointers without `const` overlaps nothing else that is passed.
  * - While a call runs that is passed a handle without `const`, no other call uses that handle. A call that is passed it by `const`
@@ -333,12 +334,15 @@ uint32_t guillotiere_interface(void);
 GUILLOTIERE_CHECKED
 uint32_t guillotiere_atlas_new(int32_t width, int32_t height, guillotiere_atlas *atlas);
 
-/* The same with these options. BAD_CALL also if they aren't valid. */
+/* Makes an atlas with these options, where the handle holds nothing. DONE; BAD_CALL if a side isn't above 0 or the
+ * options aren't valid; MEMORY; OCCUPIED, before all others, if the handle holds an atlas already. */
 GUILLOTIERE_CHECKED
 uint32_t guillotiere_atlas_with_options(int32_t width, int32_t height, const guillotiere_options *options,
                                         guillotiere_atlas *atlas);
 
-/* The same with a limit on the slots that are used at once. BAD_CALL also if it isn't from 1 to GUILLOTIERE_MOST_SLOTS. */
+/* Makes an atlas with these options and a limit on the slots that are used at once, where the handle holds nothing. DONE;
+ * BAD_CALL if a side isn't above 0, the options aren't valid, or the limit isn't from 1 to GUILLOTIERE_MOST_SLOTS; MEMORY;
+ * OCCUPIED, before all others, if the handle holds an atlas already. */
 GUILLOTIERE_CHECKED
 uint32_t guillotiere_atlas_with_slot_limit(int32_t width, int32_t height, const guillotiere_options *options,
                                            uint32_t limit, guillotiere_atlas *atlas);
@@ -408,6 +412,16 @@ uint32_t guillotiere_atlas_slots(const guillotiere_atlas *atlas, guillotiere_slo
 /* The areas of all live and of all free boxes, in one pass over the slots. DONE; EMPTY. */
 uint32_t guillotiere_atlas_areas(const guillotiere_atlas *atlas, guillotiere_areas *areas);
 
+/* Of the area that is free, what lies in free boxes which have no room for a request of this size, rounded up by the options:
+ * all of it, if a side is 0 or less. Asked with the size of a usual box it says how fragmented the atlas is: where much is of
+ * no use, it is time to rearrange it. Takes one pass over the slots, and no memory. DONE; EMPTY. */
+uint32_t guillotiere_atlas_unusable_area(const guillotiere_atlas *atlas, int32_t width, int32_t height, uint64_t *area);
+
+/* The free box of the largest area; of several the topmost one, and of these the leftmost. Takes one pass over the slots.
+ * DONE: it is in `found`. NO_ROOM if nothing is free; EMPTY. */
+GUILLOTIERE_CHECKED
+uint32_t guillotiere_atlas_largest_free(const guillotiere_atlas *atlas, guillotiere_rectangle *found);
+
 /* Whether no id is live; also true of a handle that holds nothing. */
 bool guillotiere_atlas_is_empty(const guillotiere_atlas *atlas);
 
@@ -419,7 +433,8 @@ GUILLOTIERE_CHECKED
 uint32_t guillotiere_atlas_live(const guillotiere_atlas *atlas, guillotiere_allocation *found, size_t found_len,
                                 size_t *count);
 
-/* The same of the free boxes, in an order that is left open. */
+/* Writes the free boxes, in an order that is left open: as many as there is room for, and into `count` how many there are.
+ * What `found` has after them stays. DONE; MEMORY; EMPTY. */
 GUILLOTIERE_CHECKED
 uint32_t guillotiere_atlas_free_boxes(const guillotiere_atlas *atlas, guillotiere_rectangle *found, size_t found_len,
                                       size_t *count);
@@ -452,7 +467,8 @@ uint32_t guillotiere_atlas_deallocate_all(guillotiere_atlas *atlas, const uint32
 GUILLOTIERE_CHECKED
 uint32_t guillotiere_simple_new(int32_t width, int32_t height, guillotiere_simple *simple);
 
-/* The same with these options. BAD_CALL also if they aren't valid. */
+/* Makes a simple allocator with these options, where the handle holds nothing. DONE; BAD_CALL if a side isn't above 0
+ * or the options aren't valid; MEMORY; OCCUPIED, before all others, if the handle holds one already. */
 GUILLOTIERE_CHECKED
 uint32_t guillotiere_simple_with_options(int32_t width, int32_t height, const guillotiere_options *options,
                                          guillotiere_simple *simple);
@@ -536,7 +552,7 @@ uint32_t guillotiere_cache_peek(const guillotiere_cache *cache, uint64_t key, gu
  * DONE: the key is new, and its place was written: its pixels are to be written to the texture. HELD: it was held, and
  * its place, where its pixels are, was written. FRAME_FULL: all pages allowed exist, at their largest, and none would have
  * room, were all keys gone that this frame didn't use, of which 16 went at most, or more where that memory was refused: draw
- * what is batched, call guillotiere_cache_begin_frame and insert again; while a
+ * what is batched, call guillotiere_cache_end_batch and insert again, or guillotiere_cache_begin_frame; while a
  * frame has used nothing this is never the answer. NEVER_FITS if the size, with the padding on all sides and rounded up to
  * the alignment, exceeds the largest page, OTHER_SIZE if the key is held with another size, even if this one is empty or
  * would never fit: then nothing changed. NUMBERS if 4294967295 keys are still held; SLOTS if the page that has room, or
@@ -570,6 +586,13 @@ uint32_t guillotiere_cache_clear(guillotiere_cache *cache);
 GUILLOTIERE_CHECKED
 uint32_t guillotiere_cache_trim(guillotiere_cache *cache, uint64_t frames);
 
+/* Ends a batch, which was drawn, where the frame has no room for what comes next in it: this many of the most recently used
+ * keys go, all if there are no more, each reported by a change, the most recently used first. The frame goes on: an insertion
+ * evicts nothing of what is left that it used. DONE; MEMORY, and then all is as it was: never if
+ * guillotiere_cache_reserve_changes made room for as many changes as keys are held, and for one at least; EMPTY. */
+GUILLOTIERE_CHECKED
+uint32_t guillotiere_cache_end_batch(guillotiere_cache *cache, size_t keys);
+
 /* Removes the pages after the last one with a key, each reported by a change, GUILLOTIERE_PAGE_REMOVED, the last one
  * first. The others stay, with their sizes, and so do all keys; after guillotiere_cache_clear all pages go. A page that goes
  * takes its slots in reserve along, and one that is added later has none; keys in reserve stay. DONE;
@@ -578,14 +601,39 @@ uint32_t guillotiere_cache_trim(guillotiere_cache *cache, uint64_t frames);
 GUILLOTIERE_CHECKED
 uint32_t guillotiere_cache_shrink(guillotiere_cache *cache);
 
+/* Moves keys of the last page to the pages before it, so that guillotiere_cache_shrink can give it back, as many as some
+ * pixels are enough for: after a burst a call in each frame empties page after page, where a repacking would take too long for one.
+ * The most recently used key comes first; each that lies on the last page, on no more pixels, padding included, than are left,
+ * moves to the first page before it that has room for it, reported by a change, GUILLOTIERE_MOVED. No key goes, none counts
+ * as used, and no page grows or goes. Writes how many pixels moved: 0 where there are fewer than two pages, or where no key moved.
+ * All moves lead from the last page to other ones, on which nothing comes free: so the pixels can be copied one after another.
+ * DONE; SLOTS if a page that has room can't use the slots that this takes, of 16777216, or MEMORY, and then what moved
+ * before is reported and stays, and nothing is written; EMPTY. */
+GUILLOTIERE_CHECKED
+uint32_t guillotiere_cache_compact(guillotiere_cache *cache, uint64_t pixels, uint64_t *moved);
+
 /* Repacks the keys of a page, the largest first, and among equal areas the most recently used, so that what is free comes
  * together; pages are counted from 0. Each key of the page is reported by a change, the most recently used first:
- * GUILLOTIERE_MOVED, also where it stays, or GUILLOTIERE_EVICTED, where it found no room. A place that a key moves to
+ * GUILLOTIERE_MOVED, also where it stays, or GUILLOTIERE_EVICTED, where it found no room when its turn came, also if this
+ * frame uses it: guillotiere_cache_repack_keeping_all evicts none. A place that a key moves to
  * can overlap one that a later change moves from: take the changes that wait, then copy the page, then call this, and copy
  * all pixels from that copy. The page may have no slots in reserve then; keys in reserve stay. DONE; NO_PAGE, SLOTS
  * (only of a page with more than 4194303 keys) or MEMORY, and then all is as it was; EMPTY. */
 GUILLOTIERE_CHECKED
 uint32_t guillotiere_cache_repack(guillotiere_cache *cache, uint32_t page);
+
+/* Repacks the keys of a page as guillotiere_cache_repack does, but only where each of them finds room, so that no key is
+ * evicted. DONE; NO_ROOM if one would find none, NO_PAGE, SLOTS (only of a page with more than 4194303 keys) or
+ * MEMORY, and then all is as it was; EMPTY. */
+GUILLOTIERE_CHECKED
+uint32_t guillotiere_cache_repack_keeping_all(guillotiere_cache *cache, uint32_t page);
+
+/* Makes a copy that shares nothing with the cache, where `copy` holds nothing: its keys have the same places, the same changes
+ * wait, and it answers later calls as the cache does, except where memory is refused: nothing is in reserve. Takes as many steps as the
+ * pages have slots and as keys have had numbers.
+ * DONE; MEMORY; EMPTY if `cache` holds nothing; OCCUPIED if `copy` holds something. */
+GUILLOTIERE_CHECKED
+uint32_t guillotiere_cache_clone(const guillotiere_cache *cache, guillotiere_cache *copy);
 
 /* The most recently used key, and its place; it doesn't count as a use. DONE; NOT_HELD if no key is held; EMPTY. */
 GUILLOTIERE_CHECKED

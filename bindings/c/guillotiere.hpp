@@ -308,6 +308,19 @@ public:
         guillotiere_atlas_areas(&handle_, &found);
         return found;
     }
+    // What is free in boxes that have no room for a request of this size: where that is much, it is time to rearrange. 0 of an atlas
+    // that was moved from.
+    std::uint64_t unusable_area(guillotiere::size of) const {
+        std::uint64_t found = 0;
+        guillotiere_atlas_unusable_area(&handle_, of.width, of.height, &found);
+        return found;
+    }
+    // The free box of the largest area; of several the topmost one, and of these the leftmost. None where nothing is free.
+    std::optional<rectangle> largest_free() const {
+        rectangle found{};
+        if (guillotiere_atlas_largest_free(&handle_, &found) != GUILLOTIERE_DONE) return std::nullopt;
+        return found;
+    }
 
     // The live boxes, by rising slot.
     result<std::vector<allocation>> live() const {
@@ -448,6 +461,14 @@ public:
     cache &operator=(const cache &) = delete;
     ~cache() { guillotiere_cache_free(&handle_); }
 
+    // A copy that shares nothing with this cache; the same changes wait, and nothing is in reserve.
+    result<cache> clone() const {
+        cache copy;
+        const auto answer = guillotiere_cache_clone(&handle_, &copy.handle_);
+        if (answer != GUILLOTIERE_DONE) return static_cast<status>(answer);
+        return copy;
+    }
+
     // Begins a new frame: what isn't used in it may be evicted. Until the first call no key is evicted for another.
     [[nodiscard]] status begin_frame() { return static_cast<status>(guillotiere_cache_begin_frame(&handle_)); }
 
@@ -455,7 +476,7 @@ public:
     std::optional<place> get(std::uint64_t key) {
         return found([this, key](place &at) { return guillotiere_cache_get(&handle_, key, &at); });
     }
-    // The same, and it doesn't count as a use.
+    // The place of a key; it doesn't count as a use.
     std::optional<place> peek(std::uint64_t key) const {
         return found([this, key](place &at) { return guillotiere_cache_peek(&handle_, key, &at); });
     }
@@ -486,11 +507,25 @@ public:
     [[nodiscard]] status clear() { return static_cast<status>(guillotiere_cache_clear(&handle_)); }
     // Evicts what wasn't used for at least this many frames: with 1 what wasn't used since the last begin_frame, with 0 all.
     [[nodiscard]] status trim(std::uint64_t frames) { return static_cast<status>(guillotiere_cache_trim(&handle_, frames)); }
+    // Ends a batch, which was drawn: this many of the most recently used keys go, and the frame goes on.
+    [[nodiscard]] status end_batch(std::size_t keys) { return static_cast<status>(guillotiere_cache_end_batch(&handle_, keys)); }
     // Removes the pages after the last one with a key. Each takes its slots in reserve along; keys in reserve stay.
     [[nodiscard]] status shrink() { return static_cast<status>(guillotiere_cache_shrink(&handle_)); }
-    // A page's keys are placed anew. Copy all pixels from the page as it was before the call. The page may have no slots in
-    // reserve then; keys in reserve stay.
+    // Keys of the last page move to pages before it, as many as these pixels are enough for: how many pixels moved. After an error what
+    // moved before stays, and is reported.
+    [[nodiscard]] result<std::uint64_t> compact(std::uint64_t pixels) {
+        std::uint64_t moved = 0;
+        const auto answer = static_cast<status>(guillotiere_cache_compact(&handle_, pixels, &moved));
+        if (answer != status::done) return answer;
+        return moved;
+    }
+    // A page's keys are placed anew; what finds no room when its turn came is evicted, also if this frame uses it. Copy all pixels
+    // from the page as it was before the call. The page may have no slots in reserve then; keys in reserve stay.
     [[nodiscard]] status repack(std::uint32_t page) { return static_cast<status>(guillotiere_cache_repack(&handle_, page)); }
+    // As repack, but only where each key of the page finds room: no_room, and nothing changes, where one would find none.
+    [[nodiscard]] status repack_keeping_all(std::uint32_t page) {
+        return static_cast<status>(guillotiere_cache_repack_keeping_all(&handle_, page));
+    }
 
     // Makes sure that there is memory for this many more keys.
     [[nodiscard]] status reserve(std::size_t additional) {

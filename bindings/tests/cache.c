@@ -77,7 +77,7 @@ static void bad_options(void) {
 }
 
 static void empty_handles(void) {
-    guillotiere_cache cache = GUILLOTIERE_NONE;
+    guillotiere_cache cache = GUILLOTIERE_NONE, other = GUILLOTIERE_NONE;
     guillotiere_place place;
     guillotiere_cache_change change;
     guillotiere_size size;
@@ -86,7 +86,7 @@ static void empty_handles(void) {
     guillotiere_cache_options options;
     size_t len = 77;
     uint32_t pages = 77;
-    uint64_t key = 77, area = 77;
+    uint64_t key = 77, area = 77, moved = 77;
     CHECK(guillotiere_cache_begin_frame(&cache) == GUILLOTIERE_EMPTY);
     CHECK(guillotiere_cache_get(&cache, 1, &place) == GUILLOTIERE_EMPTY);
     CHECK(guillotiere_cache_peek(&cache, 1, &place) == GUILLOTIERE_EMPTY);
@@ -95,8 +95,11 @@ static void empty_handles(void) {
     CHECK(guillotiere_cache_next_change(&cache, &change) == GUILLOTIERE_EMPTY);
     CHECK(guillotiere_cache_clear(&cache) == GUILLOTIERE_EMPTY);
     CHECK(guillotiere_cache_trim(&cache, 1) == GUILLOTIERE_EMPTY);
+    CHECK(guillotiere_cache_end_batch(&cache, 1) == GUILLOTIERE_EMPTY);
     CHECK(guillotiere_cache_shrink(&cache) == GUILLOTIERE_EMPTY);
+    CHECK(guillotiere_cache_compact(&cache, 1, &moved) == GUILLOTIERE_EMPTY && moved == 77);
     CHECK(guillotiere_cache_repack(&cache, 0) == GUILLOTIERE_EMPTY);
+    CHECK(guillotiere_cache_repack_keeping_all(&cache, 0) == GUILLOTIERE_EMPTY);
     CHECK(guillotiere_cache_len(&cache, &len) == GUILLOTIERE_EMPTY && len == 77);
     CHECK(guillotiere_cache_page_count(&cache, &pages) == GUILLOTIERE_EMPTY && pages == 77);
     CHECK(guillotiere_cache_numbers(&cache, &pages) == GUILLOTIERE_EMPTY && pages == 77);
@@ -111,6 +114,7 @@ static void empty_handles(void) {
     CHECK(guillotiere_cache_reserve(&cache, 1) == GUILLOTIERE_EMPTY);
     CHECK(guillotiere_cache_reserve_slots(&cache, 1) == GUILLOTIERE_EMPTY);
     CHECK(guillotiere_cache_reserve_changes(&cache, 1) == GUILLOTIERE_EMPTY);
+    CHECK(guillotiere_cache_clone(&cache, &other) == GUILLOTIERE_EMPTY && other.at == NULL);
     guillotiere_cache_free(&cache);
     make(&two_pages, &cache);
     CHECK(guillotiere_cache_new(&two_pages, &cache) == GUILLOTIERE_OCCUPIED && cache.at != NULL);
@@ -151,6 +155,40 @@ static void a_key_moves(void) {
     guillotiere_cache_free(&cache);
 }
 
+static const guillotiere_place *told_move(guillotiere_cache *cache, uint64_t key, guillotiere_place *from, guillotiere_place *to) {
+    guillotiere_cache_change change;
+    CHECK(guillotiere_cache_next_change(cache, &change) == GUILLOTIERE_DONE && change.kind == GUILLOTIERE_MOVED && change.key == key);
+    *from = change.from;
+    *to = change.to;
+    return to;
+}
+
+static bool lies_at(const guillotiere_place *place, int32_t x, int32_t y) {
+    return place->rectangle.min_x == x && place->rectangle.min_y == y;
+}
+
+/* Key 2, the largest, comes first to the corner, and 3, 6 by 8, to its right; for 1, as large as 3, a strip of 7 rows is left below. So all
+ * stays as it is, while 1 is there; once it is gone, the two move. */
+static void all_keys_stay(void) {
+    guillotiere_cache cache = GUILLOTIERE_NONE;
+    const guillotiere_cache_options one_page = {{16, 16}, {16, 16}, 1, 0, {1, 1, 1, 1}};
+    make(&one_page, &cache);
+    guillotiere_place place, from, to;
+    const guillotiere_place first = inserted(&cache, 1, 6, 8), second = inserted(&cache, 2, 10, 9), third = inserted(&cache, 3, 6, 8);
+    told_page(&cache, GUILLOTIERE_PAGE_ADDED, 0, 16, 16);
+    CHECK(lies_at(&first, 0, 0) && lies_at(&second, 6, 0) && lies_at(&third, 0, 8));
+    CHECK(guillotiere_cache_repack_keeping_all(&cache, 0) == GUILLOTIERE_NO_ROOM);
+    CHECK(guillotiere_cache_repack_keeping_all(&cache, 1) == GUILLOTIERE_NO_PAGE);
+    told_nothing(&cache);
+    CHECK(guillotiere_cache_peek(&cache, 2, &place) == GUILLOTIERE_DONE && same_place(&place, &second));
+    CHECK(guillotiere_cache_remove(&cache, 1, NULL) == GUILLOTIERE_DONE);
+    CHECK(guillotiere_cache_repack_keeping_all(&cache, 0) == GUILLOTIERE_DONE);
+    CHECK(lies_at(told_move(&cache, 3, &from, &to), 10, 0) && same_place(&from, &third));
+    CHECK(lies_at(told_move(&cache, 2, &from, &to), 0, 0) && same_place(&from, &second));
+    told_nothing(&cache);
+    guillotiere_cache_free(&cache);
+}
+
 /* A blank key needs no page, takes no room, gives way to none, and goes by a trim. */
 static void a_blank_key(void) {
     guillotiere_cache cache = GUILLOTIERE_NONE;
@@ -170,6 +208,49 @@ static void a_blank_key(void) {
     CHECK(guillotiere_cache_peek(&cache, 7, &place) == GUILLOTIERE_DONE && same_place(&place, &nothing));
     CHECK(guillotiere_cache_trim(&cache, 1) == GUILLOTIERE_DONE);
     CHECK(guillotiere_cache_peek(&cache, 7, &place) == GUILLOTIERE_NOT_HELD);
+    guillotiere_cache_free(&cache);
+}
+
+/* Where a frame has no room, the key that it used last goes as a batch ends, and the frame goes on. */
+static void a_batch_ends(void) {
+    guillotiere_cache cache = GUILLOTIERE_NONE;
+    make(&two_pages, &cache);
+    guillotiere_place place;
+    CHECK(guillotiere_cache_begin_frame(&cache) == GUILLOTIERE_DONE);
+    for (uint64_t key = 10; key < 12; key++) inserted(&cache, key, 16, 32);
+    CHECK(guillotiere_cache_insert(&cache, 12, 16, 32, &place) == GUILLOTIERE_FRAME_FULL);
+    CHECK(guillotiere_cache_end_batch(&cache, 1) == GUILLOTIERE_DONE);
+    CHECK(guillotiere_cache_peek(&cache, 11, &place) == GUILLOTIERE_NOT_HELD);
+    inserted(&cache, 12, 16, 32);
+    CHECK(guillotiere_cache_trim(&cache, 1) == GUILLOTIERE_DONE);
+    CHECK(guillotiere_cache_peek(&cache, 10, &place) == GUILLOTIERE_DONE);
+    guillotiere_cache_free(&cache);
+}
+
+/* What lies on the last page moves to the page before it, 64 pixels in each call; then the page goes. */
+static void a_page_is_emptied(void) {
+    guillotiere_cache cache = GUILLOTIERE_NONE;
+    const guillotiere_cache_options options = {{16, 16}, {16, 16}, 2, 0, GUILLOTIERE_DEFAULT_OPTIONS};
+    make(&options, &cache);
+    guillotiere_place place;
+    guillotiere_cache_change change;
+    uint64_t moved = 77;
+    inserted(&cache, 1, 16, 8);
+    inserted(&cache, 2, 16, 8);
+    for (uint64_t key = 3; key < 5; key++) inserted(&cache, key, 8, 8);
+    CHECK(guillotiere_cache_remove(&cache, 2, &place) == GUILLOTIERE_DONE);
+    while (guillotiere_cache_next_change(&cache, &change) == GUILLOTIERE_DONE) CHECK(change.kind == GUILLOTIERE_PAGE_ADDED);
+    CHECK(guillotiere_cache_compact(&cache, 63, &moved) == GUILLOTIERE_DONE && moved == 0);
+    for (uint64_t key = 4; key > 2; key--) {
+        CHECK(guillotiere_cache_peek(&cache, key, &place) == GUILLOTIERE_DONE && place.page == 1);
+        CHECK(guillotiere_cache_compact(&cache, 100, &moved) == GUILLOTIERE_DONE && moved == 64);
+        CHECK(guillotiere_cache_next_change(&cache, &change) == GUILLOTIERE_DONE && change.kind == GUILLOTIERE_MOVED);
+        CHECK(change.key == key && same_place(&change.from, &place) && change.to.page == 0);
+        CHECK(change.to.rectangle.min_x == (key == 4 ? 0 : 8) && change.to.rectangle.min_y == 8);
+    }
+    CHECK(guillotiere_cache_shrink(&cache) == GUILLOTIERE_DONE);
+    CHECK(guillotiere_cache_next_change(&cache, &change) == GUILLOTIERE_DONE && change.kind == GUILLOTIERE_PAGE_REMOVED);
+    CHECK(guillotiere_cache_peek(&cache, 3, &place) == GUILLOTIERE_DONE && place.page == 0);
     guillotiere_cache_free(&cache);
 }
 
@@ -235,6 +316,39 @@ static void a_life(void) {
     told_nothing(&cache);
     CHECK(guillotiere_cache_page_count(&cache, &pages) == GUILLOTIERE_DONE && pages == 0);
     guillotiere_cache_free(&cache);
+}
+
+/* A copy has the same keys, places and changes that wait, and a life of its own. */
+static void a_copy(void) {
+    guillotiere_cache cache = GUILLOTIERE_NONE, copy = GUILLOTIERE_NONE;
+    guillotiere_place place;
+    guillotiere_counts counts;
+    uint64_t key = 0;
+    make(&two_pages, &cache);
+    const guillotiere_place seven = inserted(&cache, 7, 16, 32), eight = inserted(&cache, 8, 16, 32);
+    told_page(&cache, GUILLOTIERE_PAGE_ADDED, 0, 16, 16);
+    CHECK(guillotiere_cache_get(&cache, 7, &place) == GUILLOTIERE_DONE);
+    CHECK(guillotiere_cache_clone(&cache, &copy) == GUILLOTIERE_DONE);
+    CHECK(guillotiere_cache_clone(&cache, &copy) == GUILLOTIERE_OCCUPIED);
+    check_figures(&copy, 2, 2);
+    guillotiere_cache *const each[] = {&copy, &cache};
+    for (size_t i = 0; i < 2; i++) {
+        told_page(each[i], GUILLOTIERE_PAGE_GROWN, 0, 16, 32);
+        told_page(each[i], GUILLOTIERE_PAGE_ADDED, 1, 16, 16);
+        told_page(each[i], GUILLOTIERE_PAGE_GROWN, 1, 16, 32);
+        told_nothing(each[i]);
+        CHECK(guillotiere_cache_peek(each[i], 7, &place) == GUILLOTIERE_DONE && same_place(&place, &seven));
+        CHECK(guillotiere_cache_statistics(each[i], &counts) == GUILLOTIERE_DONE && counts.hits == 1);
+        CHECK(guillotiere_cache_newest(each[i], &key, &place) == GUILLOTIERE_DONE && key == 7);
+        /* 8 was used longest ago, in both. */
+        CHECK(guillotiere_cache_begin_frame(each[i]) == GUILLOTIERE_DONE);
+        inserted(each[i], 9, 16, 32);
+        told_evicted(each[i], 8, &eight);
+        CHECK(guillotiere_cache_remove(each[i], 7, &place) == GUILLOTIERE_DONE && same_place(&place, &seven));
+    }
+    guillotiere_cache_free(&cache);
+    check_figures(&copy, 1, 2);
+    guillotiere_cache_free(&copy);
 }
 
 static void told_areas(const guillotiere_cache *cache, uint32_t page, uint64_t allocated, uint64_t free) {
@@ -457,8 +571,12 @@ int main(void) {
     bad_options();
     empty_handles();
     a_blank_key();
+    a_batch_ends();
+    a_page_is_emptied();
     a_life();
+    a_copy();
     a_key_moves();
+    all_keys_stay();
     what_it_knows();
     unusable_area();
     waiting_changes();

@@ -4,7 +4,8 @@
  *     digest CALLS [SEED]
  *
  * prints the sum after every 10,000 calls and after the last. What a call must leave as it is after a refusal is summed
- * too. With DIGEST_BARE it needs no C library, and has no main: call digest_start, then digest_calls. */
+ * too. With DIGEST_BARE it needs no C library, and has no main: call digest_start, then digest_calls. With DIGEST_WITHOUT_CACHES no call is
+ * of a cache. */
 #include <guillotiere.h>
 
 enum { HELD = 500, ROOM = 2048, SPRITES = 24, KEYS = 300 };
@@ -190,6 +191,12 @@ static void ask_atlas(void) {
     add(guillotiere_atlas_can_fit(&it->atlas, width, height));
     add(guillotiere_atlas_can_grow_to(&it->atlas, (int32_t)(4 * (uint32_t)width), (int32_t)(4 * (uint32_t)height)));
     add(guillotiere_atlas_is_empty(&it->atlas));
+    uint64_t area = 7;
+    add(guillotiere_atlas_unusable_area(&it->atlas, width, height, &area));
+    add_wide(area);
+    guillotiere_rectangle box = untouched;
+    add(guillotiere_atlas_largest_free(&it->atlas, &box));
+    add_box(&box);
 }
 
 static void grow_atlas(void) {
@@ -359,11 +366,15 @@ static void ask_cache(void) {
 
 static void let_go(void) {
     guillotiere_place place = nowhere;
-    const uint32_t kind = below(20);
+    const uint32_t kind = below(23);
+    uint64_t moved = 7;
     if (kind < 12) add(guillotiere_cache_remove(&cache, some_key(), &place));
     else if (kind < 15) add(guillotiere_cache_trim(&cache, 5 + below(60)));
     else if (kind < 16) add(guillotiere_cache_shrink(&cache));
-    else if (kind < 19) add(guillotiere_cache_repack(&cache, below(5)));
+    else if (kind < 18) add(guillotiere_cache_repack(&cache, below(5)));
+    else if (kind < 19) add(guillotiere_cache_repack_keeping_all(&cache, below(5)));
+    else if (kind < 20) add(guillotiere_cache_end_batch(&cache, below(4)));
+    else if (kind < 22) add(guillotiere_cache_compact(&cache, below(4000), &moved)), add_wide(moved);
     else add(guillotiere_cache_clear(&cache));
     add_place(&place);
     if (one_in(2)) follow();
@@ -403,11 +414,21 @@ static void know_cache(void) {
     add_place(&place);
 }
 
+/* A copy takes the cache's place, which changes no answer. */
+static void go_on_as_a_copy(void) {
+    guillotiere_cache copy = GUILLOTIERE_NONE;
+    if (guillotiere_cache_clone(&cache, &copy) != GUILLOTIERE_DONE) return;
+    guillotiere_cache_free(&cache);
+    cache = copy;
+}
+
 static void describe_cache(void) {
+    static uint32_t described;
     size_t len = 7;
     uint32_t pages = 7, numbers = 7;
     guillotiere_size size = {7, 7};
     guillotiere_counts counts = {7, 7, 7};
+    if (++described % 16 == 0) go_on_as_a_copy();
     add(guillotiere_cache_len(&cache, &len));
     add_wide(len);
     add(guillotiere_cache_numbers(&cache, &numbers));
@@ -545,6 +566,12 @@ static void fill(void) {
 
 /* --- All of them ------------------------------------------------------------------------------------------------ */
 
+#ifdef DIGEST_WITHOUT_CACHES
+enum { CACHES = 0 };
+#else
+enum { CACHES = 1 };
+#endif
+
 static const struct {
     uint32_t weight;
     void (*call)(void);
@@ -552,9 +579,9 @@ static const struct {
     {3600, allocate},     {2500, deallocate},     {60, deallocate_all}, {300, look_up},       {300, ask_atlas},
     {150, describe_atlas}, {20, list_atlas},      {60, grow_atlas},     {50, reserve},        {6, start_atlas_again},
     {12, rearrange},      {40, make_atlas},       {10, copy_atlas},     {4, free_atlas},      {800, take},
-    {10, make_simple},    {20, start_simple_again}, {40, grow_simple},  {100, describe_simple}, {900, insert},
-    {700, ask_cache},     {80, let_go},           {100, next_frame},    {80, describe_cache}, {6, make_cache},
-    {8, pack},           {30, know_cache},        {4, pack_pages},      {4, fill},
+    {10, make_simple},    {20, start_simple_again}, {40, grow_simple},  {100, describe_simple}, {900 * CACHES, insert},
+    {700 * CACHES, ask_cache}, {80 * CACHES, let_go}, {100 * CACHES, next_frame}, {80 * CACHES, describe_cache}, {6 * CACHES, make_cache},
+    {8, pack},           {30 * CACHES, know_cache}, {4, pack_pages},    {4, fill},
     {4, pack_dense},      {4, pack_groups},
 };
 

@@ -16,6 +16,7 @@ static void zero_handles(void) {
     guillotiere_size size = {6, 7};
     guillotiere_slots slots;
     guillotiere_areas areas;
+    uint64_t area = 8;
     guillotiere_options options = {4, 5, 6, 7};
     uint32_t id = 0;
     size_t count = 3;
@@ -33,6 +34,8 @@ static void zero_handles(void) {
     CHECK(guillotiere_atlas_options(&none, &options) == GUILLOTIERE_EMPTY && options.large_size_threshold == 7);
     CHECK(guillotiere_atlas_slots(&none, &slots) == GUILLOTIERE_EMPTY);
     CHECK(guillotiere_atlas_areas(&none, &areas) == GUILLOTIERE_EMPTY);
+    CHECK(guillotiere_atlas_unusable_area(&none, 1, 1, &area) == GUILLOTIERE_EMPTY && area == 8);
+    CHECK(guillotiere_atlas_largest_free(&none, &found) == GUILLOTIERE_EMPTY && found.max_y == 4);
     CHECK(guillotiere_atlas_live(&none, &granted, 1, &count) == GUILLOTIERE_EMPTY && count == 3);
     CHECK(guillotiere_atlas_free_boxes(&none, &found, 1, &count) == GUILLOTIERE_EMPTY && count == 3);
     CHECK(guillotiere_atlas_clone(&none, &other) == GUILLOTIERE_EMPTY && other.at == NULL);

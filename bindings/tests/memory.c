@@ -159,7 +159,7 @@ static void pack(uint32_t (*packing)(const guillotiere_size *, size_t, const gui
     size_t sprite = 99;
     long counted = 0;
     for (int32_t i = 0; i < 40; i++) sprites[i] = (guillotiere_size){5 + 7 * i % 31, 4 + 11 * i % 23};
-    options.effort = 30;
+    options.effort = 4;
     for (uint32_t kind = 0; kind < 4; kind++) {
         options.allowed = kind;
         options.width = options.height = 256;
@@ -196,7 +196,7 @@ static void pages_and_fill(void) {
         groups[i] = i % 3 == 0 ? GUILLOTIERE_NO_GROUP : (uint32_t)i % 5;
     }
     options.greatest = 64;
-    options.effort = 10;
+    options.effort = 4;
     for (int which = 0; which < 3; which++) {
         for (long nth = 0;; nth++) {
             const long before = blocks, refused = refusals;
@@ -251,6 +251,17 @@ static void use_cache(guillotiere_cache *cache) {
     status = guillotiere_cache_unusable_area(cache, 0, 10, 10, &area);
     CHECK(status == GUILLOTIERE_DONE || status == GUILLOTIERE_MEMORY || (status == GUILLOTIERE_NO_PAGE && held == 0));
     CHECK((area == 77) == (status != GUILLOTIERE_DONE));
+    held -= guillotiere_cache_remove(cache, 5, &place) == GUILLOTIERE_DONE;
+    uint64_t moved = 77;
+    status = guillotiere_cache_compact(cache, 1000, &moved);
+    CHECK(status == GUILLOTIERE_DONE ? moved <= 1000 : status == GUILLOTIERE_MEMORY && moved == 77);
+    CHECK(keys_of(cache) == held);
+    while (guillotiere_cache_next_change(cache, &change) == GUILLOTIERE_DONE) CHECK(change.kind != GUILLOTIERE_EVICTED);
+    guillotiere_cache copy = GUILLOTIERE_NONE;
+    status = guillotiere_cache_clone(cache, &copy);
+    CHECK(status == (copy.at == NULL ? GUILLOTIERE_MEMORY : GUILLOTIERE_DONE));
+    CHECK(copy.at == NULL || keys_of(&copy) == held);
+    guillotiere_cache_free(&copy);
     status = guillotiere_cache_repack(cache, 0);
     CHECK(status == GUILLOTIERE_DONE || status == GUILLOTIERE_MEMORY || (status == GUILLOTIERE_NO_PAGE && held == 0));
     while (guillotiere_cache_next_change(cache, &change) == GUILLOTIERE_DONE) held -= change.kind == GUILLOTIERE_EVICTED;

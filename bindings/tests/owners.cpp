@@ -33,6 +33,7 @@ static void makes() {
     auto whole = made({100, 50});
     CHECK(whole.size().width == 100 && whole.size().height == 50 && whole.is_empty());
     CHECK(whole.slots().limit == most_slots && whole.areas().free == 5000);
+    CHECK(whole.unusable_area({100, 50}) == 0 && whole.unusable_area({100, 51}) == 5000 && whole.largest_free()->max_y == 50);
     CHECK(whole.options().alignment_width == 1 && whole.options().large_size_threshold == 256);
 }
 
@@ -41,6 +42,7 @@ static void moves() {
     const auto box = granted(one, {10, 20});
     atlas other = std::move(one);
     CHECK(one.allocate({1, 1}).error() == status::empty && one.deallocate(box.id) == status::empty);
+    CHECK(!one.largest_free() && one.unusable_area({1, 1}) == 0);
     CHECK(!one.can_fit({1, 1}) && !one.can_grow_to({64, 64}) && one.reserve(0) == status::empty);
     CHECK(one.options().alignment_width == 0);
     CHECK(one.is_empty() && one.size().width == 0 && !one.get(box.id) && one.live().error() == status::empty);
@@ -217,6 +219,9 @@ static void caches() {
     const cache &read = *made;
     CHECK(*read.unusable_area(0, {16, 33}) == 511 && read.unusable_area(1, {1, 1}).error() == status::no_page);
     CHECK(read.areas(0)->allocated == 1 && read.areas(0)->free == 511 && !read.areas(1) && read.options().pages == 1);
+    auto copy = read.clone();
+    CHECK(copy && copy->peek(8)->page == 0 && copy->insert(9, {17, 1})->answer == insertion::never_fits && copy->clear() == status::done);
+    CHECK(copy->len() == 0 && read.len() == 1 && copy->clone());
     auto usual = cache::make();
     CHECK(usual->options().page.width == 512 && usual->options().largest_page.height == 2048 && usual->options().pages == 4);
     CHECK(usual->options().padding == 1 && usual->reserve_slots(8) == status::done && usual->reserve_changes(8) == status::done);
@@ -225,9 +230,12 @@ static void caches() {
     CHECK(other->options().pages == 0 && other->begin_frame() == status::empty && usual->begin_frame() == status::done);
     cache taken = std::move(*made);
     CHECK(!made->newest() && made->options().pages == 0 && made->reserve(1) == status::empty);
-    CHECK(made->insert(8, {1, 1}).error() == status::empty && !made->get(8) && made->len() == 0);
+    CHECK(made->insert(8, {1, 1}).error() == status::empty && !made->get(8) && made->len() == 0 && made->clone().error() == status::empty);
     CHECK(taken.remove(8) && !taken.remove(8) && taken.insert(9, {2, 2}) && taken.trim(0) == status::done);
     CHECK(taken.repack(0) == status::done && taken.repack(9) == status::no_page);
+    CHECK(taken.repack_keeping_all(0) == status::done && taken.repack_keeping_all(9) == status::no_page);
+    CHECK(taken.compact(64) && *taken.compact(64) == 0 && made->compact(64).error() == status::empty);
+    CHECK(taken.insert(9, {2, 2}) && taken.end_batch(1) == status::done && taken.len() == 0);
     CHECK(evicted(taken) == 9 && taken.clear() == status::done && taken.len() == 0);
     result<inserted> none;
     CHECK(!none && none.error() == status::empty);

@@ -113,6 +113,17 @@ static bool atlas_areas(const struct held *h) {
         && areas.free == (uint64_t)SIDE * SIDE - BOXES;
 }
 
+static bool atlas_unusable_area(const struct held *h) {
+    uint64_t area;
+    return guillotiere_atlas_unusable_area(&h->atlas, SIDE, SIDE, &area) == GUILLOTIERE_DONE
+        && area == (uint64_t)SIDE * SIDE - BOXES;
+}
+
+static bool atlas_largest_free(const struct held *h) {
+    guillotiere_rectangle found;
+    return guillotiere_atlas_largest_free(&h->atlas, &found) == GUILLOTIERE_DONE && found.max_x - found.min_x > SIDE / 2;
+}
+
 static bool atlas_live(const struct held *h) {
     guillotiere_allocation found[COUNT];
     size_t count;
@@ -164,6 +175,15 @@ static bool simple_init_from_allocator(const struct held *h) {
     is_right = is_right && guillotiere_simple_init_from_allocator(&other, &h->atlas) == GUILLOTIERE_DONE;
     is_right = is_right && guillotiere_simple_size(&other, &size) == GUILLOTIERE_DONE && size.width == SIDE;
     guillotiere_simple_free(&other);
+    return is_right;
+}
+
+static bool cache_clone(const struct held *h) {
+    guillotiere_cache copy = GUILLOTIERE_NONE;
+    size_t len;
+    bool is_right = guillotiere_cache_clone(&h->cache, &copy) == GUILLOTIERE_DONE;
+    is_right = is_right && guillotiere_cache_len(&copy, &len) == GUILLOTIERE_DONE && len == COUNT;
+    guillotiere_cache_free(&copy);
     return is_right;
 }
 
@@ -239,11 +259,12 @@ static const struct {
     bool (*is_right)(const struct held *);
 } calls[] = {
     CALL(atlas_get), CALL(atlas_can_fit), CALL(atlas_can_grow_to), CALL(atlas_size), CALL(atlas_options), CALL(atlas_is_empty),
-    CALL(atlas_slots), CALL(atlas_areas), CALL(atlas_live), CALL(atlas_free_boxes), CALL(atlas_clone), CALL(simple_size),
-    CALL(simple_options), CALL(simple_slots), CALL(simple_is_empty), CALL(simple_can_grow_to), CALL(simple_init_from_allocator),
+    CALL(atlas_slots), CALL(atlas_areas), CALL(atlas_unusable_area), CALL(atlas_largest_free), CALL(atlas_live),
+    CALL(atlas_free_boxes), CALL(atlas_clone), CALL(simple_size), CALL(simple_options), CALL(simple_slots),
+    CALL(simple_is_empty), CALL(simple_can_grow_to), CALL(simple_init_from_allocator),
     CALL(cache_peek), CALL(cache_newest), CALL(cache_oldest), CALL(cache_older), CALL(cache_len), CALL(cache_numbers),
     CALL(cache_page_count), CALL(cache_page_size), CALL(cache_areas), CALL(cache_unusable_area), CALL(cache_options_of),
-    CALL(cache_statistics),
+    CALL(cache_statistics), CALL(cache_clone),
 };
 enum { CALLS = sizeof calls / sizeof calls[0] };
 

@@ -1,9 +1,12 @@
-/* Sheets: worked by hand, checked by plain code, and asked for carelessly. */
+/* Sheets: worked by hand, checked by plain code, and asked for carelessly. With any word each ninth random one alone, which still has all
+ * options. */
 #include "check.h"
 
 #include <string.h>
 
 enum { ROOM = 200 };
+
+static uint32_t step = 1;
 
 /* What a packing writes, with as much room as `room` says. */
 typedef struct {
@@ -135,7 +138,7 @@ static uint32_t next(uint32_t *state) {
 /* Random sprites and options of every kind: checked by plain code, with the same answer twice, and nothing after it. */
 static void random_sheets(void) {
     uint32_t state = 7;
-    for (uint32_t round = 0; round < 64; round++) {
+    for (uint32_t round = 0; round < 64; round += step) {
         guillotiere_size sprites[ROOM];
         guillotiere_sheet_options options = options_of(round % 4);
         const size_t count = next(&state) % (ROOM - 1);
@@ -149,7 +152,7 @@ static void random_sheets(void) {
         options.padding = round / 4 % 4;
         options.alignment_width = 1 + (int32_t)(round / 16 % 3);
         options.turn = round / 8 % 2;
-        options.effort = round % 5 * 20;
+        options.effort = round % 5 * 5;
         options.seed = round;
         memset(&into, 0x55, sizeof into);
         memset(&again, 0x55, sizeof again);
@@ -264,7 +267,7 @@ static int64_t pixels_by(const guillotiere_size *sprites, size_t count, const gu
 /* A dense sheet has no more pixels than that of guillotiere_pack, and mostly fewer. */
 static void never_larger(void) {
     uint32_t state = 5, fewer = 0;
-    for (uint32_t round = 0; round < 40; round++) {
+    for (uint32_t round = 0; round < 40; round += step) {
         guillotiere_size sprites[ROOM];
         guillotiere_sheet_options options = options_of(round % 2 ? GUILLOTIERE_SQUARES : GUILLOTIERE_HEIGHTS);
         const size_t count = 60 + next(&state) % (ROOM - 60);
@@ -279,7 +282,7 @@ static void never_larger(void) {
         CHECK(dense <= plain);
         fewer += dense < plain;
     }
-    CHECK(fewer >= 20);
+    CHECK(fewer >= 20 / step);
 }
 
 /* What a packing into several sheets and a filling write, with as much room as `room` says. */
@@ -471,7 +474,7 @@ static uint32_t check_groups(const guillotiere_size *sprites, const uint32_t *gr
 static void random_pages(void) {
     uint32_t together = 0;
     uint32_t state = 11;
-    for (uint32_t round = 0; round < 12; round++) {
+    for (uint32_t round = 0; round < 12; round += step) {
         guillotiere_size sprites[ROOM], there[ROOM];
         guillotiere_sheet_options options = options_of(round % 4);
         uint32_t groups[ROOM];
@@ -501,7 +504,7 @@ static void random_pages(void) {
         CHECK(many + filled.left == count && (filled.left == 0) == (into.count == 1));
         check_places(there, many, &options, &sheet);
     }
-    CHECK(together >= 5);
+    CHECK(together >= 5 / step);
 }
 
 /* Bad calls of all three: this status, and nothing written but the number of a sprite. */
@@ -554,7 +557,9 @@ static void one_sheet(void) {
     ends_of_ranges();
 }
 
-int main(void) {
+int main(int count, char **words) {
+    (void)words;
+    if (count > 1) step = 9;
     packing = guillotiere_pack;
     one_sheet();
     packing = guillotiere_pack_dense;

@@ -72,6 +72,23 @@ def run_nulls(library, compiler, before=()):
     call(list(before) + [library.compiled(compiler, source, ['-O2', '-I' + os.path.join(BINDINGS, 'tests')])])
 
 
+def run_stored_session(library, compiler, before=()):
+    with open(os.path.join(ROOT, 'crates', 'atlas_tool', 'stdout')) as file:
+        wanted = file.read()
+    if run_program(library, compiler, 'c/examples/session.c', ['-O2'], (), before) != wanted:
+        raise Failure('the replies differ from crates/atlas_tool/stdout')
+
+
+def run_stored_cache(library, compiler, before=()):
+    """The lines of caches whose replies were worked out by hand, over the exports."""
+    program = library.compiled(compiler, 'tests/cache_lines.c', ['-O2'])
+    stored = os.path.join(BINDINGS, 'tests', 'cache.')
+    with open(stored + 'lines') as lines, open(stored + 'replies') as replies:
+        wanted = replies.read()
+        if len(wanted) < 10000 or call([*before, program], stdin=lines) != wanted:
+            raise Failure('the replies differ from bindings/tests/cache.replies')
+
+
 def check_plugin(library):
     """A shared library that links the archive has no name of it among its own."""
     source, plugin = os.path.join(library.folder, 'plugin.c'), os.path.join(library.folder, 'plugin.so')

@@ -3,7 +3,7 @@ import os
 import re
 
 import cargo_here
-from runner import Absent, Failure, call, expect
+from runner import Absent, Failure, call, expect, read
 from suite import (BINDINGS, CALLS, NEEDED, REFUSING, WARNINGS, Library, build, check_plugin, check_readers, digest_of, exports, names_in,
                    run_nulls, run_program)
 
@@ -56,8 +56,7 @@ def run_shared(library, source):
 
 def check_sizes(libraries):
     """What the page says of the sizes of the three forms, and of their glibc, where it was measured by this rustc."""
-    with open(os.path.join(BINDINGS, 'README.md')) as file:
-        page = file.read()
+    page = read(os.path.join(BINDINGS, 'README.md'))
     table = re.search(r'On x86-64, by\s+rustc\s(\S+);.*?\n\n((?:\|[^\n]*\n)+)', page, re.S)
     version = re.search(r'1\.\d+', call([os.path.join(os.path.dirname(cargo_here.cargo()), 'rustc'), '--version']))[0]
     if os.uname().machine != 'x86_64' or version != table[1]:

@@ -192,8 +192,13 @@ class Body(Values):
             rest = self.node(node[3], depth + 1, tail) + self.flush(depth + 1)
         else:
             rest = arms.pop()[1]
-        tests = [(' || '.join('%s == %du' % (value.operand(), tag) for tag in tags), each) for tags, each in arms]
+        tests = [(' || '.join('%s == %du' % (value.operand(), tag) + self.told(value, tag) for tag in tags), each) for tags, each in arms]
         return lines + branches(STEP * depth, tests, rest)
+
+    def told(self, value, tag):
+        """The name of a variant, for readers, behind its tag."""
+        known = self.shapes.names.variants.get(value.tag_of[1], []) if value.tag_of else []
+        return ' /* %s */' % known[tag][0] if tag < len(known) else ''
 
     def print_Assign(self, node, depth, tail):
         _, place, right = node

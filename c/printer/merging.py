@@ -1,7 +1,10 @@
 """Prints once what the types of two uses make alike: structs, and functions, of one name in the sources with one text."""
+import collections
 import re
 
 WORD = re.compile(r'\b[A-Za-z_]\w*\b')
+# Lines that compute nothing.
+BESIDE = re.compile(r'    (?:const )?\w+ \*?\w+;|    \(void\)\w+;|\s*\}')
 
 
 class Piece:
@@ -46,17 +49,35 @@ def merged(groups, others):
         others = [renamed(line, names) for line in others]
 
 
-def small(functions, most):
-    """The functions of at most so many statements, without a loop, that call no other function which isn't small and could call them."""
-    fitting = {}
-    for piece in functions:
-        body = [line for line in piece.lines[1:-1] if not re.fullmatch(r'    (?:const )?\w+ \*?\w+;|    \(void\)\w+;', line)]
-        if len(body) <= most and not any('for (;;)' in line for line in body):
-            fitting[piece.name] = {word for line in body for word in WORD.findall(line)}
-    called = {name: words & fitting.keys() for name, words in fitting.items()}
-    found = set()
-    while True:
-        more = {name for name, words in called.items() if name not in found and words <= found}
-        if not more:
-            return found
-        found |= more
+class Calls:
+    """Which functions are put where they are called: those that are called at one place; those of which all copies but one have at most
+    `more` lines, with what is put into them; and those of at most `most` lines without a loop, which have at most `whole` with it.
+    `others` are lines that call some too."""
+
+    def __init__(self, functions, others, most, more, whole):
+        self.most, self.more, self.whole = most, more, whole
+        self.bodies = {piece.name: [line for line in piece.lines[1:-1] if not BESIDE.fullmatch(line)] for piece in functions}
+        self.called = {name: collections.Counter(self.names_in(body)) for name, body in self.bodies.items()}
+        self.places = sum(self.called.values(), collections.Counter(self.names_in(others)))
+        self.weight, self.begun, self.placed = {}, set(), set()
+        for name in self.bodies:
+            self.visit(name)
+
+    def names_in(self, lines):
+        return [word for line in lines for word in WORD.findall(line) if word in self.bodies]
+
+    def visit(self, name):
+        """Decides of a function after those that it calls; one that leads back to itself stays."""
+        if name in self.begun:
+            return
+        self.begun.add(name)
+        called = self.called[name]
+        for each in called:
+            self.visit(each)
+        body = self.bodies[name]
+        self.weight[name] = len(body) + sum(count * (self.weight[each] - 1) for each, count in called.items() if each in self.placed)
+        if any(each not in self.weight or each == name for each in called):
+            return
+        is_small = len(body) <= self.most and self.weight[name] <= self.whole and not any('for (;;)' in line for line in body)
+        if is_small or (self.places[name] - 1) * self.weight[name] <= self.more:
+            self.placed.add(name)

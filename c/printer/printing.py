@@ -5,14 +5,15 @@ import re
 
 import border
 from bodies import Body
-from merging import Piece, merged, small
+from merging import Calls, Piece, merged
 from mir import Unknown, only
 from shapes import Shapes, declaration, is_library, word
 
 HERE = os.path.dirname(os.path.abspath(__file__))
 Key = collections.namedtuple('Key', ['name', 'types', 'methods'])
-# How many lines a function has at most that is put where it is called.
-SMALL = 8
+# Of functions that are put where they are called: how many lines one has, how many all copies but one, and how many with all in it.
+SMALL = (12, 300, 600)
+LONGEST = 140
 # What has no body: it stands in heap.c.
 FOREIGN = {'libc::heap::rattle_alloc', 'libc::heap::rattle_realloc', 'libc::heap::rattle_dealloc'}
 
@@ -185,8 +186,9 @@ class Printer:
         return pieces, told
 
     def sizes(self):
-        """The sizes that proofs took, asserted where pointers have 64 bits."""
-        return ['sizeof(%s) == %d' % (self.shapes.c(kind), size) for kind, size in self.shapes.strides.items()]
+        """The sizes that proofs took, and those of the header's structs, asserted where pointers have 64 bits."""
+        outer = {kind: self.shapes.sized(kind)[0] for kind in self.shapes.found if self.shapes.is_outer(kind)}
+        return ['sizeof(%s) == %d' % (self.shapes.c(kind), size) for kind, size in {**self.shapes.strides, **outer}.items()]
 
     def text(self, wrappers=()):
         """All of the file, after run()."""
@@ -201,8 +203,22 @@ class Printer:
         inner = (support('heap.c') if self.foreign else []) + (support('lanes.c') if self.shapes.has_lanes else []) + ['']
         made = [line for piece in groups[1] for line in piece.lines]
         parts = [support('support.c'), ['', *typed(groups[0], told)], asserted(sizes), inner, made, statics, [''],
-                 written(groups[2], notes), wrappers]
-        return '\n'.join(line for part in parts for line in part).rstrip('\n') + '\n'
+                 written(groups[2], notes, wrappers), wrappers]
+        return '\n'.join(each for part in parts for line in part for each in folded(line)).rstrip('\n') + '\n'
+
+
+def folded(line):
+    """A line of code that isn't long, or those that it is folded into, behind commas or before `&&` and `||`."""
+    if line[:1] in ('#', '/') or line.startswith(' *') or '"' in line:
+        return [line]
+    lines, pad = [], re.match(' *', line)[0] + '        '
+    while len(line) > LONGEST:
+        at = max(line.rfind(', ', 0, LONGEST) + 1, line.rfind(' && ', 0, LONGEST), line.rfind(' || ', 0, LONGEST))
+        if at <= len(pad):
+            break
+        lines.append(line[:at])
+        line = pad + line[at:].lstrip()
+    return lines + [line]
 
 
 def parted(lines):
@@ -224,9 +240,9 @@ def asserted(sizes):
     return ['#if UINTPTR_MAX > 0xffffffffu'] + tests + ['#endif', '']
 
 
-def written(functions, notes):
-    """Declarations, and then the functions: small ones are to be printed in place by the compiler."""
-    inner = small(functions, SMALL)
+def written(functions, notes, wrappers):
+    """Declarations, and then the functions; some are put where they are called."""
+    inner = Calls(functions, wrappers, *SMALL).placed
     lines = ['%s %s;' % ('SMALL' if piece.name in inner else 'PART', piece.lines[0][:-2]) for piece in functions] + ['']
     for piece in functions:
         head = '%s %s' % ('SMALL' if piece.name in inner else 'PART', piece.lines[0])

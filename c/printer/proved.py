@@ -1,12 +1,11 @@
 """The MIR of guillotiere_c and of all below it, as a plain library, for which the kit writes it: of a static library it writes none.
 
 The libraries below are those that `rt ci` left, or that were proved before on this machine. What is proved here is kept for later runs in
-this clone and others (gate/kept.py).
+this clone and others (gate/kept.py), and so is what `./check` proves beside `rt ci` (gate/edits).
 """
 import os
 import pathlib
 import shutil
-import subprocess
 import sys
 
 from mir import PLACE, World
@@ -14,6 +13,7 @@ from sources import Sources
 
 ROOT = pathlib.Path(__file__).resolve().parent.parent.parent
 sys.path.insert(0, str(ROOT / 'gate'))
+import archive  # noqa: E402
 import crates  # noqa: E402
 import kept  # noqa: E402
 from runner import Failure  # noqa: E402
@@ -29,36 +29,20 @@ def needed():
     return crate, [*crate.below().values(), crate]
 
 
-def prove(crate, kit, place):
-    """Proves the exports as a plain library, and copies the MIR of all crates."""
-    crates.build_below([crate])
-    built = crate.folder / 'out' / 'plain' / (crate.name + '.rlib')
-    os.makedirs(built.parent, exist_ok=True)
-    crate.is_static = False
-    command = ['%s/bin/rattle' % kit, 'build', *crate.words(kit), '--incremental', 'out/incremental', '--jobs',
-               str(min(4, os.cpu_count() or 1)), '-o', str(built)]
-    ran = subprocess.run(command, cwd=crate.folder, stdin=subprocess.DEVNULL, stdout=subprocess.PIPE, stderr=subprocess.STDOUT, text=True)
-    crate.is_static = True
-    if ran.returncode:
-        raise Failure('%s failed:\n%s' % (' '.join(command), ran.stdout[-3000:]))
-    shutil.rmtree(place, ignore_errors=True)
-    os.makedirs(place)
-    for each in crate.below().values():
-        shutil.copy(each.rlib() / PLACE, place / (each.name + '.json'))
-    shutil.copy(built / PLACE, place / (crate.name + '.json'))
-
-
 def folder():
     """A folder with the MIR of each crate, proved of the sources as they stand."""
     if shutil.which('rt') is None:
         raise Failure('there is no rt')
     (crate, _), kit = needed(), crates.kit()
-    place, name = crate.folder / 'out' / 'mir', kept.name_of(crate, kit, 'mir')
+    place, name = crate.folder / 'out' / 'mir', archive.name_of_mir(crate, kit)
     if kept.has(name):
         kept.take(name, place)
-    else:
-        prove(crate, kit, place)
-        kept.keep(name, place)
+        return place
+    crates.build_below([crate])
+    try:
+        archive.build_mir(crate, kit, place, 'out/incremental', int(os.environ.get('RT_JOBS') or min(4, os.cpu_count() or 1)))
+    except archive.NotBuilt as fault:
+        raise Failure(str(fault)) from fault
     return place
 
 

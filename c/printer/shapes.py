@@ -265,7 +265,8 @@ class Shapes:
         form, parts = self.shape(kind)
         if form == 'Fields':
             return [head] + self.rows(kind, None, parts, '    ') + ['};']
-        return [head, '    uint8_t tag;'] + self.variants(kind, parts) + ['};']
+        known = ', '.join('%d %s' % (index, name) for index, (name, _) in enumerate(self.names.variants.get(kind[1], [])))
+        return [head, '    uint8_t tag;' + (' /* %s */' % known if known else '')] + self.variants(kind, parts) + ['};']
 
     def variants(self, kind, parts):
         filled = self.filled(kind)

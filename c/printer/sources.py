@@ -7,7 +7,7 @@ import re
 
 OPEN = {'{': '}', '(': ')', '[': ']'}
 FUNCTION = re.compile(r'\bfn\s+(\w+)\s*(?:<[^(]*?>)?\s*\(')
-TYPE = re.compile(r'\b(struct|enum)\s+(\w+)\s*(?:<[^{;(]*?>)?\s*(?:where[^{;]*)?([{(;])')
+TYPE = re.compile(r'\b(struct|enum)\s+(\w+)\s*(?:<(?:[^{;(]|\(\))*?>)?\s*(?:where[^{;]*)?([{(;])')
 IMPL = re.compile(r'^\s*(?:unsafe\s+)?impl\b(?:\s*<[^{]*?>(?=\s))?\s+([^{]*?)\s*\{', re.M)
 FIELD = re.compile(r'\s*(?:#\[[^\]]*\]\s*)*(?:pub(?:\([^)]*\))?\s+)?(ghost\s+)?(?:mut\s+)?(\w+)\s*:')
 VARIANT = re.compile(r'\s*(?:#\[[^\]]*\]\s*)*(\w+)\s*(.*)', re.S)

@@ -14,15 +14,26 @@
 /* What has no bytes has this address. */
 static uint64_t nothing;
 
+/* Compiled for size, without optimization or with a sanitizer, each function stays one, which compilers take in much less time. */
+#if !defined(__OPTIMIZE__) || defined(__OPTIMIZE_SIZE__) || defined(__SANITIZE_ADDRESS__) || defined(__SANITIZE_THREAD__)
+#define IN_PLACE unused
+#elif !defined(__has_feature)
+#define IN_PLACE always_inline
+#elif __has_feature(address_sanitizer) || __has_feature(memory_sanitizer) || __has_feature(thread_sanitizer)
+#define IN_PLACE unused
+#else
+#define IN_PLACE always_inline
+#endif
+
 /* MAKER: makes a value of its parts. SMALL: has few lines. PART: any other function, where GCC by measurement does better with a hint. */
 #if defined(__clang__)
-#define MAKER static inline __attribute__((always_inline, unused))
-#define SMALL static inline __attribute__((always_inline))
+#define MAKER static inline __attribute__((IN_PLACE, unused))
+#define SMALL static inline __attribute__((IN_PLACE))
 #define PART static
 #define UNREACHABLE() __builtin_unreachable()
 #elif defined(__GNUC__)
-#define MAKER static inline __attribute__((always_inline, unused))
-#define SMALL static inline __attribute__((always_inline))
+#define MAKER static inline __attribute__((IN_PLACE, unused))
+#define SMALL static inline __attribute__((IN_PLACE))
 #define PART static inline
 #define UNREACHABLE() __builtin_unreachable()
 #else

@@ -15,11 +15,12 @@ WIDE = {'Add': ('wide_sum', ('Int', 128)), 'Mul': ('wide_product', ('Int', 128))
 
 class Value:
     """An expression: its text; 0 if it is an operand of whatever stands before or behind it, 1 of an operator of one operand, 2 else; its
-    type; what it reads. `outer` is what the header calls its type, where that differs; `stride` is (index, factor) of a product."""
+    type; what it reads. `outer` is what the header calls its type, where that differs; `stride` is (index, factor) of a product, and
+    `tag_of` the type whose tag it is."""
 
-    def __init__(self, text, level, kind, reads=frozenset(), outer=None, stride=None, number=None):
+    def __init__(self, text, level, kind, reads=frozenset(), outer=None, stride=None, number=None, tag_of=None):
         self.text, self.level, self.kind, self.reads = text, level, kind, reads
-        self.outer, self.stride, self.number = outer, stride, number
+        self.outer, self.stride, self.number, self.tag_of = outer, stride, number, tag_of
 
     def first(self):
         return self.text if self.level == 0 else '(%s)' % self.text
@@ -113,7 +114,7 @@ class Values:
             text = '%s->%s' % (inner if re.fullmatch(r'[\w.>\-]+|\(.*\)|[\w.>\-]+\([\w, .>\-]*\)', inner) else '(%s)' % inner, path)
         else:
             text = '%s.%s' % (at.first(), path)
-        return Value(text, 0, kind, at.reads, outer)
+        return Value(text, 0, kind, at.reads, outer, tag_of=at.kind if variant is not None and index == 0 else None)
 
     def read(self, at):
         """The value of a place, of the type that the MIR has."""

@@ -90,6 +90,9 @@ NUMBERS = [
     ('null', [BOOL, PTR], 0, seq(put(1, opd('Null')), put(0, op2('PtrEq', copy(1), 'Null')), 'Return'), [((), 1)]),
 ]
 
+# Sixteen bytes, of which four are what is given.
+LANES = {'Vector': [U8, {'Lit': 16}]}
+APART = [copy(1) if each is None else num(U8, each) for each in (None, 0, 128, 255, None, 1, 2, 3, 4, None, 6, 127, 129, 9, 10, None)]
 PARTS = [
     ('struct', [U64, U32, U64, PAIR, U64], 2, seq(put(3, {'Aggregate': [copy(1), copy(2)]}), put(at(3, field(0)), opd(num(U32, 9))),
                                              put(4, opd(copy(3, field(1)))), put(0, opd(copy(4))), 'Return'), [((1, 5), 5)]),
@@ -113,10 +116,16 @@ PARTS = [
     ('repeat', [U32, U32, array(U32, 5), PTR, PTR], 1, seq(
         put(2, {'Repeat': [copy(1), {'Lit': 5}]}), put(3, {'AddrOf': at(2)}), put(4, op2('Offset', copy(3), num(U64, 16))),
         put(0, opd(copy(4, deref(U32)))), 'Return'), [((5,), 5)]),
-    ('lanes', [U64, U8, {'Vector': [U8, {'Lit': 16}]}, {'Vector': [U8, {'Lit': 16}]}, {'Vector': [U8, {'Lit': 16}]}], 1, seq(
+    ('lanes', [U64, U8, LANES, LANES, LANES], 1, seq(
         put(2, {'Repeat': [copy(1), {'Lit': 16}]}), put(3, {'Repeat': [num(U8, 7), {'Lit': 16}]}),
         put(4, {'Vec2': [{'Mask': 'Eq'}, copy(2), copy(3)]}), put(0, {'Vec1': [{'Bitmask': 64}, copy(4)]}), 'Return'),
      [((7,), 65535), ((8,), 0)]),
+    ('lanes_apart', [U64, U8, LANES, LANES, LANES], 1, seq(
+        put(2, {'Aggregate': APART}), put(3, {'Repeat': [copy(1), {'Lit': 16}]}),
+        put(4, {'Vec2': [{'Mask': 'Eq'}, copy(2), copy(3)]}), put(0, {'Vec1': [{'Bitmask': 64}, copy(4)]}), 'Return'),
+     [((7,), 33297), ((0,), 33299), ((128,), 33301), ((255,), 33305), ((127,), 35345)]),
+    ('lanes_high', [U64, U8, LANES], 1, seq(
+        put(2, {'Aggregate': APART}), put(0, {'Vec1': [{'Bitmask': 64}, copy(2)]}), 'Return'), [((7,), 4108), ((128,), 37405)]),
     ('nothing', [U32, U32, EMPTY, ref(EMPTY), BOX], 1, seq(
         put(2, {'Aggregate': ['Unit']}), put(3, {'AddrOf': at(2)}), put(4, {'Aggregate': [copy(1), copy(2)]}),
         put(0, opd(copy(4, field(0)))), 'Return'), [((6,), 6)]),
@@ -201,6 +210,8 @@ CALLS = [
          at(2, field(0))]},
         put(0, op1(cast('Unsigned', 'Unsigned', 64), copy(2, field(0)))), 'Return'), [((8,), 9)]),
     ('number', [U64, U64], 1, seq(call('t::length', [], 0, [{'Const': 7}]), 'Return'), [((0,), 7)]),
+    ('of_itself', [U32, U32], 1, seq(call('t::down', [copy(1)], 0), 'Return'), [((5,), 15)]),
+    ('of_each_other', [BOOL, U32], 1, seq(call('t::is_even', [copy(1)], 0), 'Return'), [((6,), 1), ((7,), 0)]),
 ]
 
 HELPERS = [
@@ -213,6 +224,14 @@ HELPERS = [
     function('t::twice', [param(0), param(0), param(0)], 1, seq(
         {'Call': [{'Method': [{'Given': 0}, 0, {'types': [], 'dicts': []}]}, [copy(1)], at(2)]},
         {'Call': [{'Method': [{'Given': 0}, 0, {'types': [], 'dicts': []}]}, [copy(2)], at(0)]}, 'Return'), 1, [{'of': 't::Step'}]),
+    function('t::down', [U32, U32, BOOL, U32, U32], 1, seq(
+        put(2, op2('Eq', copy(1), num(U32, 0))), when(copy(2), seq(put(0, opd(num(U32, 0))), 'Return')),
+        put(3, op2(unsigned('Sub'), copy(1), num(U32, 1))), call('t::down', [copy(3)], 4), put(0, op2(unsigned('Add'), copy(4), copy(1))),
+        'Return')),
+    *(function('t::is_' + one, [BOOL, U32, BOOL, U32], 1, seq(
+        put(2, op2('Eq', copy(1), num(U32, 0))), when(copy(2), seq(put(0, opd(told)), 'Return')),
+        put(3, op2(unsigned('Sub'), copy(1), num(U32, 1))), call('t::is_' + other, [copy(3)], 0), 'Return'))
+      for one, other, told in (('even', 'odd', 'True'), ('odd', 'even', 'False'))),
     function('t::length', [U64], 0, seq(put(0, opd({'NumOf': [64, param(0)]})), 'Return'), 1),
 ]
 

@@ -1,16 +1,18 @@
-"""guillotiere.c under other tools: ThreadSanitizer, MemorySanitizer, the front end of clang for MSVC, GCC's analyzer, which takes long, and
-as a module of WebAssembly.
+"""guillotiere.c under other tools: ThreadSanitizer, MemorySanitizer, the front end of clang for MSVC, valgrind and GCC's analyzer, which
+take long, and as a module of WebAssembly.
 """
 import os
 import re
 
 import suite as linked
+from copies import check_watched
 from runner import Absent, Failure, call, expect, outcome
 
 HERE = os.path.dirname(os.path.abspath(__file__))
 ROOT = os.path.dirname(os.path.dirname(HERE))
 HEADERS, BARE = os.path.join(ROOT, 'bindings', 'c'), os.path.join(HERE, 'bare')
 THREADS = ['-O1', '-g', '-fsanitize=thread', '-pthread']
+WATCHED = ['valgrind', '--quiet', '--leak-check=full', '--error-exitcode=9']
 
 
 def check_threads(file, compiler):
@@ -27,7 +29,8 @@ def check_undefined_reads(file):
 def check_analyzed(file):
     """GCC's analyzer has nothing to say."""
     made = os.path.join(file.folder, 'analyzed.o')
-    told = outcome(['gcc', '-std=c99', '-O0', '-fanalyzer', '-I' + HEADERS, '-c', '-o', made, file.source])
+    # Functions in place of their calls, as where it is compiled for speed: else it takes too much memory.
+    told = outcome(['gcc', '-std=c99', '-O0', '-D__OPTIMIZE__', '-fanalyzer', '-I' + HEADERS, '-c', '-o', made, file.source])
     expect(told.returncode, 0, 'the status')
     found = re.findall(r'warning: .*', told.stdout)
     if found:
@@ -36,9 +39,10 @@ def check_analyzed(file):
 
 def check_msvc(file, words):
     """The front end of clang takes it as it takes what is written for MSVC, without a warning of what GCC alone has."""
+    strict = ['-pedantic', '-Wall', '-Wextra', '-Wconversion', '-Wvla', '-Wgnu', '-Wlanguage-extension-token', '-Werror']
     for target in ('x86_64-pc-windows-msvc', 'i686-pc-windows-msvc'):
-        call(['clang', '--target=' + target, '-ffreestanding', *words, '-fsyntax-only', '-pedantic', '-Wall', '-Wextra', '-Wvla', '-Wgnu',
-              '-Wlanguage-extension-token', '-Werror', '-U__GNUC__', '-I' + HEADERS, '-isystem', BARE, file.source])
+        call(['clang', '--target=' + target, '-ffreestanding', *words, '-fsyntax-only', *strict, '-U__GNUC__', '-I' + HEADERS,
+              '-isystem', BARE, file.source])
     with open(file.source) as text:
         plain = re.sub(r'/\*.*?\*/', '', text.read(), flags=re.S)
     guarded = re.sub(r'^#(?:if|elif) defined\(__(?:GNUC|clang)__\).*?^#(?:else|endif)', '', plain, flags=re.M | re.S)
@@ -52,7 +56,7 @@ def check_wasm(file, native):
     module = os.path.join(file.folder, 'digest.wasm')
     if 'wasm32' not in call(['clang', '--print-targets']):
         raise Absent('this clang has no target wasm32')
-    call(['clang', '--target=wasm32-unknown-unknown', '-std=c11', '-O2', '-ffreestanding', '-nostdlib', '-DDIGEST_BARE', '-I' + HEADERS,
+    call(['clang', '--target=wasm32-unknown-unknown', '-std=c11', '-Os', '-ffreestanding', '-nostdlib', '-DDIGEST_BARE', '-I' + HEADERS,
           '-isystem', BARE, '-Wl,--no-entry', '-Wl,--export=digest_start', '-Wl,--export=digest_calls', '-o', module,
           os.path.join(linked.BINDINGS, 'tests', 'digest.c'), os.path.join(BARE, 'memory.c'), file.source])
     calls = str(linked.CALLS // 10)
@@ -60,8 +64,8 @@ def check_wasm(file, native):
     expect(told, linked.run_program(native, 'gcc', 'tests/digest.c', ['-O2'], [calls]), 'the digest')
 
 
-def test_quality(suite, file):
-    for compiler in ('gcc', 'clang'):
+def test_quality(suite, file, compilers):
+    for compiler in compilers:
         what = 'two threads that read, by %s under ThreadSanitizer' % compiler
         if suite.has([compiler], what):
             suite.run(what, check_threads, file, compiler)
@@ -70,6 +74,16 @@ def test_quality(suite, file):
     if suite.has(['clang'], "the subset of MSVC, by clang's front end"):
         suite.run("the subset of MSVC in C, by clang's front end", check_msvc, file, ['-std=c99'])
         suite.run("the subset of MSVC in C++, by clang's front end", check_msvc, file, ['-std=c++17', '-x', 'c++'])
+
+
+def test_watched(suite, file):
+    if not suite.has(['gcc', 'valgrind'], 'programs under valgrind'):
+        return
+    for source in ('c/examples/glyph_cache.c', 'tests/cache.c', 'tests/hostile.c', 'tests/session.c', 'tests/sheet.c'):
+        suite.run(source + ', under valgrind', linked.run_program, file, 'gcc', source, ['-O1', '-g'], [], WATCHED)
+    suite.run('a handle that is copied, under valgrind', check_watched, file)
+    suite.run('two threads that read, under helgrind', linked.run_program, file, 'gcc', 'tests/readonly.c', ['-O1', '-g', '-pthread'],
+              ['threads', '100'], ['valgrind', '--quiet', '--tool=helgrind', '--error-exitcode=9'])
 
 
 def test_analyzed(suite, file):

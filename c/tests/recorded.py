@@ -34,9 +34,3 @@ def check_recorded(file, compiler):
         expect(told, ''.join(reply + '\n' for _, replies in lines for reply in replies.split(', ')), 'of %s what is replied' % title)
     if len(played) < LEAST:
         raise Failure('there are %d sessions' % len(played))
-
-
-def check_stored(file, compiler):
-    """The tool's stored session."""
-    with open(os.path.join(ROOT, 'crates', 'atlas_tool', 'stdout')) as replies:
-        expect(linked.run_program(file, compiler, 'c/examples/session.c', ['-O2']), replies.read(), 'what is replied')

@@ -1,12 +1,24 @@
-/* The random calls of bindings/tests/digest.c, while one in twenty requests for memory is refused: prints their digest, how many requests
- * were refused, and how many blocks are left. */
+/* The random calls of bindings/tests/digest.c, while requests for memory are refused: prints their digest, and how many were refused.
+ *
+ *     refused CALLS TURNS
+ *
+ * First one in twenty of CALLS calls' requests; then of TURNS calls, which are made from nothing for each, one request alone: the first, the
+ * second and so on to the last. */
 #define DIGEST_BARE
 #include "digest.c"
 #include <stdio.h>
 #include <stdlib.h>
+#include <string.h>
 
 static uint64_t drawn = 99;
-static long refused, blocks;
+static long refused, blocks, left; /* `left` are granted before one is refused, where it isn't below 0 */
+static bool is_random = true;
+
+static bool refuses(void) {
+    if (!is_random) return left-- == 0;
+    drawn = drawn * 6364136223846793005u + 1442695040888963407u;
+    return (drawn >> 33) % 20 == 0;
+}
 
 static void *resize(void *user, void *block, size_t size_before, size_t size) {
     void *made;
@@ -17,8 +29,7 @@ static void *resize(void *user, void *block, size_t size_before, size_t size) {
         free(block);
         return NULL;
     }
-    drawn = drawn * 6364136223846793005u + 1442695040888963407u;
-    if ((drawn >> 33) % 20 == 0) {
+    if (refuses()) {
         refused++;
         return NULL;
     }
@@ -27,12 +38,30 @@ static void *resize(void *user, void *block, size_t size_before, size_t size) {
     return made;
 }
 
+static void end(void) {
+    for (int i = 0; i < 2; i++) guillotiere_atlas_free(&both[i].atlas);
+    guillotiere_simple_free(&simple);
+    guillotiere_cache_free(&cache);
+    memset(both, 0, sizeof both);
+}
+
 int main(int count, char **words) {
-    uint64_t digest;
-    if (count != 2) return 2;
+    uint64_t all;
+    long turn, before;
+    if (count != 3) return 2;
     guillotiere_set_memory(resize, NULL);
     digest_start(7);
-    digest = digest_calls((uint32_t)strtoul(words[1], NULL, 10));
-    printf("%016llx refused %ld\n", (unsigned long long)digest, refused);
-    return refused == 0;
+    all = digest_calls((uint32_t)strtoul(words[1], NULL, 10));
+    printf("%016llx refused %ld\n", (unsigned long long)all, refused);
+    is_random = false;
+    for (turn = 0, before = -1; refused > before; turn++) {
+        before = refused;
+        end();
+        if (blocks != 0) return 1;
+        digest_start(7);
+        left = turn;
+        all = all * 1099511628211u ^ digest_calls((uint32_t)strtoul(words[2], NULL, 10));
+    }
+    printf("%016llx in %ld turns\n", (unsigned long long)all, turn);
+    return turn < 2;
 }

@@ -1,14 +1,22 @@
-"""Prints the cases of nodes.py as C, compiles them and compares what they give. Also a program: running.py PRINTER COMPILER .."""
+"""Prints the cases of nodes.py as C, compiles them and compares what they give. Also a program: running.py PRINTER COMPILER .., or without
+a compiler, to print them.
+"""
 import os
 import re
+import resource
 import subprocess
 import sys
 import tempfile
 
 HERE = os.path.dirname(os.path.abspath(__file__))
 ROOT = os.path.dirname(os.path.dirname(HERE))
-# The seconds that all cases may take.
-LONGEST = 10
+# The seconds of a processor that all cases may take, which take hundredths: so no other load decides.
+LONGEST = 2
+
+
+def limited(seconds=LONGEST):
+    """For a process that is begun: it ends after so many seconds of a processor."""
+    resource.setrlimit(resource.RLIMIT_CPU, (seconds, seconds))
 
 
 def import_printer(folder):
@@ -72,14 +80,14 @@ def run(folder, compiler):
         ran = subprocess.run(compiler + ['-I', os.path.join(ROOT, 'bindings', 'c'), '-o', program, source], capture_output=True, text=True)
         if ran.returncode or re.search('warning', ran.stderr):
             return [ran.stderr[-2000:]]
-        try:
-            told = subprocess.run([program], capture_output=True, text=True, timeout=LONGEST).stdout
-        except subprocess.TimeoutExpired:
-            return ['a case does not end']
+        told = subprocess.run([program], capture_output=True, text=True, preexec_fn=limited).stdout
     return differing(told, modules[1]) + not_refused(*modules)
 
 
 if __name__ == '__main__':
+    if len(sys.argv) == 2:
+        print(printed(*import_printer(os.path.abspath(sys.argv[1]))))
+        sys.exit()
     wrong = run(os.path.abspath(sys.argv[1]), sys.argv[2:])
     print('\n'.join(wrong) or 'nothing is wrong')
     sys.exit(1 if wrong else 0)

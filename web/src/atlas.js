@@ -213,6 +213,21 @@ export class Atlas extends Owner {
     return found(this, ATLAS, 'atlas_areas', reading.areas);
   }
 
+  unusableArea(width, height) {
+    const [w, h] = [length(width, 'width'), length(height, 'height')];
+    const runtime = runtimeOf(this, ATLAS);
+    require(runtime.calls.atlas_unusable_area(handle(this), w, h, runtime.at));
+    return reading.wide(runtime.words(), runtime.word);
+  }
+
+  largestFree() {
+    const runtime = runtimeOf(this, ATLAS);
+    const status = runtime.calls.atlas_largest_free(handle(this), runtime.at);
+    if (status === NO_ROOM) return null;
+    require(status);
+    return reading.rectangle(runtime.words(), runtime.word);
+  }
+
   get isEmpty() {
     return runtimeOf(this, ATLAS).calls.atlas_is_empty(handle(this)) !== 0;
   }

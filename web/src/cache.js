@@ -1,5 +1,5 @@
 import { lengthOf, numbers, requireApart, room } from './arrays.js';
-import { DONE, FRAME_FULL, HELD, NOT_HELD, STATUSES, WollemigoError, atMost, close, failure, isOurs, require, say } from './errors.js';
+import { DONE, FRAME_FULL, HELD, NO_ROOM, NOT_HELD, STATUSES, WollemigoError, atMost, close, failure, isOurs, require, say } from './errors.js';
 import { EVICTED, PAGE_ADDED, PAGE_GROWN, PAGE_REMOVED, cacheChangeAt, cacheOptionsAt, countsAt, placeAt } from './interface.js';
 import { Keys } from './keys.js';
 import * as reading from './reading.js';
@@ -275,10 +275,27 @@ export class TextureCache extends Owner {
     this.#follow(runtime);
   }
 
+  endBatch(keys) {
+    const number = count(keys, 'keys');
+    const runtime = runtimeOf(this, CACHE);
+    require(runtime.calls.cache_end_batch(handle(this), number));
+    this.#follow(runtime);
+  }
+
   shrink() {
     const runtime = runtimeOf(this, CACHE);
     require(runtime.calls.cache_shrink(handle(this)));
     this.#follow(runtime);
+  }
+
+  compact(pixels) {
+    const number = wide(pixels, 'pixels');
+    const runtime = runtimeOf(this, CACHE);
+    const status = runtime.calls.cache_compact(handle(this), number, runtime.at);
+    const moved = reading.wide(runtime.words(), runtime.word);
+    this.#follow(runtime);
+    require(status);
+    return moved;
   }
 
   repack(page) {
@@ -286,6 +303,16 @@ export class TextureCache extends Owner {
     const runtime = runtimeOf(this, CACHE);
     require(runtime.calls.cache_repack(handle(this), number));
     this.#follow(runtime);
+  }
+
+  repackKeepingAll(page) {
+    const number = count(page, 'page');
+    const runtime = runtimeOf(this, CACHE);
+    const status = runtime.calls.cache_repack_keeping_all(handle(this), number);
+    if (status === NO_ROOM) return false;
+    require(status);
+    this.#follow(runtime);
+    return true;
   }
 
   reserve(additional) {

@@ -3,15 +3,15 @@
 /** The functions of the library, without the word before. */
 export const EXPORTS = [
   'atlas_allocate', 'atlas_areas', 'atlas_can_fit', 'atlas_can_grow_to', 'atlas_clear', 'atlas_clone', 'atlas_deallocate',
-  'atlas_deallocate_all', 'atlas_free', 'atlas_free_boxes', 'atlas_get', 'atlas_grow', 'atlas_is_empty', 'atlas_live', 'atlas_new',
-  'atlas_options', 'atlas_rearrange', 'atlas_reserve', 'atlas_reset', 'atlas_resize_and_rearrange', 'atlas_size', 'atlas_slots',
-  'atlas_with_options', 'atlas_with_slot_limit', 'cache_areas', 'cache_begin_frame', 'cache_clear', 'cache_free', 'cache_get',
-  'cache_insert', 'cache_len', 'cache_new', 'cache_newest', 'cache_next_change', 'cache_numbers', 'cache_older', 'cache_oldest',
-  'cache_options_of', 'cache_page_count', 'cache_page_size', 'cache_peek', 'cache_remove', 'cache_repack', 'cache_reserve',
-  'cache_reserve_changes', 'cache_reserve_slots', 'cache_shrink', 'cache_statistics', 'cache_trim', 'cache_unusable_area', 'fill',
-  'interface', 'pack', 'pack_dense', 'pack_groups', 'pack_pages', 'simple_allocate', 'simple_can_grow_to', 'simple_clear', 'simple_free',
-  'simple_grow', 'simple_init_from_allocator', 'simple_is_empty', 'simple_new', 'simple_options', 'simple_reset', 'simple_size',
-  'simple_slots', 'simple_with_options', 'version',
+  'atlas_deallocate_all', 'atlas_free', 'atlas_free_boxes', 'atlas_get', 'atlas_grow', 'atlas_is_empty', 'atlas_largest_free', 'atlas_live',
+  'atlas_new', 'atlas_options', 'atlas_rearrange', 'atlas_reserve', 'atlas_reset', 'atlas_resize_and_rearrange', 'atlas_size',
+  'atlas_slots', 'atlas_unusable_area', 'atlas_with_options', 'atlas_with_slot_limit', 'cache_areas', 'cache_begin_frame', 'cache_clear',
+  'cache_clone', 'cache_compact', 'cache_end_batch', 'cache_free', 'cache_get', 'cache_insert', 'cache_len', 'cache_new', 'cache_newest',
+  'cache_next_change', 'cache_numbers', 'cache_older', 'cache_oldest', 'cache_options_of', 'cache_page_count', 'cache_page_size',
+  'cache_peek', 'cache_remove', 'cache_repack', 'cache_repack_keeping_all', 'cache_reserve', 'cache_reserve_changes', 'cache_reserve_slots',
+  'cache_shrink', 'cache_statistics', 'cache_trim', 'cache_unusable_area', 'fill', 'interface', 'pack', 'pack_dense', 'pack_groups',
+  'pack_pages', 'simple_allocate', 'simple_can_grow_to', 'simple_clear', 'simple_free', 'simple_grow', 'simple_init_from_allocator',
+  'simple_is_empty', 'simple_new', 'simple_options', 'simple_reset', 'simple_size', 'simple_slots', 'simple_with_options', 'version',
 ];
 
 /** What each status is called, by its number; an empty text where no status has it. */

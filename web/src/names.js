@@ -2,4 +2,4 @@
  * it leaves out of the module what its pages don't call. */
 import { EXPORTS } from './interface.js';
 
-export const NAMES = import.meta.cut ? [] : [...EXPORTS, 'atlas_members', 'cache_clone', 'cache_get_halves', 'cache_insert_halves'];
+export const NAMES = import.meta.cut ? [] : [...EXPORTS, 'atlas_members', 'cache_get_halves', 'cache_insert_halves'];

@@ -162,7 +162,7 @@ export async function start(given, names, module) {
   await starting;
 }
 
-/** The same at once, of bytes or of a module. */
+/** Starts at once the module that bytes are, or one that is given, unless one with these functions runs; `given` as for `start`. */
 export function startNow(given, names, source) {
   atMost(1, given);
   if (isRunning(names)) return;

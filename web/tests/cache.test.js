@@ -59,6 +59,35 @@ test('a blank key takes no room, and is found, listed and trimmed', () => {
   assert.deepEqual([...cache.changes()].at(-1), { kind: 'evicted', key: 'space', from: place });
 });
 
+test('a batch ends: the key that was used last goes, and the frame goes on', () => {
+  const cache = new TextureCache({ page: SIDE, pages: 2 });
+  cache.beginFrame();
+  for (const key of ['a', 'b']) cache.insert(key, 16, 16);
+  assert.equal(cache.insert('c', 16, 16), null);
+  cache.endBatch(1);
+  assert.deepEqual([...cache.changes()].at(-1), { kind: 'evicted', key: 'b', from: whole(1, 1) });
+  assert.deepEqual(cache.insert('c', 16, 16), { ...whole(1, 1), isNew: true });
+  cache.trim(1);
+  assert.deepEqual([cache.has('a'), cache.insert('b', 16, 16)], [true, null]);
+});
+
+test('keys of the last page move to the page before it, and the page goes', () => {
+  const cache = new TextureCache({ page: SIDE, pages: 2 });
+  cache.insert('a', 16, 16);
+  const from = cache.insert('b', 8, 8);
+  const { number } = from;
+  assert.equal(cache.compact(64), 0);
+  cache.remove('a');
+  for (const each of cache.changes()) assert.equal(each.kind, 'pageAdded');
+  assert.deepEqual([cache.compact(63), cache.compact(64n), cache.compact(64)], [0, 64, 0]);
+  cache.shrink();
+  const square = { x: 0, y: 0, width: 8, height: 8 };
+  const to = { number, page: 0, rectangle: square, inner: square };
+  const { isNew, ...was } = from;
+  assert.deepEqual([...cache.changes()], [{ kind: 'moved', key: 'b', from: was, to }, { kind: 'pageRemoved', page: 1 }]);
+  assert.deepEqual([isNew, cache.peek('b'), cache.pageCount], [true, to, 1]);
+});
+
 test('what is free on a page and of no use', () => {
   const cache = new TextureCache({ page: SIDE });
   refused(() => cache.unusableArea(0, 1, 1), 'NO_PAGE', 'unusableArea');
@@ -178,6 +207,19 @@ test('moved keys are told with both places', () => {
     assert.deepEqual(from, before[key]);
     assert.deepEqual(to, cache.peek(key));
   }
+});
+
+test('a repacking that keeps all keys', () => {
+  const cache = new TextureCache({ page: { width: 16, height: 16 }, pages: 1 });
+  for (const [key, width, height] of [['a', 6, 8], ['b', 10, 9], ['c', 6, 8]]) cache.insert(key, width, height);
+  assert.equal([...cache.changes()].length, 1);
+  assert.equal(cache.repackKeepingAll(0), false);
+  refused(() => cache.repackKeepingAll(1), 'NO_PAGE', 'repackKeepingAll');
+  assert.deepEqual([[...cache.changes()], cache.length, cache.statistics.evictions], [[], 3, 0]);
+  cache.remove('a');
+  assert.equal(cache.repackKeepingAll(0), true);
+  const moved = [...cache.changes()].map(({ kind, key, to }) => [kind, key, to.rectangle.x, to.rectangle.y]);
+  assert.deepEqual(moved, [['moved', 'c', 10, 0], ['moved', 'b', 0, 0]]);
 });
 
 test('a caller who follows the changes knows the place of each key', () => {

@@ -19,6 +19,9 @@ test('an atlas: its whole life', () => {
   assert.deepEqual(atlas.get(3), box(0, 0, 20, 60));
   assert.equal(atlas.get(4), null);
   assert.deepEqual(atlas.areas, { allocated: 1200, free: 8800 });
+  assert.deepEqual(atlas.largestFree(), box(20, 0, 80, 100));
+  assert.deepEqual([[20, 40], [80, 100], [20, 41], [81, 1], [0, 5]].map(([width, height]) => atlas.unusableArea(width, height)),
+    [0, 800, 800, 8800, 8800]);
   assert.equal(atlas.slots.limit, MOST_SLOTS);
   assert.ok(atlas.canFit(80, 100) && !atlas.canFit(81, 100) && !atlas.canFit(0, 1));
   const copy = atlas.clone();

@@ -14,11 +14,12 @@ const USES = {
   Atlas: {
     allocate: [1, 1], deallocate: [3], deallocateAll: [[]], get: [3], canFit: [1, 1], reserve: [1], grow: [200, 200],
     canGrowTo: [200, 200], rearrange: [], resizeAndRearrange: [5, 5], clear: [], reset: [5, 5], allocated: [], freeBoxes: [], cuts: [],
-    clone: [], allocateInto: [1, 1, {}],
+    clone: [], allocateInto: [1, 1, {}], unusableArea: [1, 1], largestFree: [],
   },
   SimpleAtlas: { allocate: [1, 1], grow: [200, 200], canGrowTo: [200, 200], clear: [], reset: [5, 5], initFrom: [new Atlas(5, 5)] },
   TextureCache: {
     beginFrame: [], get: ['a'], peek: ['a'], insert: ['a', 1, 1], remove: ['a'], has: ['a'], changes: [], clear: [], trim: [1], repack: [0],
+    repackKeepingAll: [0], endBatch: [1], compact: [1],
     shrink: [], pageSize: [0], areas: [0], newest: [], oldest: [], older: ['a'], reserve: [1], reserveSlots: [4],
     reserveChanges: [1], clone: [],
     unusableArea: [0, 1, 1], touch: ['a'], getInto: ['a', {}], insertAll: [['a'], [1, 1], new Int32Array(11)],

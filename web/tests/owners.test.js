@@ -33,8 +33,8 @@ function callsOf({ prototype }) {
 
 /** Arguments that an object of the right class would take. */
 function argumentsFor(name, { atlas, id }) {
-  const known = { deallocate: [id], get: [id], deallocateAll: [[id]], initFrom: [atlas], pageSize: [0], areas: [0], repack: [0],
-    trim: [0], reserve: [5], reserveSlots: [5], reserveChanges: [5], older: ['a'], peek: ['a'], touch: ['a'], getInto: ['a', {}],
+  const known = { deallocate: [id], get: [id], deallocateAll: [[id]], initFrom: [atlas], pageSize: [0], areas: [0], repack: [0], repackKeepingAll: [0],
+    endBatch: [1], compact: [1], trim: [0], reserve: [5], reserveSlots: [5], reserveChanges: [5], older: ['a'], peek: ['a'], touch: ['a'], getInto: ['a', {}],
     insertAll: [[], [], new Int32Array(0)],
     allocateInto: [5, 5, {}], has: ['a'], remove: ['a'], insert: ['b', 5, 5], unusableArea: [0, 5, 5] };
   return known[name] ?? [200, 200];

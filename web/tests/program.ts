@@ -1,7 +1,7 @@
 // Each call of the package once, as TypeScript sees it. It is compiled, and not run.
 import {
-  Allocation, Atlas, CacheChange, Container, ErrorCode, Filled, Key, MOST_SLOTS, Pages, Sheet, SimpleAtlas, TextureCache, WollemigoError, fill,
-  load, pack, packDense, packGroups, packPages,
+  Allocation, Atlas, CacheChange, Container, ErrorCode, Filled, Key, MOST_SLOTS, Pages, Rectangle, Sheet, SimpleAtlas, TextureCache,
+  WollemigoError, fill, load, pack, packDense, packGroups, packPages,
 } from '../index.js';
 
 function follow(change: CacheChange): Key | number {
@@ -26,6 +26,8 @@ function useAtlas(): void {
   const { changes, failures } = atlas.resizeAndRearrange(5, 5);
   const sum: number = changes[0].after.id + failures.length + atlas.rearrange().changes.length + atlas.options.largeSizeThreshold;
   const more: boolean = atlas.canFit(1, 1) || atlas.canGrowTo(1, 1) || atlas.isEmpty || sum > atlas.areas.free + atlas.slots.used;
+  const [lost, largest]: [number, Rectangle | null] = [atlas.unusableArea(1, 1), atlas.largestFree()];
+  if (lost > 0) largest?.width;
   if (more) [atlas.reserve(1), atlas.grow(5, 5), atlas.clear(), atlas.reset(5, 5), atlas.get(1), atlas.allocated(), atlas.freeBoxes(), deepest(atlas.cuts())];
   const simple = SimpleAtlas.from(atlas.clone());
   simple.initFrom(atlas);
@@ -41,7 +43,8 @@ function useCache(): void {
     if (cache.get(key) === null && cache.insert(key, 1, 1)?.isNew) cache.peek(key)?.inner.x;
   }
   for (const change of cache.changes()) follow(change);
-  [cache.remove('a'), cache.has('b'), cache.clear(), cache.trim(5n), cache.shrink(), cache.repack(0), cache.length, cache.numbers, cache.pageCount, cache.pageSize(0).width];
+  [cache.remove('a'), cache.has('b'), cache.clear(), cache.trim(5n), cache.endBatch(1), cache.compact(5n), cache.shrink(), cache.repack(0), cache.length, cache.numbers, cache.pageCount, cache.pageSize(0).width];
+  if (!cache.repackKeepingAll(0)) return;
   for (let next = cache.newest(); next !== null; next = cache.older(next.key)) next.place.inner.x;
   for (const { key, place } of cache.clone()) [key, place.inner.x];
   [cache.reserve(5), cache.reserveSlots(20), cache.reserveChanges(cache.length + 5)];

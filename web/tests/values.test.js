@@ -31,7 +31,7 @@ function tryAll(of, state, call, values, code, isPair) {
 test('lengths and counts of an atlas', () => {
   const atlas = filledAtlas();
   const state = () => stateOf(atlas);
-  for (const name of ['allocate', 'canFit', 'grow', 'canGrowTo', 'resizeAndRearrange', 'reset']) {
+  for (const name of ['allocate', 'canFit', 'grow', 'canGrowTo', 'resizeAndRearrange', 'reset', 'unusableArea']) {
     tryAll(name, state, (...all) => atlas[name](...all), NO_LENGTHS, 'BAD_NUMBER', true);
   }
   for (const name of ['deallocate', 'get', 'reserve']) {
@@ -63,10 +63,10 @@ test('numbers and keys of a cache', () => {
   cache.insert(1, 10, 10);
   const state = () => cacheState(cache, ['a', 1]);
   tryAll('insert', state, (w, h) => cache.insert('b', w, h), NO_LENGTHS, 'BAD_NUMBER', true);
-  for (const name of ['repack', 'pageSize']) tryAll(name, state, (value) => cache[name](value), NO_COUNTS, 'BAD_NUMBER', false);
+  for (const name of ['repack', 'repackKeepingAll', 'endBatch', 'pageSize']) tryAll(name, state, (value) => cache[name](value), NO_COUNTS, 'BAD_NUMBER', false);
   tryAll('unusableArea', state, (w, h) => cache.unusableArea(0, w, h), NO_LENGTHS, 'BAD_NUMBER', true);
   const noFrames = NO_NUMBERS.filter((value) => value !== 2 ** 32 && value !== 5n).concat([-1, -1n, 2n ** 64n]);
-  tryAll('trim', state, (value) => cache.trim(value), noFrames, 'BAD_NUMBER', false);
+  for (const name of ['trim', 'compact']) tryAll(name, state, (value) => cache[name](value), noFrames, 'BAD_NUMBER', false);
   const noKeys = NO_NUMBERS.filter((value) => ![2 ** 32, 5n].includes(value) && typeof value !== 'string')
     .concat([-1, -1n, 2n ** 63n, 2n ** 64n]);
   for (const name of ['get', 'peek', 'has', 'remove']) tryAll(name, state, (key) => cache[name](key), noKeys, 'BAD_KEY', false);

@@ -13,3 +13,5 @@ pub mod MeasurableLists
 pub mod Reserves
 pub mod Requests
 pub mod RehearsedIds
+pub mod FreeRoom
+pub mod SlotSteps

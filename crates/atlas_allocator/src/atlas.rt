@@ -19,11 +19,13 @@ ghost use Rattle.atlas_model.specs.Steps.AtlasCall.{Allocate, Deallocate, Grow, 
 ghost use Rattle.atlas_model.specs.Steps.AtlasCall.{ResizeAndRearrange};
 ghost use Rattle.atlas_model.specs.Steps.AtlasReply.{Done};
 
+pub mod iter;
 pub mod queries;
 pub mod rearranging;
 pub mod rehearsing;
 pub mod requesting;
 pub mod reserving;
+pub mod room;
 pub mod walks;
 
 use crate::atlas::rearranging::{refit, sort_for_refit};
@@ -99,7 +101,7 @@ impl<A: Allocator + Copy> AtlasAllocator<A> {
         AtlasAllocator::with_options(alloc, size, &DEFAULT_OPTIONS)
     }
 
-    /// The same with these options. Requires a size that isn't empty and valid options.
+    /// An atlas of this size, in pixels, with these options: one free rectangle. Requires a size that isn't empty and valid options.
     pub fn with_options(
         alloc: A,
         size: Size,
@@ -116,8 +118,8 @@ impl<A: Allocator + Copy> AtlasAllocator<A> {
         AtlasAllocator::with_slot_limit(alloc, size, options, MOST_SLOTS)
     }
 
-    /// The same with a limit on the slots that are used at once. Requires a size that isn't empty, valid options and a
-    /// limit from 1 to 16777216.
+    /// An atlas of this size with these options, and a limit on the slots that are used at once. Requires a size that isn't
+    /// empty, valid options and a limit from 1 to 16777216.
     pub fn with_slot_limit(
         alloc: A,
         size: Size,
@@ -197,7 +199,7 @@ impl<A: Allocator + Copy> AtlasAllocator<A> {
     {
         let slots = self.store.slots();
         let at = named_slot(slots, id)?;
-        Some(slots[at].node.area)
+        Some(slots[at].area)
     }
 
     /// Grants a request: a rectangle of the rounded size, at the `min` of the free rectangle that is picked. None if the
@@ -525,7 +527,7 @@ impl<A: Allocator + Copy> Index<AllocId> for AtlasAllocator<A> {
     fn index(&self, id: AllocId) -> &Rectangle {
         let slots = self.store.slots();
         match named_slot(slots, id) {
-            Some(at) => &slots[at].node.area,
+            Some(at) => &slots[at].area,
             None => unreachable!(),
         }
     }

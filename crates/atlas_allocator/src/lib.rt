@@ -3,4 +3,5 @@
 
 mod atlas;
 
+pub use atlas::iter::{FreeIter, LiveIter};
 pub use atlas::{AtlasAllocator, store_of};

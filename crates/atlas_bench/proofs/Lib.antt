@@ -1,1 +1,3 @@
+pub mod JobLines
+pub mod Names
 pub mod Reports

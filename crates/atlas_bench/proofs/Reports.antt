@@ -1,10 +1,11 @@
 -- Reports that are written one after another.
-use Rattle.std.proofs.Common.{◌≡◌, ℕ, ◌+◌, ◌<◌, List, [], ◌∷◌, ◌++◌, Option, Some, None, IfSome, length, drop, get_or, refl, sym, ◌∙◌, ap, subst, append_assoc, append-nil, add-one, drop-cons}
+use Rattle.std.proofs.Common.{◌≡◌, ℕ, ◌+◌, ◌<◌, List, [], ◌∷◌, ◌++◌, Option, Some, None, IfSome, length, drop, get_or, refl, sym, ◌∙◌, ap}
+use Rattle.std.proofs.Common.{subst, append_assoc, append-nil, add-one, drop-cons}
 use Rattle.std.specs.Io.KnownBytes.{Appends}
 use Rattle.atlas_words.proofs.Known.{Appends_none, Appends_twice}
 use Rattle.atlas_words.specs.Devices.{HoldsBytes}
 use Rattle.atlas_bench.specs.declared.answers.Answers.{Answers}
-use Rattle.bench_jobs.specs.declared.workload.Job.{Job}
+use Rattle.atlas_bench.specs.declared.workload.Job.{Job}
 use Rattle.atlas_bench.specs.Reports.{report_text, Reports}
 use Rattle.atlas_bench.specs.Workloads.{Makes}
 
@@ -26,7 +27,8 @@ one_more jobs index job answers line old mid new before low at made is written =
       written = Appends_twice old mid new before.text line before.written written;
       others = λ later reports.
           let P : List Job → Type 0 = λ rest. Reports rest (line ++ later) in
-          let whole = before.others (line ++ later) (subst P (sym front) (answers, later, made, ap (λ (xs : List ℕ). xs ++ later) is, reports)) in
+          let whole = before.others (line ++ later) (subst P (sym front)
+          (answers, later, made, ap (λ (xs : List ℕ). xs ++ later) is, reports)) in
           subst (Reports jobs) (sym (append_assoc before.text line later)) whole;
     }
 

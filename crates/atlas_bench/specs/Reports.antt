@@ -3,10 +3,10 @@ use Rattle.std.specs.Prelude.{◌≡◌, ℕ, Option, List, [], ◌∷◌, ◌++
 use Rattle.std.specs.Io.KnownBytes.{Appends}
 use Rattle.atlas_words.specs.Devices.{HoldsBytes}
 use Rattle.atlas_bench.specs.declared.answers.Answers.{Answers}
-use Rattle.bench_jobs.specs.declared.workload.Job.{Job}
-use Rattle.bench_jobs.specs.declared.workload.Workload.{Workload}
-use Rattle.bench_jobs.specs.Grammar.{SpellsJobs}
-use Rattle.bench_jobs.specs.Workloads.{name}
+use Rattle.atlas_bench.specs.declared.workload.Job.{Job}
+use Rattle.atlas_bench.specs.declared.workload.Workload.{Workload}
+use Rattle.atlas_bench.specs.Jobs.{SpellsJobs}
+use Rattle.atlas_bench.specs.Names.{name}
 use Rattle.atlas_bench.specs.Workloads.{Makes}
 
 -- The name, the calls and the checksum, each after one space, and LF.

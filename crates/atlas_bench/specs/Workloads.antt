@@ -2,11 +2,11 @@
 use Rattle.std.specs.Prelude.{◌≡◌, ℕ, ◌+◌, ◌*◌, ◌^◌, ◌<◌, ◌≤◌, nat_lt, if◌then◌else◌}
 use Rattle.guillotiere.specs.declared.Size.{Size}
 use Rattle.atlas_bench.specs.SplitMix.{next_state, number_below, size_between}
-use Rattle.bench_jobs.specs.declared.workload.Workload.{Workload}
-use Rattle.bench_jobs.specs.declared.workload.Workload.TheVariants.{Glyph, Record, Sprite, SortedSprite, Checker}
-use Rattle.bench_jobs.specs.declared.workload.Workload.TheVariants.{Search, Growth, Rearrange, Glyph1024, Glyph4096}
-use Rattle.bench_jobs.specs.declared.workload.Workload.TheVariants.{Glyph8192, Glyph16384, Mixed4096, Tiles, Sheet}
-use Rattle.bench_jobs.specs.declared.workload.Workload.TheVariants.{Sheet16384, Cache}
+use Rattle.atlas_bench.specs.declared.workload.Workload.{Workload}
+use Rattle.atlas_bench.specs.declared.workload.Workload.TheVariants.{Glyph, Record, Sprite, SortedSprite, Checker}
+use Rattle.atlas_bench.specs.declared.workload.Workload.TheVariants.{Search, Growth, Rearrange, Glyph1024, Glyph4096}
+use Rattle.atlas_bench.specs.declared.workload.Workload.TheVariants.{Glyph8192, Glyph16384, Mixed4096, Tiles, Sheet}
+use Rattle.atlas_bench.specs.declared.workload.Workload.TheVariants.{Sheet16384, Cache}
 use Rattle.atlas_bench.specs.declared.sizes.Kind.{Kind}
 use Rattle.atlas_bench.specs.declared.sizes.Kind.TheVariants.{Glyphs, Sprites}
 

@@ -79,7 +79,7 @@ impl Answers {
         self.add(word_of(rectangle.max));
     }
 
-    // The same of boxes, in order.
+    // Takes granted boxes into the checksum, in order.
     fn add_grants(&mut self, grants: &[Allocation])
         ensures { self.new ≡ record {
           calls = self.old.calls;
@@ -91,7 +91,7 @@ impl Answers {
         }
     }
 
-    // The same of what boxes were and what they became, in order.
+    // Takes what boxes were and what they became into the checksum, in order.
     fn add_changes(&mut self, changes: &[Change])
         ensures { self.new ≡ record {
           calls = self.old.calls;

@@ -6,6 +6,7 @@ mod boards;
 mod caches;
 mod error;
 mod growth;
+mod jobs;
 mod random;
 mod recordings;
 mod run;
@@ -14,6 +15,7 @@ mod simple_sheets;
 mod sizes;
 mod sprites;
 mod textures;
+mod workload;
 
 use error::BenchError;
 use run::run;

@@ -2,21 +2,21 @@
 ghost use Rattle.std.specs.Prelude.{◌≡◌, IfOk, OnOk, string_bytes};
 ghost use Rattle.atlas_bench.specs.Reports.{report_text, RunsAll};
 ghost use Rattle.atlas_bench.specs.Workloads.{Makes};
-ghost use Rattle.bench_jobs.specs.Grammar.{SpellsJobs};
+ghost use Rattle.atlas_bench.specs.Jobs.{SpellsJobs};
 
 use crate::answers::Answers;
 use crate::boards::{checker, search};
 use crate::caches::{cache, tiles};
 use crate::error::BenchError;
 use crate::growth::growth;
+use crate::jobs::{JobsError, jobs};
 use crate::recordings::recorded;
 use crate::sheets::rearrange;
 use crate::simple_sheets::{large_sheet, sheet};
 use crate::sizes::Kind;
 use crate::sprites::{sorted_sprite, sprite};
 use crate::textures::textures;
-use bench_jobs::jobs::{JobsError, jobs};
-use bench_jobs::workload::{Job, Workload};
+use crate::workload::{Job, Workload};
 use std::alloc::{AllocError, Global};
 use std::io::{Read, Write};
 

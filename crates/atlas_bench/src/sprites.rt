@@ -31,7 +31,7 @@ pub fn sprite(alloc: Global, count: u32) -> Result<Answers, BenchError>
     pack(alloc, &sizes)
 }
 
-/// The same sprites, the highest first and of equally high ones the widest.
+/// Packs so many sprites, the highest first and of equally high ones the widest.
 pub fn sorted_sprite(alloc: Global, count: u32) -> Result<Answers, BenchError>
     ensures { IfOk result (λ it. it.calls ≡ count) }
 {

@@ -1,5 +1,6 @@
 -- Entries that go one after another from a box, from the least recently used one on.
-use Rattle.std.proofs.Common.{ℕ, ◌+◌, ◌≤◌, ◌<◌, ◌≡◌, true, false, eqb, List, [], ◌∷◌, ◌++◌, length, Some, refl, sym, ap, subst, ◌∙◌, arith, append_assoc, slice_get}
+use Rattle.std.proofs.Common.{ℕ, ◌+◌, ◌≤◌, ◌<◌, ◌≡◌, true, false, eqb, List, [], ◌∷◌, ◌++◌, length, Some, refl, sym, ap, subst, ◌∙◌, arith}
+use Rattle.std.proofs.Common.{append_assoc, slice_get}
 use Rattle.std.proofs.Common.{inl, inr, ◌⊎◌}
 use Rattle.std.proofs.lemmas.Bool.Decides.{eqb_tells}
 use Rattle.std.specs.List.{AllByRecursion, IsDistinct}
@@ -241,7 +242,8 @@ module _ {K : Type 0} where
 
         evicts : lies_in page box e ≡ true → e.frame < frame → is_blank e ≡ false
             → IsFull (state_with rooms entries frame counts) → IsDistinct eqb (numbers others.entries)
-            → EvictsIn page box e.key (shown left.options.padding e) (state_with left others frame counted) (state_with gone fewer frame more)
+            → EvictsIn page box e.key (shown left.options.padding e) (state_with left others frame counted)
+            (state_with gone fewer frame more)
         evicts inside unused lies full apart = record {
           goes = record {
             full = full_stays (state_with rooms entries frame counts) (state_with left others frame counted) was.options was.sizes full;
@@ -281,7 +283,8 @@ module _ {K : Type 0} where
           made = was.made ++ Evicted e.key (shown left.options.padding e) ∷ [];
           listed = goes.listed ∙ ap (λ cs. cs ++ Evicted e.key (shown left.options.padding e) ∷ []) was.listed
               ∙ append_assoc before was.made (Evicted e.key (shown left.options.padding e) ∷ []);
-          clears = clears-last page box was.made e.key (shown left.options.padding e) _ _ _ was.clears (evicts inside unused lies full apart);
+          clears = clears-last page box was.made e.key (shown left.options.padding e) _ _ _ was.clears
+              (evicts inside unused lies full apart);
           outside = was.outside ∙ sym (without-in e (entries_of older) inside);
           freed = freed-one inside;
           others_stay = λ k other.

@@ -1,5 +1,6 @@
 -- The rectangles of a page's entries, gathered in the order of use, name what is live on the page.
-use Rattle.std.proofs.Common.{ℕ, ℤ, ◌+◌, ◌≤◌, ◌≡◌, ◌==◌, inl, inr, Bool, true, false, cond, eqb, List, [], ◌∷◌, ◌++◌, All, Option, None, Some, option_map, refl, sym, ap, subst, ◌∙◌, append_assoc, arith, length}
+use Rattle.std.proofs.Common.{ℕ, ℤ, ◌+◌, ◌≤◌, ◌≡◌, ◌==◌, inl, inr, Bool, true, false, cond, eqb, List, [], ◌∷◌, ◌++◌, All, Option, None}
+use Rattle.std.proofs.Common.{Some, option_map, refl, sym, ap, subst, ◌∙◌, append_assoc, arith, length}
 use Rattle.std.specs.List.{cons_option, count_by, filter_map, find, AllByRecursion, IsDistinct}
 use Rattle.std.proofs.lemmas.{Bool.Decides.{eqb_tells}}
 use Rattle.std.proofs.lemmas.Bool.{cases_Bool, eq-eqb, eqb-true, ne_eqb}

@@ -1,5 +1,6 @@
 -- Changes in the order of their former ids.
-use Rattle.std.proofs.Common.{ℕ, ℤ, suc, ◌+◌, ◌≡◌, ◌==◌, ◌≤◌, ◌<◌, inl, inr, Bool, false, cond, List, [], ◌∷◌, length, get_or, Option, None, Some, refl, ap, ◌∙◌, arith, IsPermutation}
+use Rattle.std.proofs.Common.{ℕ, ℤ, suc, ◌+◌, ◌≡◌, ◌==◌, ◌≤◌, ◌<◌, inl, inr, Bool, false, cond, List, [], ◌∷◌, length, get_or, Option, None}
+use Rattle.std.proofs.Common.{Some, refl, ap, ◌∙◌, arith, IsPermutation}
 use Rattle.std.specs.List.{cons_option, count_by, filter_map, find}
 use Rattle.std.specs.List.Sorted.{IsNonDecreasingBy, IsPartitionPoint, IsSortedByKey}
 use Rattle.std.specs.Ordering.{nat_cmp, ordering_index}

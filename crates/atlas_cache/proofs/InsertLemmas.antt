@@ -122,7 +122,11 @@ module _ {K : Type 0} where
       omega (arith, all_reserved asked ins.made ins.more s ins.so_far ins.done ins.leads ins.vacates, ins.ends.reserved)
   inserts_take asked key size (Ok (Held place)) before after s t ins = absurd ins.ends
   inserts_take asked key size (Ok FrameFull) before after s t ins =
-      omega (arith, all_reserved asked ins.made ins.more s ins.so_far ins.done ins.leads ins.vacates, ap (λ (u : CacheState K). u.reserved) ins.ends.0)
+      omega (
+        arith,
+        all_reserved asked ins.made ins.more s ins.so_far ins.done ins.leads ins.vacates,
+        ap (λ (u : CacheState K). u.reserved) ins.ends.0,
+      )
   inserts_take asked key size (Ok NeverFits) before after s t ins = absurd ins.ends
   inserts_take asked key size (Err error) before after s t ins =
       omega (arith, all_reserved asked ins.made ins.more s ins.so_far ins.done ins.leads ins.vacates, ins.ends.keeps.reserved)

@@ -1,6 +1,10 @@
+pub mod BatchLemmas
 pub mod BlankLemmas
 pub mod ClearedLemmas
 pub mod ClearingLemmas
+pub mod CompactLemmas
+pub mod CompactWalks
+pub mod CompactedLemmas
 pub mod PassLemmas
 pub mod GatherLemmas
 pub mod IdOrderLemmas
@@ -15,6 +19,7 @@ pub mod ListLemmas
 pub mod ApartLemmas
 pub mod CacheLemmas
 pub mod HoldingLemmas
+pub mod KeepingLemmas
 pub mod KeyLemmas
 pub mod InsertLemmas
 pub mod LoopLemmas

@@ -89,7 +89,8 @@ module _ {K : Type 0} where
             let there = rw miss at is in
             let differs = number-among x.0 n es there (IsDistinct-head eqb x.0 (numbers es) apart) in
             absurd (let self = rw same.1 at same.0 in let differs2 = rw same.1 at differs in cc)
-        | inr other ↦ let there = rw miss at is in let deep = rw other.0 at at in found n e es (IsDistinct-tail eqb x.0 (numbers es) apart) there deep
+        | inr other ↦ let there = rw miss at is in let deep = rw other.0 at at in
+            found n e es (IsDistinct-tail eqb x.0 (numbers es) apart) there deep
       ])
     ]
 

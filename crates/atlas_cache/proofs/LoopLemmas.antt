@@ -66,7 +66,8 @@ module _ {K : Type 0} where
         → entry_for eq k t.entries ≡ None
     does_absent (PageAdded page size) s t does none = rw does.keeps.entries none
     does_absent (PageGrown page size) s t does none = rw does.keeps.entries none
-    does_absent (Evicted key place) s t does none = rw does.goes.is (none_left does.goes.newer does.goes.entry does.goes.older (rw does.goes.was at none))
+    does_absent (Evicted key place) s t does none = rw does.goes.is (none_left does.goes.newer does.goes.entry does.goes.older
+        (rw does.goes.was at none))
     does_absent (Moved key from to) s t does none = absurd does
     does_absent (PageRemoved page) s t does none = absurd does
 

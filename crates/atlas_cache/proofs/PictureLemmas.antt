@@ -1,6 +1,7 @@
 -- What a caller makes of changes.
 use Rattle.guillotiere.specs.Boxes.{Box}
-use Rattle.std.proofs.Common.{ℕ, ◌≡◌, Bool, true, false, cond, List, [], ◌∷◌, ◌++◌, Option, None, Some, Result, Ok, Err, option_map, refl, sym, ap, subst, ◌∙◌, slice_set, take}
+use Rattle.std.proofs.Common.{ℕ, ◌≡◌, Bool, true, false, cond, List, [], ◌∷◌, ◌++◌, Option, None, Some, Result, Ok, Err, option_map, refl}
+use Rattle.std.proofs.Common.{sym, ap, subst, ◌∙◌, slice_set, take}
 use Rattle.std.proofs.Common.{inl, inr}
 use Rattle.std.proofs.lemmas.Bool.{cases_Bool}
 use Rattle.std.specs.Cmp.{IsEquivalence}
@@ -13,7 +14,8 @@ use Rattle.atlas_cache.specs.declared.inserted.Inserted.{Inserted}
 use Rattle.atlas_cache.specs.declared.inserted.Inserted.TheVariants.{Placed, Held, FrameFull, NeverFits}
 use Rattle.atlas_cache.specs.declared.places.Place.{Place}
 use Rattle.atlas_cache.specs.Caches.{CacheState, entry_for, place_for, shown, HaveOwnKeys}
-use Rattle.atlas_cache.specs.Changes.{Picture, all_changed, changed, picture_of, placed, Adds, ClearsBox, Does, Evicts, Inserts, InsertsBlank, Leads, LooksSame, MayVacate, Removes, ShowsSame, Uses}
+use Rattle.atlas_cache.specs.Changes.{Picture, all_changed, changed, picture_of, placed, Adds, ClearsBox, Does, Evicts, Inserts}
+use Rattle.atlas_cache.specs.Changes.{InsertsBlank, Leads, LooksSame, MayVacate, Removes, ShowsSame, Uses}
 use Rattle.atlas_cache.specs.Telling.{Tells}
 use Rattle.atlas_cache.specs.Rooms.{page_sizes}
 use Rattle.atlas_cache.proofs.KeyLemmas.{first, fronted, gone, here, own_without}
@@ -29,7 +31,11 @@ module _ {K : Type 0} (eq : K → K → Bool) where
   same_after (PageAdded page size) p q same = record { places = same.places; pages = ap (λ ns. ns ++ size ∷ []) same.pages }
   same_after (PageGrown page size) p q same = record { places = same.places; pages = ap (λ ns. slice_set ns page size) same.pages }
   same_after (Evicted key place) p q same = record { places = λ k. ap (λ o. cond (eq key k) None o) (same.places k); pages = same.pages }
-  same_after (Moved key from to) p q same = record { places = λ k. ap (λ o. cond (eq key k) (Some to) o) (same.places k); pages = same.pages }
+  same_after (Moved key from to) p q same = record {
+    places = λ k. ap (λ o. cond (eq key k) (Some to) o) (same.places k);
+    pages =
+        same.pages;
+  }
   same_after (PageRemoved page) p q same = record { places = same.places; pages = ap (λ ns. take page ns) same.pages }
 
   all_same_after : (cs : List (CacheChange K)) (p q : Picture K) → ShowsSame p q
@@ -82,7 +88,11 @@ module _ {K : Type 0} (eq : K → K → Bool) where
         → Leads asked cs s t
         → ShowsSame (all_changed eq cs (picture_of eq s)) (picture_of eq t) × HaveOwnKeys eq t.entries
     told asked [] s t own same = (
-      record { places = λ k. ap (λ (u : CacheState K). place_for eq u k) same; pages = ap (λ (u : CacheState K). (picture_of eq u).pages) same },
+      record {
+        places = λ k. ap (λ (u : CacheState K). place_for eq u k) same;
+        pages =
+            ap (λ (u : CacheState K). (picture_of eq u).pages) same;
+      },
       subst (λ (u : CacheState K). HaveOwnKeys eq u.entries) same own,
     )
     told asked (c ∷ cs) s t own leads =
@@ -164,7 +174,8 @@ module _ {K : Type 0} (eq : K → K → Bool) where
         record {
           made = ins.made ++ ins.more;
           listed = ins.listed;
-          shows = subst (λ (u : CacheState K). ShowsSame (all_changed eq (ins.made ++ ins.more) (picture_of eq s)) (picture_of eq u)) ins.ends.0 so_far;
+          shows = subst (λ (u : CacheState K). ShowsSame (all_changed eq (ins.made ++ ins.more) (picture_of eq s)) (picture_of eq u))
+              ins.ends.0 so_far;
         }
     inserts_tell asked key size (Err error) before after s t own ins =
         let so_far = all_told laws asked ins.made ins.more s ins.so_far ins.done own ins.leads ins.vacates in

@@ -1,5 +1,6 @@
 -- Entries that are settled one by one where a page is placed anew.
-use Rattle.std.proofs.Common.{ℕ, ℤ, ◌+◌, ◌≤◌, ◌≡◌, inl, inr, false, eqb, List, [], ◌∷◌, ◌++◌, Option, None, Some, refl, sym, ap, ◌∙◌, append_assoc, arith, length}
+use Rattle.std.proofs.Common.{ℕ, ℤ, ◌+◌, ◌≤◌, ◌≡◌, inl, inr, false, eqb, List, [], ◌∷◌, ◌++◌, Option, None, Some, refl, sym, ap, ◌∙◌}
+use Rattle.std.proofs.Common.{append_assoc, arith, length}
 use Rattle.std.proofs.lemmas.{Bool.Decides.{eqb_tells}}
 use Rattle.std.proofs.lemmas.Bool.{eq-eqb, ne_eqb}
 use Rattle.std.proofs.lemmas.Map.Keys.{IsDistinct-head, IsDistinct-tail}
@@ -41,19 +42,21 @@ cons-append xs None ys = ap (λ zs. zs ++ ys) (append-none xs)
 cons-append xs (Some y) ys = append_assoc xs (y ∷ []) ys
 
 module _ {K : Type 0} where
-  pub moved-at : (n id : ℕ) (r : Rectangle) (e : Entry K) (xs ys : List (ℕ × Entry K))
+  pub moved-at : (n page id : ℕ) (r : Rectangle) (e : Entry K) (xs ys : List (ℕ × Entry K))
       → IsDistinct eqb (numbers (xs ++ (n, e) ∷ ys))
-      → moved n id r (xs ++ (n, e) ∷ ys) ≡ xs ++ (n, record e { id = id; rectangle = r }) ∷ ys
-  moved-at n id r e [] ys apart = elim (eqb_tells n n) [
+      → moved n page id r (xs ++ (n, e) ∷ ys) ≡ xs ++ (n, record e { page = page; id = id; rectangle = r }) ∷ ys
+  moved-at n page id r e [] ys apart = elim (eqb_tells n n) [
     | inl same ↦ rw same.0 refl
     | inr other ↦ absurd (other.1 refl)
   ]
-  moved-at n id r e (x ∷ xs) ys apart = elim (eqb_tells n x.0) [
+  moved-at n page id r e (x ∷ xs) ys apart = elim (eqb_tells n x.0) [
     | inl same ↦
         let all = IsDistinct-head eqb x.0 (numbers (xs ++ (n, e) ∷ ys)) apart in
         let here = each-here (λ y. eqb x.0 y ≡ false) (numbers xs) n (numbers ys) (rw (numbers-append xs (n, e) ys) at all) in
         absurd (let self = rw same.1 at same.0 in let differs = rw same.1 at here in cc)
-    | inr other ↦ rw other.0 (ap (λ zs. x ∷ zs) (moved-at n id r e xs ys (IsDistinct-tail eqb x.0 (numbers (xs ++ (n, e) ∷ ys)) apart)))
+    | inr other ↦
+        let rest = IsDistinct-tail eqb x.0 (numbers (xs ++ (n, e) ∷ ys)) apart in
+        rw other.0 (ap (λ zs. x ∷ zs) (moved-at n page id r e xs ys rest))
   ]
 
   pub without-at : (n : ℕ) (e : Entry K) (xs ys : List (ℕ × Entry K)) → IsDistinct eqb (numbers (xs ++ (n, e) ∷ ys))
@@ -88,7 +91,8 @@ module _ {K : Type 0} where
         by_option (Some e) rest = ap (λ es. e ∷ es) rest
 
     -- The entries up to one are settled, and from it on all is as it was.
-    pub record Walked (all now : List (ℕ × Entry K)) (first : Option ℕ) (passed : ℕ) (before after : List (CacheChange K)) (spare : ℕ) : Type 0 where
+    pub record Walked (all now : List (ℕ × Entry K)) (first : Option ℕ) (passed : ℕ) (before after : List (CacheChange K)) (spare : ℕ) :
+        Type 0 where
       pub done : List (ℕ × Entry K)
       pub rest : List (ℕ × Entry K)
       pub was : all ≡ done ++ rest
@@ -150,7 +154,8 @@ module _ {K : Type 0} where
         finished was now w.done w.rest before after (no-length w.rest (omega (arith, w.count, le))) w.was w.is w.told
 
     -- The same, with the entry that comes next.
-    pub record Ahead (all now : List (ℕ × Entry K)) (n : ℕ) (e : Entry K) (passed : ℕ) (before after : List (CacheChange K)) (spare : ℕ) : Type 0 where
+    pub record Ahead (all now : List (ℕ × Entry K)) (n : ℕ) (e : Entry K) (passed : ℕ) (before after : List (CacheChange K)) (spare : ℕ) :
+        Type 0 where
       pub done : List (ℕ × Entry K)
       pub rest : List (ℕ × Entry K)
       pub was : all ≡ done ++ (n, e) ∷ rest
@@ -207,12 +212,14 @@ module _ {K : Type 0} where
           count = a.count;
           told = later_is ∙ ap (λ zs. zs ++ cons_option (tell e) []) a.told
               ∙ append_assoc before (filter_map tell (entries_of a.done)) (cons_option (tell e) [])
-              ∙ ap (λ zs. before ++ zs) (sym (filter_map-last tell (entries_of a.done) e) ∙ ap (filter_map tell) (sym (entries-append a.done x [])));
+              ∙ ap (λ zs. before ++ zs) (sym (filter_map-last tell (entries_of a.done) e) ∙
+              ap (filter_map tell) (sym (entries-append a.done x [])));
           room = room;
         }
 
     -- An entry of the page is settled; another one stays.
-    module _ (was now new : List (ℕ × Entry K)) (n : ℕ) (e : Entry K) (next : Option ℕ) (count : ℕ) (before after later : List (CacheChange K)) (spare left : ℕ) (a : Ahead was now n e count before after spare)
+    module _ (was now new : List (ℕ × Entry K)) (n : ℕ) (e : Entry K) (next : Option ℕ) (count : ℕ)
+        (before after later : List (CacheChange K)) (spare left : ℕ) (a : Ahead was now n e count before after spare)
         (first : next ≡ newest_of (numbers a.rest)) (room : length a.rest ≤ left) where
       pub walked-here : e.page ≡ page
           → new ≡ filter_map settled a.done ++ cons_option (numbered_as n (renewed_by cs e)) a.rest
@@ -226,9 +233,11 @@ module _ {K : Type 0} where
           → Walked was new next (count + 1) before later left
       walked-past other new_is later_is =
           let is = ne_eqb e.page page other in
-          walked-on was now new n e next count before after later spare left a (rw is (new_is ∙ a.is)) (rw is (later_is ∙ sym (append-none after))) first room
+          walked-on was now new n e next count before after later spare left a (rw is (new_is ∙ a.is))
+          (rw is (later_is ∙ sym (append-none after))) first room
 
-    module _ (was now : List (ℕ × Entry K)) (n : ℕ) (e : Entry K) (count : ℕ) (before after : List (CacheChange K)) (spare : ℕ) (a : Ahead was now n e count before after spare) where
+    module _ (was now : List (ℕ × Entry K)) (n : ℕ) (e : Entry K) (count : ℕ) (before after : List (CacheChange K)) (spare : ℕ)
+        (a : Ahead was now n e count before after spare) where
       pub bordered-was : AreBordered padding (entries_of was) → IsBordered padding e
       bordered-was all =
           each-here (IsBordered padding) (entries_of a.done) e (entries_of a.rest)

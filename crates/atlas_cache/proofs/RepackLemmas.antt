@@ -1,5 +1,6 @@
 -- What a page's repacking makes of what a cache keeps.
-use Rattle.std.proofs.Common.{ℕ, ℤ, ◌+◌, ◌<◌, ◌≤◌, ◌≡◌, ◌==◌, inl, inr, Bool, true, false, cond, List, [], ◌∷◌, ◌++◌, map, Option, None, Some, option_map, Contains, length, refl, sym, ap, ◌∙◌, arith}
+use Rattle.std.proofs.Common.{ℕ, ℤ, ◌+◌, ◌<◌, ◌≤◌, ◌≡◌, ◌==◌, inl, inr, Bool, true, false, cond, List, [], ◌∷◌, ◌++◌, map, Option, None}
+use Rattle.std.proofs.Common.{Some, option_map, Contains, length, refl, sym, ap, ◌∙◌, arith}
 use Rattle.std.specs.List.{cons_option, count_by, filter_map, find, AllByRecursion}
 use Rattle.std.proofs.lemmas.{Bool.Decides.{eqb_tells}}
 use Rattle.std.proofs.lemmas.Bool.{cases_Bool, eq-eqb, ne_eqb, eqb-true}
@@ -27,12 +28,14 @@ use Rattle.atlas_entries.proofs.EntryLemmas.{option_is}
 use Rattle.atlas_cache.proofs.HoldingLemmas.{id_cases, IsLiveOn}
 use Rattle.atlas_cache.proofs.ListLemmas.{falls-later, length-listed}
 
-find-new : (cs : List Change) (id : ℕ) → find (λ a. a.id == id) (map (λ c. c.new) cs) ≡ option_map (λ c. c.new) (find (λ c. c.new.id == id) cs)
+find-new : (cs : List Change) (id : ℕ) → find (λ a. a.id == id) (map (λ c. c.new) cs) ≡ option_map (λ c. c.new)
+    (find (λ c. c.new.id == id) cs)
 find-new [] id = refl
 find-new (c ∷ cs) id = by_test (c.new.id == id) (find-new cs id)
   where
     by_test : (b : Bool) → find (λ a. a.id == id) (map (λ c. c.new) cs) ≡ option_map (λ c. c.new) (find (λ c. c.new.id == id) cs)
-        → cond b (Some c.new) (find (λ a. a.id == id) (map (λ c. c.new) cs)) ≡ option_map (λ (d : Change). d.new) (cond b (Some c) (find (λ c. c.new.id == id) cs))
+        → cond b (Some c.new) (find (λ a. a.id == id) (map (λ c. c.new) cs)) ≡ option_map (λ (d : Change). d.new)
+        (cond b (Some c) (find (λ c. c.new.id == id) cs))
     by_test true rest = refl
     by_test false rest = rest
 
@@ -89,12 +92,16 @@ module _ {A : Type 0} (old new : List AtlasValue) (page : ℕ) (list : ChangeLis
     all_live [] live = tt
     all_live (e ∷ es) live = elim (eqb_tells e.page page) [
       | inl here ↦ rw here.0 (by_option here.1 (find (old_is e.id) cs) refl (all_live es live.1))
-      | inr other ↦ rw other.0 (ap (λ o. option_and_then (λ s. rectangle_in (state_of s) e.id) o) (does.others e.page other.1) ∙ live.0, all_live es live.1)
+      | inr other ↦ rw other.0 (
+        ap (λ o. option_and_then (λ s. rectangle_in (state_of s) e.id) o) (does.others e.page other.1) ∙ live.0,
+        all_live es live.1,
+      )
     ]
       where
         by_option : e.page ≡ page → (o : Option Change) → find (old_is e.id) cs ≡ o
             → AllByRecursion (IsLiveOn new) (filter_map becomes es)
-            → AllByRecursion (IsLiveOn new) (cons_option (option_map (λ (c : Change). record e { id = c.new.id; rectangle = c.new.rectangle }) o) (filter_map becomes es))
+            → AllByRecursion (IsLiveOn new) (cons_option (option_map (λ (c : Change). record e
+            { id = c.new.id; rectangle = c.new.rectangle }) o) (filter_map becomes es))
         by_option here None is rest = rest
         by_option here (Some c) is rest = (rw here (live_new c (Contains-find (old_is e.id) cs c is).0), rest)
 
@@ -109,7 +116,8 @@ module _ {A : Type 0} (old new : List AtlasValue) (page : ℕ) (list : ChangeLis
     ]
       where
         by_option : (e.page == p) ≡ false → (o : Option Change) → holders p id (filter_map becomes es) ≡ holders p id es
-            → holders p id (cons_option (option_map (λ (c : Change). record e { id = c.new.id; rectangle = c.new.rectangle }) o) (filter_map becomes es)) ≡ 0 + holders p id es
+            → holders p id (cons_option (option_map (λ (c : Change). record e { id = c.new.id; rectangle = c.new.rectangle }) o)
+            (filter_map becomes es)) ≡ 0 + holders p id es
         by_option apart None rest = omega (arith, rest)
         by_option apart (Some c) rest = rw apart (omega (arith, rest))
 
@@ -123,7 +131,8 @@ module _ {A : Type 0} (old new : List AtlasValue) (page : ℕ) (list : ChangeLis
     ]
       where
         by_option : (o : Option Change) → find (old_is e.id) cs ≡ o → holders page id (filter_map becomes es) ≡ 0
-            → holders page id (cons_option (option_map (λ (c : Change). record e { id = c.new.id; rectangle = c.new.rectangle }) o) (filter_map becomes es)) ≡ 0
+            → holders page id (cons_option (option_map (λ (c : Change). record e { id = c.new.id; rectangle = c.new.rectangle }) o)
+            (filter_map becomes es)) ≡ 0
         by_option None is rest = rest
         by_option (Some c) is rest = elim (id_cases page id (record e { id = c.new.id; rectangle = c.new.rectangle })) [
           | inl it ↦ absurd (let found = found_new c (Contains-find (old_is e.id) cs c is).0 in let gone = rw (sym it.2) at none in cc)
@@ -141,7 +150,8 @@ module _ {A : Type 0} (old new : List AtlasValue) (page : ℕ) (list : ChangeLis
       where
         by_option : e.page ≡ page → (o : Option Change) → find (old_is e.id) cs ≡ o
             → holders page id (filter_map becomes es) ≡ holders page d.old.id es
-            → holders page id (cons_option (option_map (λ (c : Change). record e { id = c.new.id; rectangle = c.new.rectangle }) o) (filter_map becomes es))
+            → holders page id (cons_option (option_map (λ (c : Change). record e { id = c.new.id; rectangle = c.new.rectangle }) o)
+            (filter_map becomes es))
             ≡ (cond (e.id == d.old.id) 1 0) + holders page d.old.id es
         by_option here None is rest = elim (eqb_tells e.id d.old.id) [
           | inl same ↦ absurd (let at = found_old d (Contains-find (new_is id) cs d found).0 in let none = rw same.1 at is in cc)
@@ -179,7 +189,8 @@ module _ {A : Type 0} (old new : List AtlasValue) (page : ℕ) (list : ChangeLis
     known p id r es held is = elim (eqb_tells p page) [
       | inl here ↦ elim (option_is (find (new_is id) cs)) [
         | inl none ↦ absurd (
-            let gone = does.tells.after id ∙ ap (option_map (λ (a : Allocation). a.rectangle)) (find-new cs id ∙ ap (option_map (λ (d : Change). d.new)) none) in
+            let gone = does.tells.after id ∙ ap (option_map (λ (a : Allocation). a.rectangle))
+            (find-new cs id ∙ ap (option_map (λ (d : Change). d.new)) none) in
             let live = rw here.1 at is in cc)
         | inr some ↦
             let d = some.0 in
@@ -201,7 +212,8 @@ module _ {A : Type 0} (old new : List AtlasValue) (page : ℕ) (list : ChangeLis
     by_change : (e : Entry K) (o : Option Change) (f : Entry K)
         → option_map (λ (c : Change). record e { id = c.new.id; rectangle = c.new.rectangle }) o ≡ Some f → f.frame ≡ e.frame
     by_change e None f is = absurd (let none : None ≡ Some f = is in cc)
-    by_change e (Some c) f is = ap (λ (x : Entry K). x.frame) (same_Some f (record e { id = c.new.id; rectangle = c.new.rectangle }) (sym is))
+    by_change e (Some c) f is = ap (λ (x : Entry K). x.frame) (same_Some f (record e { id = c.new.id; rectangle = c.new.rectangle })
+        (sym is))
 
     one_frame : (e f : Entry K) → becomes e ≡ Some f → f.frame ≡ e.frame
     one_frame e f is = elim (eqb_tells e.page page) [
@@ -248,7 +260,8 @@ module _ {A : Type 0} (old new : List AtlasValue) (page : ℕ) (list : ChangeLis
       where
         by_option : e.page ≡ page → (o : Option Change) → find (old_is e.id) cs ≡ o
             → AreBordered padding (filter_map becomes es)
-            → AreBordered padding (cons_option (option_map (λ (c : Change). record e { id = c.new.id; rectangle = c.new.rectangle }) o) (filter_map becomes es))
+            → AreBordered padding (cons_option (option_map (λ (c : Change). record e { id = c.new.id; rectangle = c.new.rectangle }) o)
+            (filter_map becomes es))
         by_option here None is rest = rest
         by_option here (Some c) is rest = (
           record {
@@ -277,8 +290,10 @@ module _ {A : Type 0} (old new : List AtlasValue) (page : ℕ) (list : ChangeLis
       where
         by_option : is_blank e ≡ false → (o : Option Change)
             → lying (filter_map becomes es) ≡ filter_map becomes (lying es)
-            → lying (cons_option (option_map (λ (c : Change). record e { id = c.new.id; rectangle = c.new.rectangle }) o) (filter_map becomes es))
-            ≡ cons_option (option_map (λ (c : Change). record e { id = c.new.id; rectangle = c.new.rectangle }) o) (filter_map becomes (lying es))
+            → lying (cons_option (option_map (λ (c : Change). record e { id = c.new.id; rectangle = c.new.rectangle }) o)
+            (filter_map becomes es))
+            ≡ cons_option (option_map (λ (c : Change). record e { id = c.new.id; rectangle = c.new.rectangle }) o)
+            (filter_map becomes (lying es))
         by_option lies None rest = rest
         by_option lies (Some c) rest =
             rw lies (ap (λ fs. record e { id = c.new.id; rectangle = c.new.rectangle } ∷ fs) rest)

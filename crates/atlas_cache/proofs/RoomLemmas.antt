@@ -1,5 +1,6 @@
 -- What the steps make of the pages of a cache.
 pub mod AreaOrder
+pub mod GrantedRoom
 pub mod KeptPages
 pub mod PageGrowth
 pub mod PageReserves

@@ -1,5 +1,6 @@
 -- What is shown as freed on all pages.
-use Rattle.std.proofs.Common.{◌≡◌, ◌<◌, ◌≤◌, ◌∙◌, ◌∷◌, ◌+◌, false, true, ℕ, Bool, List, Some, length, refl, sym, subst, slice_get, slice_set, inl, inr, arith}
+use Rattle.std.proofs.Common.{◌≡◌, ◌<◌, ◌≤◌, ◌∙◌, ◌∷◌, ◌+◌, false, true, ℕ, Bool, List, Some, length, refl, sym, subst, slice_get}
+use Rattle.std.proofs.Common.{slice_set, inl, inr, arith}
 use Rattle.std.proofs.lemmas.{Bool.{ne_eqb}, List.{length-set, with_items_is}, Option.{same_Some, slice_get_within}}
 use Rattle.std.proofs.lemmas.Bool.Decides.{eqb_tells}
 use Rattle.std.specs.Prelude.{Vec, vec_len}

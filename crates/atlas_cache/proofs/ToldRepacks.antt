@@ -1,5 +1,6 @@
 -- What a caller knows who follows the changes of a repacking.
-use Rattle.std.proofs.Common.{ℕ, ℤ, ◌≡◌, inl, inr, Bool, true, false, cond, List, [], ◌∷◌, Option, None, Some, option_map, refl, sym, ap, ◌∙◌}
+use Rattle.std.proofs.Common.{ℕ, ℤ, ◌≡◌, inl, inr, Bool, true, false, cond, List, [], ◌∷◌, Option, None, Some, option_map, refl, sym, ap}
+use Rattle.std.proofs.Common.{◌∙◌}
 use Rattle.std.proofs.lemmas.{Bool.Decides.{eqb_tells}}
 use Rattle.std.proofs.lemmas.Bool.{cases_Bool}
 use Rattle.std.specs.Cmp.{IsEquivalence}
@@ -79,7 +80,8 @@ module _ {K : Type 0} (eq : K → K → Bool) (laws : IsEquivalence eq) (padding
   ]
     where
       hit_here : (o : Option (Entry K)) → renewed e ≡ o → eq e.key k ≡ true
-          → (all_changed eq (told_as padding e o ∷ tell es) p).places k ≡ option_map (shown padding) (entry_for eq k (cons_option o (later es)))
+          → (all_changed eq (told_as padding e o ∷ tell es) p).places k ≡ option_map (shown padding)
+          (entry_for eq k (cons_option o (later es)))
       hit_here None is_o hit =
           let rest = others e k hit es own.0 in
           untouched k es rest (changed eq (Evicted e.key (shown padding e)) p)
@@ -96,7 +98,8 @@ module _ {K : Type 0} (eq : K → K → Bool) (laws : IsEquivalence eq) (padding
           → (all_changed eq (tell es) q).places k ≡ option_map (shown padding) (entry_for eq k (later es)))
           → (o : Option (Entry K)) → renewed e ≡ o → eq e.key k ≡ false
           → p.places k ≡ option_map (shown padding) (entry_for eq k es)
-          → (all_changed eq (told_as padding e o ∷ tell es) p).places k ≡ option_map (shown padding) (entry_for eq k (cons_option o (later es)))
+          → (all_changed eq (told_as padding e o ∷ tell es) p).places k ≡ option_map (shown padding)
+          (entry_for eq k (cons_option o (later es)))
       missed rest None is_o miss was =
           rest (changed eq (Evicted e.key (shown padding e)) p) (ap (λ b. cond b None (p.places k)) miss ∙ was)
       missed rest (Some f) is_o miss was =

@@ -1,5 +1,6 @@
 -- Entries that go one by one from the end of the order.
-use Rattle.std.proofs.Common.{ℕ, ◌+◌, ◌<◌, ◌≤◌, ◌≡◌, min, Bool, cond, List, [], ◌∷◌, ◌++◌, None, refl, sym, ap, ◌∙◌, arith, length, append_assoc}
+use Rattle.std.proofs.Common.{ℕ, ◌+◌, ◌<◌, ◌≤◌, ◌≡◌, min, Bool, cond, List, [], ◌∷◌, ◌++◌, None, refl, sym, ap, ◌∙◌, arith, length}
+use Rattle.std.proofs.Common.{append_assoc}
 use Rattle.std.specs.List.{AllByRecursion}
 use Rattle.std.specs.Cmp.{IsEquivalence}
 use Rattle.atlas_cache.specs.declared.changes.CacheChange.{CacheChange}
@@ -74,7 +75,9 @@ module _ {K : Type 0} where
           let e = one.entry in
           let c : CacheChange K = Evicted e.key (shown s.options.padding e) in
           let so_far = all_evicted s.options.padding h.gone in
-          let step : ShowsSame (changed eq c (all_changed eq so_far (picture_of eq s))) (picture_of eq u) = same_both eq _ (changed eq c (picture_of eq t)) _ (record { places = λ k. ap (λ o. cond (eq e.key k) None o) (h.shows.places k); pages = h.shows.pages }) (record {
+          let step : ShowsSame (changed eq c (all_changed eq so_far (picture_of eq s))) (picture_of eq u) =
+          same_both eq _ (changed eq c (picture_of eq t)) _ (record
+          { places = λ k. ap (λ o. cond (eq e.key k) None o) (h.shows.places k); pages = h.shows.pages }) (record {
             places = λ k. taken eq laws t u u.entries e [] h.own one.last (sym (append-none u.entries)) one.options k;
             pages = sym one.sizes;
           }) in

@@ -1,5 +1,6 @@
 -- A walk from the least recently used entry over those that are shown as gone.
-use Rattle.std.proofs.Common.{ℕ, ◌+◌, ◌≤◌, ◌<◌, ◌≡◌, ◌||◌, ◌&&◌, true, false, eqb, ltb, Bool, List, [], ◌∷◌, ◌++◌, length, Option, None, Some, refl, sym, ap, subst, ◌∙◌, arith, append_assoc}
+use Rattle.std.proofs.Common.{ℕ, ◌+◌, ◌≤◌, ◌<◌, ◌≡◌, ◌||◌, ◌&&◌, true, false, eqb, ltb, Bool, List, [], ◌∷◌, ◌++◌, length, Option, None}
+use Rattle.std.proofs.Common.{Some, refl, sym, ap, subst, ◌∙◌, arith, append_assoc}
 use Rattle.std.proofs.Common.{inl, inr}
 use Rattle.std.proofs.Math.Bool.{and-false, and-true, or_comm}
 use Rattle.std.proofs.lemmas.{Bool.{cases_Bool}}
@@ -190,7 +191,8 @@ module _ {K : Type 0} where
       → ids_on page es k ≡ idle_on frame page es k
   idle-unused frame page [] unused k = refl
   idle-unused frame page (e ∷ es) unused k =
-      rw (ltb-less e.frame frame unused.0, and-true (has_id page k e)) (ap (λ b. has_id page k e || b) (idle-unused frame page es unused.1 k))
+      rw (ltb-less e.frame frame unused.0, and-true (has_id page k e)) (ap (λ b. has_id page k e || b)
+      (idle-unused frame page es unused.1 k))
 
   -- Of entries that begin with those which a frame used the others are idle.
   idle-rest : (frame page : ℕ) (newer older : List (Entry K)) → AllByRecursion (λ e. e.frame ≡ frame) newer
@@ -198,7 +200,8 @@ module _ {K : Type 0} where
       → ids_on page older k ≡ idle_on frame page (newer ++ older) k
   idle-rest frame page [] older used unused k = idle-unused frame page older unused k
   idle-rest frame page (e ∷ newer) older used unused k =
-      rw (ltb-not e.frame frame (λ less. omega (arith, less, used.0)), and-false (has_id page k e)) (idle-rest frame page newer older used.1 unused k)
+      rw (ltb-not e.frame frame (λ less. omega (arith, less, used.0)), and-false (has_id page k e))
+      (idle-rest frame page newer older used.1 unused k)
 
   pub idle-are : (frame page : ℕ) (newer older : List (Entry K)) → AllByRecursion (λ e. e.frame ≡ frame) newer
       → AllByRecursion (λ e. e.frame < frame) older
@@ -234,7 +237,8 @@ module _ {K : Type 0} where
       let split : entries_of l.newer ++ e ∷ entries_of older ≡ (entries_of l.newer ++ e ∷ []) ++ entries_of older =
       sym (append_assoc (entries_of l.newer) (e ∷ []) (entries_of older)) in
       rw (is, split)
-      (subst (λ (ids : ℕ → Bool). HasNoRoomWithout asked pages page ids) (idle-are frame page (entries_of l.newer ++ e ∷ []) (entries_of older) used unused) none)
+      (subst (λ (ids : ℕ → Bool). HasNoRoomWithout asked pages page ids)
+      (idle-are frame page (entries_of l.newer ++ e ∷ []) (entries_of older) used unused) none)
 
   pub page-lies : (pages : List AtlasValue) (page : ℕ) (e : Entry K) → page < length pages → length pages ≤ no_page
       → e.page ≡ page → is_blank e ≡ false

@@ -1,5 +1,6 @@
 -- What is left where the entries in a box went, and what a cache keeps by it.
-use Rattle.std.proofs.Common.{Bool, ℕ, ◌<◌, ◌≡◌, inl, inr, List, [], ◌∷◌, ◌++◌, length, None, Some, Result, Ok, Err, OnErr, refl, sym, ap, subst, ◌∙◌, arith, slice_get}
+use Rattle.std.proofs.Common.{Bool, ℕ, ◌<◌, ◌≡◌, inl, inr, List, [], ◌∷◌, ◌++◌, length, None, Some, Result, Ok, Err, OnErr, refl, sym, ap}
+use Rattle.std.proofs.Common.{subst, ◌∙◌, arith, slice_get}
 use Rattle.std.proofs.lemmas.{Bool.{cases_Bool}}
 use Rattle.std.proofs.lemmas.Option.{slice_get_cases}
 use Rattle.guillotiere.specs.Boxes.{Box}

@@ -5,7 +5,7 @@ use Rattle.std.proofs.lemmas.Map.Keys.{IsDistinct-head, IsDistinct-tail}
 use Rattle.std.specs.List.{IsDistinct}
 use Rattle.atlas_entries.specs.declared.entries.Entry.{Entry}
 use Rattle.atlas_cache.specs.Caches.{entries_of}
-use Rattle.atlas_entries.specs.Entries.{entry_at, numbers}
+use Rattle.atlas_entries.specs.Entries.{entry_at, numbers, without_number}
 use Rattle.atlas_entries.specs.Orders.{newest_of}
 use Rattle.atlas_cache.specs.Walking.{first_entry, last_entry, IsNext}
 use Rattle.atlas_entries.proofs.AppendedLists.{each-here}
@@ -21,6 +21,15 @@ module _ {K : Type 0} where
   first-some n e [] is at = absurd (let none : None ≡ Some n = is in cc)
   first-some n e (x ∷ es) is at = elim (eqb_tells n x.0) [
     | inl same ↦ rw same.0 at at
+    | inr other ↦ absurd (other.1 (let some : Some x.0 ≡ Some n = is in cc))
+  ]
+
+  pub first-rest : (n : ℕ) (e : Entry K) (es : List (ℕ × Entry K)) → newest_of (numbers es) ≡ Some n
+      → entry_at n es ≡ Some e
+      → entries_of es ≡ e ∷ entries_of (without_number n es)
+  first-rest n e [] is at = absurd (let none : None ≡ Some n = is in cc)
+  first-rest n e (x ∷ es) is at = elim (eqb_tells n x.0) [
+    | inl same ↦ let here = rw same.0 at at in rw same.0 (let is_e : x.1 ≡ e = cc in ap (λ y. y ∷ entries_of es) is_e)
     | inr other ↦ absurd (other.1 (let some : Some x.0 ≡ Some n = is in cc))
   ]
 
@@ -41,7 +50,8 @@ module _ {K : Type 0} where
     | inl same ↦ let here = rw same.0 at at in record {
       newer = [];
       older = es;
-      was = let is : x.1 ≡ e = cc in let num : x.0 ≡ n = sym same.1 in ap (λ (m : ℕ). (m, x.1) ∷ es) num ∙ ap (λ (f : Entry K). (n, f) ∷ es) is;
+      was = let is : x.1 ≡ e = cc in let num : x.0 ≡ n = sym same.1 in ap (λ (m : ℕ). (m, x.1) ∷ es) num ∙
+          ap (λ (f : Entry K). (n, f) ∷ es) is;
     }
     | inr other ↦
         let there = rw other.0 at at in

@@ -1,7 +1,9 @@
 pub mod Asking
+pub mod Batches
 pub mod Caches
 pub mod Changes
 pub mod Clearing
+pub mod Compacting
 pub mod Counting
 pub mod Placing
 pub mod Refusals

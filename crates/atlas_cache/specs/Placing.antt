@@ -78,13 +78,14 @@ abbrev pub LacksSlots : Size → CacheOptions → List AtlasValue → Type 0
 LacksSlots asked o pages =
     IsFirstShort asked pages ⊎ (NoneHasRoomBelow asked pages (length pages) × IsGrowthShort o pages)
 
--- A request is granted on the first page that has room for it; none is, if no page has. Unless it is granted, nothing
--- changes. It takes at most 4 slots of a page, and memory only where fewer are in reserve; it is refused for want of
+-- A request is granted on the first page before a number that has room for it; none is, if none of these has. Unless it is granted,
+-- nothing changes. It takes at most 4 slots of a page, and memory only where fewer are in reserve; it is refused for want of
 -- slots only where that first page is short of them.
-pub record PlacesFirst (asked : Size) (old new : RoomsState)
+pub record PlacesBefore (to : ℕ) (asked : Size) (old new : RoomsState)
     (result : Result (Option (ℕ × Allocation)) CacheError) : Type 0 where
   pub placed : IfOk result (λ placed. IfSome placed (λ place. PlacesOn asked old new place.0 place.1))
-  pub full : result ≡ Ok None → NoneHasRoomBelow asked old.pages (length old.pages)
+  pub before : IfOk result (λ placed. IfSome placed (λ place. place.0 < to))
+  pub full : result ≡ Ok None → NoneHasRoomBelow asked old.pages to
   pub none : result ≡ Ok None → new ≡ old
   pub refused : OnErr result (new ≡ old)
   pub errors : IfErr result IsRefusal
@@ -94,3 +95,7 @@ pub record PlacesFirst (asked : Size) (old new : RoomsState)
   pub options : new.options ≡ old.options
   pub slots : UseAtMost 4 old.pages new.pages
   pub memory : HaveSlots 4 old.pages → result ≢ Err Memory
+
+-- The same on the first of all pages.
+abbrev pub PlacesFirst : (asked : Size) → (old new : RoomsState) → Result (Option (ℕ × Allocation)) CacheError → Type 0
+PlacesFirst asked old new result = PlacesBefore (length old.pages) asked old new result

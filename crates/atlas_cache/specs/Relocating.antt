@@ -1,5 +1,5 @@
 -- What a repacking of a page makes of the entries of a cache, and what it tells.
-use Rattle.std.specs.Prelude.{◌≡◌, ◌==◌, ◌+◌, ◌-◌, ◌≤◌, ◌++◌, ℕ, ℤ, min, List, length, Option, None, Some, find, option_map}
+use Rattle.std.specs.Prelude.{◌≡◌, ◌==◌, ◌+◌, ◌-◌, ◌≤◌, ◌++◌, ℕ, ℤ, min, List, length, map, Option, None, Some, find, option_map}
 use Rattle.std.specs.Prelude.{if◌then◌else◌}
 use Rattle.std.specs.List.{count_by, filter_map}
 use Rattle.std.specs.List.Sorted.{IsSortedByKey}
@@ -53,6 +53,10 @@ module _ {K : Type 0} where
   -- An entry under its number.
   abbrev pub numbered_as : ℕ → Option (Entry K) → Option (ℕ × Entry K)
   numbered_as n o = option_map (λ e. (n, e)) o
+
+  -- The keys of entries, in their order.
+  abbrev pub keys_of : List (Entry K) → List K
+  keys_of es = map (λ e. e.key) es
 
   -- Each entry of a page moves or goes, which is told once of each, the most recently used first; an entry that moves
   -- has another id and rectangle, and no other entry and no other page changes. The entries are placed in an empty page of

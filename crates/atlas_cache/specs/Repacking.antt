@@ -1,6 +1,7 @@
 -- What a repacking does to a page, and the areas of pages.
-use Rattle.std.specs.Prelude.{◌≡◌, ◌==◌, ◌≤◌, ◌++◌, ℕ, All, IsPermutation, List, length, map, filter, Option, Some, find, option_map}
-use Rattle.std.specs.Prelude.{count_by, slice_get, sum_by}
+use Rattle.std.specs.Prelude.{◌≡◌, ◌≢◌, ◌==◌, ◌<◌, ◌≤◌, ◌++◌, [], ℕ, All, IsPermutation, List, length, map, filter, Option, Some, find}
+use Rattle.std.specs.Prelude.{option_map}
+use Rattle.std.specs.Prelude.{count_by, slice_get, slice_set, sum_by}
 use Rattle.std.specs.List.{AllAdjacentBelow}
 use Rattle.guillotiere.specs.declared.Allocation.{Allocation}
 use Rattle.guillotiere.specs.declared.Change.{Change}
@@ -79,6 +80,15 @@ pub record PlacesAnew (old new : List AtlasValue) (page : ℕ) (held : List Allo
   pub order : List Allocation
   pub ordered : IsLargestFirst held order
   pub placed : PlacesInOrder old new page order moved given_up
+
+-- Placed anew in this way, something would find no room when its turn came.
+pub record LosesSome (pages : List AtlasValue) (page : ℕ) (held : List Allocation) : Type 0 where
+  pub within : page < length pages
+  pub anew : AtlasValue
+  pub moved : List Change
+  pub given_up : List Allocation
+  pub placed : PlacesAnew pages (slice_set pages page anew) page held moved given_up
+  pub some : given_up ≢ []
 
 -- The area of what is live on each page, in unit squares.
 abbrev pub live_by_page : List AtlasValue → List ℕ

@@ -1,6 +1,7 @@
 -- Room that would be, were some entries gone, and the entries in a box.
 use Rattle.std.specs.List.{AllByRecursion}
-use Rattle.std.specs.Prelude.{◌≡◌, ◌<◌, ◌≤◌, ◌++◌, ◌==◌, ◌&&◌, ◌||◌, ◌+◌, ℕ, Bool, false, nat_le, nat_lt, List, [], ◌∷◌, Contains, Some, length, slice_get, Vec}
+use Rattle.std.specs.Prelude.{◌≡◌, ◌<◌, ◌≤◌, ◌++◌, ◌==◌, ◌&&◌, ◌||◌, ◌+◌, ℕ, Bool, false, nat_le, nat_lt, List, [], ◌∷◌, Contains, Some}
+use Rattle.std.specs.Prelude.{length, slice_get, Vec}
 use Rattle.std.specs.Prelude.{if◌then◌else◌}
 use Rattle.guillotiere.specs.declared.Size.{Size}
 use Rattle.guillotiere.specs.Boxes.{Box, box_sides, Fits}

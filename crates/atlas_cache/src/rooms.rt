@@ -5,12 +5,12 @@ ghost use Rattle.std.specs.Prelude.{Err, None, Ok, OnErr, Some};
 ghost use Rattle.guillotiere.specs.Boxes.{Fits, IsPositive};
 ghost use Rattle.guillotiere.specs.Callers.{IsShortage};
 ghost use Rattle.guillotiere.specs.Pages.{rectangle_on, AllLieApartOn, AllLieWithinOn, HasSameRectangles, KeepsPages};
-ghost use Rattle.guillotiere.specs.Pages.{LeavesNoBoxOn};
+ghost use Rattle.guillotiere.specs.Pages.{LeavesNoBoxOn, NoneHasRoomBelow};
 ghost use Rattle.guillotiere.specs.Pixels.{natural, sides_of, size_of};
 ghost use Rattle.atlas_cache.specs.declared.options.CacheOptions.{CacheOptions};
 ghost use Rattle.atlas_cache.specs.Asking.{AreUsable};
 ghost use Rattle.atlas_entries.specs.Entries.{no_page};
-ghost use Rattle.atlas_cache.specs.Placing.{FreesOn, GrowsOn, IsGrowthShort, PlacesFirst, StartsOn};
+ghost use Rattle.atlas_cache.specs.Placing.{FreesOn, GrowsOn, IsGrowthShort, PlacesBefore, PlacesFirst, StartsOn};
 ghost use Rattle.atlas_cache.specs.Reserving.{IsShortOfSlots, UseAtMost};
 ghost use Rattle.atlas_cache.specs.Rooms.{grown_sides, growth_left, page_sizes, rooms_of, AreAllLargest};
 ghost use Rattle.atlas_cache.specs.Rooms.{AreLargestBelow, HasRoomOnlyAmong, IsFirstToGrow, IsNothingLive};
@@ -21,7 +21,7 @@ ghost use Rattle.atlas_entries.specs.declared.error.CacheError.TheVariants.{Memo
 mod asking;
 mod copying;
 mod rehearsing;
-mod repacking;
+pub mod repacking;
 mod reserving;
 mod usable;
 
@@ -222,8 +222,7 @@ impl<A: Allocator + Copy> Rooms<A> {
         self.place_among(0, to, asked)
     }
 
-    // The same, where none but the pages from `from` on and before `to` can have room: only these are looked at, and of
-    // these only those are searched that changed since they refused a size that was no larger.
+    // The same, where none but the pages from `from` on and before `to` can have room: only these are looked at.
     pub(crate) fn place_among(
         &mut self,
         from: usize,
@@ -233,6 +232,21 @@ impl<A: Allocator + Copy> Rooms<A> {
         requires inside { to ≤ length self.old.pages }
         requires others { HasRoomOnlyAmong asked self.old.pages from to }
         ensures { PlacesFirst asked self.old self.new result }
+    {
+        self.place_before(from, to, asked)
+    }
+
+    // Grants a request on the first page before `to` that has room for it, where those before `from` have none: only the others are
+    // looked at, and of these only those are searched that changed since they refused a size that was no larger.
+    pub(crate) fn place_before(
+        &mut self,
+        from: usize,
+        to: usize,
+        asked: Size,
+    ) -> Result<Option<(u32, Allocation)>, CacheError>
+        requires inside { to ≤ length self.old.pages }
+        requires none { NoneHasRoomBelow asked self.old.pages from }
+        ensures { PlacesBefore to asked self.old self.new result }
     {
         for page in from..to {
             match ask(&mut self.pages[page], &mut self.refused[page], asked) {

@@ -1,8 +1,11 @@
 -- Entries under their numbers: what becomes of them where the order or the list of what belongs to each number changes.
-use Rattle.std.proofs.Common.{ℕ, zero, suc, ◌<◌, ◌≤◌, ◌≡◌, ◌⊎◌, inl, inr, Bool, true, false, cond, eqb, List, [], ◌∷◌, ◌++◌, length, set, Option, None, Some, is_some, refl, sym, ap, ◌∙◌, arith, slice_get, length-set, get_or-set_same, get_or-set_other}
+use Rattle.std.proofs.Common.{ℕ, zero, suc, ◌<◌, ◌≤◌, ◌≡◌, ◌⊎◌, inl, inr, Bool, true, false, cond, eqb, List, [], ◌∷◌, ◌++◌, length, set}
+use Rattle.std.proofs.Common.{Option, None, Some, is_some, refl, sym, ap, ◌∙◌, arith, slice_get, length-set, get_or-set_same}
+use Rattle.std.proofs.Common.{get_or-set_other}
 use Rattle.std.specs.Option.{option_map_or}
 use Rattle.std.specs.List.{AllByRecursion, IsDistinct}
-use Rattle.std.proofs.lemmas.Bool.{cases_eq, cases_lt, cond_both, cases_Bool, eqb-true, eqb-false, eq-eqb, ne_eqb, cond-true, cond-false, false≢true}
+use Rattle.std.proofs.lemmas.Bool.{cases_eq, cases_lt, cond_both, cases_Bool, eqb-true, eqb-false, eq-eqb, ne_eqb, cond-true, cond-false}
+use Rattle.std.proofs.lemmas.Bool.{false≢true}
 use Rattle.std.proofs.lemmas.Map.Keys.{IsDistinct-cons}
 use Rattle.std.proofs.lemmas.Option.{same_Some, none-some, slice_get-get_or, slice_get_past}
 use Rattle.atlas_model.specs.declared.geometry.Rectangle.{Rectangle}
@@ -30,7 +33,8 @@ module _ {A : Type 0} where
   pub slice_get-set_other : (xs : List A) (k j : ℕ) (y : A) → (j ≡ k → ⊥) → slice_get (set xs k y) j ≡ slice_get xs j
   slice_get-set_other xs k j y ne =
       elim (cases_lt j (length xs)) [
-        | inl l ↦ slice_get-get_or (set xs k y) j y (omega (arith, length-set xs k y)) ∙ ap Some (get_or-set_other xs k j y y ne) ∙ sym (slice_get-get_or xs j y l)
+        | inl l ↦ slice_get-get_or (set xs k y) j y (omega (arith, length-set xs k y)) ∙ ap Some (get_or-set_other xs k j y y ne) ∙
+            sym (slice_get-get_or xs j y l)
         | inr l ↦ slice_get_past (set xs k y) j (omega (arith, length-set xs k y)) ∙ sym (slice_get_past xs j l)
       ]
 
@@ -99,7 +103,8 @@ module _ {K : Type 0} where
         let w = first-stored x ns h in
         let rest = numbered-without n ns (inside-tail x ns h) in
         let step : numbered items (without n (x ∷ ns)) ≡ without_number n ((x, w.0) ∷ numbered items ns) =
-        elim (eqb n x) as (λ b. numbered items (cond b ns (x ∷ without n ns)) ≡ cond b (numbered items ns) ((x, w.0) ∷ without_number n (numbered items ns))) [
+        elim (eqb n x) as (λ b. numbered items (cond b ns (x ∷ without n ns)) ≡ cond b (numbered items ns)
+        ((x, w.0) ∷ without_number n (numbered items ns))) [
           | true ↦ refl
           | false ↦ numbered-cons x (without n ns) w.0 w.1 ∙ ap (λ r. (x, w.0) ∷ r) rest
         ] in
@@ -125,28 +130,46 @@ module _ {K : Type 0} where
       ap (λ o. option_map_or (λ e. (x, e) ∷ numbered new ns) o (numbered new ns)) (h x (first-occurs x ns)) ∙
       ap (λ r. option_map_or (λ e. (x, e) ∷ r) (slice_get items x) r) (numbered-same items new ns (λ k l. h k (omega (arith, l))))
 
-  -- One entry of a list has another id and rectangle.
-  pub numbered-moved : (items new : List (Entry K)) (n id : ℕ) (rectangle : Rectangle) (e : Entry K) (ns : List ℕ)
+  -- One entry of a list has another page, id and rectangle.
+  pub numbered-moved : (items new : List (Entry K)) (n page id : ℕ) (rectangle : Rectangle) (e : Entry K) (ns : List ℕ)
       → IsInside items ns → slice_get items n ≡ Some e
-      → slice_get new n ≡ Some (record e { id = id; rectangle = rectangle })
+      → slice_get new n ≡ Some (record e { page = page; id = id; rectangle = rectangle })
       → ((k : ℕ) → (k ≡ n → ⊥) → slice_get new k ≡ slice_get items k) → occurs n ns ≤ 1
-      → numbered new ns ≡ moved n id rectangle (numbered items ns)
-  numbered-moved items new n id rectangle e [] h s t o once = refl
-  numbered-moved items new n id rectangle e (x ∷ ns) h s t o once =
+      → numbered new ns ≡ moved n page id rectangle (numbered items ns)
+  numbered-moved items new n page id rectangle e [] h s t o once = refl
+  numbered-moved items new n page id rectangle e (x ∷ ns) h s t o once =
       let w = first-stored items x ns h in
-      let step : numbered new (x ∷ ns) ≡ moved n id rectangle ((x, w.0) ∷ numbered items ns) =
+      let step : numbered new (x ∷ ns) ≡ moved n page id rectangle ((x, w.0) ∷ numbered items ns) =
       elim (cases_eq n x) [
         | inl q ↦ (let same_entry : e ≡ w.0 = same_Some e w.0 (sym s ∙ ap (slice_get items) q ∙ w.1) in
-            let at : slice_get new x ≡ Some (record w.0 { id = id; rectangle = rectangle }) = ap (slice_get new) (sym q) ∙ t ∙ ap (λ (v : Entry K). Some (record v { id = id; rectangle = rectangle })) same_entry in
+            let at : slice_get new x ≡ Some (record w.0 { page = page; id = id; rectangle = rectangle }) = ap (slice_get new) (sym q) ∙ t ∙
+            ap (λ (v : Entry K). Some (record v { page = page; id = id; rectangle = rectangle })) same_entry in
             let zero_rest : occurs n ns ≡ 0 = omega (arith, once, same-self x, ap (λ v. same v x) q) in
-            numbered-cons new x ns (record w.0 { id = id; rectangle = rectangle }) at ∙
-            ap (λ r. (x, record w.0 { id = id; rectangle = rectangle }) ∷ r) (numbered-same items new ns (λ k l. o k (λ p. omega (arith, l, zero_rest, ap (λ v. occurs v ns) p)))) ∙
-            sym (cond-true (eqb n x) ((x, record w.0 { id = id; rectangle = rectangle }) ∷ numbered items ns) ((x, w.0) ∷ moved n id rectangle (numbered items ns)) (eq-eqb n x q)))
+            numbered-cons new x ns (record w.0 { page = page; id = id; rectangle = rectangle }) at ∙
+            ap (λ r. (x, record w.0 { page = page; id = id; rectangle = rectangle }) ∷ r)
+            (numbered-same items new ns (λ k l. o k (λ p. omega (arith, l, zero_rest, ap (λ v. occurs v ns) p)))) ∙
+            sym (cond-true (eqb n x) ((x, record w.0 { page = page; id = id; rectangle = rectangle }) ∷ numbered items ns)
+            ((x, w.0) ∷ moved n page id rectangle (numbered items ns)) (eq-eqb n x q)))
         | inr ne ↦ numbered-cons new x ns w.0 (o x (λ q. ne (sym q)) ∙ w.1) ∙
-            ap (λ r. (x, w.0) ∷ r) (numbered-moved items new n id rectangle e ns (inside-tail items x ns h) s t o (omega (arith, once))) ∙
-            sym (cond-false (eqb n x) ((x, record w.0 { id = id; rectangle = rectangle }) ∷ numbered items ns) ((x, w.0) ∷ moved n id rectangle (numbered items ns)) (ne_eqb n x ne))
+            ap (λ r. (x, w.0) ∷ r)
+            (numbered-moved items new n page id rectangle e ns (inside-tail items x ns h) s t o (omega (arith, once))) ∙
+            sym (cond-false (eqb n x) ((x, record w.0 { page = page; id = id; rectangle = rectangle }) ∷ numbered items ns)
+            ((x, w.0) ∷ moved n page id rectangle (numbered items ns)) (ne_eqb n x ne))
       ] in
-      step ∙ ap (moved n id rectangle) (sym (numbered-cons items x ns w.0 w.1))
+      step ∙ ap (moved n page id rectangle) (sym (numbered-cons items x ns w.0 w.1))
+
+  -- What belongs to each of them is what stands at its number.
+  pub numbered-stored : (items : List (Entry K)) (ns : List ℕ)
+      → AllByRecursion (λ x. slice_get items x.0 ≡ Some x.1) (numbered items ns)
+  numbered-stored items [] = tt
+  numbered-stored items (n ∷ ns) = by_option (slice_get items n) refl (numbered-stored items ns)
+    where
+      by_option : (o : Option (Entry K)) → slice_get items n ≡ o
+          → AllByRecursion (λ x. slice_get items x.0 ≡ Some x.1) (numbered items ns)
+          → AllByRecursion (λ x. slice_get items x.0 ≡ Some x.1)
+          (option_map_or (λ e. (n, e) ∷ numbered items ns) o (numbered items ns))
+      by_option None is rest = rest
+      by_option (Some e) is rest = (is, rest)
 
   module _ (eq : K → K → Bool) (k : K) (items : List (Entry K)) where
     -- The number that is found is that of an entry with the key.
@@ -155,11 +178,14 @@ module _ {K : Type 0} where
     number_of-some n [] h q = absurd (none-some n q)
     number_of-some n (x ∷ ns) h q =
         let w = first-stored items x ns h in
-        let at : cond (eq k w.0.key) (Some x) (number_of eq k (numbered items ns)) ≡ Some n = sym (ap (number_of eq k) (numbered-cons items x ns w.0 w.1)) ∙ q in
+        let at : cond (eq k w.0.key) (Some x) (number_of eq k (numbered items ns)) ≡ Some n =
+        sym (ap (number_of eq k) (numbered-cons items x ns w.0 w.1)) ∙ q in
         elim (cases_Bool (eq k w.0.key)) [
-          | inl t ↦ (let same_number : x ≡ n = same_Some x n (sym (cond-true (eq k w.0.key) (Some x) (number_of eq k (numbered items ns)) t) ∙ at) in
+          | inl t ↦ (let same_number : x ≡ n = same_Some x n (sym (cond-true (eq k w.0.key) (Some x) (number_of eq k (numbered items ns)) t)
+              ∙ at) in
               (omega (arith, same-self x, ap (λ v. same v x) same_number), w.0, ap (slice_get items) (sym same_number) ∙ w.1, t))
-          | inr f ↦ (let r = number_of-some n ns (inside-tail items x ns h) (sym (cond-false (eq k w.0.key) (Some x) (number_of eq k (numbered items ns)) f) ∙ at) in
+          | inr f ↦ (let r = number_of-some n ns (inside-tail items x ns h)
+              (sym (cond-false (eq k w.0.key) (Some x) (number_of eq k (numbered items ns)) f) ∙ at) in
               (omega (arith, r.0), r.1, r.2, r.3))
         ]
 
@@ -170,13 +196,16 @@ module _ {K : Type 0} where
     number_of-none n e [] h q l s t = omega (arith, l)
     number_of-none n e (x ∷ ns) h q l s t =
         let w = first-stored items x ns h in
-        let at : cond (eq k w.0.key) (Some x) (number_of eq k (numbered items ns)) ≡ None = sym (ap (number_of eq k) (numbered-cons items x ns w.0 w.1)) ∙ q in
+        let at : cond (eq k w.0.key) (Some x) (number_of eq k (numbered items ns)) ≡ None =
+        sym (ap (number_of eq k) (numbered-cons items x ns w.0 w.1)) ∙ q in
         elim (cases_Bool (eq k w.0.key)) [
           | inl y ↦ none-some x (sym at ∙ cond-true (eq k w.0.key) (Some x) (number_of eq k (numbered items ns)) y)
           | inr f ↦ elim (cases_eq n x) [
             | inl p ↦ (let same_entry : e ≡ w.0 = same_Some e w.0 (sym s ∙ ap (slice_get items) p ∙ w.1) in
                 false≢true (sym f ∙ ap (λ (v : Entry K). eq k v.key) (sym same_entry) ∙ t))
-            | inr ne ↦ number_of-none n e ns (inside-tail items x ns h) (sym (cond-false (eq k w.0.key) (Some x) (number_of eq k (numbered items ns)) f) ∙ at) (omega (arith, l, same-ne n x ne)) s t
+            | inr ne ↦ number_of-none n e ns (inside-tail items x ns h)
+                (sym (cond-false (eq k w.0.key) (Some x) (number_of eq k (numbered items ns)) f) ∙ at) (omega (arith, l, same-ne n x ne)) s
+                t
           ]
         ]
 

@@ -1,5 +1,7 @@
 -- The mark of an order: the entry from which on all are blank.
-use Rattle.std.proofs.Common.{ℕ, ◌≡◌, ◌<◌, inl, inr, Bool, false, eqb, length, set, slice_get, List, [], ◌∷◌, ◌++◌, Option, Some, refl, sym, ap, ◌∙◌, subst}
+use Rattle.std.proofs.Common.{ℕ, ◌≡◌, ◌==◌, ◌<◌, inl, inr, Bool, false, eqb, length, set}
+use Rattle.std.proofs.Common.{slice_get, List, [], ◌∷◌, ◌++◌, Option, Some, refl}
+use Rattle.std.proofs.Common.{sym, ap, ◌∙◌, subst}
 use Rattle.std.specs.Option.{option_map_or}
 use Rattle.std.specs.Prelude.{unwrap_or}
 use Rattle.std.proofs.lemmas.{Bool.Decides.{eqb_tells}}
@@ -9,11 +11,12 @@ use Rattle.std.specs.List.{AllByRecursion, IsDistinct}
 use Rattle.atlas_model.specs.declared.geometry.Rectangle.{Rectangle}
 use Rattle.atlas_search.specs.Numbers.{front, no_slot, without}
 use Rattle.atlas_entries.specs.declared.entries.Entry.{Entry}
-use Rattle.atlas_entries.specs.Entries.{entry_at, moved, numbers, touched, without_number, AreBlank, EndsBlank, IsBeforeBlanks, IsNumber}
+use Rattle.atlas_entries.specs.Entries.{entry_at, is_blank, moved, no_page, numbers, touched, without_number, AreBlank, EndsBlank}
+use Rattle.atlas_entries.specs.Entries.{IsBeforeBlanks, IsNumber}
 use Rattle.atlas_entries.specs.Orders.{newest_of, oldest_of, IsEntry, IsFreshNumber, Order}
 use Rattle.atlas_entries.specs.Tables.{numbered, AreKept}
 use Rattle.atlas_entries.proofs.KeptEntries.{joined-is, moved-is, touched-is}
-use Rattle.atlas_entries.proofs.EntryLemmas.{entry_at-numbered, numbered-without, numbers-numbered, IsDistinct-from_once}
+use Rattle.atlas_entries.proofs.EntryLemmas.{entry_at-numbered, numbered-stored, numbered-without, numbers-numbered, IsDistinct-from_once}
 use Rattle.atlas_entries.proofs.AppendedLists.{append-none, each-right}
 
 -- The first of a list, or the number of no entry.
@@ -99,41 +102,48 @@ module _ {K : Type 0} where
       subst (λ o. EndsBlank mark (option_map_or (λ (x : Entry K). (n, record x { frame = frame }) ∷ without_number n es) o es)) (sym at)
       (mark-joined (n, record e { frame = frame }) (without_number n es) mark m)
 
-  module _ (n id : ℕ) (rectangle : Rectangle) where
-    moved-numbers : (es : List (ℕ × Entry K)) → numbers (moved n id rectangle es) ≡ numbers es
+  module _ (n page id : ℕ) (rectangle : Rectangle) where
+    moved-numbers : (es : List (ℕ × Entry K)) → numbers (moved n page id rectangle es) ≡ numbers es
     moved-numbers [] = refl
     moved-numbers (x ∷ es) = elim (eqb_tells n x.0) [
       | inl same ↦ rw same.0 refl
       | inr other ↦ rw other.0 (ap (λ ns. x.0 ∷ ns) (moved-numbers es))
     ]
 
-    moved-blank : (es : List (ℕ × Entry K)) → AreBlank es → AreBlank (moved n id rectangle es)
-    moved-blank [] all = tt
-    moved-blank (x ∷ es) all = elim (eqb_tells n x.0) [
-      | inl same ↦ rw same.0 all
-      | inr other ↦ rw other.0 (all.0, moved-blank es all.1)
-    ]
+    module _ (items : List (Entry K)) (r : Entry K) (at : slice_get items n ≡ Some r) (lies : is_blank r ≡ (page == no_page)) where
+      moved-blank : (es : List (ℕ × Entry K)) → AreBlank es → AllByRecursion (λ x. slice_get items x.0 ≡ Some x.1) es
+          → AreBlank (moved n page id rectangle es)
+      moved-blank [] all stored = tt
+      moved-blank (x ∷ es) all stored = elim (eqb_tells n x.0) [
+        | inl same ↦
+            let here : Some x.1 ≡ Some r = sym stored.0 ∙ ap (slice_get items) (sym same.1) ∙ at in
+            let it : x.1 ≡ r = cc in
+            rw same.0 (sym lies ∙ ap is_blank (sym it) ∙ all.0, all.1)
+        | inr other ↦ rw other.0 (all.0, moved-blank es all.1 stored.1)
+      ]
 
-    -- An entry has another rectangle.
-    pub mark-moved : (newer older : List (ℕ × Entry K)) (mark : ℕ) → mark ≡ front (numbers older)
-        → AreBlank older → EndsBlank mark (moved n id rectangle (newer ++ older))
-    mark-moved [] older mark first blank = record {
-      newer = [];
-      older = moved n id rectangle older;
-      was = refl;
-      first = first ∙ sym (ap front (moved-numbers older));
-      blank = moved-blank older blank;
-    }
-    mark-moved (x ∷ newer) older mark first blank = elim (eqb_tells n x.0) [
-      | inl same ↦ rw same.0 (record {
-        newer = (x.0, record x.1 { id = id; rectangle = rectangle }) ∷ newer;
-        older = older;
+      -- An entry has another rectangle.
+      pub mark-moved : (newer older : List (ℕ × Entry K)) (mark : ℕ) → mark ≡ front (numbers older)
+          → AreBlank older → AllByRecursion (λ x. slice_get items x.0 ≡ Some x.1) older
+          → EndsBlank mark (moved n page id rectangle (newer ++ older))
+      mark-moved [] older mark first blank stored = record {
+        newer = [];
+        older = moved n page id rectangle older;
         was = refl;
-        first = first;
-        blank = blank;
-      })
-      | inr other ↦ rw other.0 (mark-joined x (moved n id rectangle (newer ++ older)) mark (mark-moved newer older mark first blank))
-    ]
+        first = first ∙ sym (ap front (moved-numbers older));
+        blank = moved-blank older blank stored;
+      }
+      mark-moved (x ∷ newer) older mark first blank stored = elim (eqb_tells n x.0) [
+        | inl same ↦ rw same.0 (record {
+          newer = (x.0, record x.1 { page = page; id = id; rectangle = rectangle }) ∷ newer;
+          older = older;
+          was = refl;
+          first = first;
+          blank = blank;
+        })
+        | inr other ↦ rw other.0
+            (mark-joined x (moved n page id rectangle (newer ++ older)) mark (mark-moved newer older mark first blank stored))
+      ]
 
   -- With no mark the oldest comes next.
   pub unmarked : (es : List (ℕ × Entry K)) (next : Option ℕ) → next ≡ oldest_of (numbers es) → IsBeforeBlanks next es
@@ -174,11 +184,13 @@ module _ {K : Type 0} where
   marked-number n es m some = subst (λ xs. IsNumber n xs) (sym m.was) (there n m.newer m.older m.first some)
 
 -- What the marks of stored entries become.
-module _ {K S : Type 0} (eq : K → K → Bool) (map : HashMap K ℕ S) (order : Order) (items : List (Entry K)) (h : AreKept eq map order items) (mark : ℕ) (m : EndsBlank mark (numbered items order.entries)) where
+module _ {K S : Type 0} (eq : K → K → Bool) (map : HashMap K ℕ S) (order : Order) (items : List (Entry K)) (h : AreKept eq map order items)
+    (mark : ℕ) (m : EndsBlank mark (numbered items order.entries)) where
   numbers-es : numbers (numbered items order.entries) ≡ order.entries
   numbers-es = numbers-numbered items order.entries h.inside
 
-  module _ (n : ℕ) (l : IsEntry n order) (next : ℕ) (leaves : (newer older : List ℕ) → order.entries ≡ newer ++ older → mark ≡ front older → next ≡ front (without n older)) where
+  module _ (n : ℕ) (l : IsEntry n order) (next : ℕ) (leaves : (newer older : List ℕ) → order.entries ≡ newer ++ older → mark ≡ front older →
+      next ≡ front (without n older)) where
     left : EndsBlank next (without_number n (numbered items order.entries))
     left =
         mark-without n (numbered items order.entries) mark next
@@ -194,11 +206,15 @@ module _ {K S : Type 0} (eq : K → K → Bool) (map : HashMap K ℕ S) (order :
         subst (EndsBlank next) (sym (touched-is eq map order items h n frame r l at))
         (mark-touched n frame r (numbered items order.entries) next (entry_at-numbered items n order.entries h.inside l ∙ at) left)
 
-  pub mark-placed : (n id : ℕ) (rectangle : Rectangle) (r : Entry K) → IsEntry n order → slice_get items n ≡ Some r
-      → EndsBlank mark (numbered (set items n (record r { id = id; rectangle = rectangle })) order.entries)
-  mark-placed n id rectangle r l at =
-      subst (EndsBlank mark) (sym (moved-is eq map order items h n id rectangle r l at))
-      (subst (λ xs. EndsBlank mark (moved n id rectangle xs)) (sym m.was) (mark-moved n id rectangle m.newer m.older mark m.first m.blank))
+  pub mark-placed : (n page id : ℕ) (rectangle : Rectangle) (r : Entry K) → IsEntry n order → slice_get items n ≡ Some r
+      → is_blank r ≡ (page == no_page)
+      → EndsBlank mark (numbered (set items n (record r { page = page; id = id; rectangle = rectangle })) order.entries)
+  mark-placed n page id rectangle r l at lies =
+      let stored = each-right (λ x. slice_get items x.0 ≡ Some x.1) m.newer m.older
+      (subst (AllByRecursion (λ x. slice_get items x.0 ≡ Some x.1)) m.was (numbered-stored items order.entries)) in
+      subst (EndsBlank mark) (sym (moved-is eq map order items h n page id rectangle r l at))
+      (subst (λ xs. EndsBlank mark (moved n page id rectangle xs)) (sym m.was)
+      (mark-moved n page id rectangle items r at lies m.newer m.older mark m.first m.blank stored))
 
   pub mark-new : (n : ℕ) (e : Entry K) (stored : List (Entry K)) → IsFreshNumber n order → slice_get stored n ≡ Some e
       → ((k : ℕ) → (k ≡ n → ⊥) → k < length items → slice_get stored k ≡ slice_get items k)

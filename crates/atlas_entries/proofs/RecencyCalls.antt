@@ -32,24 +32,31 @@ module _ (links new : List Link) (ends last : Link) (u n i : ℕ) (h : IsRecency
   pub IsRecency-touched : IsTouched links ends new last i → IsRecency new last u n
   IsRecency-touched w =
       let xs = run links ends n in
-      IsRecency-made new last u n (i ∷ without i xs) (omega (arith, h.short, w.size)) (w.ring xs h.ring l) (HasSpare-same links new ends last u xs (i ∷ without i xs) w.size (λ k. omega (arith, occurs-without i xs l k)) (omega (arith, length-without i xs l)) (λ k m z. w.others xs k h.ring l m z) h.rest) (omega (arith, length-run, length-without i xs l))
+      IsRecency-made new last u n (i ∷ without i xs) (omega (arith, h.short, w.size)) (w.ring xs h.ring l)
+      (HasSpare-same links new ends last u xs (i ∷ without i xs) w.size (λ k. omega (arith, occurs-without i xs l k))
+      (omega (arith, length-without i xs l)) (λ k m z. w.others xs k h.ring l m z) h.rest)
+      (omega (arith, length-run, length-without i xs l))
 
   pub touched-is : (reserved : ℕ) → IsTouched links ends new last i
       → stored new last n reserved ≡ used i (stored links ends n reserved)
   touched-is reserved w =
       let xs = run links ends n in
-      order-is new last n (length links) reserved (i ∷ without i xs) (w.ring xs h.ring l) (omega (arith, length-run, length-without i xs l)) w.size
+      order-is new last n (length links) reserved (i ∷ without i xs) (w.ring xs h.ring l) (omega (arith, length-run, length-without i xs l))
+      w.size
 
   pub IsRecency-given : IsGiven links ends new last i u → IsRecency new last i (n - 1)
   IsRecency-given w =
       let xs = run links ends n in
-      IsRecency-made new last i (n - 1) (without i xs) (omega (arith, h.short, w.size)) (w.ring xs h.ring l) (HasSpare-given links new ends last u i xs w.size l (h.ring.once i) w.own (λ k m z _. w.others xs k h.ring l m z) h.rest) (omega (arith, length-run, length-without i xs l))
+      IsRecency-made new last i (n - 1) (without i xs) (omega (arith, h.short, w.size)) (w.ring xs h.ring l)
+      (HasSpare-given links new ends last u i xs w.size l (h.ring.once i) w.own (λ k m z _. w.others xs k h.ring l m z) h.rest)
+      (omega (arith, length-run, length-without i xs l))
 
   pub given-is : (reserved : ℕ) → IsGiven links ends new last i u
       → stored new last (n - 1) reserved ≡ gone i (stored links ends n reserved)
   given-is reserved w =
       let xs = run links ends n in
-      order-is new last (n - 1) (length links) reserved (without i xs) (w.ring xs h.ring l) (omega (arith, length-run, length-without i xs l)) w.size
+      order-is new last (n - 1) (length links) reserved (without i xs) (w.ring xs h.ring l)
+      (omega (arith, length-run, length-without i xs l)) w.size
 
 pub count-fits : (links : List Link) (ends : Link) (u n : ℕ) → IsRecency links ends u n → n ≤ 4294967295
 count-fits links ends u n h =
@@ -65,7 +72,8 @@ pub record IsJoined (links : List Link) (mid : List Link) (ends : Link) (new : L
   pub others : (k : ℕ) → (k ≡ no_entry → ⊥) → (k ≡ i → ⊥) → next_at new last k ≡ next_at mid ends k
   pub size : length new ≡ length mid
 
-module _ (links mid new : List Link) (ends last : Link) (u v n i : ℕ) (h : IsRecency links ends u n) (w : IsJoined links mid ends new last u v i) where
+module _ (links mid new : List Link) (ends last : Link) (u v n i : ℕ) (h : IsRecency links ends u n)
+    (w : IsJoined links mid ends new last u v i) where
   length-old : length (run links ends n) ≡ n
   length-old = length-line n (next_at links ends) ends.next
 
@@ -78,11 +86,15 @@ module _ (links mid new : List Link) (ends last : Link) (u v n i : ℕ) (h : IsR
   pub IsRecency-joined : IsRecency new last v (n + 1)
   IsRecency-joined =
       let xs = run links ends n in
-      IsRecency-made new last v (n + 1) (i ∷ xs) (omega (arith, w.short, w.size)) joined-ring (HasSpare-same mid new ends last v (i ∷ xs) (i ∷ xs) w.size (λ k. refl) refl (λ k m z. w.others k (λ q. omega (arith, q, m, w.short)) (λ q. omega (arith, z, same-self i, ap (λ x. same x i) q))) (w.rest xs h.rest)) (omega (arith, length-old))
+      IsRecency-made new last v (n + 1) (i ∷ xs) (omega (arith, w.short, w.size)) joined-ring
+      (HasSpare-same mid new ends last v (i ∷ xs) (i ∷ xs) w.size (λ k. refl) refl
+      (λ k m z. w.others k (λ q. omega (arith, q, m, w.short)) (λ q. omega (arith, z, same-self i, ap (λ x. same x i) q)))
+      (w.rest xs h.rest)) (omega (arith, length-old))
 
   pub joined-is : (reserved : ℕ) → stored new last (n + 1) (reserved - 1) ≡ with_newest i (stored links ends n reserved)
   joined-is reserved =
-      order-is new last (n + 1) (max (length links) (i + 1)) (reserved - 1) (i ∷ run links ends n) joined-ring (omega (arith, length-old)) (w.size ∙ w.made)
+      order-is new last (n + 1) (max (length links) (i + 1)) (reserved - 1) (i ∷ run links ends n) joined-ring (omega (arith, length-old))
+      (w.size ∙ w.made)
 
   pub joined-new : (reserved : ℕ) → i ≤ length links → (i ≡ length links → u ≡ no_entry)
       → IsFreshNumber i (stored links ends n reserved)

@@ -45,7 +45,8 @@ next-in_chain nx pv b i (x ∷ []) h l =
 next-in_chain nx pv b i (x ∷ (y ∷ ys)) h l =
     elim (cases_eq i x) [
       | inl e ↦ inr (let n : nx i ≡ y = ap nx e ∙ h.2.0 in omega (arith, same-self y, ap (λ v. occurs v (x ∷ (y ∷ ys))) n))
-      | inr ne ↦ elim (next-in_chain nx pv x i (y ∷ ys) h.2 (omega (arith, same-ne i x ne))) [ inl z ↦ inl z | inr m ↦ inr (omega (arith, m)) ]
+      | inr ne ↦ elim (next-in_chain nx pv x i (y ∷ ys) h.2 (omega (arith, same-ne i x ne)))
+          [ inl z ↦ inl z | inr m ↦ inr (omega (arith, m)) ]
     ]
 
 -- What comes before a member is a member, or what comes before the chain.
@@ -78,7 +79,9 @@ module _ (nx pv mx qv : ℕ → ℕ) (i : ℕ) (w : IsUnlinked nx pv mx qv i) wh
       let next : (k : ℕ) → 0 < occurs k (y ∷ ys) → mx k ≡ nx k = (λ k l. w.next k (λ q. ne-from_occurs b k (y ∷ ys) zb l (q ∙ e))) in (
         ap mx (sym e) ∙ w.before ∙ h.0,
         ap qv (sym h.0) ∙ w.after ∙ e,
-        RunsThrough-same nx pv mx qv y ys (next y (omega (arith, same-self y))) (λ k l. next k (omega (arith, l))) (λ k l. w.previous k (λ q. ne-from_occurs y k ys zy l (q ∙ h.0))) (w.previous no_entry (λ q. ne-from_occurs no_entry y (y ∷ ys) none (omega (arith, same-self y)) (sym h.0 ∙ sym q))) h.2,
+        RunsThrough-same nx pv mx qv y ys (next y (omega (arith, same-self y))) (λ k l. next k (omega (arith, l)))
+            (λ k l. w.previous k (λ q. ne-from_occurs y k ys zy l (q ∙ h.0)))
+            (w.previous no_entry (λ q. ne-from_occurs no_entry y (y ∷ ys) none (omega (arith, same-self y)) (sym h.0 ∙ sym q))) h.2,
       )
 
   pub RunsThrough-unlinked : (b : ℕ) (xs : List ℕ) → ((k : ℕ) → occurs k xs ≤ 1) → occurs b xs ≡ 0
@@ -115,13 +118,17 @@ RunsThrough-pushed nx pv mx qv i [] once zi none ni first mi qi qf next previous
     (first, qi, (mi ∙ h.0, ap qv (sym h.0) ∙ qf))
 RunsThrough-pushed nx pv mx qv i (y ∷ ys) once zi none ni first mi qi qf next previous h =
     let zy : occurs y ys ≡ 0 = omega (arith, once y, same-self y) in
-    let move : (k : ℕ) → 0 < occurs k (y ∷ ys) → mx k ≡ nx k = (λ k l. next k (ne-from_occurs i k (y ∷ ys) zi l) (ne-from_occurs no_entry k (y ∷ ys) none l)) in (
+    let move : (k : ℕ) → 0 < occurs k (y ∷ ys) → mx k ≡ nx k = (λ k l. next k (ne-from_occurs i k (y ∷ ys) zi l)
+    (ne-from_occurs no_entry k (y ∷ ys) none l)) in (
       first,
       qi,
       (
         mi ∙ h.0,
         ap qv (sym h.0) ∙ qf,
-        RunsThrough-same nx pv mx qv y ys (move y (omega (arith, same-self y))) (λ k l. move k (omega (arith, l))) (λ k l. previous k (ne-from_occurs i k (y ∷ ys) zi (omega (arith, l))) (λ q. ne-from_occurs y k ys zy l (q ∙ h.0))) (previous no_entry (λ q. ni (sym q)) (λ q. ne-from_occurs no_entry y (y ∷ ys) none (omega (arith, same-self y)) (sym h.0 ∙ sym q))) h.2,
+        RunsThrough-same nx pv mx qv y ys (move y (omega (arith, same-self y))) (λ k l. move k (omega (arith, l)))
+            (λ k l. previous k (ne-from_occurs i k (y ∷ ys) zi (omega (arith, l))) (λ q. ne-from_occurs y k ys zy l (q ∙ h.0)))
+            (previous no_entry (λ q. ni (sym q)) (λ q. ne-from_occurs no_entry y (y ∷ ys) none (omega (arith, same-self y))
+            (sym h.0 ∙ sym q))) h.2,
       ),
     )
 

@@ -1,19 +1,23 @@
 -- Numbers of entries are taken and given back.
-use Rattle.std.proofs.Common.{ℕ, ◌+◌, ◌<◌, ◌≤◌, ◌≡◌, List, [], ◌∷◌, ◌++◌, refl, sym, ap, ◌∙◌, ◌⊎◌, inl, inr, arith, length, length-append, eqb, if◌then◌else◌, Some, None, slice_index_or}
+use Rattle.std.proofs.Common.{ℕ, ◌+◌, ◌<◌, ◌≤◌, ◌≡◌, List, [], ◌∷◌, ◌++◌, refl, sym, ap, ◌∙◌, ◌⊎◌, inl, inr, arith, length, length-append}
+use Rattle.std.proofs.Common.{eqb, if◌then◌else◌, Some, None, slice_index_or}
 use Rattle.std.proofs.lemmas.Bool.{cases_eq, cond-false, ne_eqb}
 use Rattle.std.proofs.lemmas.List.{get_or_append_left, get_or_read}
 use Rattle.atlas_entries.specs.declared.recency.links.Link.{Link}
 use Rattle.atlas_entries.specs.Orders.{Order, newest_of, oldest_of}
 use Rattle.atlas_search.specs.Numbers.{same, occurs, without}
-use Rattle.atlas_entries.specs.Rings.{RunsThrough, RunsForward, HasSpare, IsRecency, IsRing, blank, line, run, no_entry, link_at, next_at, previous_at}
-use Rattle.atlas_entries.proofs.RingLemmas.{RunsThrough-same, RunsForward-same, line-RunsThrough, last-RunsThrough, next-in_chain, previous-in_chain}
+use Rattle.atlas_entries.specs.Rings.{RunsThrough, RunsForward, HasSpare, IsRecency, IsRing, blank, line, run, no_entry, link_at, next_at}
+use Rattle.atlas_entries.specs.Rings.{previous_at}
+use Rattle.atlas_entries.proofs.RingLemmas.{RunsThrough-same, RunsForward-same, line-RunsThrough, last-RunsThrough, next-in_chain}
+use Rattle.atlas_entries.proofs.RingLemmas.{previous-in_chain}
 use Rattle.atlas_search.proofs.Occurrences.{same-self, same-ne, ne-from_occurs, occurs-without, length-without}
 
 -- A ring with as many entries as are counted is what the links run through.
 pub run-IsRing : (links : List Link) (ends : Link) (n : ℕ) (xs : List ℕ) → IsRing links ends xs → length xs ≡ n
     → run links ends n ≡ xs
 run-IsRing links ends n xs h e =
-    ap (λ m. line m (next_at links ends) ends.next) (sym e) ∙ line-RunsThrough (next_at links ends) (previous_at links ends) no_entry ends.next xs h.chain refl
+    ap (λ m. line m (next_at links ends) ends.next) (sym e) ∙ line-RunsThrough (next_at links ends) (previous_at links ends) no_entry
+    ends.next xs h.chain refl
 
 -- What isn't an entry's number may be taken.
 pub HasSpare-reused : (links : List Link) (ends : Link) (u : ℕ) (xs : List ℕ) → (u ≡ no_entry → ⊥)
@@ -46,7 +50,10 @@ pub IsRing-appended : (links : List Link) (ends l : Link) (xs : List ℕ) → Is
     → IsRing (links ++ l ∷ []) ends xs
 IsRing-appended links ends l xs h =
     record {
-      chain = RunsThrough-same (next_at links ends) (previous_at links ends) (next_at (links ++ l ∷ []) ends) (previous_at (links ++ l ∷ []) ends) no_entry xs refl (λ k m. ap (λ (v : Link). v.next) (link-appended links ends l k (inr (h.inside k m)))) (λ k m. ap (λ (v : Link). v.previous) (link-appended links ends l k (inr (h.inside k m)))) refl h.chain;
+      chain = RunsThrough-same (next_at links ends) (previous_at links ends) (next_at (links ++ l ∷ []) ends)
+          (previous_at (links ++ l ∷ []) ends) no_entry xs refl (λ k m. ap (λ (v : Link). v.next)
+          (link-appended links ends l k (inr (h.inside k m)))) (λ k m. ap (λ (v : Link). v.previous)
+          (link-appended links ends l k (inr (h.inside k m)))) refl h.chain;
       once = h.once;
       inside = λ k m. omega (arith, h.inside k m, length-append links (l ∷ []));
     }
@@ -67,7 +74,9 @@ HasSpare-appended links ends l xs short h = go h.spare h.line h.each h.inside h.
           spare = [];
           line = refl;
           each = λ k m. elim (cases_eq k (length links)) [
-            | inl e ↦ let z : occurs k xs ≡ 0 = elim (cases_eq (occurs k xs) 0) [ inl q ↦ q | inr ne ↦ let b = inside k (omega (arith, ne)) in absurd (omega (arith, b, e)) ] in omega (arith, z, same-self (length links), ap (λ v. same v (length links)) e)
+            | inl e ↦ let z : occurs k xs ≡ 0 = elim (cases_eq (occurs k xs) 0)
+                [ inl q ↦ q | inr ne ↦ let b = inside k (omega (arith, ne)) in absurd (omega (arith, b, e)) ] in
+                omega (arith, z, same-self (length links), ap (λ v. same v (length links)) e)
             | inr ne ↦ omega (arith, same-ne k (length links) ne, each k (omega (arith, m, ne, length-append links (l ∷ []))))
           ];
           inside = λ k m. elim (cases_eq k (length links)) [
@@ -85,7 +94,8 @@ pub HasSpare-same : (links new : List Link) (ends last : Link) (u : ℕ) (xs ys 
 HasSpare-same links new ends last u xs ys el eo en others h =
     record {
       spare = h.spare;
-      line = RunsForward-same (next_at links ends) (next_at new last) u h.spare (λ k m. let b = h.inside k (omega (arith, m)) in others k b (omega (arith, h.each k b, m))) h.line;
+      line = RunsForward-same (next_at links ends) (next_at new last) u h.spare
+          (λ k m. let b = h.inside k (omega (arith, m)) in others k b (omega (arith, h.each k b, m))) h.line;
       each = λ k m. omega (arith, eo k, h.each k (omega (arith, m, el)));
       inside = λ k m. omega (arith, el, h.inside k (omega (arith, m, eo k)));
       all = omega (arith, h.all, el, en);
@@ -98,7 +108,9 @@ IsRecency-made links ends u n xs short ring rest e =
     record { short = short; ring = rw same_run ring; rest = rw same_run rest }
 
 -- What is stored of an order.
-pub order-is : (links : List Link) (ends : Link) (n made reserved : ℕ) (xs : List ℕ) → IsRing links ends xs → length xs ≡ n → length links ≡ made → (let o : Order = record { entries = run links ends n; made = length links; reserved = reserved } in o) ≡ record { entries = xs; made = made; reserved = reserved }
+pub order-is : (links : List Link) (ends : Link) (n made reserved : ℕ) (xs : List ℕ) → IsRing links ends xs → length xs ≡ n →
+    length links ≡ made → (let o : Order = record { entries = run links ends n; made = length links; reserved = reserved } in o) ≡ record
+    { entries = xs; made = made; reserved = reserved }
 order-is links ends n made reserved xs ring e m = rw (run-IsRing links ends n xs ring e, m) refl
 
 pub unused-inside : (links : List Link) (ends : Link) (u : ℕ) (xs : List ℕ) → HasSpare links ends u xs
@@ -121,7 +133,8 @@ pub IsRing-relinked : (links new : List Link) (ends last : Link) (i : ℕ) (xs :
     → ((k : ℕ) → previous_at new last k ≡ previous_at links ends k) → IsRing links ends xs → IsRing new last xs
 IsRing-relinked links new ends last i xs el ni z next previous h =
     record {
-      chain = RunsThrough-same (next_at links ends) (previous_at links ends) (next_at new last) (previous_at new last) no_entry xs (next no_entry (λ q. ni (sym q))) (λ k m. next k (ne-from_occurs i k xs z m)) (λ k m. previous k) (previous no_entry) h.chain;
+      chain = RunsThrough-same (next_at links ends) (previous_at links ends) (next_at new last) (previous_at new last) no_entry xs
+          (next no_entry (λ q. ni (sym q))) (λ k m. next k (ne-from_occurs i k xs z m)) (λ k m. previous k) (previous no_entry) h.chain;
       once = h.once;
       inside = λ k m. omega (arith, el, h.inside k m);
     }
@@ -134,7 +147,12 @@ pub HasSpare-given : (links new : List Link) (ends last : Link) (u i : ℕ) (xs 
 HasSpare-given links new ends last u i xs el l one own others h =
     record {
       spare = i ∷ h.spare;
-      line = (refl, rw own (RunsForward-same (next_at links ends) (next_at new last) u h.spare (λ k m. let b = h.inside k (omega (arith, m)) in let z : occurs k xs ≡ 0 = omega (arith, h.each k b, m) in others k b z (λ q. ne-from_occurs k i xs z l (sym q))) h.line));
+      line = (
+        refl,
+        rw own (RunsForward-same (next_at links ends) (next_at new last) u h.spare
+            (λ k m. let b = h.inside k (omega (arith, m)) in let z : occurs k xs ≡ 0 = omega (arith, h.each k b, m) in
+            others k b z (λ q. ne-from_occurs k i xs z l (sym q))) h.line),
+      );
       each = λ k m. omega (arith, occurs-without i xs l k, h.each k (omega (arith, m, el)));
       inside = λ k m. omega (arith, el, h.inside k (omega (arith, occurs-without i xs l k, m)));
       all = omega (arith, h.all, el, length-without i xs l);
@@ -218,7 +236,8 @@ newer-some links ends i (x ∷ newer) older h ne =
 pub next-read : (links : List Link) (ends l : Link) (u : ℕ) → (u ≡ 4294967295 → ⊥) → l ≡ slice_index_or links u l
     → u < length links → l.next ≡ next_at links ends u
 next-read links ends l u nu e m =
-    ap (λ (v : Link). v.next) (get_or_read links u l m e blank ∙ sym (cond-false (eqb u 4294967295) ends (slice_index_or links u blank) (ne_eqb u 4294967295 nu)))
+    ap (λ (v : Link). v.next) (get_or_read links u l m e blank ∙ sym (cond-false (eqb u 4294967295) ends (slice_index_or links u blank)
+    (ne_eqb u 4294967295 nu)))
 
 pub first-entry : (links : List Link) (ends : Link) (xs : List ℕ) → IsRing links ends xs → (ends.next ≡ 4294967295 → ⊥)
     → 0 < occurs ends.next xs

@@ -1,5 +1,6 @@
 -- Entries of a cache under their numbers, the most recently used first.
-use Rattle.std.specs.Prelude.{◌≡◌, ◌≤◌, ◌==◌, ℕ, max, Bool, true, nat_eq, if◌then◌else◌, List, [], ◌∷◌, ◌++◌, length, map, Option, None, Some}
+use Rattle.std.specs.Prelude.{◌≡◌, ◌≤◌, ◌==◌, ℕ, max, Bool, true, nat_eq, if◌then◌else◌, List, [], ◌∷◌, ◌++◌, length, map, Option, None}
+use Rattle.std.specs.Prelude.{Some}
 use Rattle.std.specs.Prelude.{IsNone, IsSome}
 use Rattle.std.specs.List.{AllByRecursion}
 use Rattle.std.specs.Option.{option_map_or}
@@ -94,8 +95,10 @@ module _ {K : Type 0} where
   touched n frame es =
       option_map_or (λ e. (n, record e { frame = frame }) ∷ without_number n es) (entry_at n es) es
 
-  -- The entry has another id and rectangle; the order stays.
-  abbrev pub moved : ℕ → (id : ℕ) → Rectangle → List (ℕ × Entry K) → List (ℕ × Entry K)
-  moved n id rectangle [] = []
-  moved n id rectangle (e ∷ es) =
-      if nat_eq n e.0 then (e.0, record e.1 { id = id; rectangle = rectangle }) ∷ es else e ∷ moved n id rectangle es
+  -- The entry has another page, id and rectangle; the order stays.
+  abbrev pub moved : ℕ → (page id : ℕ) → Rectangle → List (ℕ × Entry K) → List (ℕ × Entry K)
+  moved n page id rectangle [] = []
+  moved n page id rectangle (e ∷ es) =
+      if nat_eq n e.0
+      then (e.0, record e.1 { page = page; id = id; rectangle = rectangle }) ∷ es
+      else e ∷ moved n page id rectangle es

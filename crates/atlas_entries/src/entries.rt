@@ -1,11 +1,11 @@
 //! Entries under their keys, in the order of their use: each call takes a few steps and at most one look-up by a hash,
 //! however many entries there are.
-ghost use Rattle.std.specs.Prelude.{◌≡◌, ◌≢◌, ◌↔◌, ◌+◌, ◌-◌, ◌<◌, ◌≤◌, max, None, Some, [], ◌∷◌, ◌++◌, ℕ, List, length};
+ghost use Rattle.std.specs.Prelude.{◌≡◌, ◌≢◌, ◌==◌, ◌↔◌, ◌+◌, ◌-◌, ◌<◌, ◌≤◌, max, None, Some, [], ◌∷◌, ◌++◌, ℕ, List, length};
 ghost use Rattle.std.specs.Prelude.{Err, IfErr, IfOk, IfSome, IsNone, IsOk, IsOkUnless, IsTrue, OnErr, OnOk, nat_eq, slice_get};
 ghost use Rattle.std.specs.Prelude.{vec_capacity, vec_len};
 ghost use Rattle.std.specs.HashMap.{Updates, get, hash_map_len, spare};
 ghost use Rattle.std.specs.List.{AllByRecursion, IsDistinct};
-ghost use Rattle.atlas_entries.specs.Entries.{is_blank};
+ghost use Rattle.atlas_entries.specs.Entries.{is_blank, no_page};
 ghost use Rattle.atlas_search.specs.Numbers.{front, without};
 ghost use Rattle.atlas_entries.specs.Orders.{newest_of, oldest_of, IsEntry};
 ghost use Rattle.atlas_entries.specs.Limits.{IsWithoutNumber};
@@ -325,14 +325,17 @@ impl<K: Copy + Eq + Hash, S: BuildHasher, A: Allocator + Copy> Entries<K, S, A> 
         let _number = self.map.remove(&key);
     }
 
-    /// Moves an entry to another rectangle of its page. The order stays.
-    pub fn move_to(&mut self, number: u32, id: AllocId, rectangle: Rectangle)
-        requires { IsNumber number self.old.entries }
-        ensures entries { self.new.entries ≡ moved number id rectangle self.old.entries }
+    /// Moves an entry to another rectangle, of its page or of another one. The order stays. Requires that it lies on a page before and
+    /// after it, or neither.
+    pub fn move_to(&mut self, number: u32, page: u32, id: AllocId, rectangle: Rectangle)
+        requires here { IsNumber number self.old.entries }
+        requires lies { IfSome (entry_at number self.old.entries) (λ e. is_blank e ≡ (page == no_page)) }
+        ensures entries { self.new.entries ≡ moved number page id rectangle self.old.entries }
         ensures made { self.new.made ≡ self.old.made }
         ensures reserved { self.new.reserved ≡ self.old.reserved }
     {
         let entry = &mut self.items[number as usize];
+        entry.page = page;
         entry.id = id;
         entry.rectangle = rectangle;
     }

@@ -1,5 +1,6 @@
 -- A sound state has one list of free boxes from above to below and from left to right.
-use Rattle.std.proofs.Common.{◌≡◌, ℕ, zero, suc, ◌+◌, ◌<◌, ◌≤◌, inl, inr, Bool, true, false, List, [], ◌∷◌, ◌++◌, length, get_or, map, refl, sym, ap, ◌∙◌, subst, arith, add-one}
+use Rattle.std.proofs.Common.{◌≡◌, ℕ, zero, suc, ◌+◌, ◌<◌, ◌≤◌, inl, inr, Bool, true, false, List, [], ◌∷◌, ◌++◌, length, get_or, map, refl}
+use Rattle.std.proofs.Common.{sym, ap, ◌∙◌, subst, arith, add-one}
 use Rattle.std.proofs.lemmas.Bool.{le-leb, lt-ltb, and_from}
 use Rattle.std.specs.List.{All, count_by}
 use Rattle.std.proofs.lemmas.List.Elements.{All-cons, All-tail}
@@ -25,12 +26,14 @@ counted_has P y (x ∷ xs) some all = by_test (same_box y x) refl (λ more. coun
     by_test : (t : Bool) → same_box y x ≡ t → (0 < count_by (same_box y) xs → P y) → P y
     by_test true e others = subst P (sym (same_box-true y x e)) (all 0 x (omega arith))
     by_test false e others =
-        let rest : count_by (same_box y) (x ∷ xs) ≡ 0 + count_by (same_box y) xs = count_by-cons (same_box y) x xs ∙ ap (λ t. one_if t + count_by (same_box y) xs) e in
+        let rest : count_by (same_box y) (x ∷ xs) ≡ 0 + count_by (same_box y) xs = count_by-cons (same_box y) x xs ∙
+        ap (λ t. one_if t + count_by (same_box y) xs) e in
         others (omega (arith, rest))
 
 first_counted : (x : Box) (xs : List Box) → 0 < count_by (same_box x) (x ∷ xs)
 first_counted x xs =
-    let one : count_by (same_box x) (x ∷ xs) ≡ 1 + count_by (same_box x) xs = count_by-cons (same_box x) x xs ∙ ap (λ t. one_if t + count_by (same_box x) xs) (same_box-itself x) in
+    let one : count_by (same_box x) (x ∷ xs) ≡ 1 + count_by (same_box x) xs = count_by-cons (same_box x) x xs ∙
+    ap (λ t. one_if t + count_by (same_box x) xs) (same_box-itself x) in
     omega (arith, one)
 
 -- ---- the corners of boxes that share no unit square
@@ -53,10 +56,12 @@ covered_some y a b (x ∷ xs) covered some = by_test (same_box y x) refl (λ mor
         → 0 < count_by (covers a b) (x ∷ xs)
     by_test true e others =
         let one : count_by (covers a b) (x ∷ xs) ≡ 1 + count_by (covers a b) xs =
-        count_by-cons (covers a b) x xs ∙ ap (λ t. one_if t + count_by (covers a b) xs) (ap (covers a b) (sym (same_box-true y x e)) ∙ covered) in
+        count_by-cons (covers a b) x xs ∙ ap (λ t. one_if t + count_by (covers a b) xs)
+        (ap (covers a b) (sym (same_box-true y x e)) ∙ covered) in
         omega (arith, one)
     by_test false e others =
-        let rest : count_by (same_box y) (x ∷ xs) ≡ 0 + count_by (same_box y) xs = count_by-cons (same_box y) x xs ∙ ap (λ t. one_if t + count_by (same_box y) xs) e in
+        let rest : count_by (same_box y) (x ∷ xs) ≡ 0 + count_by (same_box y) xs = count_by-cons (same_box y) x xs ∙
+        ap (λ t. one_if t + count_by (same_box y) xs) e in
         let more : count_by (covers a b) (x ∷ xs) ≡ one_if (covers a b x) + count_by (covers a b) xs = count_by-cons (covers a b) x xs in
         let some_rest = others (omega (arith, rest)) in
         omega (arith, more)
@@ -69,7 +74,8 @@ same_corner x y xs once hx hy some ex ey = by_test (same_box y x) refl
     by_test : (t : Bool) → same_box y x ≡ t → x ≡ y
     by_test true e = sym (same_box-true y x e)
     by_test false e =
-        let rest : count_by (same_box y) (x ∷ xs) ≡ 0 + count_by (same_box y) xs = count_by-cons (same_box y) x xs ∙ ap (λ t. one_if t + count_by (same_box y) xs) e in
+        let rest : count_by (same_box y) (x ∷ xs) ≡ 0 + count_by (same_box y) xs = count_by-cons (same_box y) x xs ∙
+        ap (λ t. one_if t + count_by (same_box y) xs) e in
         let P : ℕ → ℕ → Type 0 = λ a b. covers a b y ≡ true in
         let covered : covers x.min.x x.min.y y ≡ true = subst (λ b. P x.min.x b) ey (subst (λ a. P a y.min.y) ex (covers_corner y hy)) in
         let others = covered_some y x.min.x x.min.y xs covered (omega (arith, rest)) in
@@ -127,8 +133,10 @@ one_order (x ∷ xs) [] same once nonempty order other = absurd (omega (arith, s
 one_order (x ∷ xs) (y ∷ ys) same once nonempty order other =
     let y_in : 0 < count_by (same_box y) (x ∷ xs) = subst (λ n. 0 < n) (sym (same (same_box y))) (first_counted y ys) in
     let x_in : 0 < count_by (same_box x) (y ∷ ys) = subst (λ n. 0 < n) (same (same_box x)) (first_counted x xs) in
-    let corner = both_first x y (counted_has (ComesFirst x) y (x ∷ xs) y_in (least x xs order)) (counted_has (ComesFirst y) x (y ∷ ys) x_in (least y ys other)) in
-    let head : x ≡ y = same_corner x y xs once (nonempty 0 x (omega arith)) (counted_has IsNonempty y (x ∷ xs) y_in nonempty) y_in corner.0 corner.1 in
+    let corner = both_first x y (counted_has (ComesFirst x) y (x ∷ xs) y_in (least x xs order))
+    (counted_has (ComesFirst y) x (y ∷ ys) x_in (least y ys other)) in
+    let head : x ≡ y = same_corner x y xs once (nonempty 0 x (omega arith)) (counted_has IsNonempty y (x ∷ xs) y_in nonempty) y_in corner.0
+    corner.1 in
     let tails : AreSameBoxes xs ys =
     λ p.
     let one = count_by-cons p x xs in
@@ -138,7 +146,8 @@ one_order (x ∷ xs) (y ∷ ys) same once nonempty order other =
     omega (arith, one, two, all, firsts)
     in
     let once_tail : CoverOnce xs = λ a b. (let more = count_by-cons (covers a b) x xs in let most = once a b in omega (arith, more)) in
-    let tail : xs ≡ ys = one_order xs ys tails once_tail (All-tail IsNonempty x xs nonempty) (order_tail x xs order) (order_tail y ys other) in
+    let tail : xs ≡ ys = one_order xs ys tails once_tail (All-tail IsNonempty x xs nonempty) (order_tail x xs order) (order_tail y ys other)
+    in
     λ i. head i ∷ tail i
 
 -- ---- the free boxes of a sound state
@@ -167,7 +176,8 @@ all_after P (x ∷ xs) ys all = all_after P xs ys (All-tail P x (xs ++ ys) all)
 
 free_nonempty : (state : State) → IsSound state → All IsNonempty (free_in state)
 free_nonempty state sound k d h =
-    (all_after (λ (b : Box). IsNonempty b × IsWithin state.size b) (map (λ (g : Grant). g.box) (live_in state)) (free_in state) (sound_is_tiled state sound).boxes k d h).0
+    (all_after (λ (b : Box). IsNonempty b × IsWithin state.size b) (map (λ (g : Grant). g.box) (live_in state)) (free_in state)
+    (sound_is_tiled state sound).boxes k d h).0
 
 pub same_holes : (state : State) (areas others : List Rectangle) → IsSound state → HoldsHoles state areas
     → HoldsHoles state others → areas ≡ others

@@ -1,5 +1,6 @@
 -- How the steps of a run join.
-use Rattle.std.proofs.Common.{◌≡◌, ℕ, ◌+◌, ◌<◌, ◌≤◌, ◌≢◌, inl, inr, List, [], ◌∷◌, ◌++◌, length, get_or, take, drop, Option, Some, None, Result, Ok, Err, refl, sym, ap, ◌∙◌, subst, arith, append_assoc, append-nil, length-append}
+use Rattle.std.proofs.Common.{◌≡◌, ℕ, ◌+◌, ◌<◌, ◌≤◌, ◌≢◌, inl, inr, List, [], ◌∷◌, ◌++◌, length, get_or, take, drop, Option, Some, None}
+use Rattle.std.proofs.Common.{Result, Ok, Err, refl, sym, ap, ◌∙◌, subst, arith, append_assoc, append-nil, length-append}
 use Rattle.std.proofs.lemmas.List.{take_more, take-append-drop}
 use Rattle.std.specs.List.{AllByRecursion}
 use Rattle.std.specs.Io.KnownBytes.{Appends}
@@ -13,7 +14,8 @@ use Rattle.atlas_words.specs.Lines.{HasNoEnd, ended, all_ended}
 use Rattle.atlas_lines.specs.Machine.{ToolState}
 use Rattle.atlas_lines.specs.Replies.{bad_line_text}
 use Rattle.atlas_lines.specs.Texts.{IsBadLine, LineOwes, OwesText}
-use Rattle.atlas_lines.specs.Progress.{Place, state_at, Advances, IsCertainlyBad, MeetsBadLine, OwesBeginning, Stops, Continues, EndsBadly, EndsInReply, RepliesTo, LineEnds}
+use Rattle.atlas_lines.specs.Progress.{Place, state_at, Advances, IsCertainlyBad, MeetsBadLine, OwesBeginning, Stops, Continues, EndsBadly}
+use Rattle.atlas_lines.specs.Progress.{EndsInReply, RepliesTo, LineEnds}
 use Rattle.atlas_words.proofs.Blocks.{gathered_begins, gathered_begun, gathered_appends, gathered_written, gathered_twice, gathered_nothing}
 
 pub all_ended_twice : (xs ys : List (List ℕ)) → all_ended (xs ++ ys) ≡ all_ended xs ++ all_ended ys
@@ -36,7 +38,8 @@ owes_twice old middle new (x ∷ xs) ys s t a b =
 -- What follows whole lines and the line that has begun.
 regroup : (l x y p q all_first all_second rest : List ℕ) → l ++ x ≡ all_first ++ p → p ++ y ≡ all_second ++ rest
     → l ++ (x ++ y) ≡ (all_first ++ all_second) ++ rest
-regroup l x y p q f s rest a b = sym (append_assoc l x y) ∙ ap (λ u. u ++ y) a ∙ append_assoc f p y ∙ ap (λ u. f ++ u) b ∙ sym (append_assoc f s rest)
+regroup l x y p q f s rest a b = sym (append_assoc l x y) ∙ ap (λ u. u ++ y) a ∙ append_assoc f p y ∙ ap (λ u. f ++ u) b ∙
+    sym (append_assoc f s rest)
 
 whole_twice : (l x y p : List ℕ) (first second : List (List ℕ)) (rest : List ℕ) → l ++ x ≡ all_ended first ++ p
     → p ++ y ≡ all_ended second ++ rest
@@ -85,7 +88,8 @@ meets_more a x y t n m = record {
   after = m.after ++ y;
   before = m.before;
   state = m.state;
-  whole = sym (append_assoc a.line x y) ∙ ap (λ u. u ++ y) m.whole ∙ append_assoc (all_ended m.lines) (m.bad ++ m.after) y ∙ ap (λ u. all_ended m.lines ++ u) (append_assoc m.bad m.after y);
+  whole = sym (append_assoc a.line x y) ∙ ap (λ u. u ++ y) m.whole ∙ append_assoc (all_ended m.lines) (m.bad ++ m.after) y ∙
+      ap (λ u. all_ended m.lines ++ u) (append_assoc m.bad m.after y);
   each = m.each;
   no_end = m.no_end;
   certain = certain_more m.bad m.after y m.certain;
@@ -195,7 +199,14 @@ line_stops (Err Write) old new o q before after h (inl bad) =
 line_stops (Err Write) old new o q before after h (inr reply) =
     let next : Place = record { held = reply.1.held; line = []; number = old.number + 1 } in (
       reply.1.text,
-      inl (record { first = 10 ∷ []; later = []; new = next; whole = refl; advances = advances_by_line old next reply.1.text h reply.1.owed refl refl }),
+      inl (record {
+        first = 10 ∷ [];
+        later = [];
+        new = next;
+        whole = refl;
+        advances =
+            advances_by_line old next reply.1.text h reply.1.owed refl refl;
+      }),
       reply.1.written,
     )
 
@@ -232,7 +243,11 @@ pub long_stops : (end : Result ToolEnd ToolFault) (old : Place) (byte : ℕ) (o 
     → byte ≢ 10 → HasNoEnd old.line → 120 ≤ length old.line
     → EndsBadly end old o q before → Stops end old (byte ∷ []) o q before
 long_stops (Ok (BadLine n)) old byte o q before other h long e = (bad_line_text n, bad_long old byte n other h long e.0, e.1)
-long_stops (Err Write) old byte o q before other h long e = (bad_line_text (old.number + 1), inr (old.number + 1, bad_long old byte (old.number + 1) other h long refl), e)
+long_stops (Err Write) old byte o q before other h long e = (
+  bad_line_text (old.number + 1),
+  inr (old.number + 1, bad_long old byte (old.number + 1) other h long refl),
+  e,
+)
 long_stops (Ok Done) old byte o q before other h long e = absurd e
 long_stops (Ok Limit) old byte o q before other h long e = absurd e
 long_stops (Err Read) old byte o q before other h long e = absurd e
@@ -285,7 +300,14 @@ byte_continues inside old byte line o before e f = (
 pub line_written : (old new : Place) (o p q : Option (List ℕ)) (before middle : List ℕ)
     → RepliesTo old new o p before middle → Appends p q middle → RepliesTo old new o q before []
 line_written old new o p q before middle r w =
-    record { text = r.text; owed = r.owed; gathered = gathered_written o p q middle (before ++ r.text) r.gathered w; line = r.line; number = r.number }
+    record {
+      text = r.text;
+      owed = r.owed;
+      gathered = gathered_written o p q middle (before ++ r.text) r.gathered w;
+      line = r.line;
+      number =
+          r.number;
+    }
 
 pub line_begun : (old new : Place) (o p q : Option (List ℕ)) (before middle : List ℕ)
     → RepliesTo old new o p before middle → WritesBeginning p q middle → EndsInReply old o q before
@@ -300,5 +322,8 @@ bytes_written old new bytes o p q before middle c w = (c.0, c.1, gathered_writte
 pub bytes_begun : (old new : Place) (bytes : List ℕ) (o p q : Option (List ℕ)) (before middle : List ℕ)
     → Continues None old bytes new o p before middle → WritesBeginning p q middle
     → Stops (Err Write) old bytes o q before
-bytes_begun old new bytes o p q before middle c w =
-    (c.0, inl (record { first = bytes; later = []; new = new; whole = sym (append-nil bytes); advances = c.1 }), gathered_begun o p q middle (before ++ c.0) c.2 w)
+bytes_begun old new bytes o p q before middle c w = (
+  c.0,
+  inl (record { first = bytes; later = []; new = new; whole = sym (append-nil bytes); advances = c.1 }),
+  gathered_begun o p q middle (before ++ c.0) c.2 w,
+)

@@ -1,5 +1,6 @@
 -- The lists of the live and of the free boxes, as the code gathers them.
-use Rattle.std.proofs.Common.{◌≡◌, ℕ, ◌+◌, ◌<◌, ◌≤◌, ◌⊎◌, inl, inr, ℤ, pos, ◌<ℤ◌, ◌≤ℤ◌, List, [], ◌∷◌, length, map, get_or, cond, Option, false, refl, sym, ap, ◌∙◌, subst, arith}
+use Rattle.std.proofs.Common.{◌≡◌, ℕ, ◌+◌, ◌<◌, ◌≤◌, ◌⊎◌, inl, inr, ℤ, pos, ◌<ℤ◌, ◌≤ℤ◌, List, [], ◌∷◌, length, map, get_or, cond, Option}
+use Rattle.std.proofs.Common.{false, refl, sym, ap, ◌∙◌, subst, arith}
 use Rattle.std.specs.List.{All}
 use Rattle.std.specs.List.Sorted.{IsPermutation, IsSortedByKey}
 use Rattle.std.specs.Ordering.{is_lt, ordering_then, int_cmp, MatchOrdering}
@@ -25,7 +26,8 @@ use Rattle.guillotiere.specs.SimpleStored.{SimpleValue}
 use Rattle.guillotiere_recording.specs.Recordings.{SessionValue}
 use Rattle.atlas_lines.specs.declared.standing.Standing.TheVariants.{Atlas, Session}
 use Rattle.atlas_lines.specs.Machine.{tool_state_of}
-use Rattle.atlas_lines.specs.Machine.{ToolReply, Held, with_atlas, with_session, session_in, simple_in, ShowsLive, HoldsHoles, AreInOrder, allocation_of, change_of}
+use Rattle.atlas_lines.specs.Machine.{ToolReply, Held, with_atlas, with_session, session_in, simple_in, ShowsLive, HoldsHoles, AreInOrder}
+use Rattle.atlas_lines.specs.Machine.{allocation_of, change_of}
 
 same_allocation : (a : Allocation) → IsExact a.rectangle → a ≡ allocation_of (grant_of a)
 same_allocation a e = λ i. record { id = a.id; rectangle = e i }
@@ -53,7 +55,8 @@ changes_back (c ∷ found) exact =
 
 pub changes_shown : (changes : List Change) (failures : List Allocation) → All IsExactChange changes
     → All (λ (a : Allocation). IsExact a.rectangle) failures
-    → ToolReply.ChangeLines changes failures ≡ ToolReply.ChangeLines (map change_of (map transfer_of changes)) (map allocation_of (map grant_of failures))
+    → ToolReply.ChangeLines changes failures ≡ ToolReply.ChangeLines (map change_of (map transfer_of changes))
+    (map allocation_of (map grant_of failures))
 changes_shown changes failures exact lost =
     let moved = changes_back changes exact in
     let left = granted_back failures lost in
@@ -97,7 +100,8 @@ first_by_key : (b c : Box) → is_lt (corner_cmp (corner_key (rectangle_of c)) (
     → ComesFirst b c
 first_by_key b c e =
     natural_corner c.min.y b.min.y c.min.x b.min.x
-    (by_corner (int_cmp (pos c.min.y) (pos b.min.y)) (int_cmp (pos c.min.x) (pos b.min.x)) (pos c.min.y) (pos b.min.y) (pos c.min.x) (pos b.min.x)
+    (by_corner (int_cmp (pos c.min.y) (pos b.min.y)) (int_cmp (pos c.min.x) (pos b.min.x)) (pos c.min.y) (pos b.min.y) (pos c.min.x)
+    (pos b.min.x)
     (int_ranks (pos c.min.y) (pos b.min.y)) (int_ranks (pos c.min.x) (pos b.min.x)) e)
 
 exact_order : (r s : Rectangle) → IsExact r → IsExact s → is_lt (corner_cmp (corner_key s) (corner_key r)) ≡ false
@@ -126,7 +130,8 @@ holes_listed state found sorted areas moved order =
     let exact = All-permutation IsExact found sorted moved areas.exact in (
       map box_of sorted,
       record {
-        free = λ p. sum_by-IsPermutation (λ b. cond (p b) 1 0) (map box_of found) (map box_of sorted) (IsPermutation-map box_of found sorted moved) ∙ areas.list p;
+        free = λ p. sum_by-IsPermutation (λ b. cond (p b) 1 0) (map box_of found) (map box_of sorted)
+            (IsPermutation-map box_of found sorted moved) ∙ areas.list p;
         ordered = in_order sorted exact order;
       },
       areas_back sorted exact,

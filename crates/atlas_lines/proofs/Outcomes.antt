@@ -1,5 +1,6 @@
 -- How a run ends, told of the lines of its input.
-use Rattle.std.proofs.Common.{◌≡◌, ℕ, ◌+◌, ◌<◌, ◌≤◌, ◌≢◌, ◌⊎◌, inl, inr, List, [], ◌∷◌, ◌++◌, length, take, unwrap_or, Option, Some, None, Result, Ok, Err, false, refl, sym, ap, ◌∙◌, subst, arith, append_assoc, append-nil, length-append}
+use Rattle.std.proofs.Common.{◌≡◌, ℕ, ◌+◌, ◌<◌, ◌≤◌, ◌≢◌, ◌⊎◌, inl, inr, List, [], ◌∷◌, ◌++◌, length, take, unwrap_or, Option, Some, None}
+use Rattle.std.proofs.Common.{Result, Ok, Err, false, refl, sym, ap, ◌∙◌, subst, arith, append_assoc, append-nil, length-append}
 use Rattle.std.proofs.lemmas.Bool.{cases_eq}
 use Rattle.std.specs.List.{AllByRecursion}
 use Rattle.std.specs.Io.KnownBytes.{Consumes, IsAtEnd}
@@ -12,9 +13,12 @@ use Rattle.atlas_words.specs.Lines.{HasNoEnd, ended, all_ended, ArePieces, AreLi
 use Rattle.atlas_lines.specs.Machine.{ToolState, tool_state_of, at_start}
 use Rattle.atlas_lines.specs.Replies.{bad_line_text}
 use Rattle.atlas_lines.specs.Texts.{IsBadLine, LineOwes, OwesText}
-use Rattle.atlas_lines.specs.Ends.{is_read_fault, is_write_fault, OwesFirst, OwesToBadLine, OwesBegun, OwesToBadRead, EndsAtEnd, EndsAtRead, EndsAtWrite, Ends}
-use Rattle.atlas_lines.specs.Progress.{Place, state_at, place_at_start, Advances, IsCertainlyBad, MeetsBadLine, OwesBeginning, Stops, Continues, RepliesTo, LineEnds, HasRun, is_write_end}
-use Rattle.atlas_words.proofs.Known.{Appends_none, Appends_twice, Consumes_none, Consumes_nothing, Consumes_twice, ReadsBeginning_kept, WritesBeginning_after, Holds_at_end, Holds_with_rest}
+use Rattle.atlas_lines.specs.Ends.{is_read_fault, is_write_fault, OwesFirst, OwesToBadLine, OwesBegun, OwesToBadRead, EndsAtEnd, EndsAtRead}
+use Rattle.atlas_lines.specs.Ends.{EndsAtWrite, Ends}
+use Rattle.atlas_lines.specs.Progress.{Place, state_at, place_at_start, Advances, IsCertainlyBad, MeetsBadLine, OwesBeginning, Stops}
+use Rattle.atlas_lines.specs.Progress.{Continues, RepliesTo, LineEnds, HasRun, is_write_end}
+use Rattle.atlas_words.proofs.Known.{Appends_none, Appends_twice, Consumes_none, Consumes_nothing, Consumes_twice, ReadsBeginning_kept}
+use Rattle.atlas_words.proofs.Known.{WritesBeginning_after, Holds_at_end, Holds_with_rest}
 use Rattle.atlas_words.proofs.Blocks.{gathered_all, written_all}
 use Rattle.atlas_lines.proofs.Joins.{all_ended_twice, each_twice, owes_twice, advance_none, advance_twice, stops_after, meets_more}
 
@@ -34,7 +38,11 @@ with_end bytes p = record {
 with_byte : (byte : ℕ) (bytes : List ℕ) (lines : List (List ℕ)) (rest : List ℕ) → byte ≢ 10 → ArePieces bytes lines rest
     → Parted (byte ∷ bytes)
 with_byte byte bytes [] rest other p =
-    record { lines = []; rest = byte ∷ rest; pieces = record { whole = ap (λ t. byte ∷ t) p.whole; each = tt; partial = (other, p.partial) } }
+    record {
+      lines = [];
+      rest = byte ∷ rest;
+      pieces = record { whole = ap (λ t. byte ∷ t) p.whole; each = tt; partial = (other, p.partial) };
+    }
 with_byte byte bytes (l ∷ ls) rest other p =
     record {
       lines = (byte ∷ l) ∷ ls;
@@ -62,7 +70,8 @@ lines_then input after lines whole each p = record {
   before = lines ++ p.lines;
   rest = p.rest;
   pieces = record {
-    whole = whole ∙ ap (λ t. all_ended lines ++ t) p.pieces.whole ∙ sym (append_assoc (all_ended lines) (all_ended p.lines) p.rest) ∙ ap (λ t. t ++ p.rest) (sym (all_ended_twice lines p.lines));
+    whole = whole ∙ ap (λ t. all_ended lines ++ t) p.pieces.whole ∙ sym (append_assoc (all_ended lines) (all_ended p.lines) p.rest) ∙
+        ap (λ t. t ++ p.rest) (sym (all_ended_twice lines p.lines));
     each = each_twice HasNoEnd lines p.lines each p.pieces.each;
     partial = p.pieces.partial;
   };
@@ -75,9 +84,17 @@ first_owes input bytes later text e o =
     let after = o.new.line ++ (o.later ++ later) in
     let all = all_ended o.advances.lines in
     let whole : input ≡ all ++ after =
-    e ∙ ap (λ t. t ++ later) o.whole ∙ append_assoc o.first o.later later ∙ ap (λ t. t ++ (o.later ++ later)) o.advances.whole ∙ append_assoc all o.new.line (o.later ++ later) in
-    let p = parted after in
-    (p.lines ++ last_line p.rest, record { state = state_at o.new; lines_are = lines_then input after o.advances.lines whole o.advances.each p; owed = o.advances.owed })
+    e ∙ ap (λ t. t ++ later) o.whole ∙ append_assoc o.first o.later later ∙ ap (λ t. t ++ (o.later ++ later)) o.advances.whole ∙
+    append_assoc all o.new.line (o.later ++ later) in
+    let p = parted after in (
+      p.lines ++ last_line p.rest,
+      record {
+        state = state_at o.new;
+        lines_are = lines_then input after o.advances.lines whole o.advances.each
+            p;
+        owed = o.advances.owed;
+      },
+    )
 
 -- ---- the first bad line of an input
 
@@ -91,7 +108,8 @@ bad_ended input bad more lines whole each no_end =
       lines = bad ∷ p.lines;
       rest = p.rest;
       pieces = record {
-        whole = ap (λ t. bad ++ 10 ∷ t) p.pieces.whole ∙ sym (append_assoc bad (10 ∷ []) (all_ended p.lines ++ p.rest)) ∙ sym (append_assoc (ended bad) (all_ended p.lines) p.rest);
+        whole = ap (λ t. bad ++ 10 ∷ t) p.pieces.whole ∙ sym (append_assoc bad (10 ∷ []) (all_ended p.lines ++ p.rest)) ∙
+            sym (append_assoc (ended bad) (all_ended p.lines) p.rest);
         each = (no_end, p.pieces.each);
         partial = p.pieces.partial;
       };
@@ -117,7 +135,8 @@ bad_begun input bad after lines whole each no_end long [] rest p =
       bad ++ rest,
       [],
       more,
-      subst (λ ls. AreLines input (lines ++ ls)) (some_last (bad ++ rest) (omega arith)) (lines_then input (bad ++ after) lines whole each q),
+      subst (λ ls. AreLines input (lines ++ ls)) (some_last (bad ++ rest) (omega arith))
+          (lines_then input (bad ++ after) lines whole each q),
     )
 bad_begun input bad after lines whole each no_end long (l ∷ ls) rest p =
     let q : Parted (bad ++ after) = record {
@@ -163,7 +182,15 @@ pub run_starts : (input output : Option (List ℕ)) (place : Place) → place �
     → HasRun input input output output place 0
 run_starts input output place e =
     subst (λ p. HasRun input input output output p 0) (sym e)
-    (record { bytes = []; text = []; read = Consumes_none input; counted = refl; advances = advance_none place_at_start; written = Appends_none output })
+    (record {
+      bytes = [];
+      text = [];
+      read = Consumes_none input;
+      counted = refl;
+      advances = advance_none place_at_start;
+      written =
+          Appends_none output;
+    })
 
 pub no_end_at_start : (place : Place) → place ≡ place_at_start → HasNoEnd place.line
 no_end_at_start place e = subst (λ (p : Place). HasNoEnd p.line) (sym e) tt
@@ -258,7 +285,13 @@ some_bad (b ∷ bs) bad = refl
 -- The lines of an input that was read to its end.
 all_lines : (bytes text : List ℕ) (place : Place) → Advances place_at_start bytes text place → HasNoEnd place.line
     → (a : Advances place_at_start bytes text place) → AreLines bytes (a.lines ++ last_line place.line)
-all_lines bytes text place x no_end a = record { before = a.lines; rest = place.line; pieces = record { whole = a.whole; each = a.each; partial = no_end }; lines_are = refl }
+all_lines bytes text place x no_end a = record {
+  before = a.lines;
+  rest = place.line;
+  pieces =
+      record { whole = a.whole; each = a.each; partial = no_end };
+  lines_are = refl;
+}
 
 last_bad : (bytes text : List ℕ) (place : Place) (n : ℕ) → Advances place_at_start bytes text place
     → HasNoEnd place.line → IsBadLine place.line → n ≡ place.number + 1
@@ -268,7 +301,12 @@ last_bad bytes text place n a no_end bad number = record {
   bad = place.line;
   others = [];
   before = text;
-  owes = record { state = state_at place; lines_are = subst (λ ls. AreLines bytes (a.lines ++ ls)) (some_bad place.line bad) (all_lines bytes text place a no_end a); owed = a.owed };
+  owes = record {
+    state = state_at place;
+    lines_are = subst (λ ls. AreLines bytes (a.lines ++ ls)) (some_bad place.line bad)
+        (all_lines bytes text place a no_end a);
+    owed = a.owed;
+  };
   is_bad = bad;
   number_is = omega (arith, number, a.number);
   text_is = refl;
@@ -284,7 +322,8 @@ end_replied i j o p q place new n run at_end no_end r = record {
   holds = Holds_at_end i j run.bytes run.read at_end;
   at_end = at_end;
   lines_are = all_lines run.bytes run.text place run.advances no_end run.advances;
-  owed = owes_twice at_start (state_at place) (state_at new) run.advances.lines (last_line place.line) run.text r.text run.advances.owed (owes_last (state_at place) (state_at new) place.line r.text r.owed);
+  owed = owes_twice at_start (state_at place) (state_at new) run.advances.lines (last_line place.line) run.text r.text run.advances.owed
+      (owes_last (state_at place) (state_at new) place.line r.text r.owed);
   written = Appends_twice o p q run.text r.text run.written (written_all p q r.text r.gathered);
 }
 
@@ -294,7 +333,8 @@ last_first : (bytes text more : List ℕ) (place : Place) (new : ToolState) (a :
 last_first bytes text more place new a no_end owed = record {
   state = new;
   lines_are = subst (AreLines bytes) (sym (append-nil (a.lines ++ last_line place.line))) (all_lines bytes text place a no_end a);
-  owed = owes_twice at_start (state_at place) new a.lines (last_line place.line) text more a.owed (owes_last (state_at place) new place.line more owed);
+  owed = owes_twice at_start (state_at place) new a.lines (last_line place.line) text more a.owed
+      (owes_last (state_at place) new place.line more owed);
 }
 
 -- What holds of the bytes read holds of the whole input, where nothing is unread.
@@ -411,6 +451,14 @@ read_ends i j k o p place n run kept no_end short = record {
   bytes = run.bytes;
   text = run.text;
   read = ReadsBeginning_kept i j k run.bytes run.read kept;
-  owes = record { lines = run.advances.lines; rest = place.line; state = state_at place; pieces = record { whole = run.advances.whole; each = run.advances.each; partial = no_end }; short = short; owed = run.advances.owed };
+  owes = record {
+    lines = run.advances.lines;
+    rest = place.line;
+    state = state_at place;
+    pieces =
+        record { whole = run.advances.whole; each = run.advances.each; partial = no_end };
+    short = short;
+    owed = run.advances.owed;
+  };
   written = run.written;
 }

@@ -6,13 +6,16 @@ use Rattle.std.specs.Str.Parse.{IsNumeral, digits_value}
 use Rattle.guillotiere.specs.declared.Size.{Size}
 use Rattle.guillotiere.specs.declared.AllocatorOptions.{AllocatorOptions}
 use Rattle.atlas_words.specs.declared.commands.Command.{Command}
-use Rattle.atlas_words.specs.declared.commands.Command.TheVariants.{Simple, Take, Atlas, Alloc, Live, Holes, AskSize, Free, Grow, Empty, Clear, Rearrange, Resize, FromAtlas, Record, Replay}
+use Rattle.atlas_words.specs.declared.commands.Command.TheVariants.{Simple, Take, Atlas, Alloc, Live, Holes, AskSize, Free, Grow, Empty}
+use Rattle.atlas_words.specs.declared.commands.Command.TheVariants.{Clear, Rearrange, Resize, FromAtlas, Record, Replay}
 use Rattle.atlas_words.specs.Grammar.{SpellsNumber, SpellsNumbers, SpellsSize, SpellsAtlas, SpellsId, Spells, keyword}
 use Rattle.atlas_words.specs.Lines.{HasNoEnd, ended, all_ended, AreLines, last_line}
 use Rattle.atlas_words.specs.Words.{BeginsWithWord, BeginsWithNumber, SpellsInParts}
 use Rattle.atlas_words.proofs.FirstLines.{same_first, no_first}
 use Rattle.atlas_words.proofs.PartedWords.{one_word, number_no_space, number_begins, same_size, same_options}
-use Rattle.atlas_words.proofs.Keywords.{only_simple, only_take, only_atlas, only_alloc, only_free, only_grow, only_live, only_holes, only_size, only_empty, only_clear, only_rearrange, only_resize, only_record, only_from_atlas, only_replay, keyword_no_space, arguments_spaced, in_parts}
+use Rattle.atlas_words.proofs.Keywords.{only_simple, only_take, only_atlas, only_alloc, only_free, only_grow, only_live, only_holes}
+use Rattle.atlas_words.proofs.Keywords.{only_size, only_empty, only_clear, only_rearrange, only_resize, only_record, only_from_atlas}
+use Rattle.atlas_words.proofs.Keywords.{only_replay, keyword_no_space, arguments_spaced, in_parts}
 use Rattle.atlas_lines.proofs.Outcomes.{parted}
 
 -- ---- lines
@@ -34,7 +37,8 @@ same_pieces (x ∷ xs) (y ∷ ys) r s hx hy hr hs e =
 pub same_lines : (input : List ℕ) (lines others : List (List ℕ)) → AreLines input lines → AreLines input others
     → lines ≡ others
 same_lines input lines others a b =
-    let same = same_pieces a.before b.before a.rest b.rest a.pieces.each b.pieces.each a.pieces.partial b.pieces.partial (sym a.pieces.whole ∙ b.pieces.whole) in
+    let same = same_pieces a.before b.before a.rest b.rest a.pieces.each b.pieces.each a.pieces.partial b.pieces.partial
+    (sym a.pieces.whole ∙ b.pieces.whole) in
     let f = same.0 in
     let g = same.1 in
     let h = a.lines_are in
@@ -42,13 +46,18 @@ same_lines input lines others a b =
     cc
 
 pub some_lines : (input : List ℕ) → (lines : List (List ℕ)) × AreLines input lines
-some_lines input = let p = parted input in (p.lines ++ last_line p.rest, record { before = p.lines; rest = p.rest; pieces = p.pieces; lines_are = refl })
+some_lines input = let p = parted input in (
+  p.lines ++ last_line p.rest,
+  record
+      { before = p.lines; rest = p.rest; pieces = p.pieces; lines_are = refl },
+)
 
 -- ---- commands
 
 no_minus : (digits : List ℕ) (text : List ℕ) → IsNumeral 10 text → text ≡ 45 ∷ digits → ⊥
 no_minus digits [] numeral e = absurd (cc)
-no_minus digits (d ∷ ds) numeral e = let value : digit_value d ≡ 36 = ap digit_value (let h : d ≡ 45 = cc in h) in let small = numeral.1.0 in omega arith
+no_minus digits (d ∷ ds) numeral e = let value : digit_value d ≡ 36 = ap digit_value (let h : d ≡ 45 = cc in h) in let small =
+    numeral.1.0 in omega arith
 
 pub same_number : (y z : ℤ) (text : List ℕ) → SpellsNumber y text → SpellsNumber z text → y ≡ z
 same_number y z text a b =
@@ -57,7 +66,8 @@ same_number y z text a b =
       | inr p ↦
           elim b.1 [
             | inl q ↦ absurd (no_minus p.0 text q.0 p.1)
-            | inr q ↦ let same : p.0 ≡ q.0 = (let e = p.1 in let f = q.1 in cc) in p.3 ∙ ap (λ (d : List ℕ). neg_ℤ (pos (digits_value 10 d))) same ∙ sym q.3
+            | inr q ↦ let same : p.0 ≡ q.0 = (let e = p.1 in let f = q.1 in cc) in p.3 ∙
+                ap (λ (d : List ℕ). neg_ℤ (pos (digits_value 10 d))) same ∙ sym q.3
           ]
     ]
 
@@ -67,7 +77,8 @@ same_argument : (text : List ℕ) (y z : ℤ) (r s : List ℕ) → BeginsWithNum
 same_argument text y z r s a b =
     let after : a.word ++ r ≡ b.word ++ s = (let e = a.whole in let f = b.whole in cc) in
     let same = one_word (a.word ++ r) a.word r b.word s
-    (record { whole = refl; no_space = number_no_space y a.word a.spells; spaced = a.spaced }) (record { whole = after; no_space = number_no_space z b.word b.spells; spaced = b.spaced }) in
+    (record { whole = refl; no_space = number_no_space y a.word a.spells; spaced = a.spaced })
+    (record { whole = after; no_space = number_no_space z b.word b.spells; spaced = b.spaced }) in
     let P : List ℕ → Type 0 = SpellsNumber y in
     (same_number y z b.word (subst P same.0 a.spells) b.spells, same.1)
 
@@ -123,25 +134,39 @@ one_id a b text p q =
 
 -- The keyword at the front of a line that spells a command.
 begins_with_keyword : (c : Command) (line : List ℕ) (spells : Spells c line) → BeginsWithWord line (keyword c) spells.0
-begins_with_keyword c line spells = record { whole = spells.1; no_space = keyword_no_space c; spaced = arguments_spaced c spells.0 spells.2 }
+begins_with_keyword c line spells = record {
+  whole = spells.1;
+  no_space = keyword_no_space c;
+  spaced =
+      arguments_spaced c spells.0 spells.2;
+}
 
 same_parts : (word rest : List ℕ) (c d : Command) → SpellsInParts c word rest → SpellsInParts d word rest → c ≡ d
-same_parts word rest (Simple size) d spells other = let is = only_simple d word rest spells.0 other in ap (λ s. Simple s) (one_size size is.0 rest spells.1 is.2) ∙ sym is.1
-same_parts word rest (Take size) d spells other = let is = only_take d word rest spells.0 other in ap (λ s. Take s) (one_size size is.0 rest spells.1 is.2) ∙ sym is.1
-same_parts word rest (Atlas size options) d spells other = let is = only_atlas d word rest spells.0 other in one_atlas size is.0 options is.1 rest spells.1 is.3 ∙ sym is.2
-same_parts word rest (Alloc size) d spells other = let is = only_alloc d word rest spells.0 other in ap (λ s. Alloc s) (one_size size is.0 rest spells.1 is.2) ∙ sym is.1
-same_parts word rest (Free id) d spells other = let is = only_free d word rest spells.0 other in ap (λ s. Free s) (one_id id is.0 rest spells.1 is.2) ∙ sym is.1
-same_parts word rest (Grow size) d spells other = let is = only_grow d word rest spells.0 other in ap (λ s. Grow s) (one_size size is.0 rest spells.1 is.2) ∙ sym is.1
+same_parts word rest (Simple size) d spells other = let is = only_simple d word rest spells.0 other in
+    ap (λ s. Simple s) (one_size size is.0 rest spells.1 is.2) ∙ sym is.1
+same_parts word rest (Take size) d spells other = let is = only_take d word rest spells.0 other in
+    ap (λ s. Take s) (one_size size is.0 rest spells.1 is.2) ∙ sym is.1
+same_parts word rest (Atlas size options) d spells other = let is = only_atlas d word rest spells.0 other in
+    one_atlas size is.0 options is.1 rest spells.1 is.3 ∙ sym is.2
+same_parts word rest (Alloc size) d spells other = let is = only_alloc d word rest spells.0 other in
+    ap (λ s. Alloc s) (one_size size is.0 rest spells.1 is.2) ∙ sym is.1
+same_parts word rest (Free id) d spells other = let is = only_free d word rest spells.0 other in
+    ap (λ s. Free s) (one_id id is.0 rest spells.1 is.2) ∙ sym is.1
+same_parts word rest (Grow size) d spells other = let is = only_grow d word rest spells.0 other in
+    ap (λ s. Grow s) (one_size size is.0 rest spells.1 is.2) ∙ sym is.1
 same_parts word rest Live d spells other = sym (only_live d word rest spells.0 other).0
 same_parts word rest Holes d spells other = sym (only_holes d word rest spells.0 other).0
 same_parts word rest AskSize d spells other = sym (only_size d word rest spells.0 other).0
 same_parts word rest Empty d spells other = sym (only_empty d word rest spells.0 other).0
 same_parts word rest Clear d spells other = sym (only_clear d word rest spells.0 other).0
 same_parts word rest Rearrange d spells other = sym (only_rearrange d word rest spells.0 other).0
-same_parts word rest (Record size) d spells other = let is = only_record d word rest spells.0 other in ap (λ s. Record s) (one_size size is.0 rest spells.1 is.2) ∙ sym is.1
-same_parts word rest (Resize size) d spells other = let is = only_resize d word rest spells.0 other in ap (λ s. Resize s) (one_size size is.0 rest spells.1 is.2) ∙ sym is.1
+same_parts word rest (Record size) d spells other = let is = only_record d word rest spells.0 other in
+    ap (λ s. Record s) (one_size size is.0 rest spells.1 is.2) ∙ sym is.1
+same_parts word rest (Resize size) d spells other = let is = only_resize d word rest spells.0 other in
+    ap (λ s. Resize s) (one_size size is.0 rest spells.1 is.2) ∙ sym is.1
 same_parts word rest FromAtlas d spells other = sym (only_from_atlas d word rest spells.0 other).0
 same_parts word rest Replay d spells other = sym (only_replay d word rest spells.0 other).0
 
 pub same_command : (line : List ℕ) (c d : Command) → Spells c line → Spells d line → c ≡ d
-same_command line c d spells other = same_parts (keyword c) spells.0 c d (refl, spells.2) (in_parts d line (keyword c) spells.0 (begins_with_keyword c line spells) other)
+same_command line c d spells other = same_parts (keyword c) spells.0 c d (refl, spells.2)
+    (in_parts d line (keyword c) spells.0 (begins_with_keyword c line spells) other)

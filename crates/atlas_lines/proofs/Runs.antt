@@ -1,5 +1,6 @@
 -- The steps of a run, and how they join.
-use Rattle.std.proofs.Common.{◌≡◌, ℕ, ◌+◌, ◌<◌, ◌≤◌, inr, List, [], ◌∷◌, ◌++◌, length, Option, Some, None, refl, sym, ap, ◌∙◌, subst, arith, ℤ, pos, negsuc, ◌≤ℤ◌, ◌⊎◌, inl}
+use Rattle.std.proofs.Common.{◌≡◌, ℕ, ◌+◌, ◌<◌, ◌≤◌, inr, List, [], ◌∷◌, ◌++◌, length, Option, Some, None, refl, sym, ap, ◌∙◌, subst, arith}
+use Rattle.std.proofs.Common.{ℤ, pos, negsuc, ◌≤ℤ◌, ◌⊎◌, inl}
 use Rattle.std.proofs.lemmas.Int.{ints}
 use Rattle.guillotiere.specs.declared.Size.{Size}
 use Rattle.guillotiere.specs.Boxes.{IsPositive}
@@ -45,7 +46,8 @@ pub replied : (old middle new : Place) (held : Held) (out_old out_sent out_new :
     → IsGathered out_old out_sent sent (before ++ text) → out_new ≡ out_sent → after ≡ sent → middle ≡ record old { held = held }
     → new ≡ record { held = middle.held; line = []; number = middle.number + 1 } → RepliesTo old new out_old out_new before after
 replied old middle new held out_old out_sent out_new before sent after text owed gathered same waits e f =
-    let is : new ≡ record { held = held; line = []; number = old.number + 1 } = f ∙ ap (λ (p : Place). record { held = p.held; line = []; number = p.number + 1 }) e in
+    let is : new ≡ record { held = held; line = []; number = old.number + 1 } = f ∙
+    ap (λ (p : Place). record { held = p.held; line = []; number = p.number + 1 }) e in
     let P : Held → Type 0 = λ held. LineOwes (state_at old) old.line text (tool_state_of held) in
     let Q : Option (List ℕ) → List ℕ → Type 0 = λ out block. IsGathered out_old out block (before ++ text) in
     record {
@@ -65,7 +67,8 @@ pub skipped : (old middle new : Place) (out_old out_new : Option (List ℕ)) (be
     → out_new ≡ out_old → after ≡ before → middle ≡ old
     → new ≡ record { held = middle.held; line = []; number = middle.number + 1 } → RepliesTo old new out_old out_new before after
 skipped old middle new out_old out_new before after none same waits e f =
-    replied old middle new old.held out_old out_old out_new before before after [] (owed_nothing (state_at old) old.line none) (gathered_nothing out_old before) same waits e f
+    replied old middle new old.held out_old out_old out_new before before after [] (owed_nothing (state_at old) old.line none)
+    (gathered_nothing out_old before) same waits e f
 
 not_above : (z : ℤ) → z ≤ℤ pos 0 → 0 < natural z → ⊥
 not_above (pos n) low high = omega (arith, ints)

@@ -4,8 +4,8 @@ use Rattle.std.specs.List.{zip}
 use Rattle.atlas_model.specs.declared.geometry.Size.{Size}
 use Rattle.atlas_sheet.specs.declared.placed.Placed.{Placed}
 use Rattle.atlas_words.specs.Devices.{HoldsBytes}
-use Rattle.pack_lines.specs.declared.frames.Frame.{Frame}
-use Rattle.pack_lines.specs.declared.sprites.Sprite.{Sprite}
+use Rattle.atlas_pack.specs.declared.frames.Frame.{Frame}
+use Rattle.atlas_pack.specs.declared.sprites.Sprite.{Sprite}
 use Rattle.atlas_pack.specs.Runs.{frame_in, frames_of, left_in, left_of, written}
 
 pub read_all : (known : Option (List ℕ)) (before after bytes : List ℕ) → IfSome known (λ xs. after ≡ before ++ xs)
@@ -21,7 +21,8 @@ pub same_text : (json : Bool) (sheet : Size) (fs gs : List Frame) (ls ks : List 
     → written json sheet fs ls ≡ written json sheet (frames_of s q) (left_of s q)
 same_text json sheet fs gs ls ks s p q ps a b c d e f =
     (λ k. written json sheet (e k) (f k)) ∙ (λ k. written json sheet (a k) (b k))
-    ∙ (λ k. written json sheet (flat_map frame_in (c k)) (flat_map left_in (c k))) ∙ (λ k. written json sheet (frames_of s (d k)) (left_of s (d k)))
+    ∙ (λ k. written json sheet (flat_map frame_in (c k)) (flat_map left_in (c k))) ∙
+    (λ k. written json sheet (frames_of s (d k)) (left_of s (d k)))
 
 -- So many of them have no place.
 pub same_left : (ks s : List Sprite) (p q : List (Option Placed)) (ps : List (Sprite × Option Placed))

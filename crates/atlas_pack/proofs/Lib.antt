@@ -1,2 +1,11 @@
+pub mod ChosenSettings
+pub mod Faults
+pub mod FlatMaps
+pub mod FolderNames
+pub mod NameSets
+pub mod QuotedTexts
+pub mod SettingLines
+pub mod Spelled
+pub mod SpriteLines
 pub mod Inputs
 pub mod KnownResults

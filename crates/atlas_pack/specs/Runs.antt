@@ -24,19 +24,19 @@ use Rattle.atlas_sheet.specs.Settings.{IsSheetFault, spacing_of}
 use Rattle.atlas_sheet.specs.Sheets.{used_area}
 use Rattle.atlas_sheet.specs.Turnings.{InEach, InFirst, InOne}
 use Rattle.atlas_words.specs.Devices.{HoldsBytes}
-use Rattle.pack_lines.specs.declared.error.PackError.{PackError}
-use Rattle.pack_lines.specs.declared.error.PackError.TheVariants as error
-use Rattle.pack_lines.specs.declared.frames.Frame.{Frame}
-use Rattle.pack_lines.specs.declared.pages.PageFrame.{PageFrame}
-use Rattle.pack_lines.specs.declared.settings.Settings.{Settings}
-use Rattle.pack_lines.specs.declared.settings.Sheets.{Sheets}
-use Rattle.pack_lines.specs.declared.settings.Sheets.TheVariants as sheets
-use Rattle.pack_lines.specs.declared.sprites.Sprite.{Sprite}
-use Rattle.pack_lines.specs.Folders.{folder_groups}
-use Rattle.pack_lines.specs.Jobs.{AsksFor, IsJobFault}
-use Rattle.pack_lines.specs.Json.{json_of}
-use Rattle.pack_lines.specs.Pages.{pages_text_of}
-use Rattle.pack_lines.specs.Texts.{text_of}
+use Rattle.atlas_pack.specs.declared.error.PackError.{PackError}
+use Rattle.atlas_pack.specs.declared.error.PackError.TheVariants as error
+use Rattle.atlas_pack.specs.declared.frames.Frame.{Frame}
+use Rattle.atlas_pack.specs.declared.pages.PageFrame.{PageFrame}
+use Rattle.atlas_pack.specs.declared.settings.Settings.{Settings}
+use Rattle.atlas_pack.specs.declared.settings.Sheets.{Sheets}
+use Rattle.atlas_pack.specs.declared.settings.Sheets.TheVariants as sheets
+use Rattle.atlas_pack.specs.declared.sprites.Sprite.{Sprite}
+use Rattle.atlas_pack.specs.Folders.{folder_groups}
+use Rattle.atlas_pack.specs.Jobs.{AsksFor, IsJobFault}
+use Rattle.atlas_pack.specs.Json.{json_of}
+use Rattle.atlas_pack.specs.Pages.{pages_text_of}
+use Rattle.atlas_pack.specs.Texts.{text_of}
 
 abbrev pub allowed_of : Sheets → Allowed
 allowed_of (sheets.One size) = allowed.One size
@@ -120,7 +120,8 @@ pub record IsFilled (o : SheetOptions) (sizes : List Size) (sheet : Size) (place
       IsBestFound (take (ways_tried (length sizes)) WAYS) (sides_of sheet) (spacing_of o) lying order (areas_of places))
   pub earliest : o.effort ≡ 0 → InFirst o sizes
       (λ lying. IsBestFound (take (ways_tried (length sizes)) WAYS) (sides_of sheet) (spacing_of o) lying order (areas_of places))
-      (λ lying. All (FindsFewer (sides_of sheet) (spacing_of o) lying (used_area (areas_of places))) (take (ways_tried (length sizes)) WAYS))
+      (λ lying. All (FindsFewer (sides_of sheet) (spacing_of o) lying (used_area (areas_of places)))
+      (take (ways_tried (length sizes)) WAYS))
 
 -- What the library answers to these options, where it is to fill a sheet or not.
 abbrev pub Answers : (fill dense : Bool) → SheetOptions → List Size → (sheet : Size) → List (Option Placed) → Type 0

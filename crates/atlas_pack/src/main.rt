@@ -1,10 +1,22 @@
 //! Packs the sprites that lines name into one sheet or several, and writes where each lies (docs/PACK.md).
 #![tactic(auto)]
 
+mod error;
+mod folders;
+mod frames;
+mod job;
+mod json;
+mod names;
 mod packing;
+mod pages;
+mod quoted;
+mod reading;
 mod run;
+mod settings;
+mod sprites;
+mod text;
 
-use pack_lines::PackError;
+use error::PackError;
 use run::run;
 use std::process::ExitCode;
 

@@ -7,12 +7,17 @@ ghost use Rattle.atlas_sheet.specs.Dense.{NoWayFinds, NoneIsDense};
 ghost use Rattle.atlas_sheet.specs.Paging.{OneIsTooLarge};
 ghost use Rattle.atlas_sheet.specs.Settings.{IsSheetFault};
 
+use crate::error::PackError;
+use crate::folders::folder_groups;
+use crate::frames::Frame;
+use crate::pages::PageFrame;
+use crate::settings::{Settings, Sheets};
+use crate::sprites::Sprite;
 use atlas_model::Size;
 use atlas_sheet::{
     Allowed, OnPage, Pages, Placed, Sheet, SheetError, SheetOptions, fill, pack_dense, pack_groups,
     pack_pages, pack_telling,
 };
-use pack_lines::{Frame, PackError, PageFrame, Settings, Sheets, Sprite, folder_groups};
 use std::alloc::{AllocError, Global};
 use std::io::Write;
 

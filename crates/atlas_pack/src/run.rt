@@ -3,15 +3,20 @@ ghost use Rattle.std.specs.Prelude.{◌≡◌, ◌≤◌, length, map, IfErr, If
 ghost use Rattle.atlas_pack.specs.Runs.{Answers, AreSeveral, IsPackAnswer, IsOneSheet, IsPackFault, IsRunFault, Packs, groups_of};
 ghost use Rattle.atlas_pack.specs.Runs.{several_of, sheet_options, written};
 
+use crate::error::PackError;
+use crate::frames::Frame;
+use crate::job::{Job, read_job};
+use crate::json::sheet_json;
 use crate::packing::{
     beside, beside_pages, fill_one, pack_several, pack_whole, page_frames, parted, sheet_options,
     sizes_of,
 };
+use crate::pages::pages_lines;
+use crate::settings::Settings;
+use crate::sprites::Sprite;
+use crate::text::sheet_lines;
 use atlas_model::Size;
 use atlas_sheet::Placed;
-use pack_lines::{
-    Frame, Job, PackError, Settings, Sprite, pages_lines, read_job, sheet_json, sheet_lines,
-};
 use std::alloc::{AllocError, Global};
 use std::io::{Read, Write};
 

@@ -5,5 +5,10 @@ pub mod Hanging
 pub mod Spines
 pub mod Turns
 pub mod Melding
+pub mod Alone
+pub mod Joining
+pub mod Forking
+pub mod Sorting
+pub mod Leaving
 pub mod Pushing
 pub mod Removing

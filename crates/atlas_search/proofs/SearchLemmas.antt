@@ -15,5 +15,8 @@ pub mod Windows
 pub mod ItemPicks
 pub mod BlankHeads
 pub mod Heaps
-pub mod Ways
+pub mod Cells
+pub mod SameCells
+pub mod Routes
 pub mod HeapSearches
+pub mod SortedLists

@@ -29,8 +29,3 @@ IsHeap es up top (Top i left right) =
 -- What stands above the top of list k: no entry, but a number that tells the list.
 abbrev pub tag_of : ℕ → ℕ
 tag_of k = 4261412864 + k
-
--- List k, whose first is `head`, has the entries xs in some order.
-abbrev pub IsListed : List Item → (k head : ℕ) → List ℕ → Type 0
-IsListed es k head xs =
-    (h : Heap) × IsHeap es (tag_of k) head h × ((i : ℕ) → occurs i (members h) ≡ occurs i xs)

@@ -6,17 +6,24 @@ use Rattle.atlas_model.specs.Pixels.{box_of}
 use Rattle.atlas_search.specs.Searches.{Shown, shown_at}
 
 -- An entry: its rectangle, what stands above it in the heap of its list, the numbers of the entries that hang below it to the
--- left and to the right, and whether it is a free box.
+-- left and to the right, whether those are divided by size, and whether it is a free box.
 pub record Item : Type 0 where
   pub area : Rectangle
   pub up : ℕ
   pub left : ℕ
   pub right : ℕ
+  pub is_fork : Bool
   pub is_free : Bool
 
 -- The same entry with these links.
 abbrev pub linked : Item → (up left right : ℕ) → Item
-linked e up left right = record { area = e.area; up = up; left = left; right = right; is_free = e.is_free }
+linked e up left right =
+    record { area = e.area; up = up; left = left; right = right; is_fork = e.is_fork; is_free = e.is_free }
+
+-- The same entry, a fork or none.
+abbrev pub forked : Item → (is_fork : Bool) → Item
+forked e is_fork =
+    record { area = e.area; up = e.up; left = e.left; right = e.right; is_fork = is_fork; is_free = e.is_free }
 
 -- What stands for an entry past the end.
 abbrev pub no_item : Item
@@ -26,6 +33,7 @@ no_item =
       up = 0;
       left = 0;
       right = 0;
+      is_fork = false;
       is_free = false;
     }
 

@@ -7,8 +7,9 @@ pub mod Masks
 pub mod Tables
 pub mod Items
 pub mod Heaps
+pub mod Forks
 pub mod HeapCalls
-pub mod Ways
+pub mod Showing
 pub mod Lookups
 pub mod Ranks
 pub mod Bests

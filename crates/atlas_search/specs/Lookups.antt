@@ -1,6 +1,6 @@
 -- The search through lists of entries: what it needs, and what it answers. No public clause cites this module.
 use Rattle.std.specs.Prelude.{ℕ, ◌+◌, ◌*◌, ◌≡◌, ◌<◌, ◌≤◌, ◌==◌, ◌⊎◌, ◌++◌, Bool, true, List, Contains}
-use Rattle.std.specs.Prelude.{slice_index_or, length, ℤ, ◌≤ℤ◌}
+use Rattle.std.specs.Prelude.{length, pos}
 use Rattle.atlas_search.specs.declared.bands.Borders.{Borders}
 use Rattle.atlas_search.specs.declared.bands.Place.{Place}
 use Rattle.atlas_search.specs.declared.best.Best.{Best}
@@ -9,7 +9,7 @@ use Rattle.atlas_search.specs.declared.link.Link.{Link}
 use Rattle.atlas_search.specs.declared.masks.Mask.{Mask}
 use Rattle.atlas_search.specs.Bands.{band_of, list_of, start_of}
 use Rattle.atlas_search.specs.Bests.{HasSeen}
-use Rattle.atlas_search.specs.Heaps.{IsListed}
+use Rattle.atlas_search.specs.Forks.{IsListed}
 use Rattle.atlas_model.specs.Boxes.{Sides, Box, Fits}
 use Rattle.atlas_model.specs.Choice.{Options, AreValid, class_of}
 use Rattle.atlas_search.specs.Items.{Item, item_at, item_box, item_sides, shown_item, shown_items}
@@ -106,13 +106,9 @@ pub record IsEndAfter (o : Options) (first end : ℕ) : Type 0 where
   pub begins : start_of o class ≤ first
   pub ends : end ≡ start_of o (class + 1)
 
--- No threshold is greater.
-abbrev pub IsTop : Options → ℤ → Type 0
-IsTop o top = (o.small_threshold ≤ℤ top) × (o.large_threshold ≤ℤ top)
-
--- The band of each side up to 256.
-abbrev pub AreBands : Options → List ℕ → Type 0
-AreBands o bands = (length bands ≡ 257) × ((n : ℕ) → 0 < n → n ≤ 256 → slice_index_or bands n 0 ≡ band_of o n)
+-- The thresholds are those of the default options.
+abbrev pub AreUsual : Options → Type 0
+AreUsual o = (o.small_threshold ≡ pos 32) × (o.large_threshold ≡ pos 256)
 
 -- No list to the right of a place and below it has a slot.
 abbrev pub AreNoneApart : List Link → (own : Place) → Type 0

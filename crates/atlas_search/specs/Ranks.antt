@@ -1,5 +1,5 @@
 -- The rank of a box among those that a request fits. No public clause cites this module.
-use Rattle.std.specs.Prelude.{ℕ, ◌+◌, ◌*◌, ◌-◌, ◌&&◌, nat_lt, Bool, if◌then◌else◌}
+use Rattle.std.specs.Prelude.{◌≡◌, ℕ, ◌+◌, ◌*◌, ◌-◌, ◌<◌, ◌&&◌, nat_lt, Bool, true, if◌then◌else◌}
 use Rattle.atlas_model.specs.Boxes.{Box}
 
 -- A rank that no box has.
@@ -17,3 +17,9 @@ corner_of b = b.min.y * 4294967296 + b.min.x
 -- A corner that no box has.
 abbrev pub no_corner : ℕ
 no_corner = 18446744073709551615
+
+-- By the best's rank no box is better with a greater least margin than this: where the request isn't large, or an equal side was found.
+pub record IsReach (reach rank : ℕ) (is_large : Bool) : Type 0 where
+  pub same : reach ≡ rank
+  pub below : rank < no_rank
+  pub ends : is_large ≡ true → rank ≡ 0

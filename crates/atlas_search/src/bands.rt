@@ -1,8 +1,8 @@
 //! The lists of free slots by the bands of both sides.
-ghost use Rattle.std.specs.Prelude.{◌≡◌, ◌+◌, ◌<◌, ◌≤◌, pos, ◌<ℤ◌, ◌≤ℤ◌, ℕ};
+ghost use Rattle.std.specs.Prelude.{◌≡◌, true, ◌+◌, ◌<◌, ◌≤◌, pos, ◌<ℤ◌, ◌≤ℤ◌, ℕ};
 ghost use Rattle.atlas_search.specs.Bands.{band_of, border_of, list_of, number_of, passes, start_of, step_of};
 ghost use Rattle.atlas_model.specs.Choice.{Options};
-ghost use Rattle.atlas_search.specs.Lookups.{AreBorders, IsEndAfter};
+ghost use Rattle.atlas_search.specs.Lookups.{AreBorders, AreUsual, IsEndAfter};
 ghost use Rattle.atlas_model.specs.Boxes.{IsPositive};
 ghost use Rattle.atlas_search.specs.Heaps.{tag_of};
 ghost use Rattle.atlas_model.specs.Pixels.{natural, options_of, sides_of};
@@ -58,6 +58,36 @@ fn step(side: u32) -> usize
     STEPS[side.min(256) as usize] as usize
 }
 
+// The band of each side up to 256 with the usual thresholds, 32 and 256.
+static USUAL_BANDS: [u8; 257] = [
+    0, 0, 1, 2, 3, 4, 5, 6, 7, 8, 9, 10, 11, 12, 13, 14, 15, 15, 16, 16, 17, 17, 18, 18, 19, 19,
+    20, 20, 21, 21, 22, 22, 24, 24, 25, 25, 26, 26, 27, 27, 28, 28, 29, 29, 30, 30, 31, 31, 32, 32,
+    33, 33, 34, 34, 35, 35, 36, 36, 37, 37, 38, 38, 39, 39, 40, 40, 40, 40, 40, 40, 40, 40, 41, 41,
+    41, 41, 41, 41, 41, 41, 42, 42, 42, 42, 42, 42, 42, 42, 43, 43, 43, 43, 43, 43, 43, 43, 44, 44,
+    44, 44, 44, 44, 44, 44, 45, 45, 45, 45, 45, 45, 45, 45, 46, 46, 46, 46, 46, 46, 46, 46, 47, 47,
+    47, 47, 47, 47, 47, 47, 48, 48, 48, 48, 48, 48, 48, 48, 48, 48, 48, 48, 48, 48, 48, 48, 48, 48,
+    48, 48, 48, 48, 48, 48, 48, 48, 48, 48, 48, 48, 48, 48, 48, 48, 48, 48, 48, 48, 48, 48, 48, 48,
+    48, 48, 48, 48, 48, 48, 48, 48, 48, 48, 48, 48, 48, 48, 48, 48, 48, 48, 48, 48, 48, 48, 49, 49,
+    49, 49, 49, 49, 49, 49, 49, 49, 49, 49, 49, 49, 49, 49, 49, 49, 49, 49, 49, 49, 49, 49, 49, 49,
+    49, 49, 49, 49, 49, 49, 49, 49, 49, 49, 49, 49, 49, 49, 49, 49, 49, 49, 49, 49, 49, 49, 49, 49,
+    49, 49, 49, 49, 49, 49, 49, 49, 49, 49, 49, 49, 49, 49, 51,
+];
+
+// The band of a side with the usual thresholds.
+fn usual_band(side: u32) -> usize
+    ensures band { (o : Options) → AreUsual o → result ≡ band_of o side }
+    ensures inside { result < BANDS }
+{
+    USUAL_BANDS[side.min(256) as usize] as usize
+}
+
+// Whether the thresholds are the usual ones.
+fn are_usual(options: &AllocatorOptions) -> bool
+    ensures { result ≡ true → AreUsual (options_of options.now) }
+{
+    options.small_size_threshold == 32 && options.large_size_threshold == 256
+}
+
 // 1 if a side is at least a threshold.
 fn passed(side: i32, threshold: i32) -> usize
     requires { pos 0 <ℤ side }
@@ -108,28 +138,27 @@ fn borders_for(options: &AllocatorOptions) -> Borders
     }
 }
 
-/// Options, with what the lists take of them: the borders of the classes, and the band of each side up to 256.
-/// Contracts see the options alone.
+/// Options, with what the lists take of them: the borders of the classes, and whether the bands of sides are the usual
+/// ones. Contracts see the options alone.
 #[derive(Drop)]
 pub struct Scale {
     options: AllocatorOptions,
     borders: Borders,
-    // The greater threshold.
-    top: i32,
-    bands: [u8; 257],
+    are_usual: bool,
 }
 
 impl Model for Scale {
+    ghost use Rattle.std.specs.Prelude.{◌≡◌, true};
     ghost use Rattle.atlas_model.specs.declared.options.AllocatorOptions.{AllocatorOptions};
     ghost use Rattle.atlas_model.specs.Pixels.{options_of};
-    ghost use Rattle.atlas_search.specs.Lookups.{AreBands, AreBorders, IsTop};
+    ghost use Rattle.atlas_search.specs.Lookups.{AreBorders, AreUsual};
 
     ghost Value = { AllocatorOptions };
 
     ghost view = { λ s. s.options };
 
-    ghost invariant = { λ s. AreBorders (options_of s.options) s.borders × IsTop (options_of s.options) s.top
-        × AreBands (options_of s.options) s.bands };
+    ghost invariant = { λ s. AreBorders (options_of s.options) s.borders
+        × (s.are_usual ≡ true → AreUsual (options_of s.options)) };
 }
 
 impl Scale {
@@ -137,17 +166,10 @@ impl Scale {
     pub fn new(options: &AllocatorOptions) -> Scale
         ensures { result ≡ options.now }
     {
-        let mut bands = [0; 257];
-        for side in 1..257 {
-            bands[side] = band(side as i32, options) as u8;
-        }
         Scale {
             options: *options,
             borders: borders_for(options),
-            top: options
-                .small_size_threshold
-                .max(options.large_size_threshold),
-            bands,
+            are_usual: are_usual(options),
         }
     }
 
@@ -167,8 +189,7 @@ impl Scale {
         Scale {
             options: self.options,
             borders: self.borders,
-            top: self.top,
-            bands: self.bands,
+            are_usual: self.are_usual,
         }
     }
 
@@ -202,21 +223,6 @@ impl Scale {
         }
     }
 
-    // The band of a side.
-    fn band(&self, side: i32) -> usize
-        requires { pos 0 <ℤ side }
-        ensures band { result ≡ band_of (options_of self.now) (natural side) }
-        ensures inside { result < BANDS }
-    {
-        if side <= 256 {
-            self.bands[side as usize] as usize
-        } else if side >= self.top {
-            BANDS - 1
-        } else {
-            band(side, &self.options)
-        }
-    }
-
     /// The list of a size.
     pub fn place_for(&self, size: Size) -> Place
         requires { IsPositive (sides_of size) }
@@ -226,9 +232,15 @@ impl Scale {
         ensures row_inside { result.row < BANDS }
         ensures column_inside { result.column < BANDS }
     {
+        if self.are_usual {
+            return Place {
+                row: usual_band(size.width as u32),
+                column: usual_band(size.height as u32),
+            };
+        }
         Place {
-            row: self.band(size.width),
-            column: self.band(size.height),
+            row: band(size.width, &self.options),
+            column: band(size.height, &self.options),
         }
     }
 }

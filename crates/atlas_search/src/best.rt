@@ -1,11 +1,12 @@
 //! The best free box that a search was shown.
 ghost use Rattle.std.specs.Prelude.{◌≡◌, ◌≢◌, ◌<◌, ◌≤◌, ◌++◌, ◌∷◌, [], ℕ, Bool, List, pos};
-ghost use Rattle.std.specs.Prelude.{◌≤ℤ◌, ◌↔◌, IsTrue, IfSome, None};
-ghost use Rattle.atlas_model.specs.Boxes.{IsNonempty, IsPositive, Sides};
+ghost use Rattle.std.specs.Prelude.{◌≤ℤ◌, ◌↔◌, IsTrue, IfSome, None, Contains, false};
+ghost use Rattle.atlas_model.specs.Boxes.{IsNonempty, IsPositive, Sides, box_sides};
 ghost use Rattle.atlas_model.specs.Pixels.{box_of, natural, sides_of};
-ghost use Rattle.atlas_search.specs.Ranks.{corner_of, no_corner, no_rank, rank_of};
+ghost use Rattle.atlas_search.specs.Ranks.{corner_of, no_corner, no_rank, rank_of, IsReach};
 ghost use Rattle.atlas_search.specs.Rectangles.{IsUnsigned};
 
+use crate::cells::Cell;
 use crate::choice::margin_in;
 use crate::link::Link;
 use atlas_model::{Rectangle, Size};
@@ -22,6 +23,9 @@ const NO_RANK: u32 = 2147483647;
 
 const NO_CORNER: u64 = 18446744073709551615;
 
+// No limit of margins.
+const NO_REACH: u32 = 4294967295;
+
 /// The best of the boxes that a search was shown.
 #[derive(Clone, Copy)]
 pub struct Best {
@@ -33,10 +37,13 @@ pub struct Best {
     corner: u64,
     // Its corner once it has an equal side: no box that begins there or later is better. Before that `NO_CORNER`.
     bar: u64,
+    // No box with a greater least margin is better; `NO_REACH` as long as that isn't known.
+    reach: u32,
     // Its entry.
     at: Link,
     ghost positive: { IsPositive (sides_of size) },
     ghost barred: { bar < 18446744073709551615 → (rank ≡ 0) × (bar ≡ corner) },
+    ghost reached: { reach < 4294967295 → IsReach reach rank is_large },
 }
 
 // The rank of a box with this least margin.
@@ -51,6 +58,23 @@ fn rank(is_large: bool, margin: i32) -> u32
     }
 }
 
+// How great the least margin of a box may be that is better than the best of this rank. For a large request that doesn't end, unless there
+// is an equal side.
+fn reach_of(is_large: bool, rank: u32) -> u32
+    ensures { result < 4294967295 → IsReach result rank is_large }
+{
+    if rank == 0 {
+        return 0;
+    }
+    if is_large {
+        return NO_REACH;
+    }
+    if rank >= NO_RANK {
+        return NO_REACH;
+    }
+    rank
+}
+
 // The `min` of a box as one number, the greater the later the box comes: the y, and below it the x.
 pub fn corner(rectangle: Rectangle) -> u64
     requires { IsUnsigned rectangle }
@@ -62,6 +86,7 @@ pub fn corner(rectangle: Rectangle) -> u64
 
 impl Best {
     ghost use Rattle.atlas_search.specs.Bests.{HasSeen, IsAhead, IsPassed, BecomesBest};
+    ghost use Rattle.atlas_search.specs.Forks.{IsIn};
     ghost use Rattle.atlas_search.specs.Searches.{Shown, shown_at};
 
     /// No box was shown yet for a request of this rounded size.
@@ -75,6 +100,7 @@ impl Best {
             rank: NO_RANK,
             corner: NO_CORNER,
             bar: NO_CORNER,
+            reach: NO_REACH,
             at: Link::NONE,
         }
     }
@@ -121,6 +147,7 @@ impl Best {
                 rank,
                 corner,
                 bar: if rank == 0 { corner } else { NO_CORNER },
+                reach: reach_of(self.is_large, rank),
                 at,
             };
         }
@@ -140,6 +167,20 @@ impl Best {
         ensures { IsTrue result → (self.now.rank ≡ 0) × (self.now.corner ≤ corner) }
     {
         self.bar <= corner
+    }
+
+    /// Whether a box of a size in this cell may be better than the best: it may fit, and leave no more over than the best does, or anything
+    /// where the request is large and the best has no equal side.
+    #[inline(always)]
+    pub fn may_be_in(&self, cell: Cell) -> bool
+        ensures { result ≡ false → (is_large : Bool) (r : Sides) (shown more : List Shown) → HasSeen self.now is_large r shown
+            → ((c : Shown) → Contains more c → IsIn (box_sides c.box) cell)
+            → HasSeen self.now is_large r (shown ++ more) }
+    {
+        if !cell.is_below_ends(self.size) {
+            return false;
+        }
+        !cell.is_beyond(self.size, self.reach)
     }
 
     /// The entry of the best of the boxes shown.

@@ -1,17 +1,24 @@
 //! Lists of free boxes: each is a tree by links inside the entries, and no entry comes before the one that it hangs below.
-ghost use Rattle.std.specs.Prelude.{◌≡◌, ◌≢◌, ◌<◌, ◌≤◌, ◌⊎◌, ℕ, true, length, map, slice_set};
+ghost use Rattle.std.specs.Prelude.{◌≡◌, ◌≢◌, ◌<◌, ◌≤◌, ◌⊎◌, ℕ, true, false, length, map, slice_set};
+ghost use Rattle.atlas_model.specs.Boxes.{IsPositive};
 ghost use Rattle.atlas_model.specs.Choice.{ComesFirst};
-ghost use Rattle.atlas_search.specs.Heaps.{Heap, IsAbove};
-ghost use Rattle.atlas_search.specs.HeapCalls.{AreApart, ArePartsBelow, CanPush, CanRemove, HasPushed, HasRemoved};
-ghost use Rattle.atlas_search.specs.HeapCalls.{IsHungLeft, IsLinked, IsMelded, KeepsAreas};
-ghost use Rattle.atlas_search.specs.Items.{item_at, item_box, linked};
-ghost use Rattle.atlas_search.specs.Numbers.{no_slot};
+ghost use Rattle.atlas_model.specs.Pixels.{sides_of};
+ghost use Rattle.atlas_search.specs.Forks.{IsSplit};
+ghost use Rattle.atlas_search.specs.Heaps.{Heap, IsAbove, IsHeap, members};
+ghost use Rattle.atlas_search.specs.HeapCalls.{AreApart, ArePartsBelow, CanPush, CanRemove, CanSort, HasLeft, HasPushed};
+ghost use Rattle.atlas_search.specs.HeapCalls.{HasRemoved, HasSorted, IsForked, IsHungLeft, IsLinked, IsMelded, IsPut};
+ghost use Rattle.atlas_search.specs.HeapCalls.{KeepsAreas, KeepsKinds};
+ghost use Rattle.atlas_search.specs.Items.{forked, item_at, item_box, item_sides, linked};
+ghost use Rattle.atlas_search.specs.Numbers.{no_slot, occurs};
 ghost use Rattle.atlas_search.specs.Ranks.{corner_of};
-ghost use Rattle.atlas_search.specs.Rectangles.{IsUnsigned};
+ghost use Rattle.atlas_search.specs.Rectangles.{IsSolid, IsUnsigned};
 
 use crate::best::corner;
+use crate::cells::Cell;
+use crate::cut::exact_size;
 use crate::link::{Link, NO_SLOT};
 use crate::search::Entry;
+use atlas_model::Size;
 
 /// An entry whose links can be written.
 pub trait Linked: Entry {
@@ -21,6 +28,11 @@ pub trait Linked: Entry {
     /// Hangs the entry below `up`, with these below it. All else of it stays.
     fn set_links(&mut self, up: Link, left: Link, right: Link)
         ensures links { Self.item self.new ≡ linked (Self.item self.old) up.number left.number right.number }
+        ensures bare { Self.bare self.new ≡ Self.bare self.old };
+
+    /// Whether what hangs below it is divided by size, from now on. All else of it stays.
+    fn set_fork(&mut self, is_fork: bool)
+        ensures fork { Self.item self.new ≡ forked (Self.item self.old) is_fork }
         ensures bare { Self.bare self.new ≡ Self.bare self.old };
 }
 
@@ -119,7 +131,7 @@ fn hang<E: Linked>(entries: &mut [E], top: Link, part: Link)
         → AreApart (map E.item entries.old) up top.number g under part.number h
         → IsAbove (map E.item entries.old) top.number h
         → IsMelded (map E.item entries.old) (map E.item entries.new) up top.number g h }
-    ensures areas { KeepsAreas (map E.item entries.old) (map E.item entries.new) }
+    ensures areas { KeepsKinds (map E.item entries.old) (map E.item entries.new) }
     ensures bare { map E.bare entries.new ≡ map E.bare entries.old }
 {
     let mut above = top;
@@ -152,7 +164,7 @@ fn meld<E: Linked>(entries: &mut [E], one: Link, other: Link, up: Link) -> Link
     ensures melded { (under : ℕ) (g h : Heap)
         → AreApart (map E.item entries.old) under one.number g under other.number h
         → IsMelded (map E.item entries.old) (map E.item entries.new) up.number result.number g h }
-    ensures areas { KeepsAreas (map E.item entries.old) (map E.item entries.new) }
+    ensures areas { KeepsKinds (map E.item entries.old) (map E.item entries.new) }
     ensures bare { map E.bare entries.new ≡ map E.bare entries.old }
 {
     if corner_at(entries, other) < corner_at(entries, one) {
@@ -165,19 +177,206 @@ fn meld<E: Linked>(entries: &mut [E], one: Link, other: Link, up: Link) -> Link
     one
 }
 
-// Whether an entry, if there is one, has nothing on its left and comes before another one.
+// Writes the three links of an entry, and whether it is a fork.
+#[inline(always)]
+fn put<E: Linked>(entries: &mut [E], at: Link, up: Link, left: Link, right: Link, is_fork: bool)
+    requires { at.number < length entries.old }
+    ensures put { IsPut (map E.item entries.old) (map E.item entries.new) at.number up.number left.number right.number is_fork }
+    ensures bare { map E.bare entries.new ≡ map E.bare entries.old }
+{
+    let entry = &mut entries[at.number as usize];
+    entry.set_links(up, left, right);
+    entry.set_fork(is_fork);
+}
+
+// An entry, if it is one, hangs below another one, or a tag.
+#[inline(always)]
+fn move_below<E: Linked>(entries: &mut [E], at: Link, up: Link)
+    requires inside { at.number ≢ no_slot → at.number < length entries.old }
+    requires short { length entries.old ≤ no_slot }
+    ensures moved { (under : ℕ) (h : Heap) → IsHeap (map E.item entries.old) under at.number h
+        → ((k : ℕ) → occurs k (members h) ≤ 1) → IsHeap (map E.item entries.new) up.number at.number h }
+    ensures others { (k : ℕ) → (at.number ≢ no_slot → k ≢ at.number)
+        → item_at (map E.item entries.new) k ≡ item_at (map E.item entries.old) k }
+    ensures kinds { KeepsKinds (map E.item entries.old) (map E.item entries.new) }
+    ensures bare { map E.bare entries.new ≡ map E.bare entries.old }
+{
+    if at.number != NO_SLOT {
+        set_up(entries, at, up);
+    }
+}
+
+// The size of an entry's rectangle.
+#[inline(always)]
+fn size_at<E: Entry>(entries: &[E], at: Link) -> Size
+    requires inside { at.number < length entries.now }
+    requires solid { IsSolid (item_at (map E.item entries.now) at.number).area }
+    ensures positive { IsPositive (sides_of result) }
+    ensures sides { sides_of result ≡ item_sides (item_at (map E.item entries.now) at.number) }
+{
+    exact_size(entries[at.number as usize].rectangle())
+}
+
+#[inline(always)]
+fn is_fork<E: Entry>(entries: &[E], at: Link) -> bool
+    requires { at.number < length entries.now }
+    ensures { result ≡ (item_at (map E.item entries.now) at.number).is_fork }
+{
+    entries[at.number as usize].is_fork()
+}
+
+// Whether an entry is no fork and has the size of another one.
+#[inline(always)]
+fn is_alike<E: Entry>(entries: &[E], top: Link, at: Link) -> bool
+    requires top { top.number < length entries.now }
+    requires at { at.number < length entries.now }
+    requires top_solid { IsSolid (item_at (map E.item entries.now) top.number).area }
+    requires at_solid { IsSolid (item_at (map E.item entries.now) at.number).area }
+    ensures yes { result ≡ true → ((item_at (map E.item entries.now) top.number).is_fork ≡ false)
+        × (item_sides (item_at (map E.item entries.now) top.number) ≡ item_sides (item_at (map E.item entries.now) at.number)) }
+    ensures no { result ≡ false → ((item_at (map E.item entries.now) top.number).is_fork ≡ true)
+        ⊎ (item_sides (item_at (map E.item entries.now) top.number) ≢ item_sides (item_at (map E.item entries.now) at.number)) }
+{
+    if is_fork(entries, top) {
+        return false;
+    }
+    let one = size_at(entries, top);
+    let other = size_at(entries, at);
+    one.width == other.width && one.height == other.height
+}
+
+// What hangs below an entry that is no fork becomes one heap, which hangs below `up`. Answers its top, or none.
+#[inline(always)]
+fn close<E: Linked>(entries: &mut [E], at: Link, up: Link) -> Link
+    requires { (left : Heap) × (right : Heap) × ArePartsBelow (map E.item entries.old) at.number left right }
+    ensures melded { (left right : Heap) → ArePartsBelow (map E.item entries.old) at.number left right
+        → IsMelded (map E.item entries.old) (map E.item entries.new) up.number result.number left right }
+    ensures areas { KeepsKinds (map E.item entries.old) (map E.item entries.new) }
+    ensures bare { map E.bare entries.new ≡ map E.bare entries.old }
+{
+    let links = links_at(entries, at);
+    if links.left.number == NO_SLOT {
+        if links.right.number != NO_SLOT {
+            set_up(entries, links.right, up);
+        }
+        return links.right;
+    }
+    if links.right.number == NO_SLOT {
+        set_up(entries, links.left, up);
+        return links.left;
+    }
+    meld(entries, links.left, links.right, up)
+}
+
+// The top of a heap becomes a fork, if it is none: what hangs below it, melded, hangs in the half of its own size.
+#[inline(always)]
+fn make_fork<E: Linked>(entries: &mut [E], cell: Cell, top: Link)
+    requires some { top.number ≢ no_slot }
+    requires split { IsSplit cell }
+    requires sorted { (at : ℕ) × (h : Heap) × CanSort (map E.item entries.old) cell top.number at h }
+    ensures forked { (at : ℕ) (h : Heap) → CanSort (map E.item entries.old) cell top.number at h
+        → IsForked (map E.item entries.old) (map E.item entries.new) cell top.number at h }
+    ensures areas { KeepsAreas (map E.item entries.old) (map E.item entries.new) }
+    ensures bare { map E.bare entries.new ≡ map E.bare entries.old }
+{
+    if is_fork(entries, top) {
+        return;
+    }
+    let none = Link::NONE;
+    let up = links_at(entries, top).up;
+    let size = size_at(entries, top);
+    let rest = close(entries, top, top);
+    if cell.halves().low.is_below_ends(size) {
+        put(entries, top, up, rest, none, true);
+    } else {
+        put(entries, top, up, none, rest, true);
+    }
+}
+
+// Two entries, of which the second doesn't come first.
+#[derive(Clone, Copy)]
+struct Pair {
+    first: Link,
+    rest: Link,
+}
+
+// These two, in order.
+#[inline(always)]
+fn in_order<E: Entry>(entries: &[E], one: Link, other: Link) -> Pair
+    requires one { one.number < length entries.now }
+    requires other { other.number < length entries.now }
+    requires one_solid { IsSolid (item_at (map E.item entries.now) one.number).area }
+    requires other_solid { IsSolid (item_at (map E.item entries.now) other.number).area }
+    ensures order { ComesFirst (item_box (item_at (map E.item entries.now) result.first.number))
+        (item_box (item_at (map E.item entries.now) result.rest.number)) }
+    ensures two { ((result.first.number ≡ one.number) × (result.rest.number ≡ other.number))
+        ⊎ ((result.first.number ≡ other.number) × (result.rest.number ≡ one.number)) }
+{
+    if corner_at(entries, other) < corner_at(entries, one) {
+        Pair {
+            first: other,
+            rest: one,
+        }
+    } else {
+        Pair {
+            first: one,
+            rest: other,
+        }
+    }
+}
+
+// An entry joins a heap by its size. Answers the top, which hangs below `up`.
+fn sort_in<E: Linked>(entries: &mut [E], cell: Cell, up: Link, top: Link, at: Link) -> Link
+    requires { (h : Heap) × CanSort (map E.item entries.old) cell top.number at.number h }
+    ensures sorted { (h : Heap) → CanSort (map E.item entries.old) cell top.number at.number h
+        → HasSorted (map E.item entries.old) (map E.item entries.new) cell up.number result.number at.number h }
+    ensures areas { KeepsAreas (map E.item entries.old) (map E.item entries.new) }
+    ensures bare { map E.bare entries.new ≡ map E.bare entries.old }
+{
+    let none = Link::NONE;
+    if top.number == NO_SLOT {
+        put(entries, at, up, none, none, false);
+        return at;
+    }
+    if is_alike(entries, top, at) {
+        let under = links_at(entries, top).up;
+        put(entries, at, under, none, none, false);
+        return meld(entries, top, at, up);
+    }
+    make_fork(entries, cell, top);
+    let links = links_at(entries, top);
+    let Pair { first, rest } = in_order(entries, top, at);
+    let halves = cell.halves();
+    if halves.low.is_below_ends(size_at(entries, rest)) {
+        let left = sort_in(entries, halves.low, first, links.left, rest);
+        move_below(entries, links.right, first);
+        put(entries, first, up, left, links.right, true);
+    } else {
+        let right = sort_in(entries, halves.high, first, links.right, rest);
+        move_below(entries, links.left, first);
+        put(entries, first, up, links.left, right, true);
+    }
+    first
+}
+
+// Whether an entry, if there is one, has nothing on its left, comes before another one, and is alike.
 #[inline(always)]
 fn is_place<E: Entry>(entries: &[E], near: Link, at: Link) -> bool
     requires near { near.number ≢ no_slot → near.number < length entries.now }
-    requires near_solid { near.number ≢ no_slot → IsUnsigned (item_at (map E.item entries.now) near.number).area }
+    requires near_solid { near.number ≢ no_slot → IsSolid (item_at (map E.item entries.now) near.number).area }
     requires at { at.number < length entries.now }
-    requires at_solid { IsUnsigned (item_at (map E.item entries.now) at.number).area }
+    requires at_solid { IsSolid (item_at (map E.item entries.now) at.number).area }
     ensures some { result ≡ true → near.number ≢ no_slot }
     ensures left { result ≡ true → (item_at (map E.item entries.now) near.number).left ≡ no_slot }
+    ensures alike { result ≡ true → ((item_at (map E.item entries.now) near.number).is_fork ≡ false)
+        × (item_sides (item_at (map E.item entries.now) near.number) ≡ item_sides (item_at (map E.item entries.now) at.number)) }
     ensures first { result ≡ true → ComesFirst (item_box (item_at (map E.item entries.now) near.number))
         (item_box (item_at (map E.item entries.now) at.number)) }
 {
     if near.number == NO_SLOT || links_at(entries, near).left.number != NO_SLOT {
+        return false;
+    }
+    if !is_alike(entries, near, at) {
         return false;
     }
     corner_at(entries, near) < corner_at(entries, at)
@@ -194,42 +393,71 @@ pub fn push<E: Linked>(entries: &mut [E], tag: Link, top: Link, near: Link, at: 
     ensures bare { map E.bare entries.new ≡ map E.bare entries.old }
 {
     let none = Link::NONE;
-    if top.number == NO_SLOT {
-        relink(entries, at, tag, none, none);
-        return at;
-    }
-    if is_place(entries, near, at) {
-        relink(entries, at, near, none, none);
+    if top.number != NO_SLOT && is_place(entries, near, at) {
+        put(entries, at, near, none, none, false);
         let links = links_at(entries, near);
         relink(entries, near, links.up, at, links.right);
         return top;
     }
-    relink(entries, at, tag, none, none);
-    meld(entries, top, at, tag)
+    let cell = Cell::around(size_at(entries, at));
+    sort_in(entries, cell, tag, top, at)
 }
 
-// What hangs below an entry becomes one heap, which hangs where the entry does. Answers its top, or none.
+// Whether the left one of two entries comes first: it is there, and the right one isn't, or comes no earlier.
 #[inline(always)]
-fn close<E: Linked>(entries: &mut [E], at: Link) -> Link
+fn is_left_first<E: Entry>(entries: &[E], left: Link, right: Link) -> bool
+    requires left { left.number ≢ no_slot → left.number < length entries.now }
+    requires right { right.number ≢ no_slot → right.number < length entries.now }
+    requires left_solid { left.number ≢ no_slot → IsSolid (item_at (map E.item entries.now) left.number).area }
+    requires right_solid { right.number ≢ no_slot → IsSolid (item_at (map E.item entries.now) right.number).area }
+    ensures some { result ≡ true → left.number ≢ no_slot }
+    ensures left { result ≡ true → right.number ≢ no_slot → ComesFirst
+        (item_box (item_at (map E.item entries.now) left.number)) (item_box (item_at (map E.item entries.now) right.number)) }
+    ensures right { result ≡ false → left.number ≢ no_slot → (right.number ≢ no_slot) × ComesFirst
+        (item_box (item_at (map E.item entries.now) right.number)) (item_box (item_at (map E.item entries.now) left.number)) }
+{
+    if left.number == NO_SLOT {
+        return false;
+    }
+    if right.number == NO_SLOT {
+        return true;
+    }
+    corner_at(entries, left) <= corner_at(entries, right)
+}
+
+// What hangs below an entry becomes one heap, which hangs below `up`. Of a fork's two sides the top that comes first comes up.
+fn leave<E: Linked>(entries: &mut [E], at: Link, up: Link) -> Link
     requires { (left : Heap) × (right : Heap) × ArePartsBelow (map E.item entries.old) at.number left right }
-    ensures melded { (left right : Heap) → ArePartsBelow (map E.item entries.old) at.number left right
-        → IsMelded (map E.item entries.old) (map E.item entries.new) (item_at (map E.item entries.old) at.number).up result.number
-        left right }
+    ensures left { (left right : Heap) → ArePartsBelow (map E.item entries.old) at.number left right
+        → HasLeft (map E.item entries.old) (map E.item entries.new) up.number result.number at.number left right }
     ensures areas { KeepsAreas (map E.item entries.old) (map E.item entries.new) }
     ensures bare { map E.bare entries.new ≡ map E.bare entries.old }
 {
-    let links = links_at(entries, at);
-    if links.left.number == NO_SLOT {
-        if links.right.number != NO_SLOT {
-            set_up(entries, links.right, links.up);
-        }
-        return links.right;
+    if !is_fork(entries, at) {
+        return close(entries, at, up);
     }
-    if links.right.number == NO_SLOT {
-        set_up(entries, links.left, links.up);
+    let links = links_at(entries, at);
+    if is_left_first(entries, links.left, links.right) {
+        if links.right.number == NO_SLOT && !is_fork(entries, links.left) {
+            set_up(entries, links.left, up);
+            return links.left;
+        }
+        let rest = leave(entries, links.left, links.left);
+        move_below(entries, links.right, links.left);
+        put(entries, links.left, up, rest, links.right, true);
         return links.left;
     }
-    meld(entries, links.left, links.right, links.up)
+    if links.right.number == NO_SLOT {
+        return links.right;
+    }
+    if links.left.number == NO_SLOT && !is_fork(entries, links.right) {
+        set_up(entries, links.right, up);
+        return links.right;
+    }
+    let rest = leave(entries, links.right, links.right);
+    move_below(entries, links.left, links.right);
+    put(entries, links.right, up, links.left, rest, true);
+    links.right
 }
 
 /// An entry leaves its heap. Answers the top of what was below it, which took its place. A tag above the heap's top isn't
@@ -243,7 +471,7 @@ pub fn remove<E: Linked>(entries: &mut [E], at: Link) -> Link
     ensures bare { map E.bare entries.new ≡ map E.bare entries.old }
 {
     let up = links_at(entries, at).up;
-    let rest = close(entries, at);
+    let rest = leave(entries, at, up);
     if up.number as usize >= entries.len() {
         return rest;
     }

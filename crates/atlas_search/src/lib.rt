@@ -5,6 +5,7 @@
 
 pub mod bands;
 pub mod best;
+pub mod cells;
 pub mod choice;
 pub mod cut;
 pub mod heap;

@@ -39,7 +39,7 @@ impl Marks {
         }
     }
 
-    /// The same marks again.
+    /// A copy of the marks.
     pub fn copy(&self) -> Marks
         ensures { result ≡ self.now }
     {

@@ -1,9 +1,11 @@
 //! The search for the free box that a request takes, through the lists of a table.
-ghost use Rattle.std.specs.Prelude.{◌≡◌, ◌≢◌, ◌+◌, ◌*◌, ◌<◌, ◌≤◌, ◌==◌, ◌⊎◌, ◌++◌, ◌∷◌, ℕ, Bool, max, true, [], map, List, None, IfSome};
+ghost use Rattle.std.specs.Prelude.{◌≡◌, ◌≢◌, ◌+◌, ◌*◌, ◌<◌, ◌≤◌, ◌==◌, ◌⊎◌, ◌++◌, ◌∷◌, ℕ, Bool, max, true, false, [], map, List, None};
+ghost use Rattle.std.specs.Prelude.{IfSome};
 ghost use Rattle.atlas_model.specs.Boxes.{Box, IsPositive, Sides};
 ghost use Rattle.atlas_model.specs.Choice.{IsFitting, IsPick, Options, class_of};
 ghost use Rattle.atlas_search.specs.Bests.{HasSeen};
-ghost use Rattle.atlas_search.specs.Heaps.{Heap, members};
+ghost use Rattle.atlas_search.specs.Forks.{IsRouted};
+ghost use Rattle.atlas_search.specs.Heaps.{Heap, IsHeap, members};
 ghost use Rattle.atlas_search.specs.Heaps.Heap.{Top};
 ghost use Rattle.atlas_search.specs.Items.{Item, item_at, shown_items};
 ghost use Rattle.atlas_search.specs.Lookups.{AreBelow, AreFreeItems, AreListed, AreNoneApart, HasAdded};
@@ -13,13 +15,16 @@ ghost use Rattle.atlas_search.specs.Masks.{IsMarked};
 ghost use Rattle.atlas_search.specs.Numbers.{no_slot};
 ghost use Rattle.atlas_search.specs.Rectangles.{IsSolid};
 ghost use Rattle.atlas_search.specs.Searches.{Shown};
-ghost use Rattle.atlas_search.specs.Ways.{IsDone, IsNext, IsShowable, first_below};
+ghost use Rattle.atlas_search.specs.Showing.{IsListShowable, IsShowable};
+ghost use Rattle.atlas_search.specs.declared.cells.Cell.{Cell};
 ghost use Rattle.atlas_model.specs.Pixels.{box_of, options_of, sides_of};
 ghost use Rattle.atlas_search.specs.Tables.{is_used_at};
 
 use crate::bands::{BANDS, Place, Scale};
 use crate::best::{Best, Found, corner};
-use crate::link::{Link, NO_SLOT};
+use crate::cells::Cell;
+use crate::cut::exact_size;
+use crate::link::Link;
 use crate::masks::Mask;
 use crate::table::Table;
 use atlas_model::{Rectangle, Size};
@@ -46,96 +51,68 @@ pub trait Entry {
     /// The entry that hangs below it to the right, or none.
     fn right(&self) -> Link
         ensures { result.number ≡ (item self.now).right };
+
+    /// Whether what hangs below it is divided by size.
+    fn is_fork(&self) -> bool
+        ensures { result ≡ (item self.now).is_fork };
 }
 
-// What hangs below an entry begins with this: what hangs to the left, or else to the right.
-fn below<E: Entry>(entry: &E) -> Link
-    ensures { result.number ≡ first_below (E.item entry.now) }
-{
-    let left = entry.left();
-    if left.number == NO_SLOT {
-        entry.right()
-    } else {
-        left
-    }
-}
-
-// Shows an entry to a search. Answers with what the entries below it begin, or none if none of them can be the best.
+// Shows an entry to a search. Answers whether one that hangs below it may be better: where it is a fork, since else those have
+// its size and come no earlier, and where the best hasn't an equal side and comes no later.
 #[inline(always)]
-fn show_entry<E: Entry>(entry: &E, at: Link, best: &mut Best) -> Link
+fn show_entry<E: Entry>(entry: &E, at: Link, best: &mut Best) -> bool
     requires { IsSolid (E.item entry.now).area }
-    ensures some { result.number ≢ no_slot → (result.number ≡ first_below (E.item entry.now))
+    ensures fork { result ≡ true → ((E.item entry.now).is_fork ≡ true)
         × ((es : List Item) → E.item entry.now ≡ item_at es at.number → HasShown es (at.number ∷ []) best.old best.new) }
-    ensures none { result.number ≡ no_slot → (es : List Item) → E.item entry.now ≡ item_at es at.number
-        → (l r : Heap) → IsShowable es at.number (Top at.number l r)
+    ensures all { result ≡ false → (es : List Item) → E.item entry.now ≡ item_at es at.number
+        → (up : ℕ) (c : Cell) (l r : Heap) → IsHeap es up at.number (Top at.number l r) → IsRouted es c (Top at.number l r)
         → HasShown es (members (Top at.number l r)) best.old best.new }
 {
     let area = entry.rectangle();
     let corner = corner(area);
     if best.passes(corner) {
-        return Link::NONE;
+        return false;
     }
     best.look(area, corner, at);
     if best.passes(corner) {
-        return Link::NONE;
+        return false;
     }
-    below(entry)
+    entry.is_fork()
 }
 
-// The entry after all that hangs below one, in a heap with this top; none if they are the last.
-#[inline(always)]
-fn climb<E: Entry>(entries: &[E], top: Link, from: Link) -> Link
-    requires { (h : Heap) × (done : List ℕ) × IsShowable (map E.item entries.now) top.number h × IsDone h from.number done }
-    ensures { (h : Heap) (done : List ℕ) → IsShowable (map E.item entries.now) top.number h → IsDone h from.number done
-        → IsNext h result.number done }
+// Shows the entries of a heap with this top and of sizes of a cell to a search, but for those that can't be the best.
+fn show<E: Entry>(entries: &[E], at: Link, cell: Cell, best: &mut Best)
+    requires { (h : Heap) × IsShowable (map E.item entries.now) cell at.number h }
+    ensures { (h : Heap) → IsShowable (map E.item entries.now) cell at.number h
+        → HasShown (map E.item entries.now) (members h) best.old best.new }
 {
-    let mut at = from;
-    while at.number != top.number {
-        let up = entries[at.number as usize].up();
-        let above = &entries[up.number as usize];
-        let right = above.right();
-        if right.number != NO_SLOT && above.left().number == at.number {
-            return right;
-        }
-        at = up;
+    if at.number as usize >= entries.len() || !best.may_be_in(cell) {
+        return;
     }
-    Link::NONE
-}
-
-// Shows the entries of a heap with this top to a search, from one on, but for what hangs below one that can't be the best.
-#[inline(never)]
-fn show_below<E: Entry>(entries: &[E], top: Link, from: Link, best: Best) -> Best
-    requires { (h : Heap) × (done : List ℕ) × IsShowable (map E.item entries.now) top.number h × IsNext h from.number done }
-    ensures { (h : Heap) (done : List ℕ) → IsShowable (map E.item entries.now) top.number h → IsNext h from.number done
-        → (is_large : Bool) (r : Sides) (shown : List Shown)
-        → HasSeen best is_large r (shown ++ shown_items (map E.item entries.now) done)
-        → HasSeen result is_large r (shown ++ shown_items (map E.item entries.now) (members h)) }
-{
-    let mut found = best;
-    let mut at = from;
-    while (at.number as usize) < entries.len() {
-        let next = show_entry(&entries[at.number as usize], at, &mut found);
-        at = if next.number == NO_SLOT {
-            climb(entries, top, at)
-        } else {
-            next
-        };
+    let entry = &entries[at.number as usize];
+    if !show_entry(entry, at, best) {
+        return;
     }
-    found
+    let halves = cell.halves();
+    show(entries, entry.left(), halves.low, best);
+    show(entries, entry.right(), halves.high, best);
 }
 
 // Shows a list that begins with this to a search.
 #[inline(always)]
 fn show_list<E: Entry>(entries: &[E], top: Link, best: &mut Best)
-    requires { (h : Heap) × IsShowable (map E.item entries.now) top.number h }
-    ensures { (h : Heap) → IsShowable (map E.item entries.now) top.number h
+    requires { (h : Heap) × IsListShowable (map E.item entries.now) top.number h }
+    ensures { (h : Heap) → IsListShowable (map E.item entries.now) top.number h
         → HasShown (map E.item entries.now) (members h) best.old best.new }
 {
-    if (top.number as usize) < entries.len() {
-        let from = show_entry(&entries[top.number as usize], top, best);
-        if from.number != NO_SLOT {
-            *best = show_below(entries, top, from, *best);
-        }
+    if top.number as usize >= entries.len() {
+        return;
+    }
+    let entry = &entries[top.number as usize];
+    if show_entry(entry, top, best) {
+        let halves = Cell::around(exact_size(entry.rectangle())).halves();
+        show(entries, entry.left(), halves.low, best);
+        show(entries, entry.right(), halves.high, best);
     }
 }
 

@@ -1,5 +1,6 @@
 -- Arrangements: how they come about, and what a sheet shows of them.
-use Rattle.std.proofs.Common.{◌≡◌, ◌≢◌, ◌+◌, ◌<◌, ◌≤◌, ℕ, zero, suc, Bool, true, inl, inr, List, [], ◌∷◌, ◌++◌, length, map, take, get_or, take_all, All, IsPermutation, Option, Some, None, IfSome, IsSome, refl, ap, sym, subst, ◌∙◌, arith}
+use Rattle.std.proofs.Common.{◌≡◌, ◌≢◌, ◌+◌, ◌<◌, ◌≤◌, ℕ, zero, suc, Bool, true, inl, inr, List, [], ◌∷◌, ◌++◌, length, map, take, get_or}
+use Rattle.std.proofs.Common.{take_all, All, IsPermutation, Option, Some, None, IfSome, IsSome, refl, ap, sym, subst, ◌∙◌, arith}
 use Rattle.std.specs.List.{AllZip, enumerate_from}
 use Rattle.std.proofs.lemmas.List.{map_push, take_more}
 use Rattle.std.proofs.lemmas.List.Elements.{All-nil, All-cons, All-head, All-tail}
@@ -31,7 +32,8 @@ pub arranged : (sheet : Sides) (spacing : Spacing) (turn : Bool) (sprites lying 
     → IsArrangement sheet spacing turn sprites choice lying order places
 arranged sheet spacing turn sprites lying choice order places positive aligned packable lies permuted count found = record {
   lies = lies;
-  good = found_places sheet spacing choice lying order places positive aligned (lie_packable spacing turn sprites lying lies packable) permuted count found;
+  good = found_places sheet spacing choice lying order places positive aligned (lie_packable spacing turn sprites lying lies packable)
+      permuted count found;
   permuted = permuted;
   found = found;
 }
@@ -44,7 +46,8 @@ pub arranged_as_given : (sheet : Sides) (spacing : Spacing) (turn : Bool) (sprit
     → FindPlaces spacing (simple_start (inner_sides spacing sheet) (choice_options spacing choice)) (with_places places order)
     → IsArrangement sheet spacing turn sprites choice sprites order places
 arranged_as_given sheet spacing turn sprites choice order places positive aligned packable permuted count found =
-    arranged sheet spacing turn sprites sprites choice order places positive aligned packable (lie_as_given turn sprites) permuted count found
+    arranged sheet spacing turn sprites sprites choice order places positive aligned packable (lie_as_given turn sprites) permuted count
+    found
 
 module _ {sheet : Sides} {spacing : Spacing} {turn : Bool} {choice : Choice} {lying : List Size} {order : List (ℕ × Size)}
     {places : List (Option Rectangle)} where
@@ -114,7 +117,8 @@ placed_good : (sheet : Sides) (spacing : Spacing) (turn : Bool) (sprite lying : 
     → IfSome place (IsPlaceFor sheet spacing lying) → IfSome p (IsPlacedFor sheet spacing turn sprite)
 placed_good sheet spacing turn sprite lying place None is turned good = tt
 placed_good sheet spacing turn sprite lying place (Some q) is turned good =
-    let here : IfSome (Some q.area) (IsPlaceFor sheet spacing lying) = subst (λ o. IfSome o (IsPlaceFor sheet spacing lying)) (sym is) good in
+    let here : IfSome (Some q.area) (IsPlaceFor sheet spacing lying) = subst (λ o. IfSome o (IsPlaceFor sheet spacing lying)) (sym is) good
+    in
     record {
       place = subst (λ s. IsPlaceFor sheet spacing s q.area) (sym turned.0) here;
       allowed = turned.1;
@@ -145,10 +149,12 @@ module _ {sheet : Sides} {spacing : Spacing} {turn : Bool} {sprites lying : List
       let in_lying : k < length lying = omega (arith, long.0, long.1) in
       let in_places : k < length places = omega (arith, long.0, long.1) in
       let lies : MayLie turn sprite l =
-      subst (λ x. MayLie turn x l) (sym s_is) (subst (MayLie turn (get_or sprites k sprite)) (sym l_is) (zip_at (MayLie turn) sprites lying k sprite l are.lies inside)) in
+      subst (λ x. MayLie turn x l) (sym s_is) (subst (MayLie turn (get_or sprites k sprite)) (sym l_is)
+      (zip_at (MayLie turn) sprites lying k sprite l are.lies inside)) in
       let R : Size → Option Rectangle → Type 0 = λ sprite place. IfSome place (IsPlaceFor sheet spacing sprite) in
       let good : R l place =
-      subst (λ x. R x place) (sym l_is) (subst (R (get_or lying k l)) (sym place_is) (zip_at R lying places k l place are.good.each in_lying)) in
+      subst (λ x. R x place) (sym l_is) (subst (R (get_or lying k l)) (sym place_is)
+      (zip_at R lying places k l place are.good.each in_lying)) in
       let one : ShowsPlace sheet spacing turn sprite p = placed_good sheet spacing turn sprite l place p area (turned lies) good in
       let more_sprites : take (k + 1) sprites ≡ take k sprites ++ sprite ∷ [] =
       take_more sprites k sprite inside ∙ ap (λ x. take k sprites ++ x ∷ []) (sym s_is) in
@@ -166,8 +172,11 @@ module _ {sheet : Sides} {spacing : Spacing} {turn : Bool} {sprites lying : List
       → (areas_of placed ≡ places) × AllZip (ShowsPlace sheet spacing turn) sprites placed
   shown_all k placed end shown =
       let long = as_long are in
-      let past : length sprites ≤ k = omega (arith, long.0, long.1) in
-      (shown.areas ∙ take_all k places end, subst (λ xs. AllZip (ShowsPlace sheet spacing turn) xs placed) (take_all k sprites past) shown.each)
+      let past : length sprites ≤ k = omega (arith, long.0, long.1) in (
+        shown.areas ∙ take_all k places end,
+        subst (λ xs. AllZip (ShowsPlace sheet spacing turn) xs placed) (take_all k sprites past)
+            shown.each,
+      )
 
 -- Where each place is there, each is shown.
 pub shown_whole : (placed : List (Option Placed)) (places : List (Option Rectangle)) → areas_of placed ≡ places
@@ -181,7 +190,8 @@ shown_whole placed places is each = each_shown placed (subst (All IsSome) (sym i
     each_shown : (placed : List (Option Placed)) → All IsSome (areas_of placed) → All IsSome placed
     each_shown [] all = All-nil IsSome
     each_shown (p ∷ placed) all =
-        All-cons IsSome p placed (one p (All-head IsSome (placed_area p) (areas_of placed) all)) (each_shown placed (All-tail IsSome (placed_area p) (areas_of placed) all))
+        All-cons IsSome p placed (one p (All-head IsSome (placed_area p) (areas_of placed) all))
+        (each_shown placed (All-tail IsSome (placed_area p) (areas_of placed) all))
 
 -- Places that are there are there.
 pub all_some : (places : List Rectangle) → All IsSome (map Some places)

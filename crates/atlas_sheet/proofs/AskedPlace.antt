@@ -1,5 +1,6 @@
 -- One sprite that asks for a place.
-use Rattle.std.proofs.Common.{◌≡◌, ◌+◌, ◌-◌, ◌/◌, ◌%◌, ◌≤◌, ℕ, Bool, false, not, ◌&&◌, eqb, List, ◌∷◌, ◌++◌, All, ap, sym, subst, ◌∙◌, Option, Some, None, IfSome, is_some, arith}
+use Rattle.std.proofs.Common.{◌≡◌, ◌+◌, ◌-◌, ◌/◌, ◌%◌, ◌≤◌, ℕ, Bool, false, not, ◌&&◌, eqb, List, ◌∷◌, ◌++◌, All, ap, sym, subst, ◌∙◌}
+use Rattle.std.proofs.Common.{Option, Some, None, IfSome, is_some, arith}
 use Rattle.std.specs.List.{count_by}
 use Rattle.std.proofs.Math.Nat.{add-mul-mod_self_right}
 use Rattle.std.proofs.lemmas.Bool.{false≢true}
@@ -69,8 +70,10 @@ shrunk s box small held inside guarded = record {
   disjoint = λ x y.
       let rest = held ++ s.free in
       let all : count_by (covers x y) (box ∷ rest) ≤ 1 = guarded.disjoint x y in
-      let a : count_by (covers x y) (box ∷ rest) ≡ one_if (covers x y box) + count_by (covers x y) rest = count_by-cons (covers x y) box rest in
-      let b : count_by (covers x y) (small ∷ rest) ≡ one_if (covers x y small) + count_by (covers x y) rest = count_by-cons (covers x y) small rest in
+      let a : count_by (covers x y) (box ∷ rest) ≡ one_if (covers x y box) + count_by (covers x y) rest =
+      count_by-cons (covers x y) box rest in
+      let b : count_by (covers x y) (small ∷ rest) ≡ one_if (covers x y small) + count_by (covers x y) rest =
+      count_by-cons (covers x y) small rest in
       let c : one_if (covers x y small) ≤ one_if (covers x y box) = covers_inside small box x y inside in
       let d : count_by (covers x y) (small ∷ rest) ≤ 1 = omega arith in
       d;
@@ -81,11 +84,13 @@ stays_on : (m n a : ℕ) → m % a ≡ 0 → (m + up n a) % a ≡ 0
 stays_on m n a is = add-mul-mod_self_right m ((n + (a - 1)) / a) a ∙ is
 
 -- What is left of a box begins on multiples of the alignment where the box does.
-split_on_grid : (axis : Axis) (f : Box) (o : Options) (s : Sides) → IsOnGrid o.alignment f.min → IsOnGrid o.alignment (split_along axis f (rounded o s)).min
+split_on_grid : (axis : Axis) (f : Box) (o : Options) (s : Sides) → IsOnGrid o.alignment f.min →
+    IsOnGrid o.alignment (split_along axis f (rounded o s)).min
 split_on_grid Horizontal f o s is = (stays_on f.min.x s.width o.alignment.width is.0, is.1)
 split_on_grid Vertical f o s is = (is.0, stays_on f.min.y s.height o.alignment.height is.1)
 
-leftover_on_grid : (axis : Axis) (f : Box) (o : Options) (s : Sides) → IsOnGrid o.alignment f.min → IsOnGrid o.alignment (leftover_along axis f (rounded o s)).min
+leftover_on_grid : (axis : Axis) (f : Box) (o : Options) (s : Sides) → IsOnGrid o.alignment f.min →
+    IsOnGrid o.alignment (leftover_along axis f (rounded o s)).min
 leftover_on_grid Horizontal f o s is = (is.0, stays_on f.min.y s.height o.alignment.height is.1)
 leftover_on_grid Vertical f o s is = (stays_on f.min.x s.width o.alignment.width is.0, is.1)
 
@@ -105,7 +110,8 @@ on_grid a b is = grind (arith, nat_tests)
 abbrev pub AreOnGrid : Sides → List Box → Type 0
 AreOnGrid a boxes = All (λ b. IsOnGrid a b.min) boxes
 
-module _ (old new : SimpleState) (s : Sides) (box : Box) (grants : SimplyGrants old s box new) (each : AreOnGrid old.options.alignment old.free) where
+module _ (old new : SimpleState) (s : Sides) (box : Box) (grants : SimplyGrants old s box new)
+    (each : AreOnGrid old.options.alignment old.free) where
   picked_on_grid : IsOnGrid old.options.alignment grants.picked.min
   picked_on_grid =
       All-contains (λ b. IsOnGrid old.options.alignment b.min) old.free grants.picked each grants.pick.best.candidate.fitting.is_free
@@ -121,9 +127,12 @@ module _ (old new : SimpleState) (s : Sides) (box : Box) (grants : SimplyGrants 
       let axis = cut_axis (box_sides f) r in
       let bad : Box → Bool = askew a in
       let kept = kept_rest old.options f r in
-      let none : count_by bad old.free ≡ 0 = count-none bad old.free (All-weaker (λ b. IsOnGrid a b.min) (λ b. bad b ≡ false) (not_askew a) old.free each) in
-      let split : bad (split_along axis f r) ≡ false = not_askew a (split_along axis f r) (split_on_grid axis f old.options s picked_on_grid) in
-      let leftover : bad (leftover_along axis f r) ≡ false = not_askew a (leftover_along axis f r) (leftover_on_grid axis f old.options s picked_on_grid) in
+      let none : count_by bad old.free ≡ 0 = count-none bad old.free (All-weaker (λ b. IsOnGrid a b.min) (λ b. bad b ≡ false) (not_askew a)
+      old.free each) in
+      let split : bad (split_along axis f r) ≡ false = not_askew a (split_along axis f r)
+      (split_on_grid axis f old.options s picked_on_grid) in
+      let leftover : bad (leftover_along axis f r) ≡ false = not_askew a (leftover_along axis f r)
+      (leftover_on_grid axis f old.options s picked_on_grid) in
       let x : one_if (bad (split_along axis f r)) ≡ 0 = ap one_if split in
       let y : one_if (bad (leftover_along axis f r)) ≡ 0 = ap one_if leftover in
       let few : count_by bad kept ≤ one_if (bad (split_along axis f r)) + one_if (bad (leftover_along axis f r)) =

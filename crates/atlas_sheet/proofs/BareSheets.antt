@@ -1,5 +1,6 @@
 -- Sprites that have room in an empty sheet: one of them finds it.
-use Rattle.std.proofs.Common.{◌≡◌, ◌+◌, ◌*◌, ◌<◌, ◌≤◌, ℕ, zero, suc, Bool, true, false, ◌&&◌, List, [], ◌∷◌, length, get_or, All, Option, Some, None, IsNone, IsTrue, refl, ap, sym, subst, arith}
+use Rattle.std.proofs.Common.{◌≡◌, ◌+◌, ◌*◌, ◌<◌, ◌≤◌, ℕ, zero, suc, Bool, true, false, ◌&&◌, List, [], ◌∷◌, length, get_or, All, Option}
+use Rattle.std.proofs.Common.{Some, None, IsNone, IsTrue, refl, ap, sym, subst, arith}
 use Rattle.std.specs.List.{enumerate_from}
 use Rattle.std.proofs.lemmas.Bool.{false≢true, leb-true}
 use Rattle.std.proofs.lemmas.List.Elements.{All-head, All-tail}
@@ -18,7 +19,8 @@ use Rattle.atlas_sheet.specs.declared.ways.Choice.{Choice}
 use Rattle.atlas_sheet.specs.declared.ways.Way.{Way}
 use Rattle.atlas_sheet.specs.Lying.{areas_of}
 use Rattle.atlas_sheet.specs.Orders.{choice_options}
-use Rattle.atlas_sheet.specs.Sheets.{AreFoundBy, FindPlaces, FindsPlace, IsPackable, asked_sides, inner_sides, place_area, used_area, with_places}
+use Rattle.atlas_sheet.specs.Sheets.{AreFoundBy, FindPlaces, FindsPlace, IsPackable, asked_sides, inner_sides, place_area, used_area}
+use Rattle.atlas_sheet.specs.Sheets.{with_places}
 use Rattle.atlas_sheet.specs.Turnings.{has_room}
 use Rattle.atlas_sheet.proofs.NumberedSprites.{order_all}
 use Rattle.atlas_sheet.proofs.WholeSheets.{choice_alignment}
@@ -92,7 +94,8 @@ module _ (sheet : Sides) (spacing : Spacing) (choice : Choice) where
           let low : (box_of p).max.y ≡ step.0.min.y + ((sides_of s).height + spacing.padding) = ap (λ b. b.max.y) step.2 in
           let x = ap (λ b. b.min.x) step.2 in
           let y = ap (λ b. b.min.y) step.2 in
-          let area : 0 < place_area (Some p) = some_product _ _ (omega (arith, left, x, step.3, wide)) (omega (arith, low, y, step.4, high)) in
+          let area : 0 < place_area (Some p) = some_product _ _ (omega (arith, left, x, step.3, wide)) (omega (arith, low, y, step.4, high))
+          in
           let part = part_area others k p is in
           omega (arith, area, part)
 

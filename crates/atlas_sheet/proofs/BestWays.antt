@@ -1,5 +1,6 @@
 -- Ways that are tried one after another, and the best of them so far.
-use Rattle.std.proofs.Common.{◌≡◌, ◌<◌, ◌≤◌, ℕ, zero, suc, List, [], length, take, get_or, take_all, All, Option, refl, ap, sym, subst, arith}
+use Rattle.std.proofs.Common.{◌≡◌, ◌<◌, ◌≤◌, ℕ, zero, suc, List, [], length, take, get_or, take_all, All, Option, refl, ap, sym, subst}
+use Rattle.std.proofs.Common.{arith}
 use Rattle.std.specs.Prelude.{Contains}
 use Rattle.std.proofs.Math.Seq.{take-suc}
 use Rattle.std.proofs.lemmas.List.Elements.{All-nil, All-push, All-weaker, Contains-get_or}
@@ -74,7 +75,8 @@ module _ (sheet : Sides) (spacing : Spacing) (sprites : List Size) (ways : List 
         begun = λ _. before.begun begun;
         best = all_more (IsNoBetter sheet spacing sprites most) ways k d inside before.best (asked, found, are, omega arith);
         last = λ _. subst (λ l. StandsBefore (FindsFewer sheet spacing sprites most) l best) (sym (take-suc ways k d inside))
-            (stands_earlier (FindsFewer sheet spacing sprites most) (take k ways) best (get_or ways k d) (asked, found, are, omega (arith, less, is))
+            (stands_earlier (FindsFewer sheet spacing sprites most) (take k ways) best (get_or ways k d)
+            (asked, found, are, omega (arith, less, is))
             (before.last begun));
       }
     where

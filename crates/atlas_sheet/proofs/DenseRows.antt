@@ -1,5 +1,6 @@
 -- Smaller and smaller sheets that are tried without guillotine cuts: the last one that was found, and the next smaller.
-use Rattle.std.proofs.Common.{◌≡◌, ◌+◌, ◌-◌, ◌*◌, ◌<◌, ◌≤◌, ℕ, true, List, Option, Some, None, IfNone, IfSome, IsSome, MatchOption, is_some, ap, inl, inr, sym, subst, arith}
+use Rattle.std.proofs.Common.{◌≡◌, ◌+◌, ◌-◌, ◌*◌, ◌<◌, ◌≤◌, ℕ, true, List, Option, Some, None, IfNone, IfSome, IsSome, MatchOption, is_some}
+use Rattle.std.proofs.Common.{ap, inl, inr, sym, subst, arith}
 use Rattle.std.proofs.lemmas.Bool.{cases_lt, false≢true}
 use Rattle.guillotiere.specs.declared.Size.{Size}
 use Rattle.guillotiere.specs.Boxes.{IsPositive, Sides}
@@ -7,7 +8,8 @@ use Rattle.guillotiere.specs.Pixels.{natural, sides_of}
 use Rattle.atlas_sheet.specs.declared.allowed.Allowed.{Allowed}
 use Rattle.atlas_sheet.specs.declared.allowed.Allowed.TheVariants as allowed
 use Rattle.atlas_sheet.specs.declared.options.SheetOptions.{SheetOptions}
-use Rattle.atlas_sheet.specs.Allowances.{ComesBefore, HasNoSmaller, IsAllowed, IsGreatest, IsNextSmaller, IsRow, IsUsable, nth_sides, pixels, row_length}
+use Rattle.atlas_sheet.specs.Allowances.{ComesBefore, HasNoSmaller, IsAllowed, IsGreatest, IsNextSmaller, IsRow, IsUsable, nth_sides}
+use Rattle.atlas_sheet.specs.Allowances.{pixels, row_length}
 use Rattle.atlas_sheet.specs.Dense.{IsLeastDense, LeavesDense, NoneIsDense}
 use Rattle.atlas_sheet.proofs.Rows.{before_nth, last_greatest, nth_allowed}
 use Rattle.atlas_sheet.proofs.Steps.{fewer_pixels, next_same}
@@ -77,13 +79,14 @@ row_comes (allowed.Heights width greatest) s sheet row next = next
 
 -- A row in which all sizes up to `low` are known to leave a sprite, if they are smaller than the best sheet, and from `high` on none is
 -- smaller.
-pub record IsDensed {T : Type 0} (size_of : T → Sides) (o : SheetOptions) (sprites : List Size) (low high : ℕ) (best : Option T) : Type 0 where
-  pub order : low ≤ high
-  pub within : high ≤ row_length o.allowed
-  pub fails : 0 < low → LeavesDense o sprites (nth_sides o.allowed (low - 1))
-  pub above : 0 < low → IfSome best (λ b. pixels (nth_sides o.allowed (low - 1)) < pixels (size_of b))
-  pub known : MatchOption best (high ≡ row_length o.allowed)
-      (λ b. high < row_length o.allowed → pixels (size_of b) ≤ pixels (nth_sides o.allowed high))
+pub record IsDensed {T : Type 0} (size_of : T → Sides) (o : SheetOptions) (sprites : List Size) (low high : ℕ) (best : Option T) : Type 0
+  where
+    pub order : low ≤ high
+    pub within : high ≤ row_length o.allowed
+    pub fails : 0 < low → LeavesDense o sprites (nth_sides o.allowed (low - 1))
+    pub above : 0 < low → IfSome best (λ b. pixels (nth_sides o.allowed (low - 1)) < pixels (size_of b))
+    pub known : MatchOption best (high ≡ row_length o.allowed)
+        (λ b. high < row_length o.allowed → pixels (size_of b) ≤ pixels (nth_sides o.allowed high))
 
 pub densed_first : {T : Type 0} (size_of : T → Sides) (o : SheetOptions) (sprites : List Size) (count : ℕ) (best : Option T)
     → count ≡ row_length o.allowed → IsDensed size_of o sprites 0 count best
@@ -100,12 +103,14 @@ densed_first {T} size_of o sprites count best is = record {
     at None = is
     at (Some b) = λ less. absurd (omega (arith, is, less))
 
-module _ {T : Type 0} (size_of : T → Sides) (o : SheetOptions) (sprites : List Size) (low high middle : ℕ) (from : low ≤ middle) (to : middle < high)
+module _ {T : Type 0} (size_of : T → Sides) (o : SheetOptions) (sprites : List Size) (low high middle : ℕ) (from : low ≤ middle)
+    (to : middle < high)
     (row : IsRow o.allowed) (usable : IsUsable o.allowed) where
   -- The middle one leaves a sprite.
   pub densed_up : (found best next : Option T) → MatchOption found (next ≡ best) (λ t. next ≡ Some t)
       → IfSome found (λ t. size_of t ≡ nth_sides o.allowed middle)
-      → IfNone found (IfSome best (λ b. pixels (nth_sides o.allowed middle) < pixels (size_of b)) → LeavesDense o sprites (nth_sides o.allowed middle))
+      → IfNone found (IfSome best (λ b. pixels (nth_sides o.allowed middle) < pixels (size_of b)) →
+      LeavesDense o sprites (nth_sides o.allowed middle))
       → IfSome next (λ b. pixels (nth_sides o.allowed middle) < pixels (size_of b))
       → IsDensed size_of o sprites low high best → IsDensed size_of o sprites (middle + 1) high next
   densed_up (Some t) best next is at left smaller before =
@@ -142,7 +147,8 @@ module _ {T : Type 0} (size_of : T → Sides) (o : SheetOptions) (sprites : List
             omega (arith, less, same);
         known = λ _. omega (arith, same);
       })
-  densed_down None None next is at not before = absurd (not (subst (λ b. IfSome b (λ b. pixels (nth_sides o.allowed middle) < pixels (size_of b))) (sym is) tt))
+  densed_down None None next is at not before = absurd (not (subst (λ b. IfSome b
+      (λ b. pixels (nth_sides o.allowed middle) < pixels (size_of b))) (sym is) tt))
   densed_down None (Some b) next is at not before =
       subst (IsDensed size_of o sprites low middle) (sym is)
       (record {
@@ -157,7 +163,8 @@ module _ {T : Type 0} (size_of : T → Sides) (o : SheetOptions) (sprites : List
       })
 
 -- The end of the row.
-module _ {T : Type 0} (size_of : T → Sides) (o : SheetOptions) (sprites : List Size) (low high : ℕ) (row : IsRow o.allowed) (usable : IsUsable o.allowed)
+module _ {T : Type 0} (size_of : T → Sides) (o : SheetOptions) (sprites : List Size) (low high : ℕ) (row : IsRow o.allowed)
+    (usable : IsUsable o.allowed)
     (end : high ≤ low) where
   pub densed_least : (best : Option T) → IfSome best (λ b. IsAllowed o.allowed (size_of b)) → IsDensed size_of o sprites low high best
       → IfSome best (λ b. IsLeastDense o sprites (size_of b))
@@ -219,7 +226,8 @@ module _ {T : Type 0} (size_of : T → Sides) (o : SheetOptions) (sprites : List
       → IfSome best (λ b. IsLeastDense o sprites (size_of b))
   tried_least None size trying left = tt
   tried_least (Some b) size trying left = λ s is smaller.
-      subst (LeavesDense o sprites) (next_same o.allowed (size_of b) (sides_of size) s trying.allowed is trying.step.0 smaller) (left trying.step.1)
+      subst (LeavesDense o sprites) (next_same o.allowed (size_of b) (sides_of size) s trying.allowed is trying.step.0 smaller)
+      (left trying.step.1)
 
   pub tried_none : (best : Option T) (size : Size) → IsTrying size_of o best (Some size)
       → (IfSome best (λ b. pixels (sides_of size) < pixels (size_of b)) → LeavesDense o sprites (sides_of size))

@@ -1,5 +1,6 @@
 -- Sheets with no guillotine cuts, beside the best one so far.
-use Rattle.std.proofs.Common.{◌≡◌, ◌<◌, List, length, map, All, Option, Some, None, IfNone, IfSome, MatchOption, false, ap, inl, inr, sym, subst, ◌∙◌, ℕ, arith}
+use Rattle.std.proofs.Common.{◌≡◌, ◌<◌, List, length, map, All, Option, Some, None, IfNone, IfSome, MatchOption, false, ap, inl, inr, sym}
+use Rattle.std.proofs.Common.{subst, ◌∙◌, ℕ, arith}
 use Rattle.std.specs.List.{AllZip}
 use Rattle.std.proofs.lemmas.List.{length-map}
 use Rattle.std.proofs.lemmas.List.Elements.{All-weaker}
@@ -28,7 +29,8 @@ each_weaker : (o : SheetOptions) (sprites : List Size) (P Q : List Size → Type
     → InEach o sprites P
     → InEach o sprites Q
 each_weaker o sprites P Q weaker each =
-    All-weaker (λ how. (lying : List Size) × AreLaid o how sprites lying × P lying) (λ how. (lying : List Size) × AreLaid o how sprites lying × Q lying)
+    All-weaker (λ how. (lying : List Size) × AreLaid o how sprites lying × P lying)
+    (λ how. (lying : List Size) × AreLaid o how sprites lying × Q lying)
     (λ how is. (is.0, is.1, weaker is.0 is.2)) (turnings o.turn) each
 
 smaller_yet : (o : SheetOptions) (s t : Sides) (l : List Size) → pixels s < pixels t → IsNoLarger WAYS o.allowed (spacing_of o) l t
@@ -46,7 +48,8 @@ pub may_try : {T : Type 0} (best : Option T) (size_of : T → Sides) (o : SheetO
     → IfSome best (λ b. IsNoLargerThanWays o sprites (size_of b)) → IfNone best (NoWayFinds o sprites)
     → IfSome best (λ b. pixels s < pixels (size_of b)) → IsSmallerThanWays o sprites s
 may_try None size_of o sprites s larger none few =
-    each_weaker o sprites (λ l. NoneIsFound WAYS o.allowed (spacing_of o) l) (λ l. IsSmaller WAYS o.allowed (spacing_of o) l s) (λ l no. inl no) none
+    each_weaker o sprites (λ l. NoneIsFound WAYS o.allowed (spacing_of o) l) (λ l. IsSmaller WAYS o.allowed (spacing_of o) l s)
+    (λ l no. inl no) none
 may_try (Some b) size_of o sprites s larger none few =
     each_weaker o sprites (λ l. IsNoLarger WAYS o.allowed (spacing_of o) l (size_of b))
     (λ l. IsSmaller WAYS o.allowed (spacing_of o) l s)
@@ -54,7 +57,8 @@ may_try (Some b) size_of o sprites s larger none few =
 
 no_larger_yet : (o : SheetOptions) (sprites : List Size) (s : Sides) → IsSmallerThanWays o sprites s → IsNoLargerThanWays o sprites s
 no_larger_yet o sprites s smaller =
-    each_weaker o sprites (λ l. IsSmaller WAYS o.allowed (spacing_of o) l s) (λ l. IsNoLarger WAYS o.allowed (spacing_of o) l s) (still_no_larger o s) smaller
+    each_weaker o sprites (λ l. IsSmaller WAYS o.allowed (spacing_of o) l s) (λ l. IsNoLarger WAYS o.allowed (spacing_of o) l s)
+    (still_no_larger o s) smaller
 
 -- What holds of what was found and of the best one holds of the newer.
 pub newer_some : {T : Type 0} (P : T → Type 0) (found best next : Option T)
@@ -90,7 +94,8 @@ whole_sheet o sprites sheet opts now areas order somes found same area copied by
     numbered = order;
     by = by;
     numbers = copied;
-    found = subst (λ ps. FindAllTopmost (spacing_of o) (empty_grid (spacing_of o) (sides_of sheet.size)) (with_places (areas_of ps) order)) (sym somes) topmost;
+    found = subst (λ ps. FindAllTopmost (spacing_of o) (empty_grid (spacing_of o) (sides_of sheet.size)) (with_places (areas_of ps) order))
+        (sym somes) topmost;
     upright = subst (All IsUpright) (sym somes) upright;
   });
 }
@@ -122,7 +127,8 @@ module _ {A : Type 0} {o : SheetOptions} {sprites : List Size} {sheet : Sheet A}
   pub whole_count : length sheet.places.items ≡ length sprites
   whole_count =
       sym (length-map sheet.places.items Some)
-      ∙ AllZip-long (λ sprite p. IfSome p (IsPlacedFor (sides_of sheet.size) (spacing_of o) o.turn sprite)) sprites (map Some sheet.places.items) whole.each
+      ∙ AllZip-long (λ sprite p. IfSome p (IsPlacedFor (sides_of sheet.size) (spacing_of o) o.turn sprite)) sprites
+      (map Some sheet.places.items) whole.each
 
   pub whole_inside : All (λ p. IsWithin (sides_of sheet.size) (box_of p.area)) sheet.places.items
   whole_inside = inside_each (sides_of sheet.size) (spacing_of o) o.turn sprites sheet.places.items whole.each

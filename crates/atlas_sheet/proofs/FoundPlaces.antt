@@ -1,5 +1,6 @@
 -- Sprites that ask one after another: what those before one have found, and what holds of all.
-use Rattle.std.proofs.Common.{◌≡◌, ◌≢◌, ◌==◌, ◌+◌, ◌<◌, ◌≤◌, ℕ, suc, Bool, List, [], ◌∷◌, ◌++◌, length, take, drop, set, get_or, take_all, append-nil, All, Option, refl, ap, sym, subst, ◌∙◌, arith}
+use Rattle.std.proofs.Common.{◌≡◌, ◌≢◌, ◌==◌, ◌+◌, ◌<◌, ◌≤◌, ℕ, suc, Bool, List, [], ◌∷◌, ◌++◌, length, take, drop, set, get_or, take_all}
+use Rattle.std.proofs.Common.{append-nil, All, Option, refl, ap, sym, subst, ◌∙◌, arith}
 use Rattle.std.specs.List.{count_by}
 use Rattle.std.proofs.Math.Seq.{drop-cons, take-suc}
 use Rattle.std.proofs.lemmas.Bool.{eq-eqb}
@@ -42,8 +43,10 @@ places_elsewhere : (places : List (Option Rectangle)) (n : ℕ) (found : Option 
     → with_places (set places n found) xs ≡ with_places places xs
 places_elsewhere places n found [] other = refl
 places_elsewhere places n found (s ∷ xs) other =
-    let here : place_of_sprite (set places n found) s ≡ place_of_sprite places s = elsewhere places n found s (All-head (λ s. s.0 ≢ n) s xs other) in
-    let later : with_places (set places n found) xs ≡ with_places places xs = places_elsewhere places n found xs (All-tail (λ s. s.0 ≢ n) s xs other) in
+    let here : place_of_sprite (set places n found) s ≡ place_of_sprite places s =
+    elsewhere places n found s (All-head (λ s. s.0 ≢ n) s xs other) in
+    let later : with_places (set places n found) xs ≡ with_places places xs = places_elsewhere places n found xs
+    (All-tail (λ s. s.0 ≢ n) s xs other) in
     λ i. (s.1, here i) ∷ later i
 
 -- The number of a sprite isn't that of one before it.
@@ -52,9 +55,11 @@ unused : (order : List (ℕ × Size)) (k : ℕ) (s : ℕ × Size) → AreNumbere
     → All (λ t. t.0 ≢ s.0) (take k order)
 unused order k s once split =
     let p : ℕ × Size → Bool = λ t. t.0 == s.0 in
-    let parts : count_by p (take k order ++ drop k order) ≡ count_by p (take k order) + count_by p (drop k order) = count_by-append p (take k order) (drop k order) in
+    let parts : count_by p (take k order ++ drop k order) ≡ count_by p (take k order) + count_by p (drop k order) =
+    count_by-append p (take k order) (drop k order) in
     let whole : count_by p (take k order ++ drop k order) ≡ count_by p order = ap (count_by p) (take-append-drop k order) in
-    let later : count_by p (drop k order) ≡ one_if (s.0 == s.0) + count_by p (drop (suc k) order) = ap (count_by p) split ∙ count_by-cons p s (drop (suc k) order) in
+    let later : count_by p (drop k order) ≡ one_if (s.0 == s.0) + count_by p (drop (suc k) order) = ap (count_by p) split ∙
+    count_by-cons p s (drop (suc k) order) in
     let hit : one_if (s.0 == s.0) ≡ 1 = ap one_if (eq-eqb s.0 s.0 refl) in
     let few : count_by p order ≤ 1 = once s.0 in
     others s.0 (take k order) (omega arith)
@@ -78,8 +83,10 @@ module _ (order : List (ℕ × Size)) (k : ℕ) (places : List (Option Rectangle
       ∙ map-append (λ t. (t.1, place_of_sprite (set places s.0 found) t)) (take k order) (s ∷ [])
       ∙ (λ i. places_elsewhere places s.0 found (take k order) (unused order k s once split) i ++ (s.1, here i) ∷ [])
 
-module _ (spacing : Spacing) (start now next : SimpleState) (order : List (ℕ × Size)) (k : ℕ) (places : List (Option Rectangle)) (s d : ℕ × Size)
-    (found : Option Rectangle) (once : AreNumberedOnce order) (inside : k < length order) (is : s ≡ get_or order k d) (room : s.0 < length places)
+module _ (spacing : Spacing) (start now next : SimpleState) (order : List (ℕ × Size)) (k : ℕ) (places : List (Option Rectangle))
+    (s d : ℕ × Size)
+    (found : Option Rectangle) (once : AreNumberedOnce order) (inside : k < length order) (is : s ≡ get_or order k d)
+    (room : s.0 < length places)
     (step : FindsPlace spacing now s.1 found next) (before : HaveFound spacing start now (with_places places (take k order))) where
   pub more : HaveFound spacing start next (with_places (set places s.0 found) (take (suc k) order))
   more later asked =

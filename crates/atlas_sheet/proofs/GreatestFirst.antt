@@ -1,5 +1,6 @@
 -- Sprites that were sorted by a key, the greatest first.
-use Rattle.std.proofs.Common.{◌≡◌, ◌+◌, ◌<◌, ◌≤◌, ℕ, true, false, not, ◌&&◌, List, length, get_or, Less, Equal, Greater, Ordering, is_lt, nat_cmp, ap, refl, subst, arith}
+use Rattle.std.proofs.Common.{◌≡◌, ◌+◌, ◌<◌, ◌≤◌, ℕ, true, false, not, ◌&&◌, List, length, get_or, Less, Equal, Greater, Ordering, is_lt}
+use Rattle.std.proofs.Common.{nat_cmp, ap, refl, subst, arith}
 use Rattle.std.specs.List.{AllAdjacentBelow, enumerate_from}
 use Rattle.std.specs.List.Sorted.{IsSortedByKey, IsStableByKey}
 use Rattle.std.specs.Ordering.{MatchOrdering}

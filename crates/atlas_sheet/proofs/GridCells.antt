@@ -1,5 +1,6 @@
 -- Sprites in a grid of cells.
-use Rattle.std.proofs.Common.{◌≡◌, ◌+◌, ◌-◌, ◌*◌, ◌/◌, ◌%◌, ◌<◌, ◌≤◌, ℕ, zero, suc, Bool, true, false, List, [], ◌∷◌, ◌++◌, length, set, get_or, replicate, All, Option, Some, None, IfSome, refl, ap, sym, subst, ◌∙◌, arith}
+use Rattle.std.proofs.Common.{◌≡◌, ◌+◌, ◌-◌, ◌*◌, ◌/◌, ◌%◌, ◌<◌, ◌≤◌, ℕ, zero, suc, Bool, true, false, List, [], ◌∷◌, ◌++◌, length, set}
+use Rattle.std.proofs.Common.{get_or, replicate, All, Option, Some, None, IfSome, refl, ap, sym, subst, ◌∙◌, arith}
 use Rattle.std.specs.List.{AllZip, count_by}
 use Rattle.std.proofs.Math.Nat.{mul-le-mul_right, mul-mod_left}
 use Rattle.std.proofs.lemmas.List.{length-map, map-set}
@@ -109,14 +110,17 @@ counted_more spacing old new sprite place placed n aligned below t before x y =
     let all = areas_of placed in
     let long : length all ≡ length placed = length-map placed placed_area in
     let room : n < length all = omega (arith, long, below) in
-    let written : areas_of (set placed n (Some (upright place))) ≡ set all n (Some place) = map-set placed_area placed n (Some (upright place)) in
-    let one : count_by q (set all n (Some place)) + one_if (q (get_or all n None)) ≡ count_by q all + one_if (covers x y (padded spacing.padding place)) =
+    let written : areas_of (set placed n (Some (upright place))) ≡ set all n (Some place) =
+    map-set placed_area placed n (Some (upright place)) in
+    let one : count_by q (set all n (Some place)) + one_if (q (get_or all n None)) ≡ count_by q all + one_if
+    (covers x y (padded spacing.padding place)) =
     sum_by-set (λ k. one_if (q k)) all n (Some place) None room in
     let is : count_by q (areas_of (set placed n (Some (upright place)))) ≡ count_by q (set all n (Some place)) = ap (count_by q) written in
     let few = before x y in
     let here = covered_cell spacing old new sprite place x y aligned t in
     let next : count_by r new.placed ≡ count_by r (old.placed ++ t.cells ∷ []) = ap (λ (p : Placing). count_by r p.placed) t.taken in
-    let parts : count_by r (old.placed ++ t.cells ∷ []) ≡ count_by r old.placed + count_by r (t.cells ∷ []) = count_by-append r old.placed (t.cells ∷ []) in
+    let parts : count_by r (old.placed ++ t.cells ∷ []) ≡ count_by r old.placed + count_by r (t.cells ∷ []) =
+    count_by-append r old.placed (t.cells ∷ []) in
     let last : count_by r (t.cells ∷ []) ≡ one_if (r t.cells) + count_by r [] = count_by-cons r t.cells [] in
     let none : count_by r [] ≡ 0 = refl in
     omega (arith, one, is, few, here, next, parts, last, none)
@@ -154,8 +158,10 @@ placed_for sheet spacing old new sprite place positive packable grid t =
       sides = λ i. record { width = across i; height = down i };
       left = left;
       above = above;
-      right = fits_side sheet.width spacing.padding (sides_of sprite).width (box_of place).max.x positive.0 packable.positive.0 (omega (arith, b)) wide;
-      below = fits_side sheet.height spacing.padding (sides_of sprite).height (box_of place).max.y positive.1 packable.positive.1 (omega (arith, d)) high;
+      right = fits_side sheet.width spacing.padding (sides_of sprite).width (box_of place).max.x positive.0 packable.positive.0
+          (omega (arith, b)) wide;
+      below = fits_side sheet.height spacing.padding (sides_of sprite).height (box_of place).max.y positive.1 packable.positive.1
+          (omega (arith, d)) high;
       aligned = (
         subst (λ k. k % w ≡ 0) (sym a) (mul-mod_left t.cells.min.x w),
         subst (λ k. k % h ≡ 0) (sym c) (mul-mod_left t.cells.min.y h),
@@ -278,7 +284,8 @@ going_more o sheet sprites old new spacing placed n d place p lying same positiv
       small = subst (λ g. IsSmallGrid g s) keeps before.small;
       disjoint = disjoint_more s old new (get_or sprites n d) place t before.disjoint;
       each = all_more o sheet sprites placed n d place before.each below
-          (placed_for sheet s old new (get_or sprites n d) place positive (All-get_or (IsPackable s) sprites n d below packable) before.grid t);
+          (placed_for sheet s old new (get_or sprites n d) place positive (All-get_or (IsPackable s) sprites n d below packable) before.grid
+          t);
       counted = counted_more s old new (get_or sprites n d) place placed n aligned (omega (arith, long, below)) t before.counted;
       unturned = All-set IsUpright placed n (Some (upright place)) refl before.unturned;
     })

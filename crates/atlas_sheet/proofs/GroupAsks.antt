@@ -1,5 +1,6 @@
 -- Groups that are asked for one after another, whether the sheet takes them as well.
-use Rattle.std.proofs.Common.{◌≡◌, ◌≢◌, ◌==◌, ◌||◌, ◌+◌, ◌<◌, ◌≤◌, ◌⊎◌, ℕ, zero, suc, Bool, true, false, inl, inr, List, [], ◌∷◌, length, replicate, take, get_or, All, Option, Some, None, refl, ap, sym, subst, ◌∙◌, arith}
+use Rattle.std.proofs.Common.{◌≡◌, ◌≢◌, ◌==◌, ◌||◌, ◌+◌, ◌<◌, ◌≤◌, ◌⊎◌, ℕ, zero, suc, Bool, true, false, inl, inr, List, [], ◌∷◌, length}
+use Rattle.std.proofs.Common.{replicate, take, get_or, All, Option, Some, None, refl, ap, sym, subst, ◌∙◌, arith}
 use Rattle.std.specs.List.{AllZip, slice_get}
 use Rattle.std.proofs.lemmas.Bool.{cases_eq, eq-eqb, eqb-true, false≢true}
 use Rattle.std.proofs.lemmas.List.Elements.{All-nil}
@@ -8,7 +9,8 @@ use Rattle.guillotiere.specs.declared.Size.{Size}
 use Rattle.guillotiere.specs.Boxes.{Sides}
 use Rattle.atlas_sheet.specs.declared.options.SheetOptions.{SheetOptions}
 use Rattle.atlas_sheet.specs.Allowances.{IsGreatest, pixels}
-use Rattle.atlas_sheet.specs.Grouping.{AreGroupsThere, AreTooMany, HasMember, IsFirstGroup, IsLeftOut, IsSlotIn, chosen_row, members, picked, pixels_together, with_one}
+use Rattle.atlas_sheet.specs.Grouping.{AreGroupsThere, AreTooMany, HasMember, IsFirstGroup, IsLeftOut, IsSlotIn, chosen_row, members}
+use Rattle.atlas_sheet.specs.Grouping.{picked, pixels_together, with_one}
 use Rattle.atlas_sheet.proofs.GroupTakes.{Not, chosen_some, first_before, member_here, member_still, none_more, pixels_with, slot_members}
 use Rattle.atlas_sheet.proofs.TooMany.{too_many_pixels}
 
@@ -84,7 +86,8 @@ asked_as {o} {sprites} {groups} {slots} {k} {asked} {row} {room} so new more les
     (subst (λ r. AreAskedTo o sprites groups slots k asked r less) (sym more_is)
     (subst (λ m. AreAskedTo o sprites groups slots k asked row m) (sym less_is) so))
 
-pub asked_begin : (o : SheetOptions) (sprites : List Size) (groups slots : List (Option ℕ)) (asked row : List Bool) (room first : ℕ) (sorted : List ℕ)
+pub asked_begin : (o : SheetOptions) (sprites : List Size) (groups slots : List (Option ℕ)) (asked row : List Bool) (room first : ℕ)
+    (sorted : List ℕ)
     → IsFirstGroup first groups → row ≡ chosen_row (λ n. n == first) 0 groups
     → AllZip (IsSlotIn sorted) groups slots → ((s : ℕ) → slice_get asked s ≡ Some true → ⊥) → HasRoom o sprites row room
     → AreAskedTo o sprites groups slots 0 asked row room
@@ -312,7 +315,8 @@ module _ {o : SheetOptions} {sprites : List Size} {groups slots : List (Option �
       where
         by_parts : (n : ℕ) → (so.there n ≡ true) ⊎ ((n == g) ≡ true) → (n ≡ so.first) ⊎ HasMember n (take (k + 1) groups)
         by_parts n (inl on) = still n (so.seen n on)
-        by_parts n (inr is) = inr (subst (λ m. HasMember m (take (k + 1) groups)) (sym (eqb-true n g is)) (member_here groups k g inside at))
+        by_parts n (inr is) = inr (subst (λ m. HasMember m (take (k + 1) groups)) (sym (eqb-true n g is))
+            (member_here groups k g inside at))
 
     -- It was tried.
     pub asked_tried : get_or row k false ≡ false → (tried : List Bool) (less : ℕ)

@@ -1,5 +1,6 @@
 -- A sheet for chosen sprites, as it is found.
-use Rattle.std.proofs.Common.{◌≡◌, ◌<◌, ℕ, Bool, inl, List, length, map, All, Option, Some, None, IfNone, IsSome, is_some, refl, ap, sym, subst, ◌∙◌, arith}
+use Rattle.std.proofs.Common.{◌≡◌, ◌<◌, ℕ, Bool, inl, List, length, map, All, Option, Some, None, IfNone, IsSome, is_some, refl, ap, sym}
+use Rattle.std.proofs.Common.{subst, ◌∙◌, arith}
 use Rattle.std.proofs.lemmas.List.Elements.{All-weaker}
 use Rattle.guillotiere.specs.declared.Size.{Size}
 use Rattle.guillotiere.specs.Boxes.{Sides}
@@ -23,7 +24,8 @@ use Rattle.atlas_sheet.proofs.PageFinds.{areas_whole, not_both, page_found, show
 pub plain_none : (o : SheetOptions) (sprites : List Size) → NoWayFinds (record o { effort = 0 }) sprites
     → NoWayFinds o sprites
 plain_none o sprites none =
-    All-weaker (λ how. (lying : List Size) × AreLaid (record o { effort = 0 }) how sprites lying × NoneIsFound WAYS o.allowed (spacing_of o) lying)
+    All-weaker (λ how. (lying : List Size) × AreLaid (record o { effort = 0 }) how sprites lying ×
+    NoneIsFound WAYS o.allowed (spacing_of o) lying)
     (λ how. (lying : List Size) × AreLaid o how sprites lying × NoneIsFound WAYS o.allowed (spacing_of o) lying)
     (λ how l. (l.0, record { sheet = l.1.sheet; greatest = l.1.greatest; lie = l.1.lie }, l.2)) (turnings o.turn) none
 
@@ -66,12 +68,14 @@ module _ (o : SheetOptions) (sprites some : List Size) (groups : List (Option �
   chosen_page allowed larger =
       let few : 0 < length (picked row row) = closed_some groups row closed in
       let page : IsPage WAYS o some sheet found =
-      page_found WAYS o some sheet order found (areas_of found) shown refl (inl (areas_whole found whole, larger)) allowed (λ none. not_both found (omega (arith, few, found_long)) whole none) in
+      page_found WAYS o some sheet order found (areas_of found) shown refl (inl (areas_whole found whole, larger)) allowed
+      (λ none. not_both found (omega (arith, few, found_long)) whole none) in
       let sprites_are : some ≡ those_placed placed sprites =
       some_is ∙ sym (spread_sprites row found found_long whole sprites) ∙ ap (λ ps. those_placed ps sprites) (sym placed_is) in
       let places_are : found ≡ those_placed placed placed =
       sym (spread_there row found found_long whole) ∙ ap (λ ps. those_placed ps ps) (sym placed_is) in
-      subst (λ fs. IsPage WAYS o (those_placed placed sprites) sheet fs) places_are (subst (λ ss. IsPage WAYS o ss sheet found) sprites_are page)
+      subst (λ fs. IsPage WAYS o (those_placed placed sprites) sheet fs) places_are
+      (subst (λ ss. IsPage WAYS o ss sheet found) sprites_are page)
 
   pub chosen_row_is : map is_some placed ≡ row
   chosen_row_is = ap (map is_some) placed_is ∙ spread_row row found found_long whole

@@ -1,5 +1,7 @@
 -- Rows, and what stands in lists where they say so.
-use Rattle.std.proofs.Common.{◌≡◌, ◌≢◌, ◌==◌, ◌||◌, ◌+◌, ◌<◌, ◌≤◌, ◌⊎◌, ℕ, zero, suc, Bool, true, false, cond, is_none, is_some, inl, inr, List, [], ◌∷◌, ◌++◌, length, map, drop, take, get_or, append-nil, add-one, All, Option, Some, None, IfSome, IsSome, refl, ap, sym, subst, ◌∙◌, arith}
+use Rattle.std.proofs.Common.{◌≡◌, ◌≢◌, ◌==◌, ◌||◌, ◌+◌, ◌<◌, ◌≤◌, ◌⊎◌, ℕ, zero, suc, Bool, true, false, cond, is_none, is_some, inl, inr}
+use Rattle.std.proofs.Common.{List, [], ◌∷◌, ◌++◌, length, map, drop, take, get_or, append-nil, add-one, All, Option, Some, None, IfSome}
+use Rattle.std.proofs.Common.{IsSome, refl, ap, sym, subst, ◌∙◌, arith}
 use Rattle.std.specs.List.{AllZip}
 use Rattle.std.proofs.lemmas.Bool.{cases_lt, eq-eqb, false≢true}
 use Rattle.std.proofs.Math.ListN.{drop_of_length-le}
@@ -31,7 +33,8 @@ module _ {X : Type 0} (row : List Bool) (xs : List X) (k : ℕ) (all more : List
 
   split : picked (drop k row) (drop k xs) ≡ cond b (x ∷ rest) rest
   split =
-      let r : drop k row ≡ b ∷ drop (k + 1) row = drop-cons row k b inside ∙ (λ i. sym b_at i ∷ (ap (λ m. drop m row) (sym (add-one k))) i) in
+      let r : drop k row ≡ b ∷ drop (k + 1) row = drop-cons row k b inside ∙ (λ i. sym b_at i ∷ (ap (λ m. drop m row) (sym (add-one k))) i)
+      in
       let s : drop k xs ≡ x ∷ drop (k + 1) xs =
       drop-cons xs k x (omega (arith, inside, long)) ∙ (λ i. sym x_at i ∷ (ap (λ m. drop m xs) (sym (add-one k))) i) in
       λ i. picked (r i) (s i)
@@ -168,14 +171,16 @@ rows_begin groups row turned all none = record {
   says = λ whether same. subst (AllZip (SaysOf (turned whether)) (take 0 groups)) (sym none) tt;
 }
 
-module _ (groups : List (Option ℕ)) (row : List Bool) (turned : (ℕ → Bool) → ℕ → Bool) (k : ℕ) (all more : List Bool) (g : Option ℕ) (b new : Bool)
+module _ (groups : List (Option ℕ)) (row : List Bool) (turned : (ℕ → Bool) → ℕ → Bool) (k : ℕ) (all more : List Bool) (g : Option ℕ)
+    (b new : Bool)
     (inside : k < length groups) (g_at : g ≡ get_or groups k g) (b_at : b ≡ get_or row k b)
     (step : (whether : ℕ → Bool) → SaysOf whether g b → SaysOf (turned whether) g new) (added : more ≡ all ++ new ∷ []) where
   pub rows_more : AreRowsTo groups row turned k all → AreRowsTo groups row turned (k + 1) more
   rows_more so = record {
     says = λ whether same.
         let here : SaysOf whether g b =
-        subst (λ h. SaysOf whether h b) (sym g_at) (subst (SaysOf whether (get_or groups k g)) (sym b_at) (zip_at (SaysOf whether) groups row k g b same inside)) in
+        subst (λ h. SaysOf whether h b) (sym g_at) (subst (SaysOf whether (get_or groups k g)) (sym b_at)
+        (zip_at (SaysOf whether) groups row k g b same inside)) in
         let longer = all_zipped_more (SaysOf (turned whether)) (take k groups) all g new (so.says whether same) (step whether here) in
         let taken : take (k + 1) groups ≡ take k groups ++ g ∷ [] =
         ap (λ m. take m groups) (add-one k) ∙ take-suc groups k g inside ∙ ap (λ h. take k groups ++ h ∷ []) (sym g_at) in

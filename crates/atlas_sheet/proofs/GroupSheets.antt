@@ -1,5 +1,7 @@
 -- Sheets with groups on them, with the numbers of those that lie on no earlier one.
-use Rattle.std.proofs.Common.{◌≡◌, ◌≢◌, ◌-◌, ◌<◌, ◌≤◌, ◌⊎◌, ◌++◌, ℕ, zero, suc, replicate, Bool, true, false, cond, nat_le, is_none, is_some, inl, inr, List, [], ◌∷◌, length, map, drop, take, get_or, All, Option, Some, None, IsNone, refl, ap, sym, subst, ◌∙◌, arith}
+use Rattle.std.proofs.Common.{◌≡◌, ◌≢◌, ◌-◌, ◌<◌, ◌≤◌, ◌⊎◌, ◌++◌, ℕ, zero, suc, replicate, Bool, true, false, cond, nat_le, is_none}
+use Rattle.std.proofs.Common.{is_some, inl, inr, List, [], ◌∷◌, length, map, drop, take, get_or, All, Option, Some, None, IsNone, refl, ap}
+use Rattle.std.proofs.Common.{sym, subst, ◌∙◌, arith}
 use Rattle.std.proofs.lemmas.Bool.{cases_eq, cases_lt, eq-eqb, false≢true, le-leb, lt-leb}
 use Rattle.std.proofs.lemmas.List.{get_or_append_left, get_or_push, length-append, length-map}
 use Rattle.std.proofs.lemmas.List.Elements.{All-append, All-nil, All-cons, All-head, All-tail, All-weaker}
@@ -10,7 +12,8 @@ use Rattle.atlas_sheet.specs.declared.paging.OnPage.{OnPage}
 use Rattle.atlas_sheet.specs.declared.placed.Placed.{Placed}
 use Rattle.atlas_sheet.specs.declared.ways.TheConstants.{WAYS}
 use Rattle.atlas_sheet.specs.Dense.{NoWayFinds}
-use Rattle.atlas_sheet.specs.Grouping.{AreGroupPages, AreGroupSheets, AreKept, AreNextSheets, IsFirstGroup, IsKept, IsNextSheet, is_in, members, numbers_from, padded_to, picked, waiting, without_group}
+use Rattle.atlas_sheet.specs.Grouping.{AreGroupPages, AreGroupSheets, AreKept, AreNextSheets, IsFirstGroup, IsKept, IsNextSheet, is_in}
+use Rattle.atlas_sheet.specs.Grouping.{members, numbers_from, padded_to, picked, waiting, without_group}
 use Rattle.atlas_sheet.specs.Paging.{ArePages, IsPage, holes, is_from, page_sides, places_on, put_on, sprites_from, sprites_left}
 use Rattle.atlas_sheet.proofs.GroupRows.{all_picked}
 use Rattle.atlas_sheet.proofs.GroupSteps.{without_other}
@@ -31,7 +34,8 @@ rows_left : (k : ℕ) (places : List (Option OnPage)) → All (LiesEarlier k) pl
 rows_left k [] before = refl
 rows_left k (None ∷ places) before = ap (λ r. true ∷ r) (rows_left k places (All-tail (LiesEarlier k) None places before))
 rows_left k (Some p ∷ places) before =
-    λ i. lt-leb k p.page (All-head (LiesEarlier k) (Some p) places before) i ∷ rows_left k places (All-tail (LiesEarlier k) (Some p) places before) i
+    λ i. lt-leb k p.page (All-head (LiesEarlier k) (Some p) places before) i ∷ rows_left k places
+    (All-tail (LiesEarlier k) (Some p) places before) i
 
 module _ (o : SheetOptions) (sprites : List Size) (kept : List (Option ℕ)) (sizes : List Size) (places : List (Option OnPage))
     (below : All (LiesEarlier (length sizes)) places) (are : AreNextSheets o sprites kept sizes places)
@@ -46,26 +50,35 @@ module _ (o : SheetOptions) (sprites : List Size) (kept : List (Option ℕ)) (si
   old_sheet page less =
       let a = same_from page n (omega (arith, less)) sprites places found in
       let b = same_on page n less places found in
-      let c : page_sides (sizes ++ size ∷ []) page ≡ page_sides sizes page = ap sides_of (get_or_append_left sizes (size ∷ []) _ page less) in
+      let c : page_sides (sizes ++ size ∷ []) page ≡ page_sides sizes page = ap sides_of (get_or_append_left sizes (size ∷ []) _ page less)
+      in
       let d : numbers_from page kept (put_on n places found) ≡ numbers_from page kept places =
       ap (λ r. picked r kept) (rows_same page n (omega (arith, less)) places found) in
-      subst (λ xs. IsNextSheet o xs (numbers_from page kept (put_on n places found)) (page_sides (sizes ++ size ∷ []) page) (places_on page (put_on n places found))) (sym a)
-      (subst (λ ns. IsNextSheet o (sprites_from page sprites places) ns (page_sides (sizes ++ size ∷ []) page) (places_on page (put_on n places found))) (sym d)
-      (subst (λ ps. IsNextSheet o (sprites_from page sprites places) (numbers_from page kept places) (page_sides (sizes ++ size ∷ []) page) ps) (sym b)
-      (subst (λ z. IsNextSheet o (sprites_from page sprites places) (numbers_from page kept places) z (places_on page places)) (sym c) (are page less))))
+      subst (λ xs. IsNextSheet o xs (numbers_from page kept (put_on n places found)) (page_sides (sizes ++ size ∷ []) page)
+      (places_on page (put_on n places found))) (sym a)
+      (subst (λ ns. IsNextSheet o (sprites_from page sprites places) ns (page_sides (sizes ++ size ∷ []) page)
+      (places_on page (put_on n places found))) (sym d)
+      (subst (λ ps. IsNextSheet o (sprites_from page sprites places) (numbers_from page kept places) (page_sides (sizes ++ size ∷ []) page)
+      ps) (sym b)
+      (subst (λ z. IsNextSheet o (sprites_from page sprites places) (numbers_from page kept places) z (places_on page places)) (sym c)
+      (are page less))))
 
   new_sheet : (page : ℕ) → page ≡ n
       → IsNextSheet o (sprites_from page sprites (put_on n places found)) (numbers_from page kept (put_on n places found))
       (page_sides (sizes ++ size ∷ []) page) (places_on page (put_on n places found))
   new_sheet page is =
-      let a : sprites_from n sprites (put_on n places found) ≡ sprites_left sprites places = same_from n n (omega arith) sprites places found ∙ left_from n sprites places below in
+      let a : sprites_from n sprites (put_on n places found) ≡ sprites_left sprites places =
+      same_from n n (omega arith) sprites places found ∙ left_from n sprites places below in
       let b = found_there n places found below long in
       let c : page_sides (sizes ++ size ∷ []) n ≡ sides_of size = ap sides_of (get_or_push sizes size _ n refl) in
       let d : numbers_from n kept (put_on n places found) ≡ waiting kept places =
       ap (λ r. picked r kept) (rows_same n n (omega arith) places found ∙ rows_left n places below) in
-      subst (λ m. IsNextSheet o (sprites_from m sprites (put_on n places found)) (numbers_from m kept (put_on n places found)) (page_sides (sizes ++ size ∷ []) m) (places_on m (put_on n places found))) (sym is)
-      (subst (λ xs. IsNextSheet o xs (numbers_from n kept (put_on n places found)) (page_sides (sizes ++ size ∷ []) n) (places_on n (put_on n places found))) (sym a)
-      (subst (λ ns. IsNextSheet o (sprites_left sprites places) ns (page_sides (sizes ++ size ∷ []) n) (places_on n (put_on n places found))) (sym d)
+      subst (λ m. IsNextSheet o (sprites_from m sprites (put_on n places found)) (numbers_from m kept (put_on n places found))
+      (page_sides (sizes ++ size ∷ []) m) (places_on m (put_on n places found))) (sym is)
+      (subst (λ xs. IsNextSheet o xs (numbers_from n kept (put_on n places found)) (page_sides (sizes ++ size ∷ []) n)
+      (places_on n (put_on n places found))) (sym a)
+      (subst (λ ns. IsNextSheet o (sprites_left sprites places) ns (page_sides (sizes ++ size ∷ []) n)
+      (places_on n (put_on n places found))) (sym d)
       (subst (λ ps. IsNextSheet o (sprites_left sprites places) (waiting kept places) (page_sides (sizes ++ size ∷ []) n) ps) (sym b)
       (subst (λ z. IsNextSheet o (sprites_left sprites places) (waiting kept places) z found) (sym c) next))))
 
@@ -74,7 +87,8 @@ module _ (o : SheetOptions) (sprites : List Size) (kept : List (Option ℕ)) (si
   one_sheet_more page less = by_last (cases_lt page n)
     where
       by_last : (page < length sizes) ⊎ (length sizes ≤ page)
-          → IsNextSheet o (sprites_from page sprites (put_on (length sizes) places found)) (numbers_from page kept (put_on (length sizes) places found))
+          → IsNextSheet o (sprites_from page sprites (put_on (length sizes) places found))
+          (numbers_from page kept (put_on (length sizes) places found))
           (page_sides (sizes ++ size ∷ []) page) (places_on page (put_on (length sizes) places found))
       by_last (inl old) = old_sheet page old
       by_last (inr new) = let more = length-append sizes (size ∷ []) in new_sheet page (omega (arith, less, new, more))
@@ -100,10 +114,12 @@ without_none group (g ∷ kept) = All-cons (λ h. h ≢ Some group) _ (without_g
     head None e = false≢true (ap some e)
     head (Some n) e = by_test n (is_in group (Some n)) (λ same. eq-eqb n group same) e
 
-still_none : (group other : ℕ) (kept : List (Option ℕ)) → All (λ g. g ≢ Some other) kept → All (λ g. g ≢ Some other) (without_group group kept)
+still_none : (group other : ℕ) (kept : List (Option ℕ)) → All (λ g. g ≢ Some other) kept →
+    All (λ g. g ≢ Some other) (without_group group kept)
 still_none group other [] none = All-nil (λ g. g ≢ Some other)
 still_none group other (g ∷ kept) none =
-    All-cons (λ h. h ≢ Some other) _ (without_group group kept) (by_test (is_in group g)) (still_none group other kept (All-tail (λ h. h ≢ Some other) g kept none))
+    All-cons (λ h. h ≢ Some other) _ (without_group group kept) (by_test (is_in group g))
+    (still_none group other kept (All-tail (λ h. h ≢ Some other) g kept none))
   where
     some : Option ℕ → Bool
     some None = false
@@ -166,7 +182,8 @@ padded_none n groups none =
         All-cons IsNone g (take m groups) (All-head IsNone g groups none) (taken m groups (All-tail IsNone g groups none))
 
 -- Without groups the sheets are those of sprites in no group.
-pub plain_pages : (o : SheetOptions) (sprites sizes : List Size) (groups : List (Option ℕ)) (places : List (Option OnPage)) → All IsNone groups
+pub plain_pages : (o : SheetOptions) (sprites sizes : List Size) (groups : List (Option ℕ)) (places : List (Option OnPage)) →
+    All IsNone groups
     → AreGroupPages WAYS o sprites sizes places → AreGroupSheets o sprites (padded_to (length sprites) groups) sizes places
     → ArePages WAYS o sprites sizes places
 plain_pages o sprites sizes groups places none pages are = record {
@@ -184,10 +201,12 @@ plain_pages o sprites sizes groups places none pages are = record {
 
     not_first : (first : ℕ) (numbers : List (Option ℕ)) → All IsNone numbers → IsFirstGroup first numbers → ⊥
     not_first first numbers all is =
-        has_at numbers is.0 first is.1 is.2 (All-weaker IsNone (λ h. h ≢ Some first) (λ h no e. false≢true (sym no ∙ ap is_some e)) numbers all)
+        has_at numbers is.0 first is.1 is.2 (All-weaker IsNone (λ h. h ≢ Some first) (λ h no e. false≢true (sym no ∙ ap is_some e)) numbers
+        all)
 
     by_sheet : (page : ℕ)
-        → IsNextSheet o (sprites_from page sprites places) (numbers_from page are.kept places) (page_sides sizes page) (places_on page places)
+        → IsNextSheet o (sprites_from page sprites places) (numbers_from page are.kept places) (page_sides sizes page)
+        (places_on page places)
         → IsPage WAYS o (sprites_from page sprites places) (page_sides sizes page) (places_on page places)
     by_sheet page (inl plain) = plain.1
     by_sheet page (inr sheet) =

@@ -1,5 +1,7 @@
 -- Sheets with groups on them, one after another.
-use Rattle.std.proofs.Common.{◌≡◌, ◌≢◌, ◌==◌, ◌-◌, ◌+◌, ◌<◌, ◌≤◌, ◌⊎◌, ℕ, zero, suc, replicate, Bool, true, false, cond, is_none, is_some, inl, inr, List, [], ◌∷◌, ◌++◌, length, map, take, All, Option, Some, None, IfSome, IsNone, pos, refl, ap, sym, subst, ◌∙◌, arith}
+use Rattle.std.proofs.Common.{◌≡◌, ◌≢◌, ◌==◌, ◌-◌, ◌+◌, ◌<◌, ◌≤◌, ◌⊎◌, ℕ, zero, suc, replicate, Bool, true, false, cond, is_none, is_some}
+use Rattle.std.proofs.Common.{inl, inr, List, [], ◌∷◌, ◌++◌, length, map, take, All, Option, Some, None, IfSome, IsNone, pos, refl, ap, sym}
+use Rattle.std.proofs.Common.{subst, ◌∙◌, arith}
 use Rattle.std.specs.List.{AllZip, count_by}
 use Rattle.std.proofs.lemmas.Bool.{eq-eqb, eqb-true, false≢true, ne_eqb}
 use Rattle.std.proofs.lemmas.List.{length-append, length-replicate, length-take}
@@ -16,7 +18,8 @@ use Rattle.atlas_sheet.specs.declared.placed.Placed.{Placed}
 use Rattle.atlas_sheet.specs.declared.ways.Way.{Way}
 use Rattle.atlas_sheet.specs.Allowances.{IsAllowed}
 use Rattle.atlas_sheet.specs.Dense.{NoWayFinds}
-use Rattle.atlas_sheet.specs.Grouping.{AreGroupPages, HasMember, IsGroupPage, LieTogether, LiesAs, SaysOf, is_in, members, padded_to, picked, waiting, those_placed, without_group}
+use Rattle.atlas_sheet.specs.Grouping.{AreGroupPages, HasMember, IsGroupPage, LieTogether, LiesAs, SaysOf, is_in, members, padded_to}
+use Rattle.atlas_sheet.specs.Grouping.{picked, waiting, those_placed, without_group}
 use Rattle.atlas_sheet.specs.Lying.{IsPlacedFor, areas_of}
 use Rattle.atlas_sheet.specs.Paging.{found_on, holes, page_sides, places_on, put_on, sprites_from, sprites_left}
 use Rattle.atlas_sheet.specs.Settings.{spacing_of}
@@ -59,9 +62,11 @@ pub group_good : (ways : List Way) (o : SheetOptions) (sprites : List Size) (she
     → IsGroupPage ways o sprites sheet placed → IsGood o sprites sheet placed
 group_good ways o sprites sheet placed (inl page) = page_good ways o sprites sheet placed page
 group_good ways o sprites sheet placed (inr group) = record {
-  each = each_back (λ sprite p. IfSome p (IsPlacedFor sheet (spacing_of o) o.turn sprite)) (λ s. tt) sprites placed group.0 group.1.shown.each;
+  each = each_back (λ sprite p. IfSome p (IsPlacedFor sheet (spacing_of o) o.turn sprite)) (λ s. tt) sprites placed group.0
+      group.1.shown.each;
   apart = λ x y.
-      let few : count_by (covers_place (spacing_of o) x y) (areas_of (those_placed placed placed)) ≤ 1 = group.1.shown.arranged.good.apart x y in
+      let few : count_by (covers_place (spacing_of o) x y) (areas_of (those_placed placed placed)) ≤ 1 =
+      group.1.shown.arranged.good.apart x y in
       let same = covers_back (spacing_of o) x y placed in
       omega (arith, few, same);
   used = λ none. group.1.used (all_picked IsNone (map is_some placed) placed none);
@@ -109,7 +114,11 @@ pub none_says : (whether : ℕ → Bool) (groups : List (Option ℕ)) (row : Lis
 none_says whether [] [] long none = tt
 none_says whether [] (b ∷ row) long none = absurd (omega (arith, long))
 none_says whether (g ∷ groups) [] long none = absurd (omega (arith, long))
-none_says whether (None ∷ groups) (b ∷ row) long none = (tt, none_says whether groups row (omega (arith, long)) (All-tail IsNone None groups none))
+none_says whether (None ∷ groups) (b ∷ row) long none = (
+  tt,
+  none_says whether groups row (omega (arith, long))
+      (All-tail IsNone None groups none),
+)
 none_says whether (Some n ∷ groups) (b ∷ row) long none = absurd (false≢true (sym (All-head IsNone (Some n) groups none)))
 
 -- As many wait as have no place.
@@ -191,7 +200,8 @@ module _ (group : ℕ) where
   no_more_kept : (kept : List (Option ℕ)) → count_by is_some (without_group group kept) ≤ count_by is_some kept
   no_more_kept [] = omega arith
   no_more_kept (None ∷ kept) =
-      let a : count_by is_some (None ∷ without_group group kept) ≡ 0 + count_by is_some (without_group group kept) = count_by-cons is_some None (without_group group kept) in
+      let a : count_by is_some (None ∷ without_group group kept) ≡ 0 + count_by is_some (without_group group kept) =
+      count_by-cons is_some None (without_group group kept) in
       let b : count_by is_some (None ∷ kept) ≡ 0 + count_by is_some kept = count_by-cons is_some None kept in
       let rest = no_more_kept kept in
       omega (arith, a, b, rest)
@@ -211,7 +221,8 @@ module _ (group : ℕ) where
           → (count_by is_some (without_group group (None ∷ kept)) < count_by is_some (None ∷ kept))
           ⊎ All (λ g. g ≢ Some group) (None ∷ kept)
       by_rest (inl fewer) =
-          let a : count_by is_some (None ∷ without_group group kept) ≡ 0 + count_by is_some (without_group group kept) = count_by-cons is_some None (without_group group kept) in
+          let a : count_by is_some (None ∷ without_group group kept) ≡ 0 + count_by is_some (without_group group kept) =
+          count_by-cons is_some None (without_group group kept) in
           let b : count_by is_some (None ∷ kept) ≡ 0 + count_by is_some kept = count_by-cons is_some None kept in
           inl (omega (arith, a, b, fewer))
       by_rest (inr none) = inr (All-cons (λ g. g ≢ Some group) None kept (λ e. false≢true (ap is_some e)) none)
@@ -319,7 +330,8 @@ padded_long n groups =
     omega (arith, a, b, c)
 
 -- What is said of the numbers that were made as many is so of those that were given.
-module _ (o : SheetOptions) (sprites : List Size) (groups all : List (Option ℕ)) (n : ℕ) (long : length sprites ≡ n) (all_is : all ≡ padded_to n groups) where
+module _ (o : SheetOptions) (sprites : List Size) (groups all : List (Option ℕ)) (n : ℕ) (long : length sprites ≡ n)
+    (all_is : all ≡ padded_to n groups) where
   pub numbers_as_long : length all ≡ length sprites
   numbers_as_long = ap length all_is ∙ padded_long n groups ∙ sym long
 
@@ -331,7 +343,11 @@ module _ (o : SheetOptions) (sprites : List Size) (groups all : List (Option ℕ
       by_each : LieTogether g all places ⊎ NoWayFinds o (members g all sprites)
           → LieTogether g groups places ⊎ NoWayFinds o (members g groups sprites)
       by_each (inl lie) =
-          inl (lie.0, subst (All (λ p. p.page ≡ lie.0)) (ap (λ gs. members g gs places) all_is ∙ padded_members g n groups places (count ∙ long)) lie.1)
+          inl (
+            lie.0,
+            subst (All (λ p. p.page ≡ lie.0)) (ap (λ gs. members g gs places) all_is ∙
+                padded_members g n groups places (count ∙ long)) lie.1,
+          )
       by_each (inr none) =
           inr (subst (NoWayFinds o) (ap (λ gs. members g gs sprites) all_is ∙ padded_members g n groups sprites long) none)
 
@@ -347,4 +363,5 @@ pub pages_allowed : (ways : List Way) (o : SheetOptions) (sprites sizes : List S
     → All (λ size. IsAllowed o.allowed (sides_of size)) sizes
 pages_allowed ways o sprites sizes places are =
     All-from_get_or (λ size. IsAllowed o.allowed (sides_of size)) sizes (record { width = pos 0; height = pos 0 })
-    (λ page inside. group_allowed ways o (sprites_from page sprites places) (page_sides sizes page) (places_on page places) (are.pages page inside))
+    (λ page inside. group_allowed ways o (sprites_from page sprites places) (page_sides sizes page) (places_on page places)
+    (are.pages page inside))

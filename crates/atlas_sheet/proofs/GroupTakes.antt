@@ -1,5 +1,7 @@
 -- Which groups and which sprites in no group are taken for a sheet.
-use Rattle.std.proofs.Common.{◌≡◌, ◌≢◌, ◌==◌, ◌||◌, ◌+◌, ◌-◌, ◌<◌, ◌≤◌, ◌⊎◌, ℕ, zero, suc, Bool, true, false, cond, is_none, inl, inr, List, [], ◌∷◌, ◌++◌, length, map, drop, take, get_or, append-nil, add-one, All, Option, Some, None, IfNone, IfSome, IsNone, IsTrue, ◌↔◌, refl, ap, sym, subst, ◌∙◌, arith}
+use Rattle.std.proofs.Common.{◌≡◌, ◌≢◌, ◌==◌, ◌||◌, ◌+◌, ◌-◌, ◌<◌, ◌≤◌, ◌⊎◌, ℕ, zero, suc, Bool, true, false, cond, is_none, inl, inr, List}
+use Rattle.std.proofs.Common.{[], ◌∷◌, ◌++◌, length, map, drop, take, get_or, append-nil, add-one, All, Option, Some, None, IfNone, IfSome}
+use Rattle.std.proofs.Common.{IsNone, IsTrue, ◌↔◌, refl, ap, sym, subst, ◌∙◌, arith}
 use Rattle.std.specs.List.{AllZip, count_by, slice_get}
 use Rattle.std.proofs.lemmas.Bool.{cases_lt, eq-eqb, eqb-true, false≢true}
 use Rattle.std.proofs.Math.ListN.{drop_of_length-le}
@@ -11,7 +13,8 @@ use Rattle.guillotiere.specs.declared.Size.{Size}
 use Rattle.guillotiere.specs.Pixels.{sides_of}
 use Rattle.atlas_sheet.specs.declared.options.SheetOptions.{SheetOptions}
 use Rattle.atlas_sheet.specs.Allowances.{pixels}
-use Rattle.atlas_sheet.specs.Grouping.{AreGroupsThere, AreSpritesThere, AreTooMany, HasMember, IsFirstGroup, IsSlotIn, chosen_row, is_in, members, picked, pixels_together, with_one}
+use Rattle.atlas_sheet.specs.Grouping.{AreGroupsThere, AreSpritesThere, AreTooMany, HasMember, IsFirstGroup, IsSlotIn, chosen_row, is_in}
+use Rattle.atlas_sheet.specs.Grouping.{members, picked, pixels_together, with_one}
 
 -- A row has as many as the numbers.
 pub chosen_long : (there : ℕ → Bool) (many : ℕ) (groups : List (Option ℕ))
@@ -106,7 +109,8 @@ single_next there (suc room) next None rest false false is none group single sam
     let some : 0 < suc room = omega arith in
     absurd (false≢true ((single refl).1 some))
 
-pub single_more : (there : ℕ → Bool) (many : ℕ) (groups : List (Option ℕ)) (row : List Bool) (k room next : ℕ) (all more : List Bool) (new : Bool)
+pub single_more : (there : ℕ → Bool) (many : ℕ) (groups : List (Option ℕ)) (row : List Bool) (k room next : ℕ) (all more : List Bool)
+    (new : Bool)
     → k < length groups → row ≡ chosen_row there 0 groups
     → IfSome (get_or groups k None) (λ n. new ≡ get_or row k false)
     → IfNone (get_or groups k None) (get_or row k false ≡ false → (IsTrue new ↔ (0 < room)))
@@ -233,7 +237,8 @@ pixels_with group there off (Some n ∷ groups) (s ∷ sprites) long =
     by_both : (b c : Bool) → there n ≡ b → (n == group) ≡ c
         → pixels_together (picked (chosen_row (with_one group there) 0 groups) sprites)
         ≡ pixels_together (picked (chosen_row there 0 groups) sprites) + pixels_together (members group groups sprites)
-        → pixels_together (cond (b || c) (s ∷ picked (chosen_row (with_one group there) 0 groups) sprites) (picked (chosen_row (with_one group there) 0 groups) sprites))
+        → pixels_together (cond (b || c) (s ∷ picked (chosen_row (with_one group there) 0 groups) sprites)
+        (picked (chosen_row (with_one group there) 0 groups) sprites))
         ≡ pixels_together (cond b (s ∷ picked (chosen_row there 0 groups) sprites) (picked (chosen_row there 0 groups) sprites))
         + pixels_together (cond c (s ∷ members group groups sprites) (members group groups sprites))
     by_both true true on is rest = absurd (false≢true (sym off ∙ ap there (sym (eqb-true n group is)) ∙ on))
@@ -280,7 +285,8 @@ slot_members sorted s g is (h ∷ groups) (Some q ∷ slots) (t ∷ sprites) eac
     by_both false false on in_it rest = rest
 
 -- So many of those in no group are taken, and so many are too many, or there aren't as many.
-pub record AreSinglesTaken (o : SheetOptions) (sprites : List Size) (groups : List (Option ℕ)) (whole : List Bool) (taken refused : ℕ) (row : List Bool)
+pub record AreSinglesTaken (o : SheetOptions) (sprites : List Size) (groups : List (Option ℕ)) (whole : List Bool) (taken refused : ℕ)
+    (row : List Bool)
     : Type 0 where
   pub there : ℕ → Bool
   pub groups_there : AreGroupsThere o sprites groups there
@@ -364,7 +370,8 @@ slot_more slots sprites k s old new total d inside long added before =
         λ i. pixels_together (members s (a i) (b i))
 
     by_test : (b : Bool) → new ≤ old + cond b (pixels (sides_of (get_or sprites k d))) 0
-        → old + pixels_together (cond b (get_or sprites k d ∷ members s (drop (k + 1) slots) (drop (k + 1) sprites)) (members s (drop (k + 1) slots) (drop (k + 1) sprites))) ≤ total
+        → old + pixels_together (cond b (get_or sprites k d ∷ members s (drop (k + 1) slots) (drop (k + 1) sprites))
+        (members s (drop (k + 1) slots) (drop (k + 1) sprites))) ≤ total
         → new + pixels_together (members s (drop (k + 1) slots) (drop (k + 1) sprites)) ≤ total
     by_test false more less = omega (arith, more, less)
     by_test true more less =

@@ -1,5 +1,6 @@
 -- From one sheet with groups to the next.
-use Rattle.std.proofs.Common.{◌≡◌, IsTrue, ◌<◌, ◌≤◌, ◌⊎◌, ◌+◌, ◌*◌, ◌++◌, ℕ, zero, suc, replicate, Bool, List, [], ◌∷◌, length, map, Option, Some, None, is_some, inl, inr, refl, ap, sym, subst, ◌∙◌, arith}
+use Rattle.std.proofs.Common.{◌≡◌, IsTrue, ◌<◌, ◌≤◌, ◌⊎◌, ◌+◌, ◌*◌, ◌++◌, ℕ, zero, suc, replicate, Bool, List, [], ◌∷◌, length, map, Option}
+use Rattle.std.proofs.Common.{Some, None, is_some, inl, inr, refl, ap, sym, subst, ◌∙◌, arith}
 use Rattle.std.specs.List.{AllZip, count_by}
 use Rattle.std.proofs.Math.Nat.{mul-le-mul_right, suc-mul}
 use Rattle.std.proofs.lemmas.Slice.Zip.{AllZip-long}
@@ -13,10 +14,12 @@ use Rattle.atlas_sheet.specs.Dense.{NoWayFinds}
 use Rattle.atlas_sheet.specs.Lying.{MayLie}
 use Rattle.atlas_sheet.specs.Settings.{CanPack, spacing_of}
 use Rattle.atlas_sheet.specs.Turnings.{has_room}
-use Rattle.atlas_sheet.specs.Grouping.{AreGroupPages, AreGroupSheets, AreKept, AreNextSheets, AreSoFar, HasMember, IsGroupPage, IsKept, IsNextSheet, LieTogether, LiesAs, SaysOf, is_in, members, picked, to_do, waiting, without_group}
+use Rattle.atlas_sheet.specs.Grouping.{AreGroupPages, AreGroupSheets, AreKept, AreNextSheets, AreSoFar, HasMember, IsGroupPage, IsKept}
+use Rattle.atlas_sheet.specs.Grouping.{IsNextSheet, LieTogether, LiesAs, SaysOf, is_in, members, picked, to_do, waiting, without_group}
 use Rattle.atlas_sheet.specs.Paging.{OneIsTooLarge, holes, put_on, sprites_left}
 use Rattle.atlas_sheet.proofs.GroupSheets.{kept_without, one_sheet_more}
-use Rattle.atlas_sheet.proofs.GroupSteps.{all_together, as_next, begun_same, fewer_kept, group_good, lies_nowhere, members_waiting, together_put, waiting_long}
+use Rattle.atlas_sheet.proofs.GroupSteps.{all_together, as_next, begun_same, fewer_kept, group_good, lies_nowhere, members_waiting}
+use Rattle.atlas_sheet.proofs.GroupSteps.{together_put, waiting_long}
 use Rattle.atlas_sheet.proofs.PageFinds.{begun_with, can_pack_left, fewer_left, left_holes, left_packable, left_with, more_pages}
 
 -- A factor less is less, whatever is added below the other factor.
@@ -47,7 +50,8 @@ module _ {o : SheetOptions} {sprites : List Size} {groups : List (Option ℕ)} {
     sheet = one.sheet;
     greatest = one.greatest;
     large = λ fit.
-        one.large (left_packable sprites left places so.are.long so.rest (λ s. (lying : Size) × MayLie o.turn s lying × IsTrue (has_room one.sheet (spacing_of o) lying)) fit);
+        one.large (left_packable sprites left places so.are.long so.rest
+        (λ s. (lying : Size) × MayLie o.turn s lying × IsTrue (has_room one.sheet (spacing_of o) lying)) fit);
   }
 
   lost_or_kept : (g : ℕ) → IsKept o sprites groups kept g
@@ -61,7 +65,8 @@ module _ {o : SheetOptions} {sprites : List Size} {groups : List (Option ℕ)} {
     so_pages = subst (AreGroupPages WAYS o sprites sizes) (sym all_is) so.are
 
     pub so_together : (g : ℕ) → LieTogether g groups all ⊎ NoWayFinds o (members g groups sprites)
-    so_together = all_together o sprites groups kept all so.page_of (subst (AllZip (LiesAs so.page_of) kept) (sym all_is) so.same) (λ g. lost_or_kept g (so.are_kept.each g))
+    so_together = all_together o sprites groups kept all so.page_of (subst (AllZip (LiesAs so.page_of) kept) (sym all_is) so.same)
+        (λ g. lost_or_kept g (so.are_kept.each g))
 
     pub so_sheets : AreGroupSheets o sprites groups sizes (map Some all)
     so_sheets = record {
@@ -71,14 +76,18 @@ module _ {o : SheetOptions} {sprites : List Size} {groups : List (Option ℕ)} {
     }
 
   -- One sheet more.
-  module _ (size : Size) (found : List (Option Placed)) (count : length found ≡ length left) (page : IsGroupPage WAYS o left (sides_of size) found)
-      (next : IsNextSheet o left (waiting kept places) (sides_of size) found) (whether : ℕ → Bool) (says : AllZip (SaysOf whether) (waiting kept places) (map is_some found))
+  module _ (size : Size) (found : List (Option Placed)) (count : length found ≡ length left)
+      (page : IsGroupPage WAYS o left (sides_of size) found)
+      (next : IsNextSheet o left (waiting kept places) (sides_of size) found) (whether : ℕ → Bool)
+      (says : AllZip (SaysOf whether) (waiting kept places) (map is_some found))
       (more_sizes : List Size) (sizes_are : more_sizes ≡ sizes ++ size ∷ []) (more_places : List (Option OnPage))
-      (places_are : more_places ≡ put_on (length sizes) places found) (less_left : List Size) (left_is : less_left ≡ sprites_left sprites more_places)
+      (places_are : more_places ≡ put_on (length sizes) places found) (less_left : List Size)
+      (left_is : less_left ≡ sprites_left sprites more_places)
       (same_kept : List (Option ℕ)) (kept_is : same_kept ≡ kept) where
     pub so_more : AreSoFar o sprites groups more_sizes more_places less_left same_kept
     so_more = subst (AreSoFar o sprites groups more_sizes more_places less_left) (sym kept_is) (record {
-      are = more_pages sprites left places so.are.long so.rest (length sizes) found count more_places places_are (IsGroupPage WAYS o) sizes more_sizes
+      are = more_pages sprites left places so.are.long so.rest (length sizes) found count more_places places_are (IsGroupPage WAYS o) sizes
+          more_sizes
           size refl sizes_are so.are page;
       rest = left_is;
       page_of = as_next whether (length sizes) so.page_of;
@@ -105,7 +114,8 @@ module _ {o : SheetOptions} {sprites : List Size} {groups : List (Option ℕ)} {
       (less_kept : List (Option ℕ)) (kept_is : less_kept ≡ without_group group kept) where
     none_kept : NoWayFinds o (members group kept sprites)
     none_kept =
-        subst (NoWayFinds o) (members_waiting group so.page_of (lies_nowhere group so.page_of kept places so.same there) kept places sprites so.are.long so.same)
+        subst (NoWayFinds o) (members_waiting group so.page_of (lies_nowhere group so.page_of kept places so.same there) kept places sprites
+        so.are.long so.same)
         (subst (λ xs. NoWayFinds o (members group (waiting kept places) xs)) so.rest none)
 
     pub so_without : AreKept o sprites groups less_kept
@@ -120,7 +130,8 @@ module _ {o : SheetOptions} {sprites : List Size} {groups : List (Option ℕ)} {
         let fewer = fewer_kept group kept places there in
         let same : count_by is_some less_kept ≡ count_by is_some (without_group group kept) = ap (count_by is_some) kept_is in
         let long : length again ≡ length sprites = ap length all in
-        less_times (count_by is_some less_kept) (count_by is_some kept) (length sprites) (length again) (length left) (omega (arith, fewer, same)) long
+        less_times (count_by is_some less_kept) (count_by is_some kept) (length sprites) (length again) (length left)
+        (omega (arith, fewer, same)) long
 
 -- Before the first sheet.
 pub so_begun : (o : SheetOptions) (sprites : List Size) (groups : List (Option ℕ)) (sizes : List Size)

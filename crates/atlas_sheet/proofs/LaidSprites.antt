@@ -1,5 +1,6 @@
 -- Sprites as they are laid: they may lie so, and have room where they have it at all.
-use Rattle.std.proofs.Common.{◌≡◌, Bool, true, false, not, ◌&&◌, cond, int_lt, inl, inr, List, [], ◌∷◌, map, All, IsTrue, refl, ap, sym, subst, ◌∙◌, arith}
+use Rattle.std.proofs.Common.{◌≡◌, Bool, true, false, not, ◌&&◌, cond, int_lt, inl, inr, List, [], ◌∷◌, map, All, IsTrue, refl, ap, sym}
+use Rattle.std.proofs.Common.{subst, ◌∙◌, arith}
 use Rattle.std.specs.List.{AllZip}
 use Rattle.std.proofs.lemmas.Bool.{false≢true}
 use Rattle.std.proofs.lemmas.List.Elements.{All-nil, All-cons, All-head, All-tail, All-weaker}
@@ -59,7 +60,8 @@ module _ (sheet : Sides) (spacing : Spacing) where
 
       by_room : (b : Bool) → has_room sheet spacing s ≡ b → IsTrue (has_room sheet spacing (fitted sheet spacing s))
       by_room true on =
-          subst (λ c. IsTrue (has_room sheet spacing (cond (not c && has_room sheet spacing (turned_size s)) (turned_size s) s))) (sym on) on
+          subst (λ c. IsTrue (has_room sheet spacing (cond (not c && has_room sheet spacing (turned_size s)) (turned_size s) s))) (sym on)
+          on
       by_room false off =
           let other = turned may off in
           subst (λ c. IsTrue (has_room sheet spacing (cond (not c && has_room sheet spacing (turned_size s)) (turned_size s) s))) (sym off)
@@ -86,7 +88,8 @@ module _ (sheet : Sides) (spacing : Spacing) where
   laid_room true how [] each = All-nil (λ s. IsTrue (has_room sheet spacing s))
   laid_room true how (s ∷ sprites) each =
       All-cons (λ s. IsTrue (has_room sheet spacing s)) (fitted sheet spacing (turned_to how s)) (laid true sheet spacing how sprites)
-      (room_as_laid how s (All-head (CanHaveRoom true) s sprites each)) (laid_room true how sprites (All-tail (CanHaveRoom true) s sprites each))
+      (room_as_laid how s (All-head (CanHaveRoom true) s sprites each))
+      (laid_room true how sprites (All-tail (CanHaveRoom true) s sprites each))
 
 -- There is one greatest sheet.
 pub greatest_once : (by : Allowed) (s t : Sides) → IsGreatest by s → IsGreatest by t → s ≡ t
@@ -101,7 +104,8 @@ module _ (o : SheetOptions) (sprites : List Size) where
   pub each_weaker : (P Q : List Size → Type 0) → ((lying : List Size) → P lying → Q lying) → InEach o sprites P
       → InEach o sprites Q
   each_weaker P Q weaker each =
-      All-weaker (λ how. (lying : List Size) × AreLaid o how sprites lying × P lying) (λ how. (lying : List Size) × AreLaid o how sprites lying × Q lying)
+      All-weaker (λ how. (lying : List Size) × AreLaid o how sprites lying × P lying)
+      (λ how. (lying : List Size) × AreLaid o how sprites lying × Q lying)
       (λ how is. (is.0, is.1, weaker is.0 is.2)) (turnings o.turn) each
 
   -- However sprites are laid, they are laid as they are given once.

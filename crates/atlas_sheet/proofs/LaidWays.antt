@@ -1,5 +1,6 @@
 -- The best of what is found with the sprites laid in several ways.
-use Rattle.std.proofs.Common.{◌≡◌, ◌<◌, ◌≤◌, ◌⊎◌, ℕ, Bool, true, inl, inr, List, [], ◌∷◌, ◌++◌, All, Option, Some, None, IfSome, IfNone, IsNone, sym, subst, arith}
+use Rattle.std.proofs.Common.{◌≡◌, ◌<◌, ◌≤◌, ◌⊎◌, ℕ, Bool, true, inl, inr, List, [], ◌∷◌, ◌++◌, All, Option, Some, None, IfSome, IfNone}
+use Rattle.std.proofs.Common.{IsNone, sym, subst, arith}
 use Rattle.std.proofs.lemmas.Bool.{false≢true}
 use Rattle.std.proofs.lemmas.List.Elements.{All-append, All-nil, All-cons, All-weaker}
 use Rattle.guillotiere.specs.declared.Size.{Size}
@@ -96,7 +97,8 @@ module _ {S : Type 0} (o : SheetOptions) (sprites : List Size) (ways : List Way)
       let less : used_area (places one) < used_area (places other) = is.1 in
       subst (IsBestIn IsFilledSo IsNotFuller IsFuller (hows ++ more)) (sym is.0)
       (best_right IsFilledSo IsNotFuller IsFuller hows more one other (as_full other one (omega (arith, less)))
-      (λ how l. (l.0, l.1, all_fewer sheet (spacing_of o) l.0 ways (used_area (places one)) (used_area (places other)) less l.2)) here there)
+      (λ how l. (l.0, l.1, all_fewer sheet (spacing_of o) l.0 ways (used_area (places one)) (used_area (places other)) less l.2)) here
+      there)
 
   -- The best in all turnings.
   pub fullest : (lying : S → List Size) (given wide high inner best : S)
@@ -138,7 +140,8 @@ module _ {S : Type 0} (o : SheetOptions) (sprites : List Size) (ways : List Way)
   IsNotSmaller how (Some a) = IsLaidSo o sprites (λ lying. IsNoLarger ways o.allowed (spacing_of o) lying (sides_of (size a))) how
 
   abbrev pub IsLargerSo : Turning → Option S → Type 0
-  IsLargerSo how found = IfSome found (λ a. IsLaidSo o sprites (λ lying. IsSmaller ways o.allowed (spacing_of o) lying (sides_of (size a))) how)
+  IsLargerSo how found = IfSome found (λ a. IsLaidSo o sprites (λ lying. IsSmaller ways o.allowed (spacing_of o) lying (sides_of (size a)))
+      how)
 
   -- It has fewer pixels, where both are there.
   abbrev pub IsFewer : (best found : Option S) → Type 0
@@ -181,14 +184,16 @@ module _ {S : Type 0} (o : SheetOptions) (sprites : List Size) (ways : List Way)
       → IsBestIn IsFoundSo IsNotSmaller IsLargerSo (hows ++ more) best
   best_one hows more one other best is right here there =
       subst (IsBestIn IsFoundSo IsNotSmaller IsLargerSo (hows ++ more)) (sym is)
-      (best_left IsFoundSo IsNotSmaller IsLargerSo hows more one other (as_small one other (subst (λ b. IsAsSmall b other) is right)) here there)
+      (best_left IsFoundSo IsNotSmaller IsLargerSo hows more one other (as_small one other (subst (λ b. IsAsSmall b other) is right)) here
+      there)
 
   pub smaller_best : (hows more : List Turning) (one other best : Option S) → (best ≡ one) ⊎ (best ≡ other)
       → (best ≡ one) ⊎ IsFewer best one → IsAsSmall best one → IsAsSmall best other
       → IsBestIn IsFoundSo IsNotSmaller IsLargerSo hows one → IsBestIn IsFoundSo IsNotSmaller IsLargerSo more other
       → IsBestIn IsFoundSo IsNotSmaller IsLargerSo (hows ++ more) best
   smaller_best hows more one other best (inl is) first left right here there = best_one hows more one other best is right here there
-  smaller_best hows more one other best (inr is) (inl first) left right here there = best_one hows more one other best first right here there
+  smaller_best hows more one other best (inr is) (inl first) left right here there =
+      best_one hows more one other best first right here there
   smaller_best hows more one other best (inr is) (inr less) left right here there =
       subst (IsBestIn IsFoundSo IsNotSmaller IsLargerSo (hows ++ more)) (sym is)
       (best_right IsFoundSo IsNotSmaller IsLargerSo hows more one other (as_small other one (subst (λ b. IsAsSmall b one) is left))

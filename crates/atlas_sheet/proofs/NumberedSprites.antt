@@ -1,5 +1,6 @@
 -- Numbered sprites: each number once.
-use Rattle.std.proofs.Common.{◌≡◌, ◌==◌, ◌+◌, ◌<◌, ◌≤◌, ℕ, Bool, true, false, List, [], ◌∷◌, length, map, get_or, All, Option, IsPermutation, refl, ap, sym, subst, arith}
+use Rattle.std.proofs.Common.{◌≡◌, ◌==◌, ◌+◌, ◌<◌, ◌≤◌, ℕ, Bool, true, false, List, [], ◌∷◌, length, map, get_or, All, Option}
+use Rattle.std.proofs.Common.{IsPermutation, refl, ap, sym, subst, arith}
 use Rattle.std.specs.List.{enumerate_from, count_by, range_with_len}
 use Rattle.std.proofs.lemmas.Bool.{eqb-true}
 use Rattle.std.proofs.lemmas.List.Elements.{All-nil, All-cons, All-from_get_or, All-get_or, All-head, All-tail}
@@ -40,8 +41,10 @@ numbered_once n k (x ∷ xs) =
     by_test (n == k) refl (count_by-cons (λ (s : ℕ × Size). s.0 == k) (n, x) (enumerate_from (n + 1) xs)) (numbered_once (n + 1) k xs)
   where
     by_test : (b : Bool) → (n == k) ≡ b
-        → count_by (λ (s : ℕ × Size). s.0 == k) (enumerate_from n (x ∷ xs)) ≡ one_if b + count_by (λ s. s.0 == k) (enumerate_from (n + 1) xs)
-        → count_by (λ (s : ℕ × Size). s.0 == k) (enumerate_from (n + 1) xs) ≤ 1 → count_by (λ (s : ℕ × Size). s.0 == k) (enumerate_from n (x ∷ xs)) ≤ 1
+        → count_by (λ (s : ℕ × Size). s.0 == k) (enumerate_from n (x ∷ xs)) ≡ one_if b + count_by (λ s. s.0 == k)
+        (enumerate_from (n + 1) xs)
+        → count_by (λ (s : ℕ × Size). s.0 == k) (enumerate_from (n + 1) xs) ≤ 1 →
+        count_by (λ (s : ℕ × Size). s.0 == k) (enumerate_from n (x ∷ xs)) ≤ 1
     by_test true e count few =
         let same : n ≡ k = eqb-true n k e in
         let later : count_by (λ s. s.0 == k) (enumerate_from (n + 1) xs) ≡ 0 = not_before (n + 1) k xs (omega arith) in
@@ -56,12 +59,14 @@ numbered_all P n (x ∷ xs) each =
 
 module _ (sprites : List Size) (order : List (ℕ × Size)) (moved : IsPermutation (enumerate_from 0 sprites) order) where
   pub order_below : (most : ℕ) → length sprites ≤ most → All (λ s. s.0 < most) order
-  order_below most le = All-permutation (λ s. s.0 < most) (enumerate_from 0 sprites) order moved (numbers_below 0 most sprites (omega arith))
+  order_below most le = All-permutation (λ s. s.0 < most) (enumerate_from 0 sprites) order moved
+      (numbers_below 0 most sprites (omega arith))
 
   pub order_once : AreNumberedOnce order
   order_once k =
       let few : count_by (λ s. s.0 == k) (enumerate_from 0 sprites) ≤ 1 = numbered_once 0 k sprites in
-      let same : count_by (λ s. s.0 == k) order ≡ count_by (λ s. s.0 == k) (enumerate_from 0 sprites) = count_by-permutation (λ (s : ℕ × Size). s.0 == k) (enumerate_from 0 sprites) order moved in
+      let same : count_by (λ s. s.0 == k) order ≡ count_by (λ s. s.0 == k) (enumerate_from 0 sprites) =
+      count_by-permutation (λ (s : ℕ × Size). s.0 == k) (enumerate_from 0 sprites) order moved in
       omega arith
 
   pub order_all : (P : Size → Type 0) → All P sprites → All (λ s. P s.1) order
@@ -73,7 +78,8 @@ module _ (sprites : List Size) (order : List (ℕ × Size)) (moved : IsPermutati
       All-permutation (λ s. s.1 ≡ get_or sprites s.0 d) (enumerate_from 0 sprites) order moved
       (All-from_get_or (λ s. s.1 ≡ get_or sprites s.0 d) (enumerate_from 0 sprites) (0, d) (λ i below.
       let inside : i < length sprites = omega (arith, below, length-enumerate_from 0 sprites) in
-      subst (λ (s : ℕ × Size). s.1 ≡ get_or sprites s.0 d) (sym (get_or-enumerate_from 0 sprites i (0, d) inside)) (ap (λ n. get_or sprites n d) (omega arith))))
+      subst (λ (s : ℕ × Size). s.1 ≡ get_or sprites s.0 d) (sym (get_or-enumerate_from 0 sprites i (0, d) inside))
+      (ap (λ n. get_or sprites n d) (omega arith))))
 
   -- What holds of each of them holds at each number.
   pub order_at : (P : ℕ × Size → Type 0) → All P order → (k : ℕ) (d : Size) → k < length sprites

@@ -1,5 +1,6 @@
 -- Sprites of which all find places, or one doesn't.
-use Rattle.std.proofs.Common.{◌≡◌, ◌+◌, ◌++◌, ◌<◌, ℕ, suc, List, [], ◌∷◌, length, map, take, set, get_or, append-nil, All, Some, None, ap, sym, subst, ◌∙◌}
+use Rattle.std.proofs.Common.{◌≡◌, ◌+◌, ◌++◌, ◌<◌, ℕ, suc, List, [], ◌∷◌, length, map, take, set, get_or, append-nil, All, Some, None, ap}
+use Rattle.std.proofs.Common.{sym, subst, ◌∙◌}
 use Rattle.std.specs.Prelude.{Contains}
 use Rattle.std.proofs.Math.Seq.{take-suc}
 use Rattle.std.proofs.lemmas.List.{length-map, map-append, map-set, map_more, map_push, take_more, get_or-set_same}
@@ -45,7 +46,8 @@ module _ (spacing : Spacing) (start now next : SimpleState) (order : List (ℕ �
       let longer : take (suc k) order ≡ take k order ++ s ∷ [] = take-suc order k d inside ∙ ap (λ t. take k order ++ t ∷ []) (sym is) in
       let absent : place_of_sprite after s ≡ None = get_or-set_same (map Some places) s.0 None _ wide in
       let listed : map (place_of_sprite after) (take (suc k) order) ≡ map (place_of_sprite after) (take k order) ++ None ∷ [] =
-      ap (map (place_of_sprite after)) longer ∙ map-append (place_of_sprite after) (take k order) (s ∷ []) ∙ ap (λ p. map (place_of_sprite after) (take k order) ++ p ∷ []) absent in
+      ap (map (place_of_sprite after)) longer ∙ map-append (place_of_sprite after) (take k order) (s ∷ []) ∙
+      ap (λ p. map (place_of_sprite after) (take k order) ++ p ∷ []) absent in
       record {
         many = suc k;
         places = after;
@@ -64,7 +66,8 @@ pub a_way_packs : (ways : List Way) (sheet : Sides) (spacing : Spacing) (sprites
 a_way_packs ways sheet spacing sprites packed first positive aligned packable by long found =
     let count : length (map Some packed.places) ≡ length sprites = length-map packed.places Some ∙ long in
     record {
-      good = found_places sheet spacing packed.way.choice sprites packed.order (map Some packed.places) positive aligned packable by.permuted count found;
+      good = found_places sheet spacing packed.way.choice sprites packed.order (map Some packed.places) positive aligned packable
+          by.permuted count found;
       tried = stands_in (LeavesSprite sheet spacing sprites) ways packed.way first;
       by = by;
       found = found;

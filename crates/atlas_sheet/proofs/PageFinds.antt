@@ -1,5 +1,7 @@
 -- A sheet as it is found for the sprites that are left.
-use Rattle.std.proofs.Common.{◌≡◌, ◌==◌, ◌/◌, ◌<◌, ◌≤◌, ◌⊎◌, ℕ, zero, suc, max, min, IsTrue, Bool, true, false, inl, inr, List, [], ◌∷◌, ◌++◌, length, replicate, take, All, Option, Some, None, IfSome, IsNone, IsSome, refl, ap, sym, subst, ◌∙◌, arith}
+use Rattle.std.proofs.Common.{◌≡◌, ◌==◌, ◌/◌, ◌<◌, ◌≤◌, ◌⊎◌, ℕ, zero, suc, max, min, IsTrue, Bool, true, false, inl, inr, List, [], ◌∷◌}
+use Rattle.std.proofs.Common.{◌++◌, length, replicate, take, All, Option, Some, None, IfSome, IsNone, IsSome, refl, ap, sym, subst, ◌∙◌}
+use Rattle.std.proofs.Common.{arith}
 use Rattle.std.specs.List.{AllZip}
 use Rattle.std.proofs.Math.Nat.{le-max_left}
 use Rattle.std.proofs.lemmas.Bool.{eq-eqb, eqb-true, false≢true}
@@ -62,7 +64,8 @@ bare_sheet ways o left sheet ways_some greatest none packs some room =
     let by = first_way (IsNoBetter sheet (spacing_of o) lying 0) (ways_tried (length left)) ways tried ways_some first.2 in
     let used = room_found sheet (spacing_of o) lying by.0 by.1.0 by.1.1 by.1.2 (omega (arith, count, some))
     (lie_packable (spacing_of o) o.turn left lying may packs)
-    (subst (All (λ s. IsTrue (has_room sheet (spacing_of o) s))) (sym is) (laid_room sheet (spacing_of o) o.turn turning.AsGiven left room)) in
+    (subst (All (λ s. IsTrue (has_room sheet (spacing_of o) s))) (sym is) (laid_room sheet (spacing_of o) o.turn turning.AsGiven left room))
+    in
     let few : used_area by.1.1 ≤ 0 = by.1.3 in
     absurd (omega (arith, used, few))
 
@@ -93,7 +96,8 @@ module _ (ways : List Way) (o : SheetOptions) (left : List Size) (sheet : Sides)
       by_kind (inl all) = inl (shown_whole placed areas are all.0, all.1)
       by_kind (inr full) = inr (
         full.0,
-        subst (λ xs. InEach o left (λ lying. All (IsNoBetter sheet (spacing_of o) lying (used_area xs)) (take (ways_tried (length left)) ways)))
+        subst (λ xs. InEach o left (λ lying. All (IsNoBetter sheet (spacing_of o) lying (used_area xs))
+            (take (ways_tried (length left)) ways)))
             (sym are) full.1,
         λ whole. full.2 (subst (All IsSome) are (areas_whole placed whole)),
       )
@@ -190,7 +194,8 @@ empty_left n left b is test on = sym is ∙ eqb-true n 0 (sym test ∙ on)
 
 -- What is found, as the calls say it: of the sprites that they are given, and of the size that they return.
 module _ (ways : List Way) (o : SheetOptions) (left given seen : List Size) (given_is : given ≡ left) (seen_is : seen ≡ left)
-    (size found_size : Size) (size_is : size ≡ found_size) (order : List ℕ) (placed : List (Option Placed)) (areas : List (Option Rectangle))
+    (size found_size : Size) (size_is : size ≡ found_size) (order : List ℕ) (placed : List (Option Placed))
+    (areas : List (Option Rectangle))
     (shown : IsShown (sides_of size) (spacing_of o) o.turn seen order placed) (are : areas_of placed ≡ areas)
     (kind : IsKind ways o given (sides_of found_size) areas) where
   shown_here : IsShown (sides_of size) (spacing_of o) o.turn left order placed

@@ -1,5 +1,7 @@
 -- Sprites that are put on one sheet after another.
-use Rattle.std.proofs.Common.{◌≡◌, ◌==◌, ◌+◌, ◌<◌, ◌≤◌, ◌⊎◌, ℕ, zero, suc, replicate, true, false, cond, nat_le, is_none, inl, inr, List, [], ◌∷◌, ◌++◌, length, drop, get_or, append-nil, add-one, All, Option, Some, None, IfSome, IsNone, IsSome, refl, ap, sym, subst, ◌∙◌, arith}
+use Rattle.std.proofs.Common.{◌≡◌, ◌==◌, ◌+◌, ◌<◌, ◌≤◌, ◌⊎◌, ℕ, zero, suc, replicate, true, false, cond, nat_le, is_none, inl, inr, List}
+use Rattle.std.proofs.Common.{[], ◌∷◌, ◌++◌, length, drop, get_or, append-nil, add-one, All, Option, Some, None, IfSome, IsNone, IsSome}
+use Rattle.std.proofs.Common.{refl, ap, sym, subst, ◌∙◌, arith}
 use Rattle.std.proofs.lemmas.Bool.{cases_lt, cond-false, cond-true, eq-eqb, le-leb, lt-leb, ne_eqb}
 use Rattle.std.proofs.Math.ListN.{drop_of_length-le}
 use Rattle.std.proofs.Math.Seq.{drop-cons}
@@ -26,7 +28,8 @@ same_from j k le (s ∷ sprites) (Some p ∷ places) found =
 same_from j k le (s ∷ sprites) (None ∷ places) [] = refl
 same_from j k le (s ∷ sprites) (None ∷ places) (None ∷ found) = ap (λ xs. s ∷ xs) (same_from j k le sprites places found)
 same_from j k le (s ∷ sprites) (None ∷ places) (Some f ∷ found) =
-    cond-true (nat_le j k) (s ∷ sprites_from j sprites (put_on k places found)) (sprites_from j sprites (put_on k places found)) (le-leb j k le)
+    cond-true (nat_le j k) (s ∷ sprites_from j sprites (put_on k places found)) (sprites_from j sprites (put_on k places found))
+    (le-leb j k le)
     ∙ ap (λ xs. s ∷ xs) (same_from j k le sprites places found)
 
 -- Nor does it add a place on an earlier one.
@@ -38,8 +41,10 @@ same_on j k less (Some p ∷ places) found =
 same_on j k less (None ∷ places) [] = refl
 same_on j k less (None ∷ places) (None ∷ found) = ap (λ xs. None ∷ xs) (same_on j k less places found)
 same_on j k less (None ∷ places) (Some f ∷ found) =
-    cond-true (nat_le j k) (cond (k == j) (Some f) None ∷ places_on j (put_on k places found)) (places_on j (put_on k places found)) (le-leb j k (omega (arith, less)))
-    ∙ (λ i. cond-false (k == j) (Some f) None (ne_eqb k j (λ e. let same : k ≡ j = e in absurd (omega (arith, less)))) i ∷ same_on j k less places found i)
+    cond-true (nat_le j k) (cond (k == j) (Some f) None ∷ places_on j (put_on k places found)) (places_on j (put_on k places found))
+    (le-leb j k (omega (arith, less)))
+    ∙ (λ i. cond-false (k == j) (Some f) None (ne_eqb k j (λ e. let same : k ≡ j = e in absurd (omega (arith, less)))) i ∷ same_on j k less
+    places found i)
 
 -- Of places on earlier sheets, those from this one on are those that are missing.
 pub left_from : (k : ℕ) (sprites : List Size) (places : List (Option OnPage)) → All (LiesEarlier k) places
@@ -49,7 +54,8 @@ left_from k (s ∷ sprites) [] before = refl
 left_from k (s ∷ sprites) (None ∷ places) before =
     ap (λ xs. s ∷ xs) (left_from k sprites places (All-tail (LiesEarlier k) None places before))
 left_from k (s ∷ sprites) (Some p ∷ places) before =
-    cond-false (nat_le k p.page) (s ∷ sprites_from k sprites places) (sprites_from k sprites places) (lt-leb k p.page (All-head (LiesEarlier k) (Some p) places before))
+    cond-false (nat_le k p.page) (s ∷ sprites_from k sprites places) (sprites_from k sprites places)
+    (lt-leb k p.page (All-head (LiesEarlier k) (Some p) places before))
     ∙ left_from k sprites places (All-tail (LiesEarlier k) (Some p) places before)
 
 -- What was found on the new sheet is what lies there.
@@ -66,7 +72,8 @@ found_there k (None ∷ places) [] before long = absurd (omega (arith, long))
 found_there k (None ∷ places) (None ∷ found) before long =
     ap (λ xs. None ∷ xs) (found_there k places found (All-tail (LiesEarlier k) None places before) (omega (arith, long)))
 found_there k (None ∷ places) (Some f ∷ found) before long =
-    cond-true (nat_le k k) (cond (k == k) (Some f) None ∷ places_on k (put_on k places found)) (places_on k (put_on k places found)) (le-leb k k (omega arith))
+    cond-true (nat_le k k) (cond (k == k) (Some f) None ∷ places_on k (put_on k places found)) (places_on k (put_on k places found))
+    (le-leb k k (omega arith))
     ∙ (λ i. cond-true (k == k) (Some f) None (eq-eqb k k refl) i
     ∷ found_there k places found (All-tail (LiesEarlier k) None places before) (omega (arith, long)) i)
 
@@ -78,7 +85,8 @@ put_before : (k : ℕ) (places : List (Option OnPage)) (found : List (Option Pla
     → All (LiesEarlier (k + 1)) (put_on k places found)
 put_before k [] found before = All-nil (LiesEarlier (k + 1))
 put_before k (Some p ∷ places) found before =
-    All-cons (LiesEarlier (k + 1)) (Some p) (put_on k places found) (one_before k (Some p) (All-head (LiesEarlier k) (Some p) places before))
+    All-cons (LiesEarlier (k + 1)) (Some p) (put_on k places found) (one_before k (Some p)
+    (All-head (LiesEarlier k) (Some p) places before))
     (put_before k places found (All-tail (LiesEarlier k) (Some p) places before))
 put_before k (None ∷ places) [] before = All-weaker (LiesEarlier k) (LiesEarlier (k + 1)) (one_before k) (None ∷ places) before
 put_before k (None ∷ places) (None ∷ found) before =
@@ -109,8 +117,10 @@ no_more : (k : ℕ) (places : List (Option OnPage)) (found : List (Option Placed
 no_more k [] found = omega arith
 no_more k (Some p ∷ places) found = no_more k places found
 no_more k (None ∷ places) [] = omega arith
-no_more k (None ∷ places) (None ∷ found) = let le : holes (put_on k places found) ≤ holes places = no_more k places found in omega (arith, le)
-no_more k (None ∷ places) (Some f ∷ found) = let le : holes (put_on k places found) ≤ holes places = no_more k places found in omega (arith, le)
+no_more k (None ∷ places) (None ∷ found) = let le : holes (put_on k places found) ≤ holes places = no_more k places found in
+    omega (arith, le)
+no_more k (None ∷ places) (Some f ∷ found) = let le : holes (put_on k places found) ≤ holes places = no_more k places found in
+    omega (arith, le)
 
 -- A sheet on which one is found leaves fewer without a place.
 pub fewer : (k : ℕ) (places : List (Option OnPage)) (found : List (Option Placed)) → length found ≡ holes places
@@ -120,7 +130,8 @@ fewer k [] (f ∷ found) long some = absurd (omega (arith, long))
 fewer k (Some p ∷ places) found long some = fewer k places found long some
 fewer k (None ∷ places) [] long some = absurd (omega (arith, long))
 fewer k (None ∷ places) (None ∷ found) long some =
-    let less : holes (put_on k places found) < holes places = fewer k places found (omega (arith, long)) (λ none. some (All-cons IsNone None found refl none)) in
+    let less : holes (put_on k places found) < holes places = fewer k places found (omega (arith, long))
+    (λ none. some (All-cons IsNone None found refl none)) in
     omega (arith, less)
 fewer k (None ∷ places) (Some f ∷ found) long some =
     let le : holes (put_on k places found) ≤ holes places = no_more k places found in
@@ -140,7 +151,8 @@ all_left P (s ∷ sprites) (None ∷ places) each =
     All-cons P s (sprites_left sprites places) (All-head P s sprites each) (all_left P sprites places (All-tail P s sprites each))
 all_left P (s ∷ sprites) (Some p ∷ places) each = all_left P sprites places (All-tail P s sprites each)
 
-module _ (rule : List Size → Sides → List (Option Placed) → Type 0) (sprites sizes : List Size) (places : List (Option OnPage)) (are : ArePagesBy rule sprites sizes places)
+module _ (rule : List Size → Sides → List (Option Placed) → Type 0) (sprites sizes : List Size) (places : List (Option OnPage))
+    (are : ArePagesBy rule sprites sizes places)
     (size : Size) (found : List (Option Placed)) (long : length found ≡ holes places)
     (next : rule (sprites_left sprites places) (sides_of size) found) where
   abbrev n : ℕ
@@ -155,7 +167,8 @@ module _ (rule : List Size → Sides → List (Option Placed) → Type 0) (sprit
   old_page page less =
       let a = same_from page n (omega (arith, less)) sprites places found in
       let b = same_on page n less places found in
-      let c : page_sides (sizes ++ size ∷ []) page ≡ page_sides sizes page = ap sides_of (get_or_append_left sizes (size ∷ []) _ page less) in
+      let c : page_sides (sizes ++ size ∷ []) page ≡ page_sides sizes page = ap sides_of (get_or_append_left sizes (size ∷ []) _ page less)
+      in
       subst (λ xs. rule xs (page_sides (sizes ++ size ∷ []) page) (places_on page (put_on n places found))) (sym a)
       (subst (λ ps. rule (sprites_from page sprites places) (page_sides (sizes ++ size ∷ []) page) ps) (sym b)
       (subst (λ z. rule (sprites_from page sprites places) z (places_on page places)) (sym c) (are.pages page less)))
@@ -164,10 +177,12 @@ module _ (rule : List Size → Sides → List (Option Placed) → Type 0) (sprit
       → rule (sprites_from page sprites (put_on n places found)) (page_sides (sizes ++ size ∷ []) page)
       (places_on page (put_on n places found))
   new_page page is =
-      let a : sprites_from n sprites (put_on n places found) ≡ sprites_left sprites places = same_from n n (omega arith) sprites places found ∙ left_from n sprites places are.below in
+      let a : sprites_from n sprites (put_on n places found) ≡ sprites_left sprites places =
+      same_from n n (omega arith) sprites places found ∙ left_from n sprites places are.below in
       let b = found_there n places found are.below long in
       let c : page_sides (sizes ++ size ∷ []) n ≡ sides_of size = ap sides_of (get_or_push sizes size _ n refl) in
-      subst (λ m. rule (sprites_from m sprites (put_on n places found)) (page_sides (sizes ++ size ∷ []) m) (places_on m (put_on n places found))) (sym is)
+      subst (λ m. rule (sprites_from m sprites (put_on n places found)) (page_sides (sizes ++ size ∷ []) m)
+      (places_on m (put_on n places found))) (sym is)
       (subst (λ xs. rule xs (page_sides (sizes ++ size ∷ []) n) (places_on n (put_on n places found))) (sym a)
       (subst (λ ps. rule (sprites_left sprites places) (page_sides (sizes ++ size ∷ []) n) ps) (sym b)
       (subst (λ z. rule (sprites_left sprites places) z found) (sym c) next)))
@@ -181,7 +196,8 @@ module _ (rule : List Size → Sides → List (Option Placed) → Type 0) (sprit
   }
     where
       by_last : (page : ℕ) → page < length (sizes ++ size ∷ []) → (page < n) ⊎ (n ≤ page)
-          → rule (sprites_from page sprites (put_on n places found)) (page_sides (sizes ++ size ∷ []) page) (places_on page (put_on n places found))
+          → rule (sprites_from page sprites (put_on n places found)) (page_sides (sizes ++ size ∷ []) page)
+          (places_on page (put_on n places found))
       by_last page less (inl old) = old_page page old
       by_last page less (inr new) = new_page page (omega (arith, less, new, more))
 
@@ -203,7 +219,8 @@ left_first [] = refl
 left_first (s ∷ sprites) = ap (λ xs. s ∷ xs) (left_first sprites)
 
 -- What was put of the first k places, and what is put of the others.
-pub record IsPutTo (page : ℕ) (places : List (Option OnPage)) (found : List (Option Placed)) (k next : ℕ) (all : List (Option OnPage)) : Type 0 where
+pub record IsPutTo (page : ℕ) (places : List (Option OnPage)) (found : List (Option Placed)) (k next : ℕ) (all : List (Option OnPage)) :
+    Type 0 where
   pub put : put_on page places found ≡ all ++ put_on page (drop k places) (drop next found)
   pub missing : next + holes (drop k places) ≡ length found
 
@@ -221,7 +238,8 @@ IsLeftTo sprites places k left = sprites_left sprites places ≡ left ++ sprites
 pub left_end : (sprites : List Size) (places : List (Option OnPage)) (k : ℕ) (left : List Size) → length places ≤ k
     → IsLeftTo sprites places k left → left ≡ sprites_left sprites places
 left_end sprites places k left end so =
-    sym (so ∙ ap (λ ps. left ++ sprites_left (drop k sprites) ps) (drop_of_length-le places end) ∙ ap (λ xs. left ++ xs) (no_places (drop k sprites)) ∙ append-nil left)
+    sym (so ∙ ap (λ ps. left ++ sprites_left (drop k sprites) ps) (drop_of_length-le places end) ∙
+    ap (λ xs. left ++ xs) (no_places (drop k sprites)) ∙ append-nil left)
   where
     no_places : (sprites : List Size) → sprites_left sprites [] ≡ []
     no_places [] = refl
@@ -235,15 +253,18 @@ module _ (sprites : List Size) (places : List (Option OnPage)) (k : ℕ) (left m
   split =
       let a : drop k sprites ≡ s ∷ drop (k + 1) sprites =
       drop-cons sprites k s (omega (arith, inside, long)) ∙ (λ i. sym s_at i ∷ (ap (λ m. drop m sprites) (sym (add-one k))) i) in
-      let b : drop k places ≡ q ∷ drop (k + 1) places = drop-cons places k q inside ∙ (λ i. sym q_at i ∷ (ap (λ m. drop m places) (sym (add-one k))) i) in
+      let b : drop k places ≡ q ∷ drop (k + 1) places = drop-cons places k q inside ∙
+      (λ i. sym q_at i ∷ (ap (λ m. drop m places) (sym (add-one k))) i) in
       λ i. sprites_left (a i) (b i)
 
   pub left_more : is_none q ≡ true → more ≡ left ++ s ∷ [] → IsLeftTo sprites places (k + 1) more
   left_more none added =
-      so ∙ ap (λ xs. left ++ xs) (split ∙ cond-true (is_none q) (s ∷ sprites_left (drop (k + 1) sprites) (drop (k + 1) places)) (sprites_left (drop (k + 1) sprites) (drop (k + 1) places)) none)
+      so ∙ ap (λ xs. left ++ xs) (split ∙ cond-true (is_none q) (s ∷ sprites_left (drop (k + 1) sprites) (drop (k + 1) places))
+      (sprites_left (drop (k + 1) sprites) (drop (k + 1) places)) none)
       ∙ sym (append_assoc left (s ∷ []) (sprites_left (drop (k + 1) sprites) (drop (k + 1) places)))
       ∙ ap (λ xs. xs ++ sprites_left (drop (k + 1) sprites) (drop (k + 1) places)) (sym added)
 
   pub left_less : is_none q ≡ false → IsLeftTo sprites places (k + 1) left
   left_less some =
-      so ∙ ap (λ xs. left ++ xs) (split ∙ cond-false (is_none q) (s ∷ sprites_left (drop (k + 1) sprites) (drop (k + 1) places)) (sprites_left (drop (k + 1) sprites) (drop (k + 1) places)) some)
+      so ∙ ap (λ xs. left ++ xs) (split ∙ cond-false (is_none q) (s ∷ sprites_left (drop (k + 1) sprites) (drop (k + 1) places))
+      (sprites_left (drop (k + 1) sprites) (drop (k + 1) places)) some)

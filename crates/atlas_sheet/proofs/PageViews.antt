@@ -1,5 +1,6 @@
 -- What places on several sheets keep to, and sprites of which none has room.
-use Rattle.std.proofs.Common.{◌≡◌, ◌≢◌, ◌==◌, ◌+◌, ◌<◌, ◌≤◌, ◌⊎◌, ℕ, Bool, true, false, cond, nat_le, inl, inr, List, [], ◌∷◌, length, map, All, Option, Some, None, IfSome, IsNone, IsSome, refl, ap, sym, subst, ◌∙◌, arith}
+use Rattle.std.proofs.Common.{◌≡◌, ◌≢◌, ◌==◌, ◌+◌, ◌<◌, ◌≤◌, ◌⊎◌, ℕ, Bool, true, false, cond, nat_le, inl, inr, List, [], ◌∷◌, length, map}
+use Rattle.std.proofs.Common.{All, Option, Some, None, IfSome, IsNone, IsSome, refl, ap, sym, subst, ◌∙◌, arith}
 use Rattle.std.specs.List.{AllZip, count_by}
 use Rattle.std.proofs.lemmas.Bool.{eq-eqb, eqb-true, false≢true, le-leb, leb-true, ne_eqb}
 use Rattle.std.proofs.lemmas.List.{length-map}
@@ -17,7 +18,8 @@ use Rattle.atlas_sheet.specs.declared.ways.Way.{Way}
 use Rattle.atlas_sheet.specs.Allowances.{IsGreatest}
 use Rattle.atlas_sheet.specs.Dense.{AreAllPlaced, ArePaddedApart}
 use Rattle.atlas_sheet.specs.Lying.{IsPlacedFor, areas_of}
-use Rattle.atlas_sheet.specs.Paging.{AreGreatest, ArePages, ArePagesBy, AreUsed, IsFullSheet, IsOnPage, IsPage, NoPlacesOverlap, TakesAll, boxes_on, page_sides, place_on, places_on, sprites_from}
+use Rattle.atlas_sheet.specs.Paging.{AreGreatest, ArePages, ArePagesBy, AreUsed, IsFullSheet, IsOnPage, IsPage, NoPlacesOverlap, TakesAll}
+use Rattle.atlas_sheet.specs.Paging.{boxes_on, page_sides, place_on, places_on, sprites_from}
 use Rattle.atlas_sheet.specs.Settings.{spacing_of}
 use Rattle.atlas_sheet.specs.Sheets.{covers_place, padded}
 use Rattle.atlas_sheet.proofs.AskedPlace.{covers_inside}
@@ -51,7 +53,8 @@ module _ (n : ℕ) (R : ℕ → Size → Option Placed → Type 0) (Q : Size →
       let at : place_on p.page (Some p) ≡ Some p.placed = ap (λ b. cond b (Some p.placed) None) (eq-eqb p.page p.page refl) in (
         one s p known (subst (R p.page s) at here),
         each_on sprites places (omega (arith, long)) (All-tail B (Some p) (map Some places) below)
-            (λ k less. zip_later (R k) (nat_le k p.page) s (sprites_from k sprites (map Some places)) (place_on k (Some p)) (places_on k (map Some places)) (shown k less)),
+            (λ k less. zip_later (R k) (nat_le k p.page) s (sprites_from k sprites (map Some places)) (place_on k (Some p))
+            (places_on k (map Some places)) (shown k less)),
       )
 
 pub below_all : (n : ℕ) (places : List OnPage) → All (λ p. IfSome p (λ q. q.page < n)) (map Some places)
@@ -59,12 +62,14 @@ pub below_all : (n : ℕ) (places : List OnPage) → All (λ p. IfSome p (λ q. 
 below_all n [] below = All-nil (λ q. q.page < n)
 below_all n (p ∷ places) below =
     let B : Option OnPage → Type 0 = λ p. IfSome p (λ q. q.page < n) in
-    All-cons (λ q. q.page < n) p places (All-head B (Some p) (map Some places) below) (below_all n places (All-tail B (Some p) (map Some places) below))
+    All-cons (λ q. q.page < n) p places (All-head B (Some p) (map Some places) below)
+    (below_all n places (All-tail B (Some p) (map Some places) below))
 
 module _ (spacing : Spacing) (x y : ℕ) where
   one_on : (b c : Bool) → (b ≡ true → c ≡ true) → (p : Placed) (boxes : List Box) (placed : List (Option Placed))
       → count_by (covers x y) boxes ≤ count_by (covers_place spacing x y) (areas_of placed)
-      → count_by (covers x y) (cond b (box_of p.area ∷ boxes) boxes) ≤ count_by (covers_place spacing x y) (areas_of (cond c (cond b (Some p) None ∷ placed) placed))
+      → count_by (covers x y) (cond b (box_of p.area ∷ boxes) boxes) ≤ count_by (covers_place spacing x y)
+      (areas_of (cond c (cond b (Some p) None ∷ placed) placed))
   one_on true true on p boxes placed few =
       let a : count_by (covers x y) (box_of p.area ∷ boxes) ≡ one_if (covers x y (box_of p.area)) + count_by (covers x y) boxes =
       count_by-cons (covers x y) (box_of p.area) boxes in
@@ -85,7 +90,8 @@ module _ (spacing : Spacing) (x y : ℕ) where
       → count_by (covers x y) (boxes_on k places) ≤ count_by (covers_place spacing x y) (areas_of (places_on k (map Some places)))
   counts_on k [] = omega arith
   counts_on k (p ∷ places) =
-      one_on (p.page == k) (nat_le k p.page) (λ e. let same : p.page ≡ k = eqb-true p.page k e in le-leb k p.page (omega (arith, same))) p.placed
+      one_on (p.page == k) (nat_le k p.page) (λ e. let same : p.page ≡ k = eqb-true p.page k e in le-leb k p.page (omega (arith, same)))
+      p.placed
       (boxes_on k places) (places_on k (map Some places)) (counts_on k places)
 
 -- Nothing lies on a sheet that no place names.
@@ -98,7 +104,8 @@ none_if false false off p placed none = none
 none_on : (k : ℕ) (places : List OnPage) → All (λ p. p.page ≢ k) places → All IsNone (places_on k (map Some places))
 none_on k [] other = All-nil IsNone
 none_on k (p ∷ places) other =
-    none_if (p.page == k) (nat_le k p.page) (ne_eqb p.page k (All-head (λ p. p.page ≢ k) p places other)) p.placed (places_on k (map Some places))
+    none_if (p.page == k) (nat_le k p.page) (ne_eqb p.page k (All-head (λ p. p.page ≢ k) p places other)) p.placed
+    (places_on k (map Some places))
     (none_on k places (All-tail (λ p. p.page ≢ k) p places other))
 
 -- Where all from a sheet on lie on it, none lies on the next.
@@ -136,7 +143,8 @@ page_good ways o sprites sheet placed page = record {
 }
 
 module _ (o : SheetOptions) (rule : List Size → Sides → List (Option Placed) → Type 0)
-    (good : (sprites : List Size) (sheet : Sides) (placed : List (Option Placed)) → rule sprites sheet placed → IsGood o sprites sheet placed)
+    (good : (sprites : List Size) (sheet : Sides) (placed : List (Option Placed)) → rule sprites sheet placed →
+    IsGood o sprites sheet placed)
     (sprites sizes : List Size) (places : List OnPage) (are : ArePagesBy rule sprites sizes (map Some places)) where
   good_at : (page : ℕ) → page < length sizes
       → IsGood o (sprites_from page sprites (map Some places)) (page_sides sizes page) (places_on page (map Some places))

@@ -1,5 +1,6 @@
 -- Sheets whose sides are powers of two.
-use Rattle.std.proofs.Common.{◌≡◌, ◌+◌, ◌-◌, ◌*◌, ◌^◌, ◌<◌, ◌≤◌, ◌⊎◌, ℕ, ℤ, List, Option, Some, None, IfSome, IfNone, false, is_some, ap, sym, subst, refl, ◌∙◌, inl, inr, arith}
+use Rattle.std.proofs.Common.{◌≡◌, ◌+◌, ◌-◌, ◌*◌, ◌^◌, ◌<◌, ◌≤◌, ◌⊎◌, ℕ, ℤ, List, Option, Some, None, IfSome, IfNone, false, is_some, ap}
+use Rattle.std.proofs.Common.{sym, subst, refl, ◌∙◌, inl, inr, arith}
 use Rattle.std.proofs.Math.Pow.{pow_mono}
 use Rattle.std.proofs.lemmas.Bool.{cases_lt}
 use Rattle.std.proofs.lemmas.Nat.{pow_below, pow_pos, pow-add}
@@ -149,7 +150,8 @@ module _ (ways : List Way) (most : ℕ) (spacing : Spacing) (sprites : List Size
   pub outside_long : (sum half flat less more : ℕ) → less ≡ half - flat → more ≡ sum - less → most < more
       → FailsOutside sum half flat
       → NoShapePacks ways most sum spacing sprites
-  outside_long sum half flat less more is rest long before wide high together w h = before wide high together w h (omega arith) (omega arith)
+  outside_long sum half flat less more is rest long before wide high together w h =
+      before wide high together w h (omega arith) (omega arith)
 
   pub outside_all : (sum half flat : ℕ) → half < flat → FailsOutside sum half flat
       → NoShapePacks ways most sum spacing sprites

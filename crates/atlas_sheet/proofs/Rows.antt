@@ -1,5 +1,6 @@
 -- The sizes of a row, each a pixel higher than the one before it.
-use Rattle.std.proofs.Common.{◌≡◌, ◌+◌, ◌-◌, ◌<◌, ◌≤◌, ℕ, ℤ, true, List, Option, Some, None, IfNone, IfSome, MatchOption, is_some, arith, sym, subst, refl}
+use Rattle.std.proofs.Common.{◌≡◌, ◌+◌, ◌-◌, ◌<◌, ◌≤◌, ℕ, ℤ, true, List, Option, Some, None, IfNone, IfSome, MatchOption, is_some, arith}
+use Rattle.std.proofs.Common.{sym, subst, refl}
 use Rattle.guillotiere.specs.declared.Size.{Size}
 use Rattle.guillotiere.specs.Boxes.{Sides, Fits, IsPositive}
 use Rattle.guillotiere.specs.Pixels.{natural}
@@ -108,7 +109,8 @@ module _ {T : Type 0} (sides : T → Sides) (packed : T → Packed) (ways : List
     where
       here : (f : Option T) → is_some f ≡ true → IfSome f (λ sheet. sides sheet ≡ nth_sides by middle)
           → IfSome f (λ sheet. ArePacked ways (sides sheet) spacing sprites (packed sheet)) → middle < count
-          → MatchOption f (middle ≡ count) (λ sheet. (middle < count) × (sides sheet ≡ nth_sides by middle) × ArePacked ways (sides sheet) spacing sprites (packed sheet))
+          → MatchOption f (middle ≡ count) (λ sheet. (middle < count) × (sides sheet ≡ nth_sides by middle) ×
+          ArePacked ways (sides sheet) spacing sprites (packed sheet))
       here None e a p inside = cc
       here (Some x) e a p inside = (inside, a, p)
 

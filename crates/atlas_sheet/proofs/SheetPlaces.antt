@@ -1,5 +1,6 @@
 -- Places that sprites find one after another keep to the sheet and to each other.
-use Rattle.std.proofs.Common.{◌≡◌, ◌+◌, ◌-◌, ◌<◌, ◌≤◌, max, ℕ, Bool, List, [], ◌∷◌, ◌++◌, map, length, drop, get_or, All, IsPermutation, Option, Some, None, IfSome, refl, ap, sym, subst, ◌∙◌, inl, inr, add-one, arith}
+use Rattle.std.proofs.Common.{◌≡◌, ◌+◌, ◌-◌, ◌<◌, ◌≤◌, max, ℕ, Bool, List, [], ◌∷◌, ◌++◌, map, length, drop, get_or, All, IsPermutation}
+use Rattle.std.proofs.Common.{Option, Some, None, IfSome, refl, ap, sym, subst, ◌∙◌, inl, inr, add-one, arith}
 use Rattle.std.specs.List.{enumerate_from, count_by, AllZip}
 use Rattle.std.proofs.Math.ListN.{drop_of_length-le}
 use Rattle.std.proofs.Math.Nat.{max-eq_left, max-eq_right}
@@ -17,7 +18,8 @@ use Rattle.guillotiere.proofs.TreeLemmas.TreeBasics.{one_if}
 use Rattle.guillotiere.proofs.ListLemmas.ListCounts.{count_by-cons, count_by-append}
 use Rattle.guillotiere.proofs.ListLemmas.CallerLemmas.{count_by-permutation}
 use Rattle.atlas_sheet.specs.declared.options.Spacing.{Spacing}
-use Rattle.atlas_sheet.specs.Sheets.{FindsPlace, FindPlaces, IsPlaceFor, ArePlaces, IsOnGrid, asked_sides, covers_place, inner_sides, padded, place_of_sprite, with_places}
+use Rattle.atlas_sheet.specs.Sheets.{FindsPlace, FindPlaces, IsPlaceFor, ArePlaces, IsOnGrid, asked_sides, covers_place, inner_sides}
+use Rattle.atlas_sheet.specs.Sheets.{padded, place_of_sprite, with_places}
 use Rattle.atlas_sheet.proofs.AskedPlace.{AreOnGrid, granted_on_grid, granted_room, left_on_grid, shrunk}
 use Rattle.atlas_sheet.proofs.NumberedSprites.{order_all}
 
@@ -54,7 +56,8 @@ module _ (spacing : Spacing) (sheet : Sides) (wide : IsPositive sheet) where
         left = left;
         above = above;
         right = fits_side sheet.width spacing.padding (sides_of sprite).width (box_of place).max.x wide.0 positive.0 (omega arith) within.0;
-        below = fits_side sheet.height spacing.padding (sides_of sprite).height (box_of place).max.y wide.1 positive.1 (omega arith) within.1;
+        below = fits_side sheet.height spacing.padding (sides_of sprite).height (box_of place).max.y wide.1 positive.1 (omega arith)
+            within.1;
         aligned = subst (IsOnGrid (sides_of spacing.alignment)) (sym (ap (λ b. b.min) found.2)) grid;
         exact = found.5;
       }
@@ -67,7 +70,8 @@ module _ (spacing : Spacing) (sheet : Sides) (wide : IsPositive sheet) where
       let room = granted_room s next (asked_sides spacing.padding sprite) box simple.valid.0 found.1 in
       let inside : IsInside (padded spacing.padding place) box =
       subst (λ b. IsInside b box) (sym found.2) (omega arith, omega arith, room.0, room.1) in
-      shrunk next box (padded spacing.padding place) held inside (grant-guarded s next (asked_sides spacing.padding sprite) box held simple found.1 guarded)
+      shrunk next box (padded spacing.padding place) held inside (grant-guarded s next (asked_sides spacing.padding sprite) box held simple
+      found.1 guarded)
 
   each_good : (s : SimpleState) (held : List Box) (pairs : List (Size × Option Rectangle)) → IsSimple s
       → s.options.alignment ≡ sides_of spacing.alignment → AreOnGrid s.options.alignment s.free
@@ -87,7 +91,8 @@ module _ (spacing : Spacing) (sheet : Sides) (wide : IsPositive sheet) where
       let joined : IsGuarded next (padded spacing.padding place ∷ held) = joins s next held sprite place simple guarded found.1 in
       let same : next.size ≡ inner_sides spacing sheet = grants.size ∙ size in
       let within : IsWithin (inner_sides spacing sheet) (padded spacing.padding place) =
-      subst (λ z. IsWithin z (padded spacing.padding place)) same (All-head (IsWithin next.size) (padded spacing.padding place) held joined.within) in
+      subst (λ z. IsWithin z (padded spacing.padding place)) same (All-head (IsWithin next.size) (padded spacing.padding place) held
+      joined.within) in
       let kept : next.options.alignment ≡ s.options.alignment = ap (λ o. o.alignment) grants.options in
       All-cons Good (sprite, Some place) rest
       (a_place s next sprite place (All-head (λ a. IsPositive (sides_of a.0)) (sprite, Some place) rest positive) within found.1
@@ -104,7 +109,8 @@ module _ (spacing : Spacing) (sheet : Sides) (wide : IsPositive sheet) where
       → (x y : ℕ) → count_by (covers_place spacing x y) (found_of pairs) + count_by (covers x y) held ≤ 1
   good_apart s held [] simple guarded found x y =
       let all : count_by (covers x y) (held ++ s.free) ≤ 1 = guarded.disjoint x y in
-      let parts : count_by (covers x y) (held ++ s.free) ≡ count_by (covers x y) held + count_by (covers x y) s.free = count_by-append (covers x y) held s.free in
+      let parts : count_by (covers x y) (held ++ s.free) ≡ count_by (covers x y) held + count_by (covers x y) s.free =
+      count_by-append (covers x y) held s.free in
       let none : count_by (covers_place spacing x y) (found_of []) ≡ 0 = refl in
       omega arith
   good_apart s held ((sprite, None) ∷ rest) simple guarded found x y =
@@ -117,10 +123,13 @@ module _ (spacing : Spacing) (sheet : Sides) (wide : IsPositive sheet) where
       let next = found.0 in
       let joined : IsGuarded next (padded spacing.padding place ∷ held) = joins s next held sprite place simple guarded found.1 in
       let later : count_by (covers_place spacing x y) (found_of rest) + count_by (covers x y) (padded spacing.padding place ∷ held) ≤ 1 =
-      good_apart next (padded spacing.padding place ∷ held) rest (grant-simple s next (asked_sides spacing.padding sprite) found.1.0 simple found.1.1) joined found.2 x y in
-      let count : count_by (covers_place spacing x y) (Some place ∷ found_of rest) ≡ one_if (covers x y (padded spacing.padding place)) + count_by (covers_place spacing x y) (found_of rest) =
+      good_apart next (padded spacing.padding place ∷ held) rest (grant-simple s next (asked_sides spacing.padding sprite) found.1.0 simple
+      found.1.1) joined found.2 x y in
+      let count : count_by (covers_place spacing x y) (Some place ∷ found_of rest) ≡ one_if (covers x y (padded spacing.padding place)) +
+      count_by (covers_place spacing x y) (found_of rest) =
       count_by-cons (covers_place spacing x y) (Some place) (found_of rest) in
-      let here : count_by (covers x y) (padded spacing.padding place ∷ held) ≡ one_if (covers x y (padded spacing.padding place)) + count_by (covers x y) held =
+      let here : count_by (covers x y) (padded spacing.padding place ∷ held) ≡ one_if (covers x y (padded spacing.padding place)) + count_by
+      (covers x y) held =
       count_by-cons (covers x y) (padded spacing.padding place) held in
       omega arith
 
@@ -129,7 +138,8 @@ module _ (spacing : Spacing) (sheet : Sides) (wide : IsPositive sheet) where
       → All (λ s. Good (s.1, place_of_sprite places s)) order
   good_with places [] each = All-nil (λ s. Good (s.1, place_of_sprite places s))
   good_with places (s ∷ order) each =
-      All-cons (λ s. Good (s.1, place_of_sprite places s)) s order (All-head Good (s.1, place_of_sprite places s) (with_places places order) each)
+      All-cons (λ s. Good (s.1, place_of_sprite places s)) s order (All-head Good (s.1, place_of_sprite places s) (with_places places order)
+      each)
       (good_with places order (All-tail Good (s.1, place_of_sprite places s) (with_places places order) each))
 
   found_with : (places : List (Option Rectangle)) (order : List (ℕ × Size))
@@ -165,7 +175,8 @@ module _ (spacing : Spacing) (sheet : Sides) (wide : IsPositive sheet) where
     pub in_order : ArePlaces sheet spacing sprites places
     in_order = record {
       each = zipped places 0 sprites (omega arith)
-          (All-permutation (λ s. Good (s.1, place_of_sprite places s)) order (enumerate_from 0 sprites) (IsPermutation-sym (enumerate_from 0 sprites) order moved)
+          (All-permutation (λ s. Good (s.1, place_of_sprite places s)) order (enumerate_from 0 sprites)
+          (IsPermutation-sym (enumerate_from 0 sprites) order moved)
           (good_with places order
           (each_good s [] (with_places places order) simple one grid size guarded
           (All-map (λ (a : Size × Option Rectangle). IsPositive (sides_of a.0)) (λ (s : ℕ × Size). (s.1, place_of_sprite places s)) order
@@ -173,10 +184,15 @@ module _ (spacing : Spacing) (sheet : Sides) (wide : IsPositive sheet) where
           found)));
       apart = λ x y.
           let q : Option Rectangle → Bool = covers_place spacing x y in
-          let few : count_by q (found_of (with_places places order)) + 0 ≤ 1 = good_apart s [] (with_places places order) simple guarded found x y in
-          let as_found : count_by q (found_of (with_places places order)) ≡ count_by q (map (place_of_sprite places) order) = ap (count_by q) (found_with places order) in
-          let same : count_by q (map (place_of_sprite places) order) ≡ count_by q (map (place_of_sprite places) (enumerate_from 0 sprites)) =
-          count_by-permutation q (map (place_of_sprite places) (enumerate_from 0 sprites)) (map (place_of_sprite places) order) (IsPermutation-map (place_of_sprite places) (enumerate_from 0 sprites) order moved) in
-          let all : count_by q (map (place_of_sprite places) (enumerate_from 0 sprites)) ≡ count_by q places = ap (count_by q) (listed places 0 sprites (omega arith)) in
+          let few : count_by q (found_of (with_places places order)) + 0 ≤ 1 = good_apart s [] (with_places places order) simple guarded
+          found x y in
+          let as_found : count_by q (found_of (with_places places order)) ≡ count_by q (map (place_of_sprite places) order) =
+          ap (count_by q) (found_with places order) in
+          let same : count_by q (map (place_of_sprite places) order) ≡ count_by q
+          (map (place_of_sprite places) (enumerate_from 0 sprites)) =
+          count_by-permutation q (map (place_of_sprite places) (enumerate_from 0 sprites)) (map (place_of_sprite places) order)
+          (IsPermutation-map (place_of_sprite places) (enumerate_from 0 sprites) order moved) in
+          let all : count_by q (map (place_of_sprite places) (enumerate_from 0 sprites)) ≡ count_by q places =
+          ap (count_by q) (listed places 0 sprites (omega arith)) in
           omega arith;
     }

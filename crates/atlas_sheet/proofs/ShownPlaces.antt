@@ -26,7 +26,8 @@ module _ (sheet : Sides) (spacing : Spacing) (turn : Bool) where
   inside_each (s ∷ sprites) (p ∷ places) each =
       let right = each.0.place.right in
       let below = each.0.place.below in
-      All-cons (λ p. IsWithin sheet (box_of p.area)) p places (omega (arith, right), omega (arith, below)) (inside_each sprites places each.1)
+      All-cons (λ p. IsWithin sheet (box_of p.area)) p places (omega (arith, right), omega (arith, below))
+      (inside_each sprites places each.1)
 
   upright_one : (sprite : Size) (p : Placed) → turn ≡ false → IsPlacedFor sheet spacing turn sprite p
       → box_sides (box_of p.area) ≡ sides_of sprite

@@ -41,7 +41,8 @@ pub square_down : (by : Allowed) (least greatest : ℤ) (s t : Sides) → by ≡
     → IsAllowed by t × (pixels t < pixels s)
 square_down by least greatest s t e is usable more w h =
     subst (λ b. IsAllowed b t × (pixels t < pixels s)) (sym e)
-    (at_squares least greatest s t (subst (λ b. IsAllowed b s) e is) (subst IsUsable e usable) (subst (λ b. (least_sides b).width < s.width) e more) w h)
+    (at_squares least greatest s t (subst (λ b. IsAllowed b s) e is) (subst IsUsable e usable)
+    (subst (λ b. (least_sides b).width < s.width) e more) w h)
 
 at_heights : (width greatest : ℤ) (s t : Sides) → IsAllowed (allowed.Heights width greatest) s
     → IsUsable (allowed.Heights width greatest)
@@ -51,7 +52,8 @@ at_heights width greatest s t is usable more w h =
     let least = is.least in
     let room = is.greatest in
     let positive : 0 < natural width = usable.0.0 in
-    let less : t.height * t.width < s.height * s.width = fewer_pixels t.height t.width s.height s.width (omega arith) (omega arith) (omega arith) in
+    let less : t.height * t.width < s.height * s.width = fewer_pixels t.height t.width s.height s.width (omega arith) (omega arith)
+    (omega arith) in
     (record { least = (omega arith, omega arith); greatest = (omega arith, omega arith); shape = tt }, omega arith)
 
 pub height_down : (by : Allowed) (width greatest : ℤ) (s t : Sides) → by ≡ allowed.Heights width greatest
@@ -79,7 +81,8 @@ height_halved : (greatest : ℤ) (s t : Sides) → IsAllowed (allowed.Powers gre
 height_halved greatest s t is more w h =
     let least = is.least in
     let room = is.greatest in
-    let less : t.height * t.width < s.height * s.width = fewer_pixels t.height t.width s.height s.width (omega arith) (omega arith) (omega arith) in (
+    let less : t.height * t.width < s.height * s.width = fewer_pixels t.height t.width s.height s.width (omega arith) (omega arith)
+    (omega arith) in (
       record {
         least = (omega arith, omega arith);
         greatest = (omega arith, omega arith);
@@ -163,7 +166,8 @@ pub next_same : (by : Allowed) (s t u : Sides) → IsAllowed by t → IsAllowed 
     → IsNextSmaller by s u
     → t ≡ u
 next_same (allowed.One size) s t u is also a b =
-    let w : t.width ≡ u.width = let x = is.least in let y = is.greatest in let z = also.least in let v = also.greatest in omega (arith, x.0, y.0, z.0, v.0) in
+    let w : t.width ≡ u.width = let x = is.least in let y = is.greatest in let z = also.least in let v = also.greatest in
+    omega (arith, x.0, y.0, z.0, v.0) in
     let h : t.height ≡ u.height = omega (arith, a, b) in
     λ i. record { width = w i; height = h i }
 next_same (allowed.Squares least greatest) s t u is also a b =
@@ -174,6 +178,7 @@ next_same (allowed.Squares least greatest) s t u is also a b =
     λ i. record { width = w i; height = h i }
 next_same (allowed.Powers greatest) s t u is also a b = halves s t u a b
 next_same (allowed.Heights width greatest) s t u is also a b =
-    let w : t.width ≡ u.width = let x = is.least in let y = is.greatest in let z = also.least in let v = also.greatest in omega (arith, x.0, y.0, z.0, v.0) in
+    let w : t.width ≡ u.width = let x = is.least in let y = is.greatest in let z = also.least in let v = also.greatest in
+    omega (arith, x.0, y.0, z.0, v.0) in
     let h : t.height ≡ u.height = omega (arith, a, b) in
     λ i. record { width = w i; height = h i }

@@ -1,5 +1,6 @@
 -- Sprites of which one has no place have more pixels together than the places.
-use Rattle.std.proofs.Common.{◌≡◌, ◌+◌, ◌*◌, ◌<◌, ◌≤◌, ◌⊎◌, ℕ, zero, suc, min, Bool, inl, inr, List, [], ◌∷◌, length, take, All, Option, Some, None, IfSome, IsSome, refl, ap, ◌∙◌, arith}
+use Rattle.std.proofs.Common.{◌≡◌, ◌+◌, ◌*◌, ◌<◌, ◌≤◌, ◌⊎◌, ℕ, zero, suc, min, Bool, inl, inr, List, [], ◌∷◌, length, take, All, Option}
+use Rattle.std.proofs.Common.{Some, None, IfSome, IsSome, refl, ap, ◌∙◌, arith}
 use Rattle.std.specs.List.{AllZip}
 use Rattle.std.proofs.Math.Nat.{mul_comm}
 use Rattle.std.proofs.lemmas.List.Elements.{All-nil, All-cons, All-head, All-tail}
@@ -59,7 +60,8 @@ module _ (sheet : Sides) (spacing : Spacing) (turn : Bool) where
   no_more (s ∷ sprites) (l ∷ lying) [] may each = absurd each
   no_more (s ∷ sprites) (l ∷ lying) (q ∷ places) may each =
       let a : used_area (q ∷ places) ≡ place_area q + used_area places = sum_by-cons place_area q places in
-      let b : pixels_together (s ∷ sprites) ≡ pixels (sides_of s) + pixels_together sprites = sum_by-cons (λ t. pixels (sides_of t)) s sprites in
+      let b : pixels_together (s ∷ sprites) ≡ pixels (sides_of s) + pixels_together sprites =
+      sum_by-cons (λ t. pixels (sides_of t)) s sprites in
       let c = here_pixels s l q may.0 each.0 in
       let d = no_more sprites lying places may.1 each.1 in
       omega (arith, a, b, c, d)
@@ -92,10 +94,12 @@ module _ (sheet : Sides) (spacing : Spacing) (turn : Bool) where
 -- What doesn't take all of them leaves one.
 pub whole_or_many : {A : Type 0} (o : SheetOptions) (sprites : List Size) (a : Arrangement A) → CanPack o sprites
     → IsArranged o sprites a → IsGreatest o.allowed (sides_of a.size)
-    → InEach (record o { effort = 0 }) sprites (λ lying. All (IsNoBetter (sides_of a.size) (spacing_of o) lying (used_area a.places.items)) (take (ways_tried (length sprites)) WAYS))
+    → InEach (record o { effort = 0 }) sprites (λ lying. All (IsNoBetter (sides_of a.size) (spacing_of o) lying (used_area a.places.items))
+    (take (ways_tried (length sprites)) WAYS))
     → All IsSome a.places.items ⊎ AreTooMany o sprites
 whole_or_many o sprites a can arranged greatest best =
-    by_area (fewer_pixels (sides_of a.size) (spacing_of o) o.turn sprites a.lying.items a.places.items can.placing.packable arranged.lies arranged.good.each)
+    by_area (fewer_pixels (sides_of a.size) (spacing_of o) o.turn sprites a.lying.items a.places.items can.placing.packable arranged.lies
+    arranged.good.each)
   where
     by_area : (used_area a.places.items < pixels_together sprites) ⊎ All IsSome a.places.items
         → All IsSome a.places.items ⊎ AreTooMany o sprites

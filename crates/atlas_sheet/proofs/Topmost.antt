@@ -1,5 +1,6 @@
 -- Sprites that find topmost places one after another.
-use Rattle.std.proofs.Common.{◌≡◌, ◌+◌, ◌-◌, ◌*◌, ◌/◌, ◌++◌, ◌<◌, ◌≤◌, ℕ, zero, suc, List, [], ◌∷◌, length, map, take, set, get_or, take_all, append-nil, All, Option, Some, None, IsSome, refl, ap, sym, subst, ◌∙◌, arith}
+use Rattle.std.proofs.Common.{◌≡◌, ◌+◌, ◌-◌, ◌*◌, ◌/◌, ◌++◌, ◌<◌, ◌≤◌, ℕ, zero, suc, List, [], ◌∷◌, length, map, take, set, get_or}
+use Rattle.std.proofs.Common.{take_all, append-nil, All, Option, Some, None, IsSome, refl, ap, sym, subst, ◌∙◌, arith}
 use Rattle.std.specs.Prelude.{Contains}
 use Rattle.std.proofs.Math.Seq.{take-suc}
 use Rattle.std.proofs.lemmas.List.{append_assoc, length-map, map-append, map-set, get_or-set_same}
@@ -82,9 +83,10 @@ HaveTopmost spacing start now found =
     (later : List (Size × Option Rectangle)) → FindAllTopmost spacing now later → FindAllTopmost spacing start (found ++ later)
 
 -- The places of an order, so far as sprites have looked for them.
-pub record IsPlacing (spacing : Spacing) (start now : Placing) (order : List (ℕ × Size)) (k : ℕ) (placed : List (Option Placed)) : Type 0 where
-  pub found : HaveTopmost spacing start now (with_places (areas_of placed) (take k order))
-  pub some : All (λ a. IsSome a.1) (with_places (areas_of placed) (take k order))
+pub record IsPlacing (spacing : Spacing) (start now : Placing) (order : List (ℕ × Size)) (k : ℕ) (placed : List (Option Placed)) : Type 0
+  where
+    pub found : HaveTopmost spacing start now (with_places (areas_of placed) (take k order))
+    pub some : All (λ a. IsSome a.1) (with_places (areas_of placed) (take k order))
 
 pub placing_first : (spacing : Spacing) (start now : Placing) (order : List (ℕ × Size)) (placed : List (Option Placed))
     → now ≡ start → IsPlacing spacing start now order 0 placed
@@ -138,7 +140,8 @@ module _ (spacing : Spacing) (start now next : Placing) (order : List (ℕ × Si
       }
 
 -- All have places.
-module _ (spacing : Spacing) (start now : Placing) (order : List (ℕ × Size)) (k : ℕ) (placed : List (Option Placed)) (end : length order ≤ k)
+module _ (spacing : Spacing) (start now : Placing) (order : List (ℕ × Size)) (k : ℕ) (placed : List (Option Placed))
+    (end : length order ≤ k)
     (before : IsPlacing spacing start now order k placed) where
   pub placing_all : FindAllTopmost spacing start (with_places (areas_of placed) order)
   placing_all =

@@ -1,5 +1,6 @@
 -- Sprites that may lie turned, and one that is turned.
-use Rattle.std.proofs.Common.{◌≡◌, ◌≢◌, ◌==◌, ◌+◌, ◌-◌, ◌<◌, ◌≤◌, ℕ, zero, suc, Bool, true, false, cond, eqb, inl, inr, List, [], ◌∷◌, ◌++◌, length, map, take, drop, set, get_or, All, IsPermutation, refl, ap, sym, subst, ◌∙◌, arith}
+use Rattle.std.proofs.Common.{◌≡◌, ◌≢◌, ◌==◌, ◌+◌, ◌-◌, ◌<◌, ◌≤◌, ℕ, zero, suc, Bool, true, false, cond, eqb, inl, inr, List, [], ◌∷◌, ◌++◌}
+use Rattle.std.proofs.Common.{length, map, take, drop, set, get_or, All, IsPermutation, refl, ap, sym, subst, ◌∙◌, arith}
 use Rattle.std.specs.List.{AllZip, count_by, enumerate_from}
 use Rattle.std.proofs.Math.Seq.{take-append_seam}
 use Rattle.std.proofs.lemmas.Bool.{eqb-true, eq-eqb}
@@ -78,7 +79,8 @@ put_none n t (s ∷ xs) other = λ i.
 past : (n m : ℕ) (xs : List Size) → n < m → All (λ s. s.0 ≢ n) (enumerate_from m xs)
 past n m [] less = All-nil (λ s. s.0 ≢ n)
 past n m (x ∷ xs) less =
-    All-cons (λ s. s.0 ≢ n) (m, x) (enumerate_from (m + 1) xs) (λ e. let same : m ≡ n = e in absurd (omega arith)) (past n (m + 1) xs (omega arith))
+    All-cons (λ s. s.0 ≢ n) (m, x) (enumerate_from (m + 1) xs) (λ e. let same : m ≡ n = e in absurd (omega arith))
+    (past n (m + 1) xs (omega arith))
 
 renumbered : (n : ℕ) (t : Size) (m j : ℕ) (xs : List Size) → n ≡ m + j
     → map (put n t) (enumerate_from m xs) ≡ enumerate_from m (set xs j t)
@@ -86,11 +88,13 @@ renumbered n t m j [] e = refl
 renumbered n t m zero (x ∷ xs) e =
     let here : n ≡ m = omega arith in
     let first : put n t (m, x) ≡ (m, t) = put_here n t (m, x) (sym here) ∙ (λ i. (here i, t)) in
-    let rest : map (put n t) (enumerate_from (m + 1) xs) ≡ enumerate_from (m + 1) xs = put_none n t (enumerate_from (m + 1) xs) (past n (m + 1) xs (omega arith)) in
+    let rest : map (put n t) (enumerate_from (m + 1) xs) ≡ enumerate_from (m + 1) xs =
+    put_none n t (enumerate_from (m + 1) xs) (past n (m + 1) xs (omega arith)) in
     λ i. first i ∷ rest i
 renumbered n t m (suc j) (x ∷ xs) e =
     let first : put n t (m, x) ≡ (m, x) = put_else n t (m, x) (λ f. let same : m ≡ n = f in absurd (omega arith)) in
-    let rest : map (put n t) (enumerate_from (m + 1) xs) ≡ enumerate_from (m + 1) (set xs j t) = renumbered n t (m + 1) j xs (omega arith) in
+    let rest : map (put n t) (enumerate_from (m + 1) xs) ≡ enumerate_from (m + 1) (set xs j t) =
+    renumbered n t (m + 1) j xs (omega arith) in
     λ i. first i ∷ rest i
 
 put_once : (n : ℕ) (t : Size) (xs : List (ℕ × Size)) (at : ℕ) → count_by (λ s. s.0 == n) xs ≤ 1 → at < length xs
@@ -128,14 +132,16 @@ set_lies [] n t d inside is = absurd (omega arith)
 set_lies (x ∷ xs) zero t d inside is = (inr (refl, is), lie_as_given true xs)
 set_lies (x ∷ xs) (suc n) t d inside is = (inl refl, set_lies xs n t d (omega arith) is)
 
-module _ (lying : List Size) (order : List (ℕ × Size)) (at : ℕ) (moved : IsPermutation (enumerate_from 0 lying) order) (inside : at < length order) where
+module _ (lying : List Size) (order : List (ℕ × Size)) (at : ℕ) (moved : IsPermutation (enumerate_from 0 lying) order)
+    (inside : at < length order) where
   -- One sprite is turned, and the order stays one of the numbered sprites.
   pub turned_permuted : (s : ℕ × Size) (t : Size) → s ≡ get_or order at no_sprite
       → IsPermutation (enumerate_from 0 (set lying s.0 t)) (set order at (s.0, t))
   turned_permuted s t is =
       let number : (get_or order at no_sprite).0 ≡ s.0 = ap (λ p. p.0) (sym is) in
       subst (λ xs. IsPermutation xs (set order at (s.0, t))) (renumbered s.0 t 0 s.0 lying (omega arith))
-      (subst (IsPermutation (map (put s.0 t) (enumerate_from 0 lying))) (put_once s.0 t order at (order_once lying order moved s.0) inside number)
+      (subst (IsPermutation (map (put s.0 t) (enumerate_from 0 lying)))
+      (put_once s.0 t order at (order_once lying order moved s.0) inside number)
       (IsPermutation-map (put s.0 t) (enumerate_from 0 lying) order moved))
 
   pub turned_lies : (s : ℕ × Size) (t : Size) → s ≡ get_or order at no_sprite → s.0 < length lying → t ≡ turned_size s.1

@@ -47,7 +47,8 @@ pub found_places : (sheet : Sides) (spacing : Spacing) (by : Choice) (sprites : 
 found_places sheet spacing by sprites order places wide aligned packable moved long found =
     let inner = inner_sides spacing sheet in
     let options = choice_options spacing by in
-    let simple : IsSimple (simple_start inner options) = start-simple inner options (inner_positive spacing sheet) (choice_valid spacing by aligned) in
+    let simple : IsSimple (simple_start inner options) = start-simple inner options (inner_positive spacing sheet)
+    (choice_valid spacing by aligned) in
     let guarded : IsGuarded (simple_start inner options) [] = record { within = All-nil (IsWithin inner); disjoint = simple.disjoint } in
     in_order spacing sheet wide sprites order moved places long
     (All-weaker (IsPackable spacing) (λ s. IsPositive (sides_of s)) (λ s packs. packs.positive) sprites packable)

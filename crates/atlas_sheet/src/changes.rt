@@ -102,7 +102,7 @@ pub struct Asking<A: Allocator> {
     pub order: Vec<(usize, Size), A>,
 }
 
-/// The same sprites with one change.
+/// Sprites as these lie, and their order, with one change.
 pub fn change_of<A: Allocator + Copy>(
     alloc: A,
     random: &mut Random,

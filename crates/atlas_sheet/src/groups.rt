@@ -1,5 +1,6 @@
 //! All sprites on several sheets, those of a group on one.
-ghost use Rattle.std.specs.Prelude.{◌≡◌, ℕ, Bool, ◌<◌, ◌⊎◌, ◌++◌, [], ◌∷◌, if◌then◌else◌, length, map, None, All, IfErr, IfNone, IfOk, IfSome};
+ghost use Rattle.std.specs.Prelude.{◌≡◌, ℕ, Bool, ◌<◌, ◌⊎◌, ◌++◌, [], ◌∷◌, if◌then◌else◌, length, map, None, All, IfErr, IfNone, IfOk};
+ghost use Rattle.std.specs.Prelude.{IfSome};
 ghost use Rattle.std.specs.Prelude.{IsNone, IsOkUnless, Some, is_some};
 ghost use Rattle.std.specs.List.{AllZip};
 ghost use Rattle.guillotiere.specs.Pixels.{sides_of};

@@ -144,7 +144,7 @@ fn exponent_of(side: u32) -> u32
     side.ilog2()
 }
 
-// The same of a side with a sign.
+// The exponent of the greatest power of two that isn't greater than a side with a sign.
 fn exponent_in(side: i32) -> u32
     requires { 0 < natural side }
     ensures power { 2 ^ result ≤ natural side }

@@ -14,7 +14,7 @@ pub mod SlotCalls
 pub mod Placing
 pub mod Picks
 pub mod Rehearsing
-use Rattle.std.specs.Prelude.{ℕ, ◌≡◌, List, map, pos, slice_index_or}
+use Rattle.std.specs.Prelude.{ℕ, ◌≡◌, false, List, map, pos, slice_index_or}
 use Rattle.atlas_store.specs.declared.slots.Slot.{Slot}
 use Rattle.atlas_search.specs.declared.link.Link.{Link}
 use Rattle.atlas_store.specs.declared.slots.Node.{Node}
@@ -25,13 +25,29 @@ use Rattle.atlas_search.specs.declared.cut.Orientation.TheVariants as orientatio
 use Rattle.atlas_search.specs.Numbers.{no_slot}
 pub use Rattle.atlas_search.specs.Rectangles.{axis_of}
 
+-- The tree's part of a slot, and the lists' part.
+abbrev pub node_of : Slot → Node
+node_of s =
+    record {
+      parent = s.parent;
+      previous = s.previous;
+      next = s.next;
+      area = s.area;
+      kind = s.kind;
+      axis = s.axis;
+      generation = s.generation;
+    }
+
+abbrev pub ring_of : Slot → Ring
+ring_of s = record { up = s.up; left = s.left; right = s.right; is_fork = s.is_fork }
+
 -- The tree's part of each slot.
 abbrev pub nodes : List Slot → List Node
-nodes slots = map (λ s. s.node) slots
+nodes slots = map node_of slots
 
 -- The lists' part of each slot.
 abbrev pub rings : List Slot → List Ring
-rings slots = map (λ s. s.ring) slots
+rings slots = map ring_of slots
 
 -- What stands for a slot past the end: it is unused.
 abbrev pub blank_node : Node
@@ -47,10 +63,24 @@ blank_node =
     }
 
 abbrev pub blank_ring : Ring
-blank_ring = record { up = record { number = 0 }; left = record { number = 0 }; right = record { number = 0 } }
+blank_ring =
+    record { up = record { number = 0 }; left = record { number = 0 }; right = record { number = 0 }; is_fork = false }
 
 abbrev pub blank_slot : Slot
-blank_slot = record { node = blank_node; ring = blank_ring }
+blank_slot =
+    record {
+      parent = record { number = 0 };
+      previous = record { number = 0 };
+      next = record { number = 0 };
+      area = record { min = record { x = pos 0; y = pos 0 }; max = record { x = pos 0; y = pos 0 } };
+      up = record { number = 0 };
+      left = record { number = 0 };
+      right = record { number = 0 };
+      kind = kind.Unused;
+      axis = orientation.Vertical;
+      generation = 0;
+      is_fork = false;
+    }
 
 abbrev pub node_at : List Node → ℕ → Node
 node_at ns i = slice_index_or ns i blank_node

@@ -7,7 +7,9 @@ use Rattle.atlas_store.specs.Stored.{Shelf, Holding}
 use Rattle.atlas_store.specs.Store.Holdings.{shelf_of, node_in, IsDetachedLeaf, KeepsRoom}
 use Rattle.atlas_store.specs.Store.StoreCalls.{UnlistsLeaf, IsJoined}
 use Rattle.atlas_store.specs.Store.Freeing.{IsSettlingAt, IsTurned, IsTurnTo, IsApartNext, IsApart, IsFreeable}
-use Rattle.atlas_store.proofs.StoreLemmas.Turns.{IsJoinable, next-listed, previous-listed, joinable-next, joinable-previous, settling-joined, turned-same, apart-next_joined, apart-previous_joined, IsFreeing, freeing-turned, freeing-short, turned-none, turned-then, keeps-room}
+use Rattle.atlas_store.proofs.StoreLemmas.Turns.{IsJoinable, next-listed, previous-listed, joinable-next, joinable-previous}
+use Rattle.atlas_store.proofs.StoreLemmas.Turns.{settling-joined, turned-same, apart-next_joined, apart-previous_joined, IsFreeing}
+use Rattle.atlas_store.proofs.StoreLemmas.Turns.{freeing-turned, freeing-short, turned-none, turned-then, keeps-room}
 
 -- Of the tree of h, leaves i and j can be joined, where `at` is at work.
 pub record IsReady (v : Shelf) (i j at : ℕ) (h m : Holding) : Type 0 where
@@ -20,16 +22,28 @@ pub ready-next : {A : Type 0} (old mid : Store A) (at x : ℕ) (h : Holding) →
     → IsSettlingAt (shelf_of old) at h → x ≡ (node_in (shelf_of old) at).next.number
     → (node_in (shelf_of old) x).kind ≡ kind.Free → (m : Holding) × IsReady (shelf_of mid) at x at h m
 ready-next old mid at x h unlisted w e f =
-    let k = unlisted.kept h w.leaf.holds (next-listed (shelf_of old) at x h w e f) in
-    (_, record { joinable = joinable-next (shelf_of old) (shelf_of mid) at x h k.0 w e f unlisted.nodes k.1; same_tree = refl; same_sequence = refl })
+    let k = unlisted.kept h w.leaf.holds (next-listed (shelf_of old) at x h w e f) in (
+      _,
+      record {
+        joinable = joinable-next (shelf_of old) (shelf_of mid) at x h k.0 w e f unlisted.nodes k.1;
+        same_tree = refl;
+        same_sequence = refl;
+      },
+    )
 
 -- So can the one at work to the previous one.
 pub ready-previous : {A : Type 0} (old mid : Store A) (at x : ℕ) (h : Holding) → UnlistsLeaf old mid x
     → IsSettlingAt (shelf_of old) at h → x ≡ (node_in (shelf_of old) at).previous.number
     → (node_in (shelf_of old) x).kind ≡ kind.Free → (m : Holding) × IsReady (shelf_of mid) x at at h m
 ready-previous old mid at x h unlisted w e f =
-    let k = unlisted.kept h w.leaf.holds (previous-listed (shelf_of old) at x h w e f) in
-    (_, record { joinable = joinable-previous (shelf_of old) (shelf_of mid) at x h k.0 w e f unlisted.nodes k.1; same_tree = refl; same_sequence = refl })
+    let k = unlisted.kept h w.leaf.holds (previous-listed (shelf_of old) at x h w e f) in (
+      _,
+      record {
+        joinable = joinable-previous (shelf_of old) (shelf_of mid) at x h k.0 w e f unlisted.nodes k.1;
+        same_tree = refl;
+        same_sequence = refl;
+      },
+    )
 
 detached-leaf : (v : Shelf) (i j at : ℕ) (m : Holding) → IsJoinable v i j at m → IsDetachedLeaf v i m
 detached-leaf v i j at m w = record { holds = w.holds; kind = w.free; detached = w.detached }
@@ -48,7 +62,8 @@ pub next-free : (v : Shelf) (i j at : ℕ) (h m : Holding) → IsReady v i j at 
     → (node_in v (node_in v i).next.number).kind ≡ kind.Free
 next-free v i j at h m w = rw w.joinable.next w.joinable.next_free
 
-module _ {A : Type 0} (mid new : Store A) (i j at : ℕ) (h m : Holding) (w : IsReady (shelf_of mid) i j at h m) (joined : IsJoined mid new i (node_in (shelf_of mid) i).next.number) where
+module _ {A : Type 0} (mid new : Store A) (i j at : ℕ) (h m : Holding) (w : IsReady (shelf_of mid) i j at h m)
+    (joined : IsJoined mid new i (node_in (shelf_of mid) i).next.number) where
   leaf : node_in (shelf_of new) i ≡ joined_node (node_in (shelf_of mid) i) (node_in (shelf_of mid) j)
   leaf =
       subst (λ x. node_in (shelf_of new) i ≡ joined_node (node_in (shelf_of mid) i) (node_in (shelf_of mid) x)) w.joinable.next joined.leaf
@@ -72,7 +87,8 @@ pub join-apart : {A : Type 0} (old mid new : Store A) (at x : ℕ) (h m : Holdin
     → IsReady (shelf_of mid) x at at h m → IsApartNext (shelf_of old) at
     → IsJoined mid new x (node_in (shelf_of mid) x).next.number → IsApart (shelf_of new) x
 join-apart old mid new at x h m unlisted w apart joined =
-    apart-previous_joined (shelf_of mid) (shelf_of new) x at m w.joinable (rw unlisted.nodes apart) (leaf mid new x at at h m w joined) joined.frees
+    apart-previous_joined (shelf_of mid) (shelf_of new) x at m w.joinable (rw unlisted.nodes apart) (leaf mid new x at at h m w joined)
+    joined.frees
 
 -- n turns went from slot i to slot j, and m counts them on from k.
 abbrev pub AreTurnsTo : {A : Type 0} → (a b : Store A) → (i j k m : ℕ) → Type 0

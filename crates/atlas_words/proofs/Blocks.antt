@@ -1,5 +1,6 @@
 -- Lines gathered in a block, and blocks written one after another.
-use Rattle.std.proofs.Common.{◌≡◌, ℕ, ◌+◌, ◌<◌, List, [], ◌∷◌, ◌++◌, length, take, drop, get_or, flat_map, Option, Some, None, refl, sym, ap, ◌∙◌, subst, arith, append_assoc, append-nil}
+use Rattle.std.proofs.Common.{◌≡◌, ℕ, ◌+◌, ◌<◌, List, [], ◌∷◌, ◌++◌, length, take, drop, get_or, flat_map, Option, Some, None, refl, sym}
+use Rattle.std.proofs.Common.{ap, ◌∙◌, subst, arith, append_assoc, append-nil}
 use Rattle.std.proofs.lemmas.Grind.{flat_map-append}
 use Rattle.std.proofs.lemmas.List.{take_more, take_all, take-append-drop}
 use Rattle.std.specs.Io.KnownBytes.{Appends}
@@ -19,7 +20,8 @@ pub gathered_begins : (old mid new : Option (List ℕ)) (block text line sent : 
     → WritesBeginning old new (text ++ line)
 gathered_begins old mid new block text line sent g e w =
     let P : List ℕ → Type 0 = λ t. WritesBeginning old new t in
-    let whole : g.done ++ sent ≡ text ++ line = ap (λ t. g.done ++ t) e ∙ sym (append_assoc g.done block line) ∙ ap (λ t. t ++ line) (sym g.whole) in
+    let whole : g.done ++ sent ≡ text ++ line = ap (λ t. g.done ++ t) e ∙ sym (append_assoc g.done block line) ∙
+    ap (λ t. t ++ line) (sym g.whole) in
     subst P whole (WritesBeginning_after old mid new g.done sent g.written w)
 
 -- What was gathered, and then a beginning of it.
@@ -67,7 +69,8 @@ pub gathered_twice : (old mid new : Option (List ℕ)) (block after text more : 
 gathered_twice old mid new block after text more g h = record {
   done = g.done ++ h.done;
   written = Appends_twice old mid new g.done h.done g.written h.written;
-  whole = ap (λ t. t ++ more) g.whole ∙ append_assoc g.done block more ∙ ap (λ t. g.done ++ t) h.whole ∙ sym (append_assoc g.done h.done after);
+  whole = ap (λ t. t ++ more) g.whole ∙ append_assoc g.done block more ∙ ap (λ t. g.done ++ t) h.whole ∙
+      sym (append_assoc g.done h.done after);
 }
 
 -- More in the block.
@@ -82,7 +85,8 @@ gathered_more old new block after text more g e = record {
 more_pieces : {X : Type 0} (f : X → List ℕ) (xs : List X) (i : ℕ) (d x : X) → i < length xs → get_or xs i d ≡ x
     → flat_map f (take (i + 1) xs) ≡ flat_map f (take i xs) ++ f x
 more_pieces f xs i d x h e =
-    ap (flat_map f) (take_more xs i d h) ∙ flat_map-append f (take i xs) (get_or xs i d ∷ []) ∙ ap (λ t. flat_map f (take i xs) ++ t) (append-nil (f (get_or xs i d)) ∙ ap f e)
+    ap (flat_map f) (take_more xs i d h) ∙ flat_map-append f (take i xs) (get_or xs i d ∷ []) ∙
+    ap (λ t. flat_map f (take i xs) ++ t) (append-nil (f (get_or xs i d)) ∙ ap f e)
 
 -- One more line.
 pub list_step : {X : Type 0} (f : X → List ℕ) (xs : List X) (i : ℕ) (d x : X) (old mid new : Option (List ℕ))
@@ -111,7 +115,8 @@ list_stops f xs i last old mid new before block g w =
     let first = flat_map f (take i xs) in
     let rest = flat_map f (drop i xs) in
     let whole : (before ++ first) ++ (rest ++ last) ≡ before ++ (flat_map f xs ++ last) =
-    append_assoc before first (rest ++ last) ∙ ap (λ t. before ++ t) (sym (append_assoc first rest last) ∙ ap (λ t. t ++ last) (sym (all_pieces f xs i))) in
+    append_assoc before first (rest ++ last) ∙ ap (λ t. before ++ t) (sym (append_assoc first rest last) ∙
+    ap (λ t. t ++ last) (sym (all_pieces f xs i))) in
     subst P whole (begins_more old new (before ++ first) (rest ++ last) (gathered_begun old mid new block (before ++ first) g w))
 
 -- The device failed among lines that none follows.
@@ -134,7 +139,8 @@ pub list_ended : (old mid new : Option (List ℕ)) (before block after text whol
     → IsGathered old new after (before ++ (whole ++ last))
 list_ended old mid new before block after text whole last e g h =
     let P : List ℕ → Type 0 = λ t. IsGathered old new after t in
-    subst P (append_assoc before text last ∙ ap (λ t. before ++ (t ++ last)) e) (gathered_twice old mid new block after (before ++ text) last g h)
+    subst P (append_assoc before text last ∙ ap (λ t. before ++ (t ++ last)) e)
+    (gathered_twice old mid new block after (before ++ text) last g h)
 
 -- The device failed at the end of the list.
 pub list_begun : (old mid new : Option (List ℕ)) (before block text whole last : List ℕ) → text ≡ whole
@@ -142,7 +148,8 @@ pub list_begun : (old mid new : Option (List ℕ)) (before block text whole last
     → WritesBeginning old new (before ++ (whole ++ last))
 list_begun old mid new before block text whole last e g w =
     let P : List ℕ → Type 0 = λ t. WritesBeginning old new t in
-    subst P (append_assoc before text last ∙ ap (λ t. before ++ (t ++ last)) e) (gathered_begins old mid new block (before ++ text) last (block ++ last) g refl w)
+    subst P (append_assoc before text last ∙ ap (λ t. before ++ (t ++ last)) e)
+    (gathered_begins old mid new block (before ++ text) last (block ++ last) g refl w)
 
 -- Three parts, one after another.
 pub parts_gathered : (old mid next new : Option (List ℕ)) (before block second after first middle last : List ℕ)
@@ -168,7 +175,8 @@ pub second_begins : (old mid new : Option (List ℕ)) (before block first middle
 second_begins old mid new before block first middle rest g w =
     let P : List ℕ → Type 0 = λ t. WritesBeginning old new t in
     subst P (append_assoc before first (middle ++ rest))
-    (gathered_begins old mid new block (before ++ first) (middle ++ rest) (block ++ (middle ++ rest)) g refl (first_begins mid new block middle rest w))
+    (gathered_begins old mid new block (before ++ first) (middle ++ rest) (block ++ (middle ++ rest)) g refl
+    (first_begins mid new block middle rest w))
 
 pub third_begins : (old mid next new : Option (List ℕ)) (before block second first middle last : List ℕ)
     → IsGathered old mid block (before ++ first) → IsGathered mid next second (block ++ middle)
@@ -176,6 +184,7 @@ pub third_begins : (old mid next new : Option (List ℕ)) (before block second f
 third_begins old mid next new before block second first middle last g h w =
     let P : List ℕ → Type 0 = λ t. WritesBeginning old new t in
     let Q : List ℕ → Type 0 = λ t. IsGathered old next second t in
-    let two : IsGathered old next second ((before ++ first) ++ middle) = gathered_twice old mid next block second (before ++ first) middle g h in
+    let two : IsGathered old next second ((before ++ first) ++ middle) = gathered_twice old mid next block second (before ++ first) middle g
+    h in
     subst P (append_assoc (before ++ first) middle last ∙ append_assoc before first (middle ++ last))
     (gathered_begins old next new second ((before ++ first) ++ middle) last (second ++ last) two refl w)

@@ -1,12 +1,14 @@
 -- Which command a line's first word begins.
-use Rattle.std.proofs.Common.{◌≡◌, ℕ, ◌≢◌, Bool, true, false, not, ◌&&◌, eqb, List, [], ◌∷◌, codes, length, arith, refl, sym, ◌∙◌, subst, inl, inr}
+use Rattle.std.proofs.Common.{◌≡◌, ℕ, ◌≢◌, Bool, true, false, not, ◌&&◌, eqb, List, [], ◌∷◌, codes, length, arith, refl, sym, ◌∙◌, subst}
+use Rattle.std.proofs.Common.{inl, inr}
 use Rattle.std.proofs.lemmas.Bool.{and_parts, eq-eqb, not-true, both_ways}
 use Rattle.std.proofs.lemmas.Slice.Eq.{bytes_eq-Decides}
 use Rattle.std.specs.Str.{bytes_eq}
 use Rattle.atlas_model.specs.declared.geometry.Size.{Size}
 use Rattle.atlas_model.specs.declared.options.AllocatorOptions.{AllocatorOptions}
 use Rattle.atlas_words.specs.declared.commands.Command.{Command}
-use Rattle.atlas_words.specs.declared.commands.Command.TheVariants.{Simple, Take, Atlas, Alloc, Live, Holes, AskSize, Free, Grow, Empty, Clear, Rearrange, Resize, FromAtlas, Record, Replay}
+use Rattle.atlas_words.specs.declared.commands.Command.TheVariants.{Simple, Take, Atlas, Alloc, Live, Holes, AskSize, Free, Grow, Empty}
+use Rattle.atlas_words.specs.declared.commands.Command.TheVariants.{Clear, Rearrange, Resize, FromAtlas, Record, Replay}
 use Rattle.atlas_words.specs.Grammar.{SpellsSize, SpellsAtlas, SpellsId, SpellsArguments, Spells, keyword}
 use Rattle.atlas_words.specs.Words.{HasNoSpace, IsEmptyOrSpaced, BeginsWithWord, SpellsInParts}
 use Rattle.atlas_words.proofs.PartedWords.{one_word, numbers_spaced}
@@ -54,7 +56,12 @@ size_spaced size text spells = numbers_spaced (size.width ∷ size.height ∷ []
 pub arguments_spaced : (c : Command) (text : List ℕ) → SpellsArguments c text → IsEmptyOrSpaced text
 arguments_spaced (Simple size) text spells = size_spaced size text spells
 arguments_spaced (Take size) text spells = size_spaced size text spells
-arguments_spaced (Atlas size options) text spells = elim spells [ inl two ↦ size_spaced size text two.0 | inr six ↦ numbers_spaced (size.width ∷ size.height ∷ options.alignment.width ∷ options.alignment.height ∷ options.small_size_threshold ∷ options.large_size_threshold ∷ []) text six ]
+arguments_spaced (Atlas size options) text spells = elim spells [
+  | inl two ↦ size_spaced size text two.0
+  | inr six ↦ numbers_spaced
+      (size.width ∷ size.height ∷ options.alignment.width ∷ options.alignment.height ∷ options.small_size_threshold ∷
+      options.large_size_threshold ∷ []) text six
+]
 arguments_spaced (Alloc size) text spells = size_spaced size text spells
 arguments_spaced (Free id) text spells = subst IsEmptyOrSpaced (sym spells.1) refl
 arguments_spaced (Grow size) text spells = size_spaced size text spells
@@ -73,7 +80,8 @@ arguments_spaced Replay text spells = subst IsEmptyOrSpaced (sym spells) tt
 pub in_parts : (c : Command) (line word rest : List ℕ) → BeginsWithWord line word rest → Spells c line
     → SpellsInParts c word rest
 in_parts c line word rest begins spells =
-    let same = one_word line word rest (keyword c) spells.0 begins (record { whole = spells.1; no_space = keyword_no_space c; spaced = arguments_spaced c spells.0 spells.2 }) in
+    let same = one_word line word rest (keyword c) spells.0 begins (record
+    { whole = spells.1; no_space = keyword_no_space c; spaced = arguments_spaced c spells.0 spells.2 }) in
     (same.0, subst (SpellsArguments c) (sym same.1) spells.2)
 
 -- Each keyword begins one command alone.

@@ -1,5 +1,6 @@
 -- Writes and reads, one after another, of devices that may tell their bytes.
-use Rattle.std.proofs.Common.{◌≡◌, ℕ, ◌-◌, ◌≤◌, List, ◌++◌, length, take, drop, Some, None, Option, refl, sym, ap, ◌∙◌, append_assoc, append-nil, subst, [], arith}
+use Rattle.std.proofs.Common.{◌≡◌, ℕ, ◌-◌, ◌≤◌, List, ◌++◌, length, take, drop, Some, None, Option, refl, sym, ap, ◌∙◌, append_assoc}
+use Rattle.std.proofs.Common.{append-nil, subst, [], arith}
 use Rattle.std.proofs.lemmas.List.{take-append-drop, take_all, length-drop}
 use Rattle.std.specs.Io.KnownBytes.{Appends, Consumes, IsAtEnd}
 use Rattle.atlas_words.specs.Devices.{KeepsOrHides, ReadsBeginning, WritesBeginning, HoldsBytes}
@@ -40,7 +41,8 @@ pub write_step : (old mid new : Option (List ℕ)) (bytes done rest : List ℕ) 
 write_step old mid new bytes done rest n e a low b =
     let left : take (length rest - n) (drop n rest) ≡ drop n rest = take_all (length rest - n) (drop n rest) (grind (arith, length-drop)) in
     let whole : (done ++ take n rest) ++ take (length rest - n) (drop n rest) ≡ done ++ rest =
-    ap (λ ys. (done ++ take n rest) ++ ys) left ∙ append_assoc done (take n rest) (drop n rest) ∙ ap (λ ys. done ++ ys) (take-append-drop n rest) in
+    ap (λ ys. (done ++ take n rest) ++ ys) left ∙ append_assoc done (take n rest) (drop n rest) ∙
+    ap (λ ys. done ++ ys) (take-append-drop n rest) in
     (done ++ take n rest, e ∙ sym whole, Appends_twice old mid new done (take n rest) a b)
 
 -- A read of no byte.

@@ -15,7 +15,8 @@ pub too_great : (value byte n : ℕ) (rest tail text : List ℕ) → rest ≡ by
     → 2 ^ 32 ≤ value * 10 + digit_value byte → SpellsUnsigned n text → ⊥
 too_great value byte n rest tail text e same great spells =
     let long = after_ge (value * 10 + digit_value byte) tail in
-    let whole : digits_value_after 10 (value * 10 + digit_value byte) tail ≡ digits_value_after 10 0 text = sym (ap (digits_value_after 10 value) e) ∙ same in
+    let whole : digits_value_after 10 (value * 10 + digit_value byte) tail ≡ digits_value_after 10 0 text =
+    sym (ap (digits_value_after 10 value) e) ∙ same in
     omega (arith, spells.1, spells.2)
 
 -- At the end of the digits.

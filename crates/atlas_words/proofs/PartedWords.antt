@@ -47,7 +47,11 @@ pub spelled_word : (text after w r rest : List ℕ) (first : ℕ) (z : ℤ) → 
     → SpellsNumber z w × (r ≡ rest)
 spelled_word text after w r rest first z e begins number =
     let whole : after ≡ number.word ++ rest = (let f = number.whole in cc) in
-    let same = one_word after w r number.word rest begins (record { whole = whole; no_space = number_no_space z number.word number.spells; spaced = number.spaced }) in
+    let same = one_word after w r number.word rest begins (record {
+      whole = whole;
+      no_space = number_no_space z number.word number.spells;
+      spaced = number.spaced;
+    }) in
     let P : List ℕ → Type 0 = SpellsNumber z in
     (subst P (sym same.0) number.spells, same.1)
 
@@ -58,7 +62,13 @@ numbers_spaced (z ∷ zs) text spells = subst IsEmptyOrSpaced (sym spells.2) ref
 
 pub number_begins : (z : ℤ) (zs : List ℤ) (text : List ℕ) (spells : SpellsNumbers (z ∷ zs) text)
     → BeginsWithNumber text z spells.1
-number_begins z zs text spells = record { word = spells.0; whole = spells.2; spells = spells.3; spaced = numbers_spaced zs spells.1 spells.4 }
+number_begins z zs text spells = record {
+  word = spells.0;
+  whole = spells.2;
+  spells = spells.3;
+  spaced =
+      numbers_spaced zs spells.1 spells.4;
+}
 
 pub numbers_from : (z : ℤ) (zs : List ℤ) (text rest : List ℕ) → BeginsWithNumber text z rest → SpellsNumbers zs rest
     → SpellsNumbers (z ∷ zs) text
@@ -81,7 +91,8 @@ size_begins size zs text spells = (
 pub size_from : (size : Size) (zs : List ℤ) (text rest : List ℕ) → BeginsWithSize text size rest → SpellsNumbers zs rest
     → SpellsNumbers (size.width ∷ size.height ∷ zs) text
 size_from size zs text rest begins spells =
-    numbers_from size.width (size.height ∷ zs) text begins.middle begins.width (numbers_from size.height zs begins.middle rest begins.height spells)
+    numbers_from size.width (size.height ∷ zs) text begins.middle begins.width
+    (numbers_from size.height zs begins.middle rest begins.height spells)
 
 pub same_size : (a b : Size) → a.width ≡ b.width → a.height ≡ b.height → a ≡ b
 same_size a b e f = λ i. record { width = e i; height = f i }
@@ -140,7 +151,8 @@ pub atlas_begins : (size : Size) (o : AllocatorOptions) (text : List ℕ) → Sp
     → (rest : List ℕ) × BeginsWithSize text size rest × EndsAtlas o rest
 atlas_begins size o text (inl two) = let begins = size_begins size [] text two.0 in (begins.0, begins.1, inl (begins.2, two.1))
 atlas_begins size o text (inr six) =
-    let begins = size_begins size (o.alignment.width ∷ o.alignment.height ∷ o.small_size_threshold ∷ o.large_size_threshold ∷ []) text six in
+    let begins = size_begins size (o.alignment.width ∷ o.alignment.height ∷ o.small_size_threshold ∷ o.large_size_threshold ∷ []) text six
+    in
     (begins.0, begins.1, inr begins.2)
 
 some_text : (o : AllocatorOptions) (text : List ℕ) → SpellsOptions o text → 0 < length text

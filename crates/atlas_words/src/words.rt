@@ -22,7 +22,7 @@ pub fn first_word(text: &[u8]) -> (&[u8], &[u8])
 }
 
 /// The bytes before the first LF, all of them where there is none, and those after it. For programs that read lines of
-/// their own, such as `atlas_bench` and `atlas_svg`. It takes no memory.
+/// their own, such as `atlas_bench`. It takes no memory.
 pub fn first_line(text: &[u8]) -> (&[u8], &[u8])
     ensures { BeginsWithLine text.now result.0.now result.1.now }
 {

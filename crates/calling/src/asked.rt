@@ -9,6 +9,17 @@ use guillotiere::{
 };
 use std::alloc::Allocator;
 
+/// Whether more than half of what is free is of no use for boxes of the usual size: then it is time to rearrange.
+pub fn is_worn<A: Allocator + Copy>(atlas: &AtlasAllocator<A>, usual: Size) -> bool {
+    atlas.free_area() / 2 < atlas.unusable_area(usual)
+}
+
+/// The size of the largest free box, if anything is free.
+pub fn largest<A: Allocator + Copy>(atlas: &AtlasAllocator<A>) -> Option<Size> {
+    let free = atlas.largest_free()?;
+    Some(free.size())
+}
+
 /// An atlas of any size; None where that is empty.
 pub fn made<A: Allocator + Copy>(
     alloc: A,
@@ -69,7 +80,7 @@ pub fn grown<A: Allocator + Copy>(
     Ok(true)
 }
 
-/// The same of a simple allocator.
+/// Grows a simple allocator to a size, unless a side would shrink.
 pub fn grown_simple<A: Allocator + Copy>(
     simple: &mut SimpleAtlasAllocator<A>,
     size: Size,

@@ -50,7 +50,7 @@ pub fn noted<A: Allocator + Copy>(
     noted
 }
 
-/// The same without an error: each id has the box that it had.
+/// A grant that is given back without an error: each id has the box that it had.
 pub fn tried<A: Allocator + Copy>(
     atlas: &mut AtlasAllocator<A>,
     size: Size,
@@ -64,7 +64,7 @@ pub fn tried<A: Allocator + Copy>(
     Ok(Some(size))
 }
 
-/// The same by a test, over a function whose contract has this one clause.
+/// That an id has the box that it had, by a test over a function whose contract has this one clause.
 pub fn tested<A: Allocator + Copy>(
     atlas: &mut AtlasAllocator<A>,
     size: Size,

@@ -46,7 +46,7 @@ pub fn others<A: Allocator + Copy>(
     }
 }
 
-/// The same by a test, over a function whose contract has this one clause.
+/// That another id keeps its box, by a test over a function whose contract has this one clause.
 pub fn tested<A: Allocator + Copy>(
     atlas: &mut AtlasAllocator<A>,
     size: Size,

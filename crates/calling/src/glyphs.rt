@@ -1,7 +1,8 @@
 //! Glyphs under keys in a cache: what is written once, and a frame that is drawn in several goes.
-ghost use Rattle.std.specs.Prelude.{◌≡◌, ◌≢◌, ◌<◌, None, IfOk, Ok, OnOk, Some, true, false, length, nat_eq};
+ghost use Rattle.std.specs.Prelude.{◌≡◌, ◌≢◌, ◌<◌, None, IfOk, IsSome, Ok, OnOk, Some, true, false, length, nat_eq};
 ghost use Rattle.atlas_cache.specs.Caches.{place_for};
 ghost use Rattle.atlas_cache.specs.Entries.{lying};
+ghost use Rattle.atlas_cache.specs.Relocating.{keys_of};
 ghost use Rattle.atlas_cache.specs.Shrinking.{pages_in_use};
 ghost use Rattle.atlas_cache.specs.declared.inserted.Inserted.TheVariants.{FrameFull};
 
@@ -47,6 +48,24 @@ pub fn place_in_turn<A: Allocator + Copy>(
     cache.insert(key, size, changes)
 }
 
+/// A glyph's place in a frame that goes on, also where it has used all the room: then the caller has drawn what it has, and a part of what
+/// was drawn last goes.
+pub fn place_in_batches<A: Allocator + Copy>(
+    cache: &mut TextureCache<u64, DefaultHasher, A>,
+    key: u64,
+    size: Size,
+    changes: &mut Changes<u64, A>,
+) -> Result<Inserted, CacheError>
+    ensures { cache.new.frame ≡ cache.old.frame }
+{
+    let answer = cache.insert(key, size, changes)?;
+    if answer != Inserted::FrameFull {
+        return Ok(answer);
+    }
+    cache.end_batch(cache.len() / 512 + 1, changes)?;
+    cache.insert(key, size, changes)
+}
+
 /// What wasn't used for so many frames goes, and then the pages at the end that hold nothing any more: on the last page that
 /// is left, if there is one, an entry lies.
 pub fn give_back<A: Allocator + Copy>(
@@ -58,6 +77,32 @@ pub fn give_back<A: Allocator + Copy>(
 {
     cache.trim(frames, changes)?;
     cache.shrink(changes)
+}
+
+/// Brings together what is free on a page, where that loses no key: whatever is answered, all stay, and none is counted as evicted.
+pub fn tidy<A: Allocator + Copy>(
+    cache: &mut TextureCache<u64, DefaultHasher, A>,
+    page: u32,
+    changes: &mut Changes<u64, A>,
+) -> Result<bool, CacheError>
+    ensures keys { keys_of cache.new.entries ≡ keys_of cache.old.entries }
+    ensures evicted { cache.new.counts ≡ cache.old.counts }
+{
+    cache.repack_keeping_all(page, changes)
+}
+
+/// Moves what is on the last page to the pages before it, a few pixels in each frame, and gives that page back once nothing is left on
+/// it: a glyph that had a place still has one.
+pub fn move_ahead<A: Allocator + Copy>(
+    cache: &mut TextureCache<u64, DefaultHasher, A>,
+    key: u64,
+    changes: &mut Changes<u64, A>,
+) -> Result<Option<Place>, CacheError>
+    ensures { IsSome (place_for nat_eq cache.old key) → IfOk result IsSome }
+{
+    cache.compact(16384, changes)?;
+    cache.shrink(changes)?;
+    Ok(cache.peek(&key))
 }
 
 /// What a cache and a copy of it answer for a key: the same place, or none.

@@ -42,7 +42,7 @@ pub fn freed_between<A: Allocator + Copy>(
     Ok(())
 }
 
-/// The same by steps of a session.
+/// A freeing and a clearing between a reservation and a grant, by steps of a session.
 pub fn steps_between<A: Allocator + Copy>(
     atlas: &mut AtlasAllocator<A>,
     id: AllocId,

@@ -37,7 +37,7 @@ pub fn free_heights<A: Allocator + Copy>(atlas: &AtlasAllocator<A>) -> Result<i3
     Ok(sum)
 }
 
-/// The same by a walk.
+/// The widths of all free rectangles, added up by a walk.
 pub fn walked_widths<A: Allocator + Copy>(atlas: &AtlasAllocator<A>) -> i32 {
     let mut sum: i32 = 0;
     atlas.for_each_free_rectangle(|area| sum = sum.wrapping_add(area.width()));

@@ -1,5 +1,6 @@
 -- Lemmas by topic, for callers: `#[tactic(auto, using(guillotiere::proofs::Callers::pages))]` names one topic.
-use Rattle.std.proofs.Common.{◌≡◌, ◌≢◌, ◌<◌, ◌++◌, ◌∷◌, [], ℕ, zero, suc, List, Option, Some, None, length, get_or, slice_get, slice_set, refl, sym, ap, ◌∙◌, subst, subst₂, inl, inr}
+use Rattle.std.proofs.Common.{◌≡◌, ◌≢◌, ◌<◌, ◌++◌, ◌∷◌, [], ℕ, zero, suc, List, Option, Some, None, length, get_or, slice_get, slice_set}
+use Rattle.std.proofs.Common.{refl, sym, ap, ◌∙◌, subst, subst₂, inl, inr}
 use Rattle.std.proofs.Common.{◌↔◌, ◌+◌, arith, Result, Ok, Err, IfOk, IfSome, IsSome, OnErr}
 use Rattle.std.specs.Option.{option_and_then, option_map}
 use Rattle.std.proofs.lemmas.Option.{get_or_from_slice_get, slice_get-get_or}
@@ -17,7 +18,8 @@ use Rattle.atlas_model.proofs.ListLemmas.CallerLemmas.{slice_get-set_here, slice
 use Rattle.atlas_model.proofs.StepLemmas.LiveBoxes.{live_have_boxes}
 use Rattle.atlas_model.proofs.StepLemmas.GivenBack.{grants_are_given_back, many_are_given_back}
 use Rattle.atlas_store.specs.Stored.{AtlasValue, state_of}
-use Rattle.guillotiere.specs.Pages.{rectangle_on, AddsBoxOn, HasRoomFor, NoneHasRoomBelow, HasSameRectangles, LeavesNoBoxOn, OthersHaveSame, PagesAreGivenBack}
+use Rattle.guillotiere.specs.Pages.{rectangle_on, AddsBoxOn, HasRoomFor, NoneHasRoomBelow, HasSameRectangles, LeavesNoBoxOn, OthersHaveSame}
+use Rattle.guillotiere.specs.Pages.{PagesAreGivenBack}
 
 -- What a look-up on one page reads.
 abbrev on : Option AtlasValue → ℕ → Option Rectangle

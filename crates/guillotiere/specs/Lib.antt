@@ -30,3 +30,4 @@ pub use Rattle.atlas_model.specs.Replies
 pub use Rattle.atlas_model.specs.Laws
 pub use Rattle.atlas_model.specs.declared.options.TheConstants
 pub use Rattle.atlas_store.specs.Rehearsals
+pub use Rattle.atlas_allocator.specs.Room

@@ -8,7 +8,7 @@ pub mod pages;
 pub mod session;
 mod simple;
 
-pub use atlas_allocator::AtlasAllocator;
+pub use atlas_allocator::{AtlasAllocator, FreeIter, LiveIter};
 pub use atlas_model::{
     AllocId, Allocation, AllocatorOptions, AtlasError, Change, ChangeList, DEFAULT_OPTIONS,
     MOST_SLOTS, Point, Rectangle, Size, SlotCount, laws, point2, size2,

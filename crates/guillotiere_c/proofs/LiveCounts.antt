@@ -52,7 +52,8 @@ pub listed :
     → IsWritten allocation_in lost before.failures after.failures
     → count.changes ≡ length moves → count.failures ≡ length lost
     → AreBothWritten (record { changes = map transfer_of moves; failures = map grant_of lost }) before after count
-listed old new moves lost before after count step changes_room failures_room moved_exact lost_exact changes failures changes_count failures_count =
+listed old new moves lost before after count step changes_room failures_room moved_exact lost_exact changes failures changes_count
+    failures_count =
     let all = listed_count old new _ step in
     let many = length-map moves transfer_of in
     let few = length-map lost grant_of in

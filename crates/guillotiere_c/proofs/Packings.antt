@@ -8,7 +8,8 @@ use Rattle.atlas_sheet.specs.declared.paging.OnPage.{OnPage}
 use Rattle.atlas_sheet.specs.declared.placed.Placed.{Placed}
 use Rattle.atlas_sheet.specs.declared.ways.TheConstants.{WAYS}
 use Rattle.atlas_sheet.specs.Allowances.{IsAllowed, IsGreatest}
-use Rattle.atlas_sheet.specs.Dense.{AreAllPlaced, ArePaddedApart, IsLeastDense, IsNoLargerThanWays, IsPackedOrDense, NoWayFinds, NoneIsDense}
+use Rattle.atlas_sheet.specs.Dense.{AreAllPlaced, ArePaddedApart, IsLeastDense, IsNoLargerThanWays, IsPackedOrDense, NoWayFinds}
+use Rattle.atlas_sheet.specs.Dense.{NoneIsDense}
 use Rattle.atlas_sheet.specs.Fillings.{FindsFewer, IsBestFound, IsNoBetter, ways_tried}
 use Rattle.atlas_sheet.specs.Grouping.{AreGroupPages, AreGroupSheets, LieTogether, members, padded_to}
 use Rattle.atlas_sheet.specs.Lying.{IsShown, areas_of}

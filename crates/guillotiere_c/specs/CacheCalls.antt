@@ -11,6 +11,8 @@ use Rattle.atlas_cache.specs.declared.inserted.Inserted.{Inserted}
 use Rattle.atlas_cache.specs.declared.inserted.Inserted.TheVariants.{Placed, Held, FrameFull, NeverFits}
 use Rattle.atlas_cache.specs.declared.places.Place.{Place}
 use Rattle.atlas_cache.specs.Asking.{bordered, CanStand}
+use Rattle.atlas_cache.specs.Batches.{EndsBatch}
+use Rattle.atlas_cache.specs.Compacting.{Compacts}
 use Rattle.atlas_cache.specs.Caches.{CacheState, entry_for, place_for, EntriesLieApart, EntriesLieWithin, HaveNumbersBelow, HaveOwnKeys}
 use Rattle.atlas_cache.specs.Caches.{HaveOwnNumbers, IsFull, IsKept, IsNoneInUse}
 use Rattle.atlas_cache.specs.Changes.{FindsKnown, Inserts, InsertsBlank, IsNewAndEmpty, IsNewAndTooLarge, Removes, Uses}
@@ -20,9 +22,10 @@ use Rattle.atlas_cache.specs.Counting.{one_more}
 use Rattle.atlas_cache.specs.Entries.{lying}
 use Rattle.atlas_cache.specs.Placing.{LacksSlots}
 use Rattle.atlas_cache.specs.Refusals.{IsRefusedNew}
-use Rattle.atlas_cache.specs.Relocating.{Repacks}
+use Rattle.atlas_cache.specs.Relocating.{keys_of, Repacks}
 use Rattle.atlas_cache.specs.Reserving.{AllowSlots, HasReserves, HaveSlots, IsReadyFor, IsShortOfSlots, KeepsPageSizes, UseAtMost}
 use Rattle.atlas_cache.specs.Reserving.{KeepsReady, KeepsReadyButOne}
+use Rattle.atlas_cache.specs.Rooms.{page_sizes, stored_on, IsRefusal}
 use Rattle.atlas_cache.specs.Shrinking.{Shrinks}
 use Rattle.atlas_cache.specs.Telling.{Tells}
 use Rattle.atlas_cache.specs.Walking.{ShowsOlder}
@@ -37,6 +40,17 @@ pub record AlwaysHolds (s : CacheState ℕ) : Type 0 where
   pub keys : HaveOwnKeys nat_eq s.entries
   pub numbers : HaveOwnNumbers s.entries
   pub below : HaveNumbersBelow s.numbers s.entries
+
+-- A copy of a cache: the atlas of each page stores the same, and all else is the same, but that nothing is in reserve.
+pub record IsCopy (s t : CacheState ℕ) : Type 0 where
+  pub options : t.options ≡ s.options
+  pub stored : stored_on t.pages ≡ stored_on s.pages
+  pub sizes : page_sizes t.pages ≡ page_sizes s.pages
+  pub entries : t.entries ≡ s.entries
+  pub numbers : t.numbers ≡ s.numbers
+  pub reserved : t.reserved ≡ 0
+  pub frame : t.frame ≡ s.frame
+  pub counts : t.counts ≡ s.counts
 
 -- What `TextureCache::begin_frame` does: no key moves, and none counts as used in the new frame, if one begins.
 pub record BeginsFrame (s t : CacheState ℕ) : Type 0 where
@@ -120,6 +134,20 @@ pub record IsTrim (frames : ℕ) (f g : Followed) : Type 0 where
   pub told : TellsChanges nat_eq f.changes g.changes f.cache g.cache
   pub stays_ready : KeepsReady f.cache g.cache
 
+-- What `TextureCache::end_batch` does. The evictions come behind the changes that weren't handed over.
+pub record IsBatchEnd (keys : ℕ) (f g : Followed) : Type 0 where
+  pub ends : EndsBatch keys f.changes g.changes f.cache g.cache
+  pub told : TellsChanges nat_eq f.changes g.changes f.cache g.cache
+  pub stays_ready : KeepsReady f.cache g.cache
+
+-- What `TextureCache::compact` does, which says how many pixels moved. The moves come behind the changes that weren't handed over.
+pub record IsCompacting (pixels : ℕ) (result : Result ℕ CacheError) (f g : Followed) : Type 0 where
+  pub compacts : Compacts pixels result f.changes g.changes f.cache g.cache
+  pub held : (k : ℕ) → IsSome (place_for nat_eq f.cache k) → IsSome (place_for nat_eq g.cache k)
+  pub told : TellsChanges nat_eq f.changes g.changes f.cache g.cache
+  pub errors : IfErr result IsRefusal
+  pub short : result ≡ Err Slots → IsShortOfSlots g.cache.pages
+
 -- What `TextureCache::shrink` does. The pages that go come behind the changes that weren't handed over.
 pub record IsShrinking (f g : Followed) : Type 0 where
   pub shrinks : Shrinks f.changes g.changes f.cache g.cache
@@ -130,6 +158,12 @@ pub record IsRepacking (page : ℕ) (f g : Followed) : Type 0 where
   pub there : page < length f.cache.pages
   pub repacks : Repacks page f.changes g.changes f.cache g.cache
   pub told : TellsChanges nat_eq f.changes g.changes f.cache g.cache
+
+-- What `TextureCache::repack_keeping_all` does with a page whose keys all find room: each key stays, in the order of use.
+pub record IsRepackingOfAll (page : ℕ) (f g : Followed) : Type 0 where
+  pub repacking : IsRepacking page f g
+  pub keys : keys_of g.cache.entries ≡ keys_of f.cache.entries
+  pub counts : g.cache.counts ≡ f.cache.counts
 
 -- The pages have the states that they had, and none uses more slots or has room for fewer; nothing else changes.
 pub record KeepsStates (f g : Followed) : Type 0 where

@@ -3,8 +3,9 @@ ghost use Rattle.std.specs.Prelude.{◌≡◌, ◌≢◌, ◌↔◌, ◌⊎◌, 
 ghost use Rattle.std.specs.Prelude.{◌≤◌, IfSome, Some, None, sum_by};
 ghost use Rattle.guillotiere.specs.Boxes.{area, Fits};
 ghost use Rattle.guillotiere.specs.Choice.{rounded, HasRoom};
-ghost use Rattle.guillotiere.specs.Pixels.{allocator_options_of, rectangle_of, size_of};
+ghost use Rattle.guillotiere.specs.Pixels.{allocator_options_of, box_of, rectangle_of, size_of};
 ghost use Rattle.guillotiere.specs.Replies.{live_box, IsExact};
+ghost use Rattle.guillotiere.specs.Room.{unusable, IsLargest};
 ghost use Rattle.guillotiere.specs.States.{live_in, free_in, used_in, IsLive, IsSound};
 ghost use Rattle.guillotiere.specs.Steps.AtlasCall.{Allocate, Deallocate, Grow, Clear, Reset};
 ghost use Rattle.guillotiere_c.specs.Calls.{GainsMemory, HoldsAtlas, HoldsReserve, IsHeldStep};
@@ -320,6 +321,58 @@ pub extern "C" fn guillotiere_atlas_areas(atlas: &AtlasReader, areas: &mut Plain
         free: held.free_area(),
     };
     DONE
+}
+
+/// Of the area that is free, what lies in free boxes which have no room for a request of this size, rounded up by the options:
+/// all of it, if a side is 0 or less. Asked with the size of a usual box it says how fragmented the atlas is: where much is of
+/// no use, it is time to rearrange it. Takes one pass over the slots, and no memory. `DONE`; `EMPTY`.
+#[unsafe(no_mangle)]
+pub extern "C" fn guillotiere_atlas_unusable_area(
+    atlas: &AtlasReader,
+    width: i32,
+    height: i32,
+    area: &mut u64,
+) -> u32
+    ensures area { IsSome atlas.now.kept → HoldsAtlas atlas.now.kept
+        (λ s. area.new ≡ sum_by (unusable s.options (sides_in width height)) (free_in s)) }
+    ensures done { IsSome atlas.now.kept → result ≡ DONE }
+    ensures empty { IsNone atlas.now.kept → (result ≡ EMPTY) × (area.new ≡ area.old) }
+{
+    if !atlas.holds() {
+        return EMPTY;
+    }
+    let held = atlas.lent();
+    *area = held.unusable_area(size2(width, height));
+    DONE
+}
+
+/// The free box of the largest area; of several the topmost one, and of these the leftmost. Takes one pass over the slots.
+/// `DONE`: it is in `found`. `NO_ROOM` if nothing is free; `EMPTY`.
+#[unsafe(no_mangle)]
+pub extern "C" fn guillotiere_atlas_largest_free(
+    atlas: &AtlasReader,
+    found: &mut PlainRectangle,
+) -> u32
+    ensures largest { IsSome atlas.now.kept → result ≡ DONE → HoldsAtlas atlas.now.kept
+        (λ s. IsLargest (free_in s) (box_of (corners_in found.new))) }
+    ensures exact { result ≡ DONE → IsExact (corners_in found.new) }
+    ensures none { IsSome atlas.now.kept → result ≢ DONE → (result ≡ NO_ROOM)
+        × HoldsAtlas atlas.now.kept (λ s. free_in s ≡ []) }
+    ensures refused { result ≢ DONE → found.new ≡ found.old }
+    ensures empty { IsNone atlas.now.kept → result ≡ EMPTY }
+{
+    if !atlas.holds() {
+        return EMPTY;
+    }
+    let held = atlas.lent();
+    let rectangle = held.largest_free();
+    match rectangle {
+        Some(rectangle) => {
+            *found = plain_rectangle(rectangle);
+            DONE
+        }
+        None => NO_ROOM,
+    }
 }
 
 /// Whether no id is live; also true of a handle that holds nothing.

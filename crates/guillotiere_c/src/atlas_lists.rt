@@ -53,7 +53,8 @@ pub extern "C" fn guillotiere_atlas_live(
     DONE
 }
 
-/// The same of the free boxes, in an order that is left open.
+/// Writes the free boxes, in an order that is left open: as many as there is room for, and into `count` how many there are.
+/// What `found` has after them stays. `DONE`; `MEMORY`; `EMPTY`.
 #[unsafe(no_mangle)]
 pub extern "C" fn guillotiere_atlas_free_boxes(
     atlas: &AtlasReader,

@@ -1,11 +1,13 @@
 //! The exports of a cache: its life, its keys and its changes.
 ghost use Rattle.std.specs.Prelude.{◌≡◌, ◌≢◌, ◌+◌, ◌*◌, ◌<◌, ◌≤◌, ◌∷◌, [], length, IfSome, IsNone, IsSome, IsSomeAnd, None, Some};
-ghost use Rattle.std.specs.Prelude.{nat_eq};
+ghost use Rattle.std.specs.Prelude.{nat_eq, Err, Ok};
+ghost use Rattle.atlas_cache.specs.declared.CacheError.TheVariants.{Memory, Slots};
 ghost use Rattle.atlas_cache.specs.Asking.{AreUsable, IsFaultIn};
 ghost use Rattle.atlas_cache.specs.Caches.{place_for};
 ghost use Rattle.atlas_cache.specs.Relocating.{held_on};
+ghost use Rattle.atlas_cache.specs.Repacking.{LosesSome};
 ghost use Rattle.guillotiere_c.specs.CacheCalls.{AlwaysHolds, BeginsFrame, IsClearing, IsGet, IsInsert, IsRemoval};
-ghost use Rattle.guillotiere_c.specs.CacheCalls.{IsRepacking, IsShrinking, IsTrim};
+ghost use Rattle.guillotiere_c.specs.CacheCalls.{IsBatchEnd, IsCompacting, IsRepacking, IsRepackingOfAll, IsShrinking, IsTrim};
 ghost use Rattle.guillotiere_c.specs.CacheNumbers.{cache_change_in, cache_options_in, found_answer, insert_answer};
 ghost use Rattle.guillotiere_c.specs.CacheNumbers.{options_fault};
 ghost use Rattle.guillotiere_c.specs.Following.{GoesOver, HoldsCache, KeepsChanges, KeepsRoom, StaysHeld, new_cache};
@@ -13,8 +15,8 @@ ghost use Rattle.guillotiere_c.specs.Following.{GoesOver, HoldsCache, KeepsChang
 use crate::cache_handle::{CacheHandle, CacheReader};
 use crate::followed::FollowedCache;
 use crate::plain::{
-    DONE, EMPTY, FRAME_FULL, HELD, MEMORY, NEVER_FITS, NO_CHANGE, NO_PAGE, NOT_HELD, OCCUPIED,
-    SLOTS,
+    DONE, EMPTY, FRAME_FULL, HELD, MEMORY, NEVER_FITS, NO_CHANGE, NO_PAGE, NO_ROOM, NOT_HELD,
+    OCCUPIED, SLOTS,
 };
 use crate::plain_cache::{
     PlainCacheChange, PlainCacheOptions, PlainPlace, cache_options_for, plain_cache_change,
@@ -179,7 +181,7 @@ fn write_inserted(answer: Result<Inserted, CacheError>, place: &mut PlainPlace) 
 /// `DONE`: the key is new, and its place was written: its pixels are to be written to the texture. `HELD`: it was held, and
 /// its place, where its pixels are, was written. `FRAME_FULL`: all pages allowed exist, at their largest, and none would have
 /// room, were all keys gone that this frame didn't use, of which 16 went at most, or more where that memory was refused: draw
-/// what is batched, call `guillotiere_cache_begin_frame` and insert again; while a
+/// what is batched, call `guillotiere_cache_end_batch` and insert again, or `guillotiere_cache_begin_frame`; while a
 /// frame has used nothing this is never the answer. `NEVER_FITS` if the size, with the padding on all sides and rounded up to
 /// the alignment, exceeds the largest page, `OTHER_SIZE` if the key is held with another size, even if this one is empty or
 /// would never fit: then nothing changed. `NUMBERS` if 4294967295 keys are still held; `SLOTS` if the page that has room, or
@@ -315,6 +317,37 @@ pub extern "C" fn guillotiere_cache_trim(alloc: Global, cache: &mut CacheHandle,
     }
 }
 
+/// Ends a batch, which was drawn, where the frame has no room for what comes next in it: this many of the most recently used
+/// keys go, all if there are no more, each reported by a change, the most recently used first. The frame goes on: an insertion
+/// evicts nothing of what is left that it used. `DONE`; `MEMORY`, and then all is as it was: never if
+/// `guillotiere_cache_reserve_changes` made room for as many changes as keys are held, and for one at least; `EMPTY`.
+#[unsafe(no_mangle)]
+pub extern "C" fn guillotiere_cache_end_batch(
+    alloc: Global,
+    cache: &mut CacheHandle,
+    keys: usize,
+) -> u32
+    ensures ends { result ≡ DONE → GoesOver cache.old.kept cache.new.kept (IsBatchEnd keys) }
+    ensures room { HoldsCache cache.old.kept (λ f. (0 < f.room) × (length f.cache.entries ≤ f.room))
+        → result ≡ DONE }
+    ensures keeps_room { IsSome cache.old.kept → GoesOver cache.old.kept cache.new.kept KeepsRoom }
+    ensures refused { result ≢ DONE → StaysHeld cache.old.kept cache.new.kept }
+    ensures unless { IsSome cache.old.kept → result ≢ DONE → result ≡ MEMORY }
+    ensures kept { IsSome cache.old.kept → HoldsCache cache.new.kept (λ f. AlwaysHolds f.cache) }
+    ensures empty { IsNone cache.old.kept → result ≡ EMPTY }
+{
+    if !cache.holds() {
+        return EMPTY;
+    }
+    let mut held = cache.take(alloc);
+    let answer = held.end_batch(keys);
+    cache.put(held);
+    match answer {
+        Ok(()) => DONE,
+        Err(error) => status_of_cache_error(error),
+    }
+}
+
 /// Removes the pages after the last one with a key, each reported by a change, `GUILLOTIERE_PAGE_REMOVED`, the last one
 /// first. The others stay, with their sizes, and so do all keys; after `guillotiere_cache_clear` all pages go. A page that goes
 /// takes its slots in reserve along, and one that is added later has none; keys in reserve stay. `DONE`;
@@ -343,9 +376,49 @@ pub extern "C" fn guillotiere_cache_shrink(alloc: Global, cache: &mut CacheHandl
     }
 }
 
+/// Moves keys of the last page to the pages before it, so that `guillotiere_cache_shrink` can give it back, as many as some
+/// pixels are enough for: after a burst a call in each frame empties page after page, where a repacking would take too long for one.
+/// The most recently used key comes first; each that lies on the last page, on no more pixels, padding included, than are left,
+/// moves to the first page before it that has room for it, reported by a change, `GUILLOTIERE_MOVED`. No key goes, none counts
+/// as used, and no page grows or goes. Writes how many pixels moved: 0 where there are fewer than two pages, or where no key moved.
+/// All moves lead from the last page to other ones, on which nothing comes free: so the pixels can be copied one after another.
+/// `DONE`; `SLOTS` if a page that has room can't use the slots that this takes, of 16777216, or `MEMORY`, and then what moved
+/// before is reported and stays, and nothing is written; `EMPTY`.
+#[unsafe(no_mangle)]
+pub extern "C" fn guillotiere_cache_compact(
+    alloc: Global,
+    cache: &mut CacheHandle,
+    pixels: u64,
+    moved: &mut u64,
+) -> u32
+    ensures compacts { result ≡ DONE → GoesOver cache.old.kept cache.new.kept (IsCompacting pixels (Ok moved.new)) }
+    ensures memory { result ≡ MEMORY → GoesOver cache.old.kept cache.new.kept (IsCompacting pixels (Err Memory)) }
+    ensures slots { result ≡ SLOTS → GoesOver cache.old.kept cache.new.kept (IsCompacting pixels (Err Slots)) }
+    ensures unwritten { result ≢ DONE → moved.new ≡ moved.old }
+    ensures keeps_room { IsSome cache.old.kept → GoesOver cache.old.kept cache.new.kept KeepsRoom }
+    ensures unless { IsSome cache.old.kept → result ≢ DONE → result ≢ SLOTS → result ≡ MEMORY }
+    ensures kept { IsSome cache.old.kept → HoldsCache cache.new.kept (λ f. AlwaysHolds f.cache) }
+    ensures empty { IsNone cache.old.kept → (result ≡ EMPTY) × (cache.new.kept ≡ None) }
+{
+    if !cache.holds() {
+        return EMPTY;
+    }
+    let mut held = cache.take(alloc);
+    let answer = held.compact(pixels);
+    cache.put(held);
+    match answer {
+        Ok(pixels) => {
+            *moved = pixels;
+            DONE
+        }
+        Err(error) => status_of_cache_error(error),
+    }
+}
+
 /// Repacks the keys of a page, the largest first, and among equal areas the most recently used, so that what is free comes
 /// together; pages are counted from 0. Each key of the page is reported by a change, the most recently used first:
-/// `GUILLOTIERE_MOVED`, also where it stays, or `GUILLOTIERE_EVICTED`, where it found no room. A place that a key moves to
+/// `GUILLOTIERE_MOVED`, also where it stays, or `GUILLOTIERE_EVICTED`, where it found no room when its turn came, also if this
+/// frame uses it: `guillotiere_cache_repack_keeping_all` evicts none. A place that a key moves to
 /// can overlap one that a later change moves from: take the changes that wait, then copy the page, then call this, and copy
 /// all pixels from that copy. The page may have no slots in reserve then; keys in reserve stay. `DONE`; `NO_PAGE`, `SLOTS`
 /// (only of a page with more than 4194303 keys) or `MEMORY`, and then all is as it was; `EMPTY`.
@@ -371,6 +444,43 @@ pub extern "C" fn guillotiere_cache_repack(alloc: Global, cache: &mut CacheHandl
     match answer {
         Ok(true) => DONE,
         Ok(false) => NO_PAGE,
+        Err(error) => status_of_cache_error(error),
+    }
+}
+
+/// Repacks the keys of a page as `guillotiere_cache_repack` does, but only where each of them finds room, so that no key is
+/// evicted. `DONE`; `NO_ROOM` if one would find none, `NO_PAGE`, `SLOTS` (only of a page with more than 4194303 keys) or
+/// `MEMORY`, and then all is as it was; `EMPTY`.
+#[unsafe(no_mangle)]
+pub extern "C" fn guillotiere_cache_repack_keeping_all(
+    alloc: Global,
+    cache: &mut CacheHandle,
+    page: u32,
+) -> u32
+    ensures repacks { result ≡ DONE → GoesOver cache.old.kept cache.new.kept (IsRepackingOfAll page) }
+    ensures loses { result ≡ NO_ROOM → HoldsCache cache.old.kept (λ f.
+        LosesSome f.cache.pages page (held_on page f.cache.entries)) }
+    ensures there { result ≡ NO_PAGE → HoldsCache cache.old.kept (λ f. length f.cache.pages ≤ page) }
+    ensures absent { HoldsCache cache.old.kept (λ f. length f.cache.pages ≤ page) → result ≡ NO_PAGE }
+    ensures keeps_room { IsSome cache.old.kept → GoesOver cache.old.kept cache.new.kept KeepsRoom }
+    ensures refused { result ≢ DONE → StaysHeld cache.old.kept cache.new.kept }
+    ensures short { result ≡ SLOTS → HoldsCache cache.old.kept (λ f.
+        16777216 < 1 + 4 * length (held_on page f.cache.entries)) }
+    ensures unless { IsSome cache.old.kept → result ≢ DONE → result ≢ NO_ROOM → result ≢ NO_PAGE → result ≢ SLOTS
+        → result ≡ MEMORY }
+    ensures kept { IsSome cache.old.kept → HoldsCache cache.new.kept (λ f. AlwaysHolds f.cache) }
+    ensures empty { IsNone cache.old.kept → result ≡ EMPTY }
+{
+    if !cache.holds() {
+        return EMPTY;
+    }
+    let mut held = cache.take(alloc);
+    let is_there = page < held.cache().pages();
+    let answer = held.repack_keeping_all(page);
+    cache.put(held);
+    match answer {
+        Ok(true) => DONE,
+        Ok(false) => { if is_there { NO_ROOM } else { NO_PAGE } }
         Err(error) => status_of_cache_error(error),
     }
 }

@@ -5,17 +5,18 @@ ghost use Rattle.atlas_cache.specs.declared.CacheError.TheVariants.{Memory, Slot
 ghost use Rattle.atlas_cache.specs.Asking.{AreUsable, IsFaultIn};
 ghost use Rattle.atlas_cache.specs.Caches.{with_reserve};
 ghost use Rattle.atlas_cache.specs.Relocating.{held_on};
+ghost use Rattle.atlas_cache.specs.Repacking.{LosesSome};
 ghost use Rattle.atlas_cache.specs.Reserving.{AllowSlots, HaveSlots, IsShortFor, ReadiesInserts, StopsAtPage};
 ghost use Rattle.atlas_cache.specs.Rooms.{IsRefusal};
-ghost use Rattle.guillotiere_c.specs.CacheCalls.{AlwaysHolds, BeginsFrame, IsClearing, IsGet, IsInsert, IsRemoval, IsRepacking};
-ghost use Rattle.guillotiere_c.specs.CacheCalls.{IsShrinking, IsTrim, KeepsStates};
+ghost use Rattle.guillotiere_c.specs.CacheCalls.{AlwaysHolds, BeginsFrame, IsBatchEnd, IsClearing, IsCompacting, IsCopy, IsGet};
+ghost use Rattle.guillotiere_c.specs.CacheCalls.{IsInsert, IsRemoval, IsRepacking, IsRepackingOfAll, IsShrinking, IsTrim, KeepsStates};
 ghost use Rattle.guillotiere_c.specs.Following.{IsAsItWas, KeepsChanges, KeepsRoom, new_cache};
 
 use atlas_cache::{
     CacheChange, CacheError, CacheOptions, Changes, Inserted, OptionsError, Place, TextureCache,
 };
 use guillotiere::Size;
-use std::alloc::Global;
+use std::alloc::{AllocError, Global};
 use std::marker::Model;
 
 /// A cache, and the changes that weren't handed over yet. Those that were stay in the list until the last one is handed
@@ -97,6 +98,20 @@ impl FollowedCache {
         &self.cache
     }
 
+    /// A copy, which goes on by itself, in new memory: the cache stores the same, and the same changes weren't handed over.
+    pub fn clone(&self) -> Result<FollowedCache, AllocError>
+        ensures cache { IfOk result (λ copy. IsCopy self.now.cache copy.cache) }
+        ensures changes { IfOk result (λ copy. copy.changes ≡ self.now.changes) }
+    {
+        let cache = self.cache.clone()?;
+        let changes = Vec::from_slice(*self.changes.allocator(), &self.changes[self.taken..])?;
+        Ok(FollowedCache {
+            cache,
+            changes,
+            taken: 0,
+        })
+    }
+
     /// States what always holds of the cache, and does nothing.
     pub fn prove_kept(&self)
         ensures { AlwaysHolds self.now.cache }
@@ -166,6 +181,18 @@ impl FollowedCache {
         self.cache.trim(frames, &mut self.changes)
     }
 
+    /// As `TextureCache::end_batch`. Its changes come behind those that weren't handed over.
+    pub fn end_batch(&mut self, keys: usize) -> Result<(), CacheError>
+        ensures ends { OnOk result (IsBatchEnd keys self.old self.new) }
+        ensures room { 0 < self.old.room → length self.old.cache.entries ≤ self.old.room → IsOk result }
+        ensures refused { OnErr result (IsAsItWas self.old self.new) }
+        ensures keeps_room { KeepsRoom self.old self.new }
+        ensures unless { IsOkUnless result Memory }
+    {
+        drop_taken(&mut self.changes, &mut self.taken);
+        self.cache.end_batch(keys, &mut self.changes)
+    }
+
     /// As `TextureCache::shrink`. Its changes come behind those that weren't handed over.
     pub fn shrink(&mut self) -> Result<(), CacheError>
         ensures shrinks { OnOk result (IsShrinking self.old self.new) }
@@ -176,6 +203,15 @@ impl FollowedCache {
     {
         drop_taken(&mut self.changes, &mut self.taken);
         self.cache.shrink(&mut self.changes)
+    }
+
+    /// As `TextureCache::compact`. Its changes come behind those that weren't handed over.
+    pub fn compact(&mut self, pixels: u64) -> Result<u64, CacheError>
+        ensures compacts { IsCompacting pixels result self.old self.new }
+        ensures keeps_room { KeepsRoom self.old self.new }
+    {
+        drop_taken(&mut self.changes, &mut self.taken);
+        self.cache.compact(pixels, &mut self.changes)
     }
 
     /// As `TextureCache::repack`. Its changes come behind those that weren't handed over.
@@ -191,6 +227,22 @@ impl FollowedCache {
     {
         drop_taken(&mut self.changes, &mut self.taken);
         self.cache.repack(page, &mut self.changes)
+    }
+
+    /// As `TextureCache::repack_keeping_all`. Its changes come behind those that weren't handed over.
+    pub fn repack_keeping_all(&mut self, page: u32) -> Result<bool, CacheError>
+        ensures repacks { result ≡ Ok true → IsRepackingOfAll page self.old self.new }
+        ensures loses { result ≡ Ok false → page < length self.old.cache.pages
+            → LosesSome self.old.cache.pages page (held_on page self.old.cache.entries) }
+        ensures absent { length self.old.cache.pages ≤ page → result ≡ Ok false }
+        ensures none { result ≡ Ok false → IsAsItWas self.old self.new }
+        ensures refused { OnErr result (IsAsItWas self.old self.new) }
+        ensures keeps_room { KeepsRoom self.old self.new }
+        ensures errors { IfErr result IsRefusal }
+        ensures short { result ≡ Err Slots → 16777216 < 1 + 4 * length (held_on page self.old.cache.entries) }
+    {
+        drop_taken(&mut self.changes, &mut self.taken);
+        self.cache.repack_keeping_all(page, &mut self.changes)
     }
 
     /// As `TextureCache::reserve`.

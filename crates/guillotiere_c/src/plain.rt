@@ -221,7 +221,7 @@ pub struct PlainChangeCount {
     pub failures: usize,
 }
 
-/// The same for C.
+/// A size as C has it.
 pub fn plain_size(size: Size) -> PlainSize
     ensures { size_in result ≡ size }
 {
@@ -231,7 +231,7 @@ pub fn plain_size(size: Size) -> PlainSize
     }
 }
 
-/// The same for C.
+/// A rectangle as C has it.
 pub fn plain_rectangle(rectangle: Rectangle) -> PlainRectangle
     ensures { corners_in result ≡ rectangle }
 {
@@ -244,7 +244,7 @@ pub fn plain_rectangle(rectangle: Rectangle) -> PlainRectangle
     }
 }
 
-/// The same for C.
+/// A live box as C has it.
 pub fn plain_allocation(allocation: Allocation) -> PlainAllocation
     ensures { allocation_in result ≡ allocation }
 {
@@ -254,7 +254,7 @@ pub fn plain_allocation(allocation: Allocation) -> PlainAllocation
     }
 }
 
-/// The same for C.
+/// What a box was and what it became, as C has it.
 pub fn plain_change(change: Change) -> PlainChange
     ensures { change_in result ≡ change }
 {
@@ -264,7 +264,7 @@ pub fn plain_change(change: Change) -> PlainChange
     }
 }
 
-/// The same for C.
+/// Counts of slots as C has them.
 pub fn plain_slots(slots: SlotCount) -> PlainSlots
     ensures used { result.used ≡ slots.used }
     ensures kept { result.kept ≡ slots.kept }
@@ -277,7 +277,7 @@ pub fn plain_slots(slots: SlotCount) -> PlainSlots
     }
 }
 
-/// The same for C.
+/// Options as C has them.
 pub fn plain_options(options: AllocatorOptions) -> PlainOptions
     ensures { allocator_options_in result ≡ options }
 {
@@ -289,7 +289,7 @@ pub fn plain_options(options: AllocatorOptions) -> PlainOptions
     }
 }
 
-/// The same for Rattle.
+/// Options of C's as the library has them.
 pub fn options_for(options: &PlainOptions) -> AllocatorOptions
     ensures { options_of result ≡ options_in options.now }
 {

@@ -100,7 +100,7 @@ const NOTHING: PlainCacheChange = PlainCacheChange {
     to: NOWHERE,
 };
 
-/// The same for C.
+/// A key's place as C has it.
 pub fn plain_place(place: Place) -> PlainPlace
     ensures { place_in result ≡ place }
 {
@@ -112,7 +112,7 @@ pub fn plain_place(place: Place) -> PlainPlace
     }
 }
 
-/// The same for C.
+/// Hits, misses and evictions as C has them.
 pub fn plain_counts(counts: Counts) -> PlainCounts
     ensures { counts_in result ≡ counts }
 {
@@ -123,7 +123,7 @@ pub fn plain_counts(counts: Counts) -> PlainCounts
     }
 }
 
-/// The same for C.
+/// What a cache did, as C has it.
 pub fn plain_cache_change(change: CacheChange<u64>) -> PlainCacheChange
     ensures { cache_change_in result ≡ Some change }
 {
@@ -161,7 +161,7 @@ pub fn plain_cache_change(change: CacheChange<u64>) -> PlainCacheChange
     }
 }
 
-/// The same for Rattle.
+/// A cache's options of C's as the library has them.
 pub fn cache_options_for(options: &PlainCacheOptions) -> CacheOptions
     ensures { result ≡ cache_options_in options.now }
 {
@@ -181,7 +181,7 @@ pub fn cache_options_for(options: &PlainCacheOptions) -> CacheOptions
     }
 }
 
-/// The same for C.
+/// A cache's options as C has them.
 pub fn plain_cache_options(options: CacheOptions) -> PlainCacheOptions
     ensures { cache_options_in result ≡ options }
 {

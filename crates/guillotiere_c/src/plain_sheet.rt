@@ -76,7 +76,7 @@ const NO_PLACE: PlainMaybePlaced = PlainMaybePlaced {
     },
 };
 
-/// The same for C.
+/// A sprite's place as C has it.
 pub fn plain_placed(placed: Placed) -> PlainPlaced
     ensures value { placed_in result ≡ placed }
     ensures bit { IsToldByBit result }
@@ -87,7 +87,7 @@ pub fn plain_placed(placed: Placed) -> PlainPlaced
     }
 }
 
-/// The same for C.
+/// The place of a sprite that may have none, as C has it.
 pub fn plain_maybe_placed(place: Option<Placed>) -> PlainMaybePlaced
     ensures value { maybe_placed_in result ≡ place }
     ensures bits { IsMaybeToldByBit result }
@@ -101,7 +101,7 @@ pub fn plain_maybe_placed(place: Option<Placed>) -> PlainMaybePlaced
     }
 }
 
-/// The same for C.
+/// A sprite's place on one of several sheets, as C has it.
 pub fn plain_on_page(place: OnPage) -> PlainOnPage
     ensures value { on_page_in result ≡ place }
     ensures bit { IsPageToldByBit result }
@@ -133,7 +133,7 @@ fn allowed_for(options: &PlainSheetOptions) -> Option<Allowed>
     }
 }
 
-// The same for Rattle, over these sheets.
+// A sheet's options of C's as the library has them, over these sheets.
 fn options_with(options: &PlainSheetOptions, allowed: Allowed, padding: u16) -> SheetOptions
     requires { padding ≡ options.now.padding }
     ensures { result ≡ options_over options.now allowed }
@@ -148,7 +148,7 @@ fn options_with(options: &PlainSheetOptions, allowed: Allowed, padding: u16) -> 
     }
 }
 
-/// The same for Rattle; None if the sheets are of no kind, or the padding is above 65535.
+/// A sheet's options of C's as the library has them; None if the sheets are of no kind, or the padding is above 65535.
 pub fn sheet_options_for(options: &PlainSheetOptions) -> Option<SheetOptions>
     ensures { result ≡ sheet_options_in options.now }
 {

@@ -90,8 +90,8 @@ impl SimpleHandle {
     }
 }
 
-/// The same place for a call that only reads: what lies at the pointer is lent to it, and any number of such calls may run
-/// at once.
+/// The place of a simple allocator for a call that only reads: what lies at the pointer is lent to it, and any number of
+/// such calls may run at once.
 #[repr(C)]
 pub struct SimpleReader {
     at: *const u8,

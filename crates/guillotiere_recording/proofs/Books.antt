@@ -1,5 +1,6 @@
 -- The book of recorded events is what is live by name.
-use Rattle.std.proofs.Common.{◌≡◌, ℕ, ◌≤◌, ◌==◌, eqb, Bool, true, false, ◌&&◌, not, List, [], ◌∷◌, ◌++◌, map, filter, refl, ap, sym, subst, ◌∙◌, arith, Contains, Some, None}
+use Rattle.std.proofs.Common.{◌≡◌, ℕ, ◌≤◌, ◌==◌, eqb, Bool, true, false, ◌&&◌, not, List, [], ◌∷◌, ◌++◌, map, filter, refl, ap, sym, subst}
+use Rattle.std.proofs.Common.{◌∙◌, arith, Contains, Some, None}
 use Rattle.std.specs.List.{count_by}
 use Rattle.std.proofs.lemmas.Bool.{eqb-true, eq-eqb, false≢true}
 use Rattle.std.proofs.lemmas.List.Elements.{All-contains}
@@ -25,7 +26,8 @@ use Rattle.guillotiere.proofs.TreeLemmas.TreeBasics.{one_if}
 use Rattle.guillotiere.proofs.TreeLemmas.TreeIds.{Contains-none}
 use Rattle.guillotiere_recording.specs.Events.{EventValue, ListValue}
 use Rattle.guillotiere_recording.specs.Events.EventValue.{Allocate, Deallocate, Grow, Rearrange, ResizeAndRearrange}
-use Rattle.guillotiere_recording.specs.Sessions.{Named, IsNamed, KeepsNames, named_boxes, renamed_transfer, GrantsUnder, FreesUnder, RearrangesUnder, Leads, LeadOn, fresh_session}
+use Rattle.guillotiere_recording.specs.Sessions.{Named, IsNamed, KeepsNames, named_boxes, renamed_transfer, GrantsUnder, FreesUnder}
+use Rattle.guillotiere_recording.specs.Sessions.{RearrangesUnder, Leads, LeadOn, fresh_session}
 use Rattle.guillotiere_recording.specs.Books.{AreSameGrants, moved_boxes, booked, book_from, SessionsAreNamed, BooksAreTrue}
 use Rattle.guillotiere_recording.proofs.Counts.{count_map, count_filter, count_permuted, count_alike, map_alike}
 use Rattle.guillotiere_recording.proofs.Entries.{live_is_counted, counted_is_live}
@@ -87,11 +89,13 @@ freed_book held old new name good same h p =
     let before = same (λ g. q g && p g) in
     let mapped = count_map f (λ g. q g && p g) (live_in old.state) in
     let alike : count_by (λ g. q (f g) && p (f g)) (live_in old.state) ≡ count_by (λ g. not (g.id == h.id) && p (f g)) (live_in old.state) =
-    count_alike (λ g. q (f g) && p (f g)) (λ g. not (g.id == h.id) && p (f g)) (live_in old.state) (λ g at. ap (λ b. not b && p (f g)) (told g at)) in
+    count_alike (λ g. q (f g) && p (f g)) (λ g. not (g.id == h.id) && p (f g)) (live_in old.state)
+    (λ g at. ap (λ b. not b && p (f g)) (told g at)) in
     let back = count_filter (λ g. not (g.id == h.id)) (λ g. p (f g)) (live_in old.state) in
     let kept = ap (count_by (λ g. p (f g))) step.live in
     let after = count_map f p (live_in new.state) in
-    let news : named_boxes new ≡ map f (live_in new.state) = same_boxes old new (live_in new.state) h.kept (λ g at. was step g at) (λ g at. listed_is_live new.state g at) in
+    let news : named_boxes new ≡ map f (live_in new.state) = same_boxes old new (live_in new.state) h.kept (λ g at. was step g at)
+    (λ g at. listed_is_live new.state g at) in
     left ∙ before ∙ mapped ∙ alike ∙ sym back ∙ sym kept ∙ sym after ∙ sym (ap (count_by p) news)
   where
     told : (g : Grant) → Contains (live_in old.state) g → (old.name g.id == name) ≡ (g.id == h.id)
@@ -121,7 +125,8 @@ moved_book old new asked list good h p =
     let mapped = count_map (λ (t : Transfer). t.new) (λ g. p (f g)) h.answer.changes in
     let all = count_map f p (live_in new.state) in
     let names = count_alike (λ (t : Transfer). p (f t.new)) (λ (t : Transfer). p (renamed_transfer old.name t).new) h.answer.changes
-    (λ t at. ap (λ n. p (grant n t.new.box)) (All-contains (λ (t : Transfer). new.name t.new.id ≡ old.name t.old.id) h.answer.changes t h.kept at)) in
+    (λ t at. ap (λ n. p (grant n t.new.box)) (All-contains (λ (t : Transfer). new.name t.new.id ≡ old.name t.old.id) h.answer.changes t
+    h.kept at)) in
     let a = count_map (λ (c : Change). grant_of c.new) p list.changes in
     let b = count_map transfer_of (λ (t : Transfer). p t.new) list.changes in
     let c = ap (count_by (λ (t : Transfer). p t.new)) h.changes in
@@ -132,7 +137,8 @@ moved_book old new asked list good h p =
 step_booked : (held : List Grant) (old new : Named) (event : EventValue) → IsNamed old
     → AreSameGrants held (named_boxes old)
     → Leads old event new → AreSameGrants (booked held event) (named_boxes new)
-step_booked held old new (Allocate size None) good same (step, kept) p = same p ∙ sym (ap (count_by p) (still old new (ap live_in step.1) kept))
+step_booked held old new (Allocate size None) good same (step, kept) p = same p ∙
+    sym (ap (count_by p) (still old new (ap live_in step.1) kept))
 step_booked held old new (Allocate size (Some a)) good same h p = granted_book held old new size a good same h p
 step_booked held old new (Deallocate name) good same h p = freed_book held old new name good same h p
 step_booked held old new (Grow size) good same (step, kept) p =

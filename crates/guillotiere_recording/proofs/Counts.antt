@@ -1,5 +1,6 @@
 -- Counts over lists that are mapped, filtered or permuted.
-use Rattle.std.proofs.Common.{◌≡◌, ◌+◌, Bool, true, false, cond, ◌&&◌, List, [], ◌∷◌, map, filter, zero-add, refl, ap, ap₂, sym, ◌∙◌, Contains, IsPermutation}
+use Rattle.std.proofs.Common.{◌≡◌, ◌+◌, Bool, true, false, cond, ◌&&◌, List, [], ◌∷◌, map, filter, zero-add, refl, ap, ap₂, sym, ◌∙◌}
+use Rattle.std.proofs.Common.{Contains, IsPermutation}
 use Rattle.std.specs.List.{count_by}
 use Rattle.std.proofs.lemmas.List.Sorted.{sum_by-IsPermutation}
 use Rattle.guillotiere.proofs.ListLemmas.ListCounts.{count_by-cons}

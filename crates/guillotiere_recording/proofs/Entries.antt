@@ -1,8 +1,10 @@
 -- The entries of live ids: what is counted, and the names that they give.
-use Rattle.std.proofs.Common.{◌≡◌, ℕ, ◌+◌, ◌<◌, ◌≤◌, ◌==◌, eqb, Bool, true, false, cond, get_or, List, [], ◌∷◌, ◌++◌, length, take, drop, suc, refl, ap, sym, subst, ◌∙◌, arith, All, Contains}
+use Rattle.std.proofs.Common.{◌≡◌, ℕ, ◌+◌, ◌<◌, ◌≤◌, ◌==◌, eqb, Bool, true, false, cond, get_or, List, [], ◌∷◌, ◌++◌, length, take, drop}
+use Rattle.std.proofs.Common.{suc, refl, ap, sym, subst, ◌∙◌, arith, All, Contains}
 use Rattle.std.specs.List.{count_by, remove}
 use Rattle.std.proofs.lemmas.Bool.{eqb-true, eq-eqb}
-use Rattle.std.proofs.lemmas.List.Elements.{All-contains, All-contains_itself, All-append, All-take, All-drop, Contains-append_left, Contains-append_right, Contains-push}
+use Rattle.std.proofs.lemmas.List.Elements.{All-contains, All-contains_itself, All-append, All-take, All-drop, Contains-append_left}
+use Rattle.std.proofs.lemmas.List.Elements.{Contains-append_right, Contains-push}
 use Rattle.std.proofs.lemmas.List.Sums.{sum_by-remove}
 use Rattle.guillotiere.specs.Changes.{only}
 use Rattle.guillotiere.specs.Trees.{ids}
@@ -89,7 +91,8 @@ pub names_removed : (ns : List Entry) (at id : ℕ) → 1 ≤ entries_of id (rem
     → name_among (remove ns at) id ≡ name_among ns id
 names_removed ns at id some few =
     let r = entry_of id (remove ns at) some in
-    let there : Contains ns r.0 = All-contains (Contains ns) (remove ns at) r.0 (All-removed (Contains ns) ns at (All-contains_itself ns)) r.1 in
+    let there : Contains ns r.0 = All-contains (Contains ns) (remove ns at) r.0 (All-removed (Contains ns) ns at (All-contains_itself ns))
+    r.1 in
     r.3 ∙ sym (name_of id ns r.0 few there r.2)
 
 pub entries_removed : (id : ℕ) (ns : List Entry) (at : ℕ) (d : Entry) → at < length ns

@@ -40,7 +40,8 @@ allocations_decide : (a b : Allocation) → Decides (same_allocation a b) (a ≡
 allocations_decide a b =
     Decides-like (same_allocation a b) (λ h. equal h.0 h.1)
     (λ h. (ap (λ (r : Allocation). r.id) h, ap (λ (r : Allocation). r.rectangle) h))
-    (Decides-and (a.id == b.id) (same_rectangle a.rectangle b.rectangle) (Decides-eqb a.id b.id) (rectangles_decide a.rectangle b.rectangle))
+    (Decides-and (a.id == b.id) (same_rectangle a.rectangle b.rectangle) (Decides-eqb a.id b.id)
+    (rectangles_decide a.rectangle b.rectangle))
   where
     equal : a.id ≡ b.id → a.rectangle ≡ b.rectangle → a ≡ b
     equal h k = λ i. record { id = h i; rectangle = k i }
@@ -51,7 +52,8 @@ same_change a b = same_allocation a.old b.old && same_allocation a.new b.new
 changes_decide : (a b : Change) → Decides (same_change a b) (a ≡ b)
 changes_decide a b =
     Decides-like (same_change a b) (λ h. equal h.0 h.1) (λ h. (ap (λ (r : Change). r.old) h, ap (λ (r : Change). r.new) h))
-    (Decides-and (same_allocation a.old b.old) (same_allocation a.new b.new) (allocations_decide a.old b.old) (allocations_decide a.new b.new))
+    (Decides-and (same_allocation a.old b.old) (same_allocation a.new b.new) (allocations_decide a.old b.old)
+    (allocations_decide a.new b.new))
   where
     equal : a.old ≡ b.old → a.new ≡ b.new → a ≡ b
     equal h k = λ i. record { old = h i; new = k i }
@@ -64,7 +66,8 @@ lists_decide a b =
     Decides-like (same_list a b) (λ h. equal h.0 h.1) (λ h. (ap (λ (r : ListValue). r.changes) h, ap (λ (r : ListValue). r.failures) h))
     (Decides-and (pointwise same_change a.changes b.changes) (pointwise same_allocation a.failures b.failures)
     (slice_eq-Decides {E = same_change} changes_decide a.changes b.changes (pointwise same_change a.changes b.changes) refl)
-    (slice_eq-Decides {E = same_allocation} allocations_decide a.failures b.failures (pointwise same_allocation a.failures b.failures) refl))
+    (slice_eq-Decides {E = same_allocation} allocations_decide a.failures b.failures (pointwise same_allocation a.failures b.failures)
+    refl))
   where
     equal : a.changes ≡ b.changes → a.failures ≡ b.failures → a ≡ b
     equal h k = λ i. record { changes = h i; failures = k i }

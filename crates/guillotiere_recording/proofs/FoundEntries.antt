@@ -1,5 +1,6 @@
 -- An id that has an entry, found among entries by rising id.
-use Rattle.std.proofs.Common.{◌≡◌, ℕ, ◌<◌, ◌≤◌, ◌⊎◌, inl, inr, ltb, ltb-true, ltb-false, true, false, get_or, List, length, ap, sym, ◌∙◌, arith, Contains}
+use Rattle.std.proofs.Common.{◌≡◌, ℕ, ◌<◌, ◌≤◌, ◌⊎◌, inl, inr, ltb, ltb-true, ltb-false, true, false, get_or, List, length, ap, sym, ◌∙◌}
+use Rattle.std.proofs.Common.{arith, Contains}
 use Rattle.std.specs.List.Sorted.{IsNonDecreasingBy, IsPartitionPoint}
 use Rattle.std.proofs.lemmas.Bool.{cases_lt}
 use Rattle.std.proofs.lemmas.List.{get_or_default}
@@ -15,7 +16,11 @@ placed_id ns at id order some point =
     let k : ℕ = r.1.0 in
     let low : k < length ns = r.1.1 in
     let its : (get_or ns k r.0).id ≡ id = ap (λ (n : Entry). n.id) r.1.2 ∙ r.2 in
-    let not_before : (k < at) ⊎ (at ≤ k) → at ≤ k = λ h. elim h [ inl less ↦ (let l : (get_or ns k r.0).id < id = ltb-true _ _ (point.0 k r.0 (omega arith) less) in absurd (omega arith)) | inr more ↦ more ] in
+    let not_before : (k < at) ⊎ (at ≤ k) → at ≤ k = λ h. elim h [
+      | inl less ↦
+          (let l : (get_or ns k r.0).id < id = ltb-true _ _ (point.0 k r.0 (omega arith) less) in absurd (omega arith))
+      | inr more ↦ more
+    ] in
     let reach : at ≤ k = not_before (cases_lt k at) in
     let inside : at < length ns = omega arith in (
       inside,
@@ -31,7 +36,12 @@ entry_with name k = record { name = name; id = k }
 
 pub contains_there : (ns : List Entry) (at : ℕ) (w : Entry) (id : ℕ) → at < length ns → (get_or ns at w).id ≡ id
     → Contains ns (record { name = (get_or ns at w).name; id = id })
-contains_there ns at w id inside is = (at, inside, get_or_default ns at (entry_with (get_or ns at w).name id) w inside ∙ ap (entry_with (get_or ns at w).name) is)
+contains_there ns at w id inside is = (
+  at,
+  inside,
+  get_or_default ns at (entry_with (get_or ns at w).name id) w inside ∙
+      ap (entry_with (get_or ns at w).name) is,
+)
 
 -- The name that a look-up gives is the one among the entries.
 pub named_so : (ns : List Entry) (name number id : ℕ) → ((k : ℕ) → entries_of k ns ≤ 1) → number ≡ id

@@ -1,5 +1,6 @@
 -- A rearranging in a replay: the names that a map keeps, before and after it.
-use Rattle.std.proofs.Common.{◌≡◌, ℕ, ◌+◌, ◌<◌, ◌≤◌, ◌==◌, ◌⊎◌, inl, inr, false, List, [], ◌∷◌, ◌++◌, length, take, get_or, refl, ap, sym, subst, ◌∙◌, zero-add, arith, All, Contains, Some, None, pos}
+use Rattle.std.proofs.Common.{◌≡◌, ℕ, ◌+◌, ◌<◌, ◌≤◌, ◌==◌, ◌⊎◌, inl, inr, false, List, [], ◌∷◌, ◌++◌, length, take, get_or, refl, ap, sym}
+use Rattle.std.proofs.Common.{subst, ◌∙◌, zero-add, arith, All, Contains, Some, None, pos}
 use Rattle.std.specs.List.{count_by}
 use Rattle.std.specs.Ordering.{nat_cmp}
 use Rattle.std.specs.Map.{lookup}
@@ -115,7 +116,8 @@ module _ (a : AtlasValue) (names : Names) (s : Named) (h : ShowsNamed a names s)
                 eq-eqb e.1 id same ∙ sym (eq-eqb e.0 (s.name id) (sym named ∙ ap s.name same))
             by_id (inr other) =
                 ne_eqb e.1 id other
-                ∙ sym (ne_eqb e.0 (s.name id) (λ same. other (one_id (get nat_cmp names e.0) e.1 id here (ap (get nat_cmp names) same ∙ its))))
+                ∙ sym (ne_eqb e.0 (s.name id) (λ same. other (one_id (get nat_cmp names e.0) e.1 id here
+                (ap (get nat_cmp names) same ∙ its))))
 
     dead_counted : (id : ℕ) → live_count id s.state ≤ 0 → entries_of id (entries_in names) ≡ live_count id s.state
     dead_counted id none =

@@ -1,5 +1,6 @@
 -- One entry more in a walk over entries.
-use Rattle.std.proofs.Common.{ℕ, ◌+◌, ◌<◌, ◌≡◌, List, [], ◌∷◌, get_or, drop, length, map, Option, Some, None, option_map, refl, sym, subst, All}
+use Rattle.std.proofs.Common.{ℕ, ◌+◌, ◌<◌, ◌≡◌, List, [], ◌∷◌, get_or, drop, length, map, Option, Some, None, option_map, refl, sym, subst}
+use Rattle.std.proofs.Common.{All}
 use Rattle.std.proofs.lemmas.List.{at_drop_more, get_or_default}
 use Rattle.std.proofs.lemmas.List.Elements.{All-contains}
 use Rattle.guillotiere.proofs.ListLemmas.CallerLemmas.{Contains-map}
@@ -32,8 +33,16 @@ pub visits-name : {F : Type 0} (g : Mut F (ℕ × (Bor Rectangle × Unit {0})) (
     → FoldsTo (CalledAtGrant g) at (map (shown s) (drop (i + 1) xs)) last
     → FoldsTo (CalledAtGrant g) f (map (shown s) (drop i xs)) last
 visits-name g f at last s xs i d name area low is its call more =
-    subst (λ l. FoldsTo (CalledAtGrant g) f l last) (sym (at_drop_more (λ ys. map (shown s) ys) xs i d low))
-    (at, record { shown = area; shows = area_of (live_box s (get_or xs i d).id) area.now its; called = subst (λ n. Called g f (n, (area, tt)) tt at) is call }, more)
+    subst (λ l. FoldsTo (CalledAtGrant g) f l last) (sym (at_drop_more (λ ys. map (shown s) ys) xs i d low)) (
+      at,
+      record {
+        shown = area;
+        shows = area_of (live_box s (get_or xs i d).id) area.now its;
+        called =
+            subst (λ n. Called g f (n, (area, tt)) tt at) is call;
+      },
+      more,
+    )
 
 pub visits-none : {F : Type 0} (g : Mut F (ℕ × (Bor Rectangle × Unit {0})) (Unit {0})) (f : F) (s : State)
     (xs : List Entry) (i : ℕ)
@@ -51,7 +60,8 @@ module _ {X F : Type 0} (R : F → X → F → Type 0) (Q : F → X → Type 0) 
   along-rest : (f q : F) (x : X) (xs : List X) → Along f (x ∷ xs) → R f x q → Along q xs
   along-rest f q x xs h r = record { at = λ ys t v y u a b c. h.at (x ∷ ys) t v y u (xs, refl, a) (q, r, b) c }
 
-module _ {F : Type 0} (g : Mut F (ℕ × (Bor Rectangle × Unit {0})) (Unit {0})) (s : State) (xs : List Entry) (i : ℕ) (d : Entry) (low : i < length xs) where
+module _ {F : Type 0} (g : Mut F (ℕ × (Bor Rectangle × Unit {0})) (Unit {0})) (s : State) (xs : List Entry) (i : ℕ) (d : Entry)
+    (low : i < length xs) where
   abbrev From : F → ℕ → Type 0
   From f k = IsCallableAlongGrants g (λ (a : Allocation). IsShownArea a.rectangle) f (map (shown s) (drop k xs))
 
@@ -62,7 +72,8 @@ module _ {F : Type 0} (g : Mut F (ℕ × (Bor Rectangle × Unit {0})) (Unit {0})
   asks-name f name area is its all h =
       subst (λ n. Takes g f (n, (area, tt))) (sym is)
       (along-first (CalledAtGrant g) _ f (shown s (get_or xs i d)) (map (shown s) (drop (i + 1) xs))
-      (subst (λ l. IsCallableAlongGrants g (λ (a : Allocation). IsShownArea a.rectangle) f l) (at_drop_more (λ ys. map (shown s) ys) xs i d low) h)
+      (subst (λ l. IsCallableAlongGrants g (λ (a : Allocation). IsShownArea a.rectangle) f l)
+      (at_drop_more (λ ys. map (shown s) ys) xs i d low) h)
       (All-contains (λ (a : Allocation). IsShownArea a.rectangle) (map (shown s) xs) (shown s (get_or xs i d)) all
       (Contains-map (shown s) xs (get_or xs i d) (i, low, get_or_default xs i (get_or xs i d) d low))) area
       (area_of (live_box s (get_or xs i d).id) area.now its))
@@ -73,5 +84,11 @@ module _ {F : Type 0} (g : Mut F (ℕ × (Bor Rectangle × Unit {0})) (Unit {0})
       → From f i → From at (i + 1)
   asks-more f at name area is its call h =
       along-rest (CalledAtGrant g) _ f at (shown s (get_or xs i d)) (map (shown s) (drop (i + 1) xs))
-      (subst (λ l. IsCallableAlongGrants g (λ (a : Allocation). IsShownArea a.rectangle) f l) (at_drop_more (λ ys. map (shown s) ys) xs i d low) h)
-      (record { shown = area; shows = area_of (live_box s (get_or xs i d).id) area.now its; called = subst (λ n. Called g f (n, (area, tt)) tt at) is call })
+      (subst (λ l. IsCallableAlongGrants g (λ (a : Allocation). IsShownArea a.rectangle) f l)
+      (at_drop_more (λ ys. map (shown s) ys) xs i d low) h)
+      (record {
+        shown = area;
+        shows = area_of (live_box s (get_or xs i d).id) area.now its;
+        called =
+            subst (λ n. Called g f (n, (area, tt)) tt at) is call;
+      })

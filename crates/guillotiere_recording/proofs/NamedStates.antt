@@ -1,5 +1,6 @@
 -- Each event leads from a named state to a named state.
-use Rattle.std.proofs.Common.{◌≡◌, ℕ, ◌+◌, ◌≤◌, ◌==◌, ◌⊎◌, inl, inr, eqb, Bool, true, false, ◌&&◌, not, List, [], ◌∷◌, ◌++◌, map, zero-add, refl, ap, sym, subst, ◌∙◌, arith, Contains, Some, None}
+use Rattle.std.proofs.Common.{◌≡◌, ℕ, ◌+◌, ◌≤◌, ◌==◌, ◌⊎◌, inl, inr, eqb, Bool, true, false, ◌&&◌, not, List, [], ◌∷◌, ◌++◌, map, zero-add}
+use Rattle.std.proofs.Common.{refl, ap, sym, subst, ◌∙◌, arith, Contains, Some, None}
 use Rattle.std.specs.List.{count_by}
 use Rattle.std.proofs.lemmas.Bool.{eqb-true, eq-eqb, false≢true}
 use Rattle.std.proofs.lemmas.List.Elements.{All-contains, Contains-append_right}
@@ -89,7 +90,8 @@ pub freeing_less : (old new : State) (freed : ℕ) → IsFreeingStep old freed n
 freeing_less old new freed h id =
     let e = freeing_counts old new freed h id in
     let few : count_by (λ g. not (g.id == freed) && g.id == id) (live_in old) ≤ live_count id old =
-    count_by-weaker (λ g. not (g.id == freed) && g.id == id) (λ g. g.id == id) (λ g. second (not (g.id == freed)) (g.id == id)) (live_in old) in
+    count_by-weaker (λ g. not (g.id == freed) && g.id == id) (λ g. g.id == id) (λ g. second (not (g.id == freed)) (g.id == id))
+    (live_in old) in
     omega arith
   where
     second : (x y : Bool) → (x && y) ≡ true → y ≡ true
@@ -202,7 +204,8 @@ events_keep_names old new (Allocate size None) good (step, kept) = record {
     same : (id : ℕ) → live_count id new.state ≤ live_count id old.state
     same id = let e : live_count id new.state ≡ live_count id old.state = ap (live_count id) step.1 in omega arith
 events_keep_names old new (Allocate size (Some a)) good h = record {
-  sound = steps_keep old.state new.state (atlas.Allocate (sides_of size)) (atlas.Allocated (grant h.id (box_of a.rectangle))) good.sound h.step;
+  sound = steps_keep old.state new.state (atlas.Allocate (sides_of size)) (atlas.Allocated (grant h.id (box_of a.rectangle))) good.sound
+      h.step;
   limit = ap (λ (s : State). s.limit) h.step.1.state ∙ good.limit;
   names = granted_names old new (sides_of size) (grant h.id (box_of a.rectangle)) a.id good.names
       (grants_lie_inside old.state new.state (sides_of size) (grant h.id (box_of a.rectangle)) good.sound h.step) h.unused h.named h.kept;

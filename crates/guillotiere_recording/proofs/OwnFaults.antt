@@ -1,5 +1,6 @@
 -- Which faults the resuming of a recording allocator's own recording may have.
-use Rattle.std.proofs.Common.{◌≡◌, ℕ, zero, suc, add-one, ◌+◌, ◌<◌, ◌≤◌, ◌^◌, ◌⊎◌, inl, inr, false, List, [], ◌∷◌, ◌++◌, length, take, get_or, refl, ap, sym, subst, ◌∙◌, arith, Option, Some, None, Result, Ok, Err, IfErr, slice_get}
+use Rattle.std.proofs.Common.{◌≡◌, ℕ, zero, suc, add-one, ◌+◌, ◌<◌, ◌≤◌, ◌^◌, ◌⊎◌, inl, inr, false, List, [], ◌∷◌, ◌++◌, length, take}
+use Rattle.std.proofs.Common.{get_or, refl, ap, sym, subst, ◌∙◌, arith, Option, Some, None, Result, Ok, Err, IfErr, slice_get}
 use Rattle.std.proofs.lemmas.Bool.{cases_lt}
 use Rattle.std.proofs.lemmas.List.{append_assoc, append-nil, get_or-append-add, get_or_append_left, length-append}
 use Rattle.guillotiere.specs.declared.Allocation.{Allocation}
@@ -20,7 +21,8 @@ use Rattle.guillotiere_recording.specs.Sessions.{Named, Leads}
 use Rattle.guillotiere_recording.specs.Recordings.{SessionValue, session_of, first_names, LeadsTo}
 use Rattle.guillotiere_recording.specs.Replays.{IsBad, AnswersOtherwise, HasRearranging, MayFail, first_events}
 use Rattle.guillotiere_recording.specs.Twins.{is_plain_event}
-use Rattle.guillotiere_recording.specs.Resuming.{AnswersElse, HasNoSlots, IsOwnRecording, IsResumeFault, IsSameCall, IsSameName, IsStoppedAt, IsUnfit}
+use Rattle.guillotiere_recording.specs.Resuming.{AnswersElse, HasNoSlots, IsOwnRecording, IsResumeFault, IsSameCall, IsSameName}
+use Rattle.guillotiere_recording.specs.Resuming.{IsStoppedAt, IsUnfit}
 use Rattle.guillotiere_recording.proofs.ReplayFaults.{good_here, slots_fault, differs_fault, rearranging_here}
 
 -- The names that the first events gave come first.
@@ -177,7 +179,8 @@ differs_own r own i (Allocate size recorded) here v led e =
     by_other (Allocate s answer) next same leads differs =
         request_else (session_of v) next size recorded answer
         (subst (λ n. Leads (session_of v) (Allocate n answer) next) same.0 leads) same.1
-        (λ is. differs (ap (λ n. let x : EventValue = Allocate n answer in x) same.0 ∙ ap (λ a. let x : EventValue = Allocate size a in x) is))
+        (λ is. differs (ap (λ n. let x : EventValue = Allocate n answer in x) same.0 ∙
+        ap (λ a. let x : EventValue = Allocate size a in x) is))
         (good r own i (Allocate size recorded) here v led)
     by_other (Deallocate name) next same leads differs = absurd same
     by_other (Grow n) next same leads differs = absurd same

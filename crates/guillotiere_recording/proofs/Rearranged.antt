@@ -1,5 +1,6 @@
 -- A rearranging under names keeps a session.
-use Rattle.std.proofs.Common.{◌≡◌, ℕ, zero, suc, append-nil, ◌<◌, ◌≤◌, ◌==◌, ◌⊎◌, inl, inr, Bool, true, false, get_or, List, [], ◌∷◌, ◌++◌, length, map, refl, ap, sym, subst, ◌∙◌, arith, All, Contains}
+use Rattle.std.proofs.Common.{◌≡◌, ℕ, zero, suc, append-nil, ◌<◌, ◌≤◌, ◌==◌, ◌⊎◌, inl, inr, Bool, true, false, get_or, List, [], ◌∷◌, ◌++◌}
+use Rattle.std.proofs.Common.{length, map, refl, ap, sym, subst, ◌∙◌, arith, All, Contains}
 use Rattle.std.specs.List.{count_by}
 use Rattle.std.specs.List.Sorted.{IsNonDecreasingBy}
 use Rattle.std.proofs.lemmas.Bool.{eqb-true, eq-eqb, cases_lt}
@@ -128,7 +129,8 @@ all_entered v new answer asked h step = record {
         let x : Allocation = get_or answer.failures.items k d in
         let p : Grant → Bool = λ g. g.id == x.id in
         let i = h.ids x.id in
-        let a = count_permuted p (live_in (state_of v.atlas)) (map (λ (t : Transfer). t.old) (rearrangement_of answer).changes ++ (rearrangement_of answer).failures) moves.before in
+        let a = count_permuted p (live_in (state_of v.atlas)) (map (λ (t : Transfer). t.old) (rearrangement_of answer).changes ++
+        (rearrangement_of answer).failures) moves.before in
         let b = count_by-append p (map (λ (t : Transfer). t.old) (rearrangement_of answer).changes) (rearrangement_of answer).failures in
         let c = count_map grant_of p answer.failures.items in
         let some = count_some (λ (y : Allocation). y.id == x.id) answer.failures.items x
@@ -163,22 +165,26 @@ rearranges_under v a answer m asked h step exact moved few =
     record {
       answer = rearrangement_of answer;
       step = step;
-      exact_changes = subst (λ xs. All IsExactChange xs) (sym moved.changes) (All-map IsExactChange (change_under f) answer.changes.items exact.changes);
+      exact_changes = subst (λ xs. All IsExactChange xs) (sym moved.changes)
+          (All-map IsExactChange (change_under f) answer.changes.items exact.changes);
       exact_failures = subst (λ xs. All (λ (x : Allocation). IsExact x.rectangle) xs) (sym moved.failures)
           (All-map (λ (x : Allocation). IsExact x.rectangle) (failure_under f) answer.failures.items exact.failures);
       changes = ap (map transfer_of) moved.changes ∙ map_twice transfer_of (change_under f) answer.changes.items
           ∙ sym (map_twice (renamed_transfer f) transfer_of answer.changes.items);
       failures = ap (map grant_of) moved.failures ∙ map_twice grant_of (failure_under f) answer.failures.items
           ∙ sym (map_twice (renamed_grant f) grant_of answer.failures.items);
-      kept = All-map (λ (t : Transfer). name_among m.names.items t.new.id ≡ name_among v.names t.old.id) transfer_of answer.changes.items kept;
+      kept = All-map (λ (t : Transfer). name_among m.names.items t.new.id ≡ name_among v.names t.old.id) transfer_of answer.changes.items
+          kept;
     }
   where
     kept : (k : ℕ) (d : Change) → k < length answer.changes.items
         → name_among m.names.items (get_or answer.changes.items k d).new.id ≡ name_among v.names (get_or answer.changes.items k d).old.id
     kept k d below =
         let c : Change = get_or answer.changes.items k d in
-        let there = Contains-permutation (map (entry_under (name_among v.names)) answer.changes.items) m.names.items (entry_under (name_among v.names) c) moved.entries
-        (contains_mapped (entry_under (name_among v.names)) answer.changes.items c (k, below, get_or_default answer.changes.items k c d below)) in
+        let there = Contains-permutation (map (entry_under (name_among v.names)) answer.changes.items) m.names.items
+        (entry_under (name_among v.names) c) moved.entries
+        (contains_mapped (entry_under (name_among v.names)) answer.changes.items c
+        (k, below, get_or_default answer.changes.items k c d below)) in
         let e = entered_anew v (state_of a) answer m asked h step moved c.new.id in
         let one = few c.new.id in
         name_of c.new.id m.names.items (entry_under (name_among v.names) c) (omega (arith, e, one)) there refl
@@ -198,7 +204,8 @@ pub names_apart : {A : Type 0} (v : SessionValue) (new : State) (answer : Change
     → Step (state_of v.atlas) asked (atlas.Changed (rearrangement_of answer)) new → IsMoved v.names answer m
     → (name : ℕ) → count_by (λ (n : Entry). n.name == name) m.names.items ≤ 1
 names_apart v new answer m asked h step moved name =
-    let a = count_permuted (λ (n : Entry). n.name == name) (map (entry_under (name_among v.names)) answer.changes.items) m.names.items moved.entries in
+    let a = count_permuted (λ (n : Entry). n.name == name) (map (entry_under (name_among v.names)) answer.changes.items) m.names.items
+    moved.entries in
     let b = count_map (entry_under (name_among v.names)) (λ (n : Entry). n.name == name) answer.changes.items in
     let few = by_count (cases_lt 0 (count_by (λ (c : Change). name_among v.names c.old.id == name) answer.changes.items)) in
     omega (arith, a, b, few)
@@ -222,8 +229,10 @@ names_apart v new answer m asked h step moved name =
         let there : Contains (s.before ++ s.here ∷ s.after) s.here =
         Contains-append_right s.before (s.here ∷ s.after) s.here (Contains-first s.here s.after) in
         let at : Contains answer.changes.items s.here = subst (λ cs. Contains cs s.here) (sym s.is) there in
-        let few = count_weaker_in (λ (c : Change). name_among v.names c.old.id == name) (λ (c : Change). c.old.id == s.here.old.id) answer.changes.items
-        (λ c in_it is. eq-eqb _ _ (h.named.names c.old.id s.here.old.id (live c in_it) (live s.here at) (eqb-true _ _ is ∙ sym (eqb-true _ _ s.passes)))) in
+        let few = count_weaker_in (λ (c : Change). name_among v.names c.old.id == name) (λ (c : Change). c.old.id == s.here.old.id)
+        answer.changes.items
+        (λ c in_it is. eq-eqb _ _ (h.named.names c.old.id s.here.old.id (live c in_it) (live s.here at)
+        (eqb-true _ _ is ∙ sym (eqb-true _ _ s.passes)))) in
         let all = count_map transfer_of (λ (t : Transfer). t.old.id == s.here.old.id) answer.changes.items in
         let from = moved_from (state_of v.atlas) new (rearrangement_of answer) moves s.here.old.id in
         let one = live_at_most_once (state_of v.atlas) s.here.old.id h.named.sound in
@@ -251,12 +260,15 @@ rearranged_session v a ns r answer m asked event h step moved names more none le
         (record { atlas = a; names = m.names.items; given = v.given; recording = with_event event v.recording })
     it = record {
       faithful = record {
-        leads = recorded_more v.recording event (session_of v) (record { state = state_of a; name = name_among m.names.items }) h.faithful.leads leads;
-        given = given_more v.recording.events event ∙ ap (λ xs. given_names v.recording.events ++ xs) none ∙ append-nil _ ∙ h.faithful.given;
+        leads = recorded_more v.recording event (session_of v) (record { state = state_of a; name = name_among m.names.items })
+            h.faithful.leads leads;
+        given = given_more v.recording.events event ∙ ap (λ xs. given_names v.recording.events ++ xs) none ∙ append-nil _ ∙
+            h.faithful.given;
       };
       ids = entered_anew v (state_of a) answer m asked (kept_of v h) step moved;
       rising = strictly m.names.items moved.sorted (names_apart v (state_of a) answer m asked (kept_of v h) step moved);
-      below = All-permutation (λ (x : Entry). x.name < v.given) (map (entry_under (name_among v.names)) answer.changes.items) m.names.items moved.entries
+      below = All-permutation (λ (x : Entry). x.name < v.given) (map (entry_under (name_among v.names)) answer.changes.items) m.names.items
+          moved.entries
           (All-map (λ (x : Entry). x.name < v.given) (entry_under (name_among v.names)) answer.changes.items low);
       most = h.most;
     }

@@ -80,7 +80,8 @@ module _ {A : Type 0} (a b : AtlasValue) (names : Names) (asked : AtlasCall) (li
     said_change : (c : Change) → Contains list.changes.items c
         → change_under (name_among (entries_in names)) c ≡ shown_change s.name (transfer_of c)
     said_change c at =
-        let named = named_alike a names s h ordered all c.old.id (live_old s.state (state_of b) (rearrangement_of list) moves (transfer_of c) (contains_mapped transfer_of list.changes.items c at)) in
+        let named = named_alike a names s h ordered all c.old.id (live_old s.state (state_of b) (rearrangement_of list) moves
+        (transfer_of c) (contains_mapped transfer_of list.changes.items c at)) in
         let its = All-contains IsExactChange list.changes.items c exact.changes at in
         λ i. record {
           old = record { id = named i; rectangle = its.0 i };
@@ -90,7 +91,8 @@ module _ {A : Type 0} (a b : AtlasValue) (names : Names) (asked : AtlasCall) (li
     said_failure : (x : Allocation) → Contains list.failures.items x
         → failure_under (name_among (entries_in names)) x ≡ shown_grant s.name (grant_of x)
     said_failure x at =
-        let named = named_alike a names s h ordered all x.id (live_failed s.state (state_of b) (rearrangement_of list) moves (grant_of x) (contains_mapped grant_of list.failures.items x at)) in
+        let named = named_alike a names s h ordered all x.id (live_failed s.state (state_of b) (rearrangement_of list) moves (grant_of x)
+        (contains_mapped grant_of list.failures.items x at)) in
         let its = All-contains (λ (y : Allocation). IsExact y.rectangle) list.failures.items x exact.failures at in
         λ i. record { id = named i; rectangle = its i }
 
@@ -111,14 +113,16 @@ module _ {A : Type 0} (a b : AtlasValue) (names : Names) (asked : AtlasCall) (li
     -- The names after it.
     module _ (said : ListValue) (left : Names) (followed : IsFollowed (entries_in names) list said left) where
       counts : (id : ℕ) → entries_of id followed.moved.names.items ≡ live_count id (state_of b)
-      counts = entered_anew (value_of a names) (state_of b) list followed.moved asked (names_kept a names s h ordered all) stepped followed.is
+      counts = entered_anew (value_of a names) (state_of b) list followed.moved asked (names_kept a names s h ordered all) stepped
+          followed.is
 
       once : (id : ℕ) → live_count id (state_of b) ≤ 1
       once = once_after (value_of a names) (state_of b) list asked (names_kept a names s h ordered all) stepped
 
       under : RearrangesUnder (session_of (value_of a names)) asked (list_value_of followed.moved.list)
           (record { state = state_of b; name = name_among followed.moved.names.items })
-      under = rearranges_under (value_of a names) b list followed.moved asked (names_kept a names s h ordered all) stepped exact followed.is once
+      under = rearranges_under (value_of a names) b list followed.moved asked (names_kept a names s h ordered all) stepped exact followed.is
+          once
 
       under_step : Step s.state asked (atlas.Changed under.answer) (state_of b)
       under_step = subst (λ t. Step t asked (atlas.Changed under.answer) (state_of b)) (sym h.state) under.step
@@ -139,7 +143,8 @@ module _ {A : Type 0} (a b : AtlasValue) (names : Names) (asked : AtlasCall) (li
         answer = under.answer;
         step = under_step;
         exact_changes = subst (λ (l : ListValue). All IsExactChange l.changes) followed.same under.exact_changes;
-        exact_failures = subst (λ (l : ListValue). All (λ (x : Allocation). IsExact x.rectangle) l.failures) followed.same under.exact_failures;
+        exact_failures = subst (λ (l : ListValue). All (λ (x : Allocation). IsExact x.rectangle) l.failures) followed.same
+            under.exact_failures;
         changes = ap (λ (l : ListValue). map transfer_of l.changes) (sym followed.same) ∙ under.changes
             ∙ map_alike (renamed_transfer (name_among (entries_in names))) (renamed_transfer s.name) under.answer.changes
             (λ t at. ap (λ n. let x : Transfer = record { old = grant n t.old.box; new = grant n t.new.box } in x) (old_named t at));

@@ -1,5 +1,6 @@
 -- What each call of a recording allocator keeps: its session stays one.
-use Rattle.std.proofs.Common.{◌≡◌, ℕ, add-one, append-nil, ◌+◌, ◌<◌, ◌≤◌, ◌==◌, ◌^◌, eqb, Bool, true, false, get_or, List, [], ◌∷◌, ◌++◌, length, refl, ap, sym, subst, ◌∙◌, arith, All, Contains, Some, None}
+use Rattle.std.proofs.Common.{◌≡◌, ℕ, add-one, append-nil, ◌+◌, ◌<◌, ◌≤◌, ◌==◌, ◌^◌, eqb, Bool, true, false, get_or, List, [], ◌∷◌, ◌++◌}
+use Rattle.std.proofs.Common.{length, refl, ap, sym, subst, ◌∙◌, arith, All, Contains, Some, None}
 use Rattle.std.specs.List.{remove}
 use Rattle.std.proofs.lemmas.Bool.{eqb-true, eq-eqb}
 use Rattle.std.proofs.lemmas.List.{get_or_default}
@@ -28,7 +29,8 @@ use Rattle.guillotiere_recording.specs.Logs.{RecordingValue, with_event}
 use Rattle.guillotiere_recording.specs.Sessions.{Named, IsLiveName, IsNamed, GrantsUnder, FreesUnder, Leads, LeadOn, fresh_session}
 use Rattle.guillotiere_recording.specs.Names.{entries_of, name_among, AreLiveIds}
 use Rattle.guillotiere_recording.specs.Recordings.{SessionValue, session_of, first_names, LeadsTo, IsRecordedSession}
-use Rattle.guillotiere_recording.proofs.Entries.{live_is_counted, counted_is_live, entry_of, name_of, entries_pushed, name_pushed, names_pushed, All-removed, names_removed, entries_removed}
+use Rattle.guillotiere_recording.proofs.Entries.{live_is_counted, counted_is_live, entry_of, name_of, entries_pushed, name_pushed}
+use Rattle.guillotiere_recording.proofs.Entries.{names_pushed, All-removed, names_removed, entries_removed}
 use Rattle.guillotiere_recording.proofs.NamedStates.{live_at_most_once, grant_counts, growth_counts, freed_is_gone, others_stay}
 use Rattle.guillotiere_recording.proofs.Books.{sessions_are_named}
 
@@ -113,8 +115,10 @@ same_session v a ns r event h names more none leads counts =
         (record { atlas = a; names = v.names; given = v.given; recording = with_event event v.recording })
     it = record {
       faithful = record {
-        leads = recorded_more v.recording event (session_of v) (record { state = state_of a; name = name_among v.names }) h.faithful.leads leads;
-        given = given_more v.recording.events event ∙ ap (λ ns. given_names v.recording.events ++ ns) none ∙ append-nil _ ∙ h.faithful.given;
+        leads = recorded_more v.recording event (session_of v) (record { state = state_of a; name = name_among v.names }) h.faithful.leads
+            leads;
+        given = given_more v.recording.events event ∙ ap (λ ns. given_names v.recording.events ++ ns) none ∙ append-nil _ ∙
+            h.faithful.given;
       };
       ids = λ id. h.ids id ∙ sym (counts id);
       rising = h.rising;
@@ -181,7 +185,8 @@ grants_under v a size g h step exact = record {
         let e = entries_pushed id v.names (named_entry v.given g) in
         let i = h.ids id in
         let c = grant_counts (state_of v.atlas) (state_of a) (sides_of size) (grant_of g) grant id in
-        let sound = steps_keep (state_of v.atlas) (state_of a) (atlas.Allocate (sides_of size)) (atlas.Allocated (grant_of g)) (session_named v h).sound step in
+        let sound = steps_keep (state_of v.atlas) (state_of a) (atlas.Allocate (sides_of size)) (atlas.Allocated (grant_of g))
+        (session_named v h).sound step in
         let one = live_at_most_once (state_of a) id sound in
         omega (arith, e, i, c, one)
 
@@ -254,7 +259,8 @@ freed_counts v a at d h below step id = by_test (eqb (get_or v.names at d).id id
         let i = h.ids id in
         let only = live_at_most_once (state_of v.atlas) id (session_named v h).sound in
         let none = freed_is_gone (state_of v.atlas) (state_of a) (get_or v.names at d).id gone in
-        let none_here : live_count id (state_of a) ≡ 0 = subst (λ k. live_count k (state_of a) ≡ 0) (eqb-true (get_or v.names at d).id id is) none in
+        let none_here : live_count id (state_of a) ≡ 0 = subst (λ k. live_count k (state_of a) ≡ 0)
+        (eqb-true (get_or v.names at d).id id is) none in
         omega (arith, less, one, i, only, none_here)
     by_test false is =
         let less = entries_removed id v.names at d below in
@@ -343,7 +349,8 @@ pub frees_name : (v : SessionValue) (a : AtlasValue) (at name id : ℕ) → IsRe
     → Step (state_of v.atlas) (atlas.Deallocate id) atlas.Done (state_of a)
     → FreesUnder (session_of v) name (record { state = state_of a; name = name_among (remove v.names at) })
 frees_name v a at name id h below is step =
-    subst (λ n. FreesUnder (session_of v) n (record { state = state_of a; name = name_among (remove v.names at) })) (ap (λ (n : Entry). n.name) is)
+    subst (λ n. FreesUnder (session_of v) n (record { state = state_of a; name = name_among (remove v.names at) }))
+    (ap (λ (n : Entry). n.name) is)
     (frees_under v a at (entry name id) h below (freeing_at v a at name id is step))
 
 pub freed_name : (v : SessionValue) (a : AtlasValue) (ns : List Entry) (r : RecordingValue) (at name id : ℕ)

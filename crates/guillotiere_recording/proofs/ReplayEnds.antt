@@ -1,5 +1,7 @@
 -- How a replay begins, goes on and ends.
-use Rattle.std.proofs.Common.{◌≡◌, ℕ, suc, drop, remove, ap₂, ◌+◌, ◌<◌, ◌≤◌, ◌==◌, ◌⊎◌, inl, inr, false, List, [], ◌∷◌, ◌++◌, length, map, take, get_or, refl, ap, sym, subst, ◌∙◌, zero-add, arith, All, AllPairs, Contains, Option, Some, None, IsSome, option_map, slice_get, cond}
+use Rattle.std.proofs.Common.{◌≡◌, ℕ, suc, drop, remove, ap₂, ◌+◌, ◌<◌, ◌≤◌, ◌==◌, ◌⊎◌, inl, inr, false, List, [], ◌∷◌, ◌++◌, length, map}
+use Rattle.std.proofs.Common.{take, get_or, refl, ap, sym, subst, ◌∙◌, zero-add, arith, All, AllPairs, Contains, Option, Some, None, IsSome}
+use Rattle.std.proofs.Common.{option_map, slice_get, cond}
 use Rattle.std.specs.List.{count_by, AllByRecursion}
 use Rattle.std.specs.List.Sorted.{IsStrictlySortedBy}
 use Rattle.std.specs.declared.cmp.Ordering.TheVariants.{Less}
@@ -80,7 +82,8 @@ begins r a names nonempty valid is empty = (
   record {
     state = sym is;
     finds = λ name id. ((λ found. absurd (nothing_found names name id empty found)), λ (live, named). absurd (Contains-none id live));
-    named = sessions_are_named (sides_of r.size) (options_of r.options) [] (fresh_session (sides_of r.size) (options_of r.options) (λ id. id)) led;
+    named = sessions_are_named (sides_of r.size) (options_of r.options) []
+        (fresh_session (sides_of r.size) (options_of r.options) (λ id. id)) led;
   },
 )
   where
@@ -147,7 +150,8 @@ keys_counted (e ∷ es) sorted k =
     (sorted_head nat_cmp e.0 (map (λ (e : ℕ × ℕ). e.0) es) sorted)
   where
     by_key : (e.0 ≡ k) ⊎ (e.0 ≡ k → ⊥)
-        → count_by (λ x. x == k) (map (λ (e : ℕ × ℕ). e.0) (e ∷ es)) ≡ one_if (e.0 == k) + count_by (λ x. x == k) (map (λ (e : ℕ × ℕ). e.0) es)
+        → count_by (λ x. x == k) (map (λ (e : ℕ × ℕ). e.0) (e ∷ es)) ≡ one_if (e.0 == k) + count_by (λ x. x == k)
+        (map (λ (e : ℕ × ℕ). e.0) es)
         → count_by (λ x. x == k) (map (λ (e : ℕ × ℕ). e.0) es) ≡ how_many (lookup (is_at (nat_cmp k)) es)
         → AllByRecursion (λ y. nat_cmp e.0 y ≡ Less) (map (λ (e : ℕ × ℕ). e.0) es)
         → count_by (λ x. x == k) (map (λ (e : ℕ × ℕ). e.0) (e ∷ es)) ≡ how_many (lookup (is_at (nat_cmp k)) (e ∷ es))
@@ -217,7 +221,8 @@ gathered_book r a names s found led h ordered all is =
     counts p =
         count_map grant_of p (map (shown_entry s.state) names.entries)
         ∙ count_map (shown_entry s.state) (λ x. p (grant_of x)) names.entries
-        ∙ count_alike (λ e. p (grant_of (shown_entry s.state e))) (λ e. p (grant e.0 (box_or_none (boxed s.state (get nat_cmp names e.0))))) names.entries
+        ∙ count_alike (λ e. p (grant_of (shown_entry s.state e))) (λ e. p (grant e.0 (box_or_none (boxed s.state (get nat_cmp names e.0)))))
+        names.entries
         (λ e at. ap (λ o. p (grant e.0 (box_or_none (boxed s.state o)))) (sym (All-contains (IsFound names) names.entries e all at)))
         ∙ sym (count_map (λ (e : ℕ × ℕ). e.0) (λ n. p (grant n (box_or_none (boxed s.state (get nat_cmp names n))))) names.entries)
         ∙ each_counts (map (λ (e : ℕ × ℕ). e.0) names.entries) (map (λ (g : Grant). s.name g.id) (live_in s.state))
@@ -240,7 +245,8 @@ gathered_book r a names s found led h ordered all is =
         let y = ap (λ (x : Allocation). x.id) (get_or-map (shown_entry s.state) names.entries j none d low) in
         let k = get_or-map (λ (e : ℕ × ℕ). e.0) names.entries i none 0 (omega (arith, low, less)) in
         let l = get_or-map (λ (e : ℕ × ℕ). e.0) names.entries j none 0 low in
-        let most : j < length (map (λ (e : ℕ × ℕ). e.0) names.entries) = subst (λ n. j < n) (sym (length-map names.entries (λ (e : ℕ × ℕ). e.0))) low in
+        let most : j < length (map (λ (e : ℕ × ℕ). e.0) names.entries) = subst (λ n. j < n)
+        (sym (length-map names.entries (λ (e : ℕ × ℕ). e.0))) low in
         let order = below_from_sorted (map (λ (e : ℕ × ℕ). e.0) names.entries) i j 0 ordered less most in
         omega (arith, x, y, k, l, order)
 

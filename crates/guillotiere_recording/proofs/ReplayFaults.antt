@@ -1,5 +1,6 @@
 -- Which faults the replay of a recorded session may have.
-use Rattle.std.proofs.Common.{◌≡◌, ℕ, zero, suc, add-one, ◌+◌, ◌<◌, ◌≤◌, ◌==◌, ◌⊎◌, inl, inr, Bool, true, false, List, [], ◌∷◌, ◌++◌, length, take, refl, ap, sym, subst, ◌∙◌, arith, All, Contains, Some, None, Result, Ok, Err, IfErr, slice_get}
+use Rattle.std.proofs.Common.{◌≡◌, ℕ, zero, suc, add-one, ◌+◌, ◌<◌, ◌≤◌, ◌==◌, ◌⊎◌, inl, inr, Bool, true, false, List, [], ◌∷◌, ◌++◌}
+use Rattle.std.proofs.Common.{length, take, refl, ap, sym, subst, ◌∙◌, arith, All, Contains, Some, None, Result, Ok, Err, IfErr, slice_get}
 use Rattle.std.specs.List.{count_by}
 use Rattle.std.proofs.lemmas.Bool.{eqb-true, eq-eqb, false≢true}
 use Rattle.std.proofs.lemmas.List.{take_more, get_or_append_left, length-append}
@@ -22,7 +23,8 @@ use Rattle.guillotiere_recording.specs.Events.EventValue.{Allocate, Deallocate, 
 use Rattle.guillotiere_recording.specs.Logs.{RecordingValue}
 use Rattle.guillotiere_recording.specs.Sessions.{Named, named_boxes, IsLiveName, Leads, LeadOn, Recorded, fresh_session}
 use Rattle.guillotiere_recording.specs.Recordings.{LeadsTo}
-use Rattle.guillotiere_recording.specs.Replays.{IsRecorded, IsBad, IsCall, AnswersEvent, is_refused, AnswersOtherwise, LacksSlots, IsFaultOf, HasRearranging, MayFail, first_events}
+use Rattle.guillotiere_recording.specs.Replays.{IsRecorded, IsBad, IsCall, AnswersEvent, is_refused, AnswersOtherwise, LacksSlots}
+use Rattle.guillotiere_recording.specs.Replays.{IsFaultOf, HasRearranging, MayFail, first_events}
 use Rattle.guillotiere_recording.specs.Twins.{is_plain_event, Asks, Says}
 use Rattle.guillotiere_recording.proofs.Books.{sessions_are_named, books_are_true, listed_is_live}
 use Rattle.guillotiere_recording.proofs.Counts.{count_map}
@@ -165,7 +167,8 @@ met_memory (Changed list) met = refl
 met_memory BadCall met = refl
 
 -- Where all events so far are plain, the replay answers as the session did.
-module _ (r : RecordingValue) (i : ℕ) (event : EventValue) (t : Named) (led' : LeadsTo (first_events i r) t) (last : Named) (led : LeadsTo r last)
+module _ (r : RecordingValue) (i : ℕ) (event : EventValue) (t : Named) (led' : LeadsTo (first_events i r) t) (last : Named)
+    (led : LeadsTo r last)
     (here : slice_get r.events i ≡ Some event)
   where
     parts : PartsAt (fresh_session (sides_of r.size) (options_of r.options) led.name) (take i r.events) event
@@ -191,7 +194,8 @@ module _ (r : RecordingValue) (i : ℕ) (event : EventValue) (t : Named) (led' :
         record { nonempty = led'.nonempty; valid = led'.valid; name = led'.name; leads = refl } in
         let start = sessions_are_named size o [] (fresh_session size o led.name) none in
         let start' = sessions_are_named size o [] (fresh_session size o led'.name) none' in
-        let twins = events_keep_twins (fresh_session size o led.name) parts.0 (fresh_session size o led'.name) t (take i r.events) start start'
+        let twins = events_keep_twins (fresh_session size o led.name) parts.0 (fresh_session size o led'.name) t (take i r.events) start
+        start'
         (new_sessions_are_twins size o led.name led'.name) all parts.1 led'.leads in
         (twins_answer_alike parts.0 parts.2.0 t (record { state = new; name = t.name }) event call reply good good' twins plain parts.2.1
         (asks t event call plain asked) step met).0
@@ -231,7 +235,8 @@ module _ (r : RecordingValue) (i : ℕ) (event : EventValue) (t : Named) (led' :
         let more : k < length (take i r.events ++ event ∷ []) = omega (arith, below, length-append (take i r.events) (event ∷ [])) in
         subst (λ e. is_plain_event e ≡ true) (get_or_append_left (take i r.events) (event ∷ []) d k below) (both k d more) in
         let at = Contains-push (take i r.events) event in
-        let plain : is_plain_event event ≡ true = All-contains (λ e. is_plain_event e ≡ true) (take i r.events ++ event ∷ []) event both at in
+        let plain : is_plain_event event ≡ true = All-contains (λ e. is_plain_event e ≡ true) (take i r.events ++ event ∷ []) event both at
+        in
         (first, plain)
 
     pub differs_fault : AnswersOtherwise t event → HasRearranging (take (suc i) r.events)

@@ -1,5 +1,6 @@
 -- What one event of a replay makes of the atlas and of the names that it keeps.
-use Rattle.std.proofs.Common.{◌≡◌, ℕ, ◌<◌, ◌≤◌, ◌==◌, ◌⊎◌, inl, inr, true, false, refl, ap, sym, subst, ◌∙◌, arith, Option, Some, None, Result, Ok, Err}
+use Rattle.std.proofs.Common.{◌≡◌, ℕ, ◌<◌, ◌≤◌, ◌==◌, ◌⊎◌, inl, inr, true, false, refl, ap, sym, subst, ◌∙◌, arith, Option, Some, None}
+use Rattle.std.proofs.Common.{Result, Ok, Err}
 use Rattle.std.specs.Cmp.{nat_cmp_is}
 use Rattle.std.specs.Ordering.{nat_cmp, is_eq}
 use Rattle.std.specs.declared.cmp.Ordering.TheVariants.{Less, Equal, Greater}
@@ -30,7 +31,8 @@ use Rattle.guillotiere_recording.specs.Sessions.{Named, IsLiveName, GrantsUnder,
 use Rattle.guillotiere_recording.specs.Replays.{IsBad, AnswersOtherwise}
 use Rattle.guillotiere_recording.specs.Standing.{Names, Finds, ShowsNamed, CarriesOut, IsStopped, event_fault}
 use Rattle.guillotiere_recording.proofs.Entries.{live_is_counted, counted_is_live}
-use Rattle.guillotiere_recording.proofs.NamedStates.{grant_counts, growth_counts, freeing_less, freed_is_gone, others_stay, events_keep_names}
+use Rattle.guillotiere_recording.proofs.NamedStates.{grant_counts, growth_counts, freeing_less, freed_is_gone, others_stay}
+use Rattle.guillotiere_recording.proofs.NamedStates.{events_keep_names}
 
 -- look-ups
 
@@ -268,14 +270,16 @@ refused_grant a b names size (Some recorded) refusal.Slots good stepped same = �
   call = atlas.Allocate (sides_of size);
   asked = refl;
   step = step_of a names s (atlas.Allocate (sides_of size)) (atlas.Refused refusal.Slots) s.state h
-      (subst (λ t. Step (state_of a) (atlas.Allocate (sides_of size)) (atlas.Refused refusal.Slots) t) (ap state_of same ∙ sym h.state) stepped);
+      (subst (λ t. Step (state_of a) (atlas.Allocate (sides_of size)) (atlas.Refused refusal.Slots) t) (ap state_of same ∙ sym h.state)
+      stepped);
 }
 refused_grant a b names size None refusal.Slots good stepped same = λ s h. record {
   good = good s h;
   call = atlas.Allocate (sides_of size);
   asked = refl;
   step = step_of a names s (atlas.Allocate (sides_of size)) (atlas.Refused refusal.Slots) s.state h
-      (subst (λ t. Step (state_of a) (atlas.Allocate (sides_of size)) (atlas.Refused refusal.Slots) t) (ap state_of same ∙ sym h.state) stepped);
+      (subst (λ t. Step (state_of a) (atlas.Allocate (sides_of size)) (atlas.Refused refusal.Slots) t) (ap state_of same ∙ sym h.state)
+      stepped);
 }
 
 pub refused_growth : (a b : AtlasValue) (names : Names) (size : Size) (e : AtlasError)
@@ -289,7 +293,8 @@ refused_growth a b names size refusal.Slots fits stepped same = λ s h. record {
   call = atlas.Grow (sides_of size);
   asked = refl;
   step = step_of a names s (atlas.Grow (sides_of size)) (atlas.Refused refusal.Slots) s.state h
-      (subst (λ t. Step (state_of a) (atlas.Grow (sides_of size)) (atlas.Refused refusal.Slots) t) (ap state_of same ∙ sym h.state) stepped);
+      (subst (λ t. Step (state_of a) (atlas.Grow (sides_of size)) (atlas.Refused refusal.Slots) t) (ap state_of same ∙ sym h.state)
+      stepped);
 }
 
 -- A freeing of an id that was found isn't refused.

@@ -1,5 +1,6 @@
 -- What a recording allocator shows is the book of its events.
-use Rattle.std.proofs.Common.{◌≡◌, ℕ, ◌+◌, ◌<◌, ◌≤◌, ◌==◌, Bool, get_or, List, [], ◌∷◌, ◌++◌, length, map, find, refl, ap, sym, subst, ◌∙◌, arith, All, AllPairs, Contains, Option, Some, None, IsSome, IfSome, option_map}
+use Rattle.std.proofs.Common.{◌≡◌, ℕ, ◌+◌, ◌<◌, ◌≤◌, ◌==◌, Bool, get_or, List, [], ◌∷◌, ◌++◌, length, map, find, refl, ap, sym, subst, ◌∙◌}
+use Rattle.std.proofs.Common.{arith, All, AllPairs, Contains, Option, Some, None, IsSome, IfSome, option_map}
 use Rattle.std.specs.List.{count_by}
 use Rattle.std.proofs.lemmas.Bool.{eqb-true, eq-eqb}
 use Rattle.std.proofs.lemmas.List.{get_or-map, get_or_default, length-map}
@@ -53,7 +54,8 @@ each_counts (x ∷ xs) ys h q = found (split_at (λ z. z == x) ys some) (λ zs m
         let same = h x in
         omega (arith, e, one, same)
 
-    found : IsSplitAt (λ z. z == x) ys → ((zs : List ℕ) → ((k : ℕ) → count_by (λ z. z == k) xs ≡ count_by (λ z. z == k) zs) → count_by q xs ≡ count_by q zs)
+    found : IsSplitAt (λ z. z == x) ys → ((zs : List ℕ) → ((k : ℕ) → count_by (λ z. z == k) xs ≡ count_by (λ z. z == k) zs) →
+        count_by q xs ≡ count_by q zs)
         → count_by q (x ∷ xs) ≡ count_by q ys
     found s later =
         let is : ys ≡ s.before ++ x ∷ s.after = s.is ∙ ap (λ z. s.before ++ z ∷ s.after) (eqb-true s.here x s.passes) in
@@ -99,7 +101,8 @@ shown_book v found h is = subst (AreBooked v.recording.events) (sym is) it
         ∙ count_map (λ (g : Grant). g.id) (λ id. p (under_name id)) (live_in s)
         ∙ count_alike (λ (g : Grant). p (under_name g.id)) (λ (g : Grant). p (renamed_grant (name_among v.names) g)) (live_in s) boxed
         ∙ sym (count_map (renamed_grant (name_among v.names)) p (live_in s))
-        ∙ sym (books_are_true (sides_of v.recording.size) (options_of v.recording.options) v.recording.events (session_of v) h.faithful.leads p)
+        ∙ sym (books_are_true (sides_of v.recording.size) (options_of v.recording.options) v.recording.events (session_of v)
+        h.faithful.leads p)
       where
         s : State
         s = state_of v.atlas
@@ -108,7 +111,8 @@ shown_book v found h is = subst (AreBooked v.recording.events) (sym is) it
         named n there =
             let one = live_at_most_once (state_of v.atlas) n.id (session_named v h).sound in
             let i = h.ids n.id in
-            ap (λ m. p (grant m (box_or_none (live_box (state_of v.atlas) n.id)))) (sym (name_of n.id v.names n (omega (arith, one, i)) there refl))
+            ap (λ m. p (grant m (box_or_none (live_box (state_of v.atlas) n.id))))
+            (sym (name_of n.id v.names n (omega (arith, one, i)) there refl))
 
         ids : (k : ℕ) → count_by (λ x. x == k) (map (λ (n : Entry). n.id) v.names)
             ≡ count_by (λ x. x == k) (map (λ (g : Grant). g.id) (live_in (state_of v.atlas)))
@@ -149,5 +153,6 @@ pub entries_show_areas : (v : SessionValue) → IsRecordedSession v → (state_o
     → All (λ (a : Allocation). IsShownArea a.rectangle) (map (shown (state_of v.atlas)) v.names)
 entries_show_areas v h wide high =
     All-map (λ (a : Allocation). IsShownArea a.rectangle) (shown (state_of v.atlas)) v.names
-    (λ k d below. shown_area (state_of v.atlas) (live_box (state_of v.atlas) (get_or v.names k d).id) wide high (entries_have_boxes v h k d below)
+    (λ k d below. shown_area (state_of v.atlas) (live_box (state_of v.atlas) (get_or v.names k d).id) wide high
+    (entries_have_boxes v h k d below)
     (all_lie_within (state_of v.atlas) (session_named v h).sound (get_or v.names k d).id))

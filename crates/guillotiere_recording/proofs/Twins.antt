@@ -1,5 +1,6 @@
 -- Sessions that are one but for ids.
-use Rattle.std.proofs.Common.{◌≡◌, ℕ, ◌⊎◌, inl, inr, true, false, List, [], ◌∷◌, map, refl, ap, sym, subst, subst₂, ◌∙◌, Contains, Some, None}
+use Rattle.std.proofs.Common.{◌≡◌, ℕ, ◌⊎◌, inl, inr, true, false, List, [], ◌∷◌, map, refl, ap, sym, subst, subst₂, ◌∙◌, Contains, Some}
+use Rattle.std.proofs.Common.{None}
 use Rattle.std.proofs.lemmas.Bool.{false≢true, cases_eq}
 use Rattle.std.proofs.lemmas.List.Elements.{All-head, All-tail}
 use Rattle.guillotiere.specs.declared.Allocation.{Allocation}
@@ -20,7 +21,8 @@ use Rattle.guillotiere.proofs.TreeLemmas.TreeKept.{ids-grown}
 use Rattle.guillotiere_recording.specs.Events.{EventValue}
 use Rattle.guillotiere_recording.specs.Events.EventValue.{Allocate, Deallocate, Grow, Rearrange, ResizeAndRearrange}
 use Rattle.guillotiere_recording.specs.Sessions.{Named, IsLiveName, IsNamed, KeepsNames, GrantsUnder, FreesUnder, Leads}
-use Rattle.guillotiere_recording.specs.Twins.{AreTwins, is_plain_event, Says, NamesGrant, TwinsAnswerAlike, TwinsShareNames, NewSessionsAreTwins, EventsKeepTwins}
+use Rattle.guillotiere_recording.specs.Twins.{AreTwins, is_plain_event, Says, NamesGrant, TwinsAnswerAlike, TwinsShareNames}
+use Rattle.guillotiere_recording.specs.Twins.{NewSessionsAreTwins, EventsKeepTwins}
 use Rattle.guillotiere_recording.proofs.NamedStates.{events_keep_names}
 
 -- Names
@@ -77,7 +79,8 @@ names_granted : (old new : Named) (b : Box) (r : Sides) (g : Grant) (name : ℕ)
     → new.name g.id ≡ name → KeepsNames old new
     → AreNamedAlike (with_name old.name g.id name) new.name (ids new.state.tree.members)
 names_granted old new b r g name is named kept id live =
-    by_age (cases_eq id g.id) (ids_placed old.state.size b r g.id old.state.tree id (subst (λ (t : Tree). Contains (ids t.members) id) is live))
+    by_age (cases_eq id g.id) (ids_placed old.state.size b r g.id old.state.tree id
+    (subst (λ (t : Tree). Contains (ids t.members) id) is live))
   where
     by_age : (id ≡ g.id) ⊎ (id ≡ g.id → ⊥) → (g.id ≡ id) ⊎ Contains (ids old.state.tree.members) id
         → new.name id ≡ with_name old.name g.id name id

@@ -23,7 +23,7 @@ pub enum Event<A: Allocator + Copy = Global> {
 }
 
 impl<A: Allocator + Copy> Event<A> {
-    /// The same event once more. `Memory` is the only error.
+    /// A copy of the event. `Memory` is the only error.
     pub fn clone(&self) -> Result<Event<A>, RecordingError>
         ensures unless { IsOkUnless result RecordingError.Memory }
         ensures same { IfOk result (λ event. event_of event ≡ event_of self.now) }

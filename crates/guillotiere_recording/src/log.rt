@@ -55,7 +55,7 @@ impl<A: Allocator + Copy> Log<A> {
         append(&mut self.events, event);
     }
 
-    /// The same log once more. `Memory` is the only error.
+    /// A copy of the log. `Memory` is the only error.
     pub fn clone(&self) -> Result<Log<A>, RecordingError>
         ensures unless { IsOkUnless result RecordingError.Memory }
         ensures same { IfOk result (λ log. recording_of log ≡ recording_of self.now) }

@@ -103,7 +103,7 @@ impl<A: Allocator + Copy> Recording<A> {
         self.log.events.remove(at);
     }
 
-    /// The same recording once more. `Memory` is the only error.
+    /// A copy of the recording. `Memory` is the only error.
     pub fn clone(&self) -> Result<Recording<A>, RecordingError>
         ensures unless { IsOkUnless result RecordingError.Memory }
         ensures same { IfOk result (λ recording. recording ≡ self.now) }

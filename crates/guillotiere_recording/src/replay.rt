@@ -53,7 +53,7 @@ pub struct ReplayStats<A: Allocator + Copy = Global> {
 }
 
 impl<A: Allocator + Copy> ReplayStats<A> {
-    /// The same once more. `Memory` is the only error.
+    /// A copy of what a replay counted. `Memory` is the only error.
     pub fn clone(&self) -> Result<ReplayStats<A>, RecordingError>
         ensures unless { IsOkUnless result RecordingError.Memory }
         ensures allocations { IfOk result (λ stats. stats.allocations ≡ self.now.allocations) }

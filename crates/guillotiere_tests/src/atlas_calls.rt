@@ -1,10 +1,10 @@
 //! Rows of calls of an atlas and what they answer.
 
+use crate::refusing::Refusing;
+use crate::tables::{Corners, Sides};
 use guillotiere::session::Call;
 use guillotiere::{AllocId, AllocatorOptions, AtlasAllocator, Rectangle, Size, SlotCount};
 use std::alloc::Global;
-use test_memory::Refusing;
-use test_tables::{Corners, Sides};
 
 pub type Atlas<'a> = AtlasAllocator<&'a Refusing<Global>>;
 

@@ -2,14 +2,14 @@
 
 use crate::atlas_calls::Step::{Allocate, Live, Rearrange, RearrangeBeyondLimit, Slots};
 use crate::atlas_calls::{Row, Step};
+use crate::refusing::Refusing;
+use crate::tables::{rectangle, size};
 use guillotiere::{
     AllocId, Allocation, AtlasAllocator, AtlasError, Change, ChangeList, DEFAULT_OPTIONS,
 };
 use std::alloc::Global;
 use std::process::Abort;
 use std::test::Fail;
-use test_memory::Refusing;
-use test_tables::{rectangle, size};
 
 // A wide box above two high ones. The high ones are larger, and leave no room for the wide one.
 const WIDE_ABOVE_HIGH: [Step; 3] = [

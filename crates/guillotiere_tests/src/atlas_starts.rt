@@ -6,12 +6,12 @@ use crate::atlas_calls::Step::{
 };
 use crate::atlas_calls::{Atlas, MOST_SLOTS, Row, Sight, Step, look_at};
 use crate::playing::{created, is_as_before, make_all};
+use crate::refusing::Refusing;
+use crate::tables::ALIGNED_TO_8;
 use guillotiere::{AtlasError, DEFAULT_OPTIONS};
 use std::alloc::Global;
 use std::process::Abort;
 use std::test::Fail;
-use test_memory::Refusing;
-use test_tables::ALIGNED_TO_8;
 
 // Three squares one below the other.
 const COLUMN: [Step; 3] = [

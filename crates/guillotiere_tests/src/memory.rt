@@ -1,9 +1,9 @@
 //! What an atlas takes of its allocator, and that all of it is given back.
 
+use crate::refusing::Refusing;
 use guillotiere::{AtlasAllocator, AtlasError, SimpleAtlasAllocator, size2};
 use std::alloc::Global;
 use std::test::Fail;
-use test_memory::Refusing;
 
 type Atlas<'a> = AtlasAllocator<&'a Refusing<Global>>;
 

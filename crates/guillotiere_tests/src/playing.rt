@@ -2,12 +2,12 @@
 //! a session has. Functions are small, since a function's proof grows with the square of its length.
 
 use crate::atlas_calls::{Atlas, Grant, MOST_SLOTS, Row, Sight, Step, look_at};
+use crate::refusing::Refusing;
+use crate::tables::{Corners, rectangle, size};
 use guillotiere::session::{Call, Reply, step};
 use guillotiere::{AllocId, Allocation, AtlasAllocator, AtlasError, Change, Rectangle};
 use std::alloc::Global;
 use std::process::Abort;
-use test_memory::Refusing;
-use test_tables::{Corners, rectangle, size};
 
 pub type Answer<'a> = Reply<&'a Refusing<Global>>;
 

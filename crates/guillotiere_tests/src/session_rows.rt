@@ -6,12 +6,12 @@ use crate::atlas_calls::Step::{
 };
 use crate::atlas_calls::{Atlas, MOST_SLOTS, Row, Step, look_at};
 use crate::playing::{Answer, call_of, created, is_answer, is_as_before, make_all};
+use crate::refusing::Refusing;
 use guillotiere::session::{Call, Reply, run};
 use guillotiere::{AllocatorOptions, AtlasAllocator, AtlasError, DEFAULT_OPTIONS, Size, size2};
 use std::alloc::Global;
 use std::process::Abort;
 use std::test::Fail;
-use test_memory::Refusing;
 
 // No width is a multiple of it.
 const ALIGNED_TO_0: AllocatorOptions = AllocatorOptions {

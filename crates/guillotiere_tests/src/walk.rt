@@ -3,11 +3,11 @@
 use crate::atlas_calls::{Atlas, Grant, MOST_SLOTS, Row};
 use crate::atlas_freeing::SHELF_AND_TILES;
 use crate::playing::{are_grants, created, make_all};
+use crate::refusing::Refusing;
 use guillotiere::{AllocId, Allocation, AtlasError, DEFAULT_OPTIONS, Rectangle};
 use std::alloc::Global;
 use std::process::Abort;
 use std::test::Fail;
-use test_memory::Refusing;
 
 static TILES: Row = Row {
     size: (300, 200),

@@ -34,7 +34,7 @@ pub(crate) fn check_start(size: Size, options: &AllocatorOptions) -> Result<(), 
     Ok(())
 }
 
-// The same, and that the limit is one that an atlas may have.
+// That a size isn't empty, that options are valid, and that a limit is one that an atlas may have.
 pub(crate) fn check_limited_start(
     size: Size,
     options: &AllocatorOptions,

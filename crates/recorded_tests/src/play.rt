@@ -2,8 +2,8 @@
 
 use crate::talk::{Asking, Hearing, Refusals, Step, Talk, run};
 use atlas_lines::ToolEnd;
+use guillotiere_tests::refusing::Refusing;
 use std::alloc::{AllocError, Global};
-use test_memory::Refusing;
 
 /// The lines of a session, and the expected replies.
 #[derive(Drop)]

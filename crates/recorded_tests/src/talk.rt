@@ -3,9 +3,9 @@
 ghost use Rattle.std.specs.Prelude.{◌≡◌, false};
 
 use atlas_lines::{ToolEnd, ToolFault, ToolInput, ToolOutput, run_lines};
+use guillotiere_tests::refusing::Refusing;
 use std::alloc::Global;
 use std::cell::Cell;
-use test_memory::Refusing;
 
 /// A line with its end, and the expected replies, each with its end.
 #[derive(Drop)]

@@ -318,6 +318,61 @@ pub extern "C" fn guillotiere_atlas_areas(
     DONE
 }
 
+/// Of the area that is free, what lies in free boxes which have no room for a request of this size, rounded up by the options:
+/// all of it, if a side is 0 or less. Asked with the size of a usual box it says how fragmented the atlas is: where much is of
+/// no use, it is time to rearrange it. Takes one pass over the slots, and no memory. `DONE`; `EMPTY`.
+#[no_mangle]
+pub extern "C" fn guillotiere_atlas_unusable_area(
+    atlas: Option<&AtlasReader>,
+    width: i32,
+    height: i32,
+    area: Option<&mut u64>,
+) -> u32 {
+    let atlas = match atlas {
+        Some(atlas) => atlas,
+        None => return crate::plain::NULL_POINTER,
+    };
+    let area = match area {
+        Some(area) => area,
+        None => return crate::plain::NULL_POINTER,
+    };
+    if !atlas.holds() {
+        return EMPTY;
+    }
+    let held = atlas.lent();
+    *area = held.unusable_area(size2(width, height));
+    DONE
+}
+
+/// The free box of the largest area; of several the topmost one, and of these the leftmost. Takes one pass over the slots.
+/// `DONE`: it is in `found`. `NO_ROOM` if nothing is free; `EMPTY`.
+#[no_mangle]
+pub extern "C" fn guillotiere_atlas_largest_free(
+    atlas: Option<&AtlasReader>,
+    found: Option<&mut PlainRectangle>,
+) -> u32 {
+    let atlas = match atlas {
+        Some(atlas) => atlas,
+        None => return crate::plain::NULL_POINTER,
+    };
+    let found = match found {
+        Some(found) => found,
+        None => return crate::plain::NULL_POINTER,
+    };
+    if !atlas.holds() {
+        return EMPTY;
+    }
+    let held = atlas.lent();
+    let rectangle = held.largest_free();
+    match rectangle {
+        Some(rectangle) => {
+            *found = plain_rectangle(rectangle);
+            DONE
+        }
+        None => NO_ROOM,
+    }
+}
+
 /// Whether no id is live; also true of a handle that holds nothing.
 #[no_mangle]
 pub extern "C" fn guillotiere_atlas_is_empty(atlas: Option<&AtlasReader>) -> bool {

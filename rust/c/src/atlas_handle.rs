@@ -61,8 +61,8 @@ impl AtlasHandle {
     }
 }
 
-/// The same place for a call that only reads: what lies at the pointer is lent to it, and any number of such calls may run
-/// at once.
+/// The place of an atlas for a call that only reads: what lies at the pointer is lent to it, and any number of
+/// such calls may run at once.
 #[repr(C)]
 pub struct AtlasReader {
     at: *const u8,

@@ -4,8 +4,8 @@
 use crate::cache_handle::{CacheHandle, CacheReader};
 use crate::followed::FollowedCache;
 use crate::plain::{
-    DONE, EMPTY, FRAME_FULL, HELD, MEMORY, NEVER_FITS, NOT_HELD, NO_CHANGE, NO_PAGE, OCCUPIED,
-    SLOTS,
+    DONE, EMPTY, FRAME_FULL, HELD, MEMORY, NEVER_FITS, NOT_HELD, NO_CHANGE, NO_PAGE, NO_ROOM,
+    OCCUPIED, SLOTS,
 };
 use crate::plain_cache::{
     cache_options_for, plain_cache_change, plain_place, status_of_cache_error,
@@ -172,7 +172,7 @@ fn write_inserted(answer: Result<Inserted, CacheError>, place: &mut PlainPlace) 
 /// `DONE`: the key is new, and its place was written: its pixels are to be written to the texture. `HELD`: it was held, and
 /// its place, where its pixels are, was written. `FRAME_FULL`: all pages allowed exist, at their largest, and none would have
 /// room, were all keys gone that this frame didn't use, of which 16 went at most, or more where that memory was refused: draw
-/// what is batched, call `guillotiere_cache_begin_frame` and insert again; while a
+/// what is batched, call `guillotiere_cache_end_batch` and insert again, or `guillotiere_cache_begin_frame`; while a
 /// frame has used nothing this is never the answer. `NEVER_FITS` if the size, with the padding on all sides and rounded up to
 /// the alignment, exceeds the largest page, `OTHER_SIZE` if the key is held with another size, even if this one is empty or
 /// would never fit: then nothing changed. `NUMBERS` if 4294967295 keys are still held; `SLOTS` if the page that has room, or
@@ -304,6 +304,29 @@ pub extern "C" fn guillotiere_cache_trim(cache: Option<&mut CacheHandle>, frames
     }
 }
 
+/// Ends a batch, which was drawn, where the frame has no room for what comes next in it: this many of the most recently used
+/// keys go, all if there are no more, each reported by a change, the most recently used first. The frame goes on: an insertion
+/// evicts nothing of what is left that it used. `DONE`; `MEMORY`, and then all is as it was: never if
+/// `guillotiere_cache_reserve_changes` made room for as many changes as keys are held, and for one at least; `EMPTY`.
+#[no_mangle]
+pub extern "C" fn guillotiere_cache_end_batch(cache: Option<&mut CacheHandle>, keys: usize) -> u32 {
+    let alloc = Global;
+    let cache = match cache {
+        Some(cache) => cache,
+        None => return crate::plain::NULL_POINTER,
+    };
+    if !cache.holds() {
+        return EMPTY;
+    }
+    let mut held = cache.take(alloc);
+    let answer = held.end_batch(keys);
+    cache.put(held);
+    match answer {
+        Ok(()) => DONE,
+        Err(error) => status_of_cache_error(error),
+    }
+}
+
 /// Removes the pages after the last one with a key, each reported by a change, `GUILLOTIERE_PAGE_REMOVED`, the last one
 /// first. The others stay, with their sizes, and so do all keys; after `guillotiere_cache_clear` all pages go. A page that goes
 /// takes its slots in reserve along, and one that is added later has none; keys in reserve stay. `DONE`;
@@ -328,9 +351,48 @@ pub extern "C" fn guillotiere_cache_shrink(cache: Option<&mut CacheHandle>) -> u
     }
 }
 
+/// Moves keys of the last page to the pages before it, so that `guillotiere_cache_shrink` can give it back, as many as some
+/// pixels are enough for: after a burst a call in each frame empties page after page, where a repacking would take too long for one.
+/// The most recently used key comes first; each that lies on the last page, on no more pixels, padding included, than are left,
+/// moves to the first page before it that has room for it, reported by a change, `GUILLOTIERE_MOVED`. No key goes, none counts
+/// as used, and no page grows or goes. Writes how many pixels moved: 0 where there are fewer than two pages, or where no key moved.
+/// All moves lead from the last page to other ones, on which nothing comes free: so the pixels can be copied one after another.
+/// `DONE`; `SLOTS` if a page that has room can't use the slots that this takes, of 16777216, or `MEMORY`, and then what moved
+/// before is reported and stays, and nothing is written; `EMPTY`.
+#[no_mangle]
+pub extern "C" fn guillotiere_cache_compact(
+    cache: Option<&mut CacheHandle>,
+    pixels: u64,
+    moved: Option<&mut u64>,
+) -> u32 {
+    let alloc = Global;
+    let cache = match cache {
+        Some(cache) => cache,
+        None => return crate::plain::NULL_POINTER,
+    };
+    let moved = match moved {
+        Some(moved) => moved,
+        None => return crate::plain::NULL_POINTER,
+    };
+    if !cache.holds() {
+        return EMPTY;
+    }
+    let mut held = cache.take(alloc);
+    let answer = held.compact(pixels);
+    cache.put(held);
+    match answer {
+        Ok(pixels) => {
+            *moved = pixels;
+            DONE
+        }
+        Err(error) => status_of_cache_error(error),
+    }
+}
+
 /// Repacks the keys of a page, the largest first, and among equal areas the most recently used, so that what is free comes
 /// together; pages are counted from 0. Each key of the page is reported by a change, the most recently used first:
-/// `GUILLOTIERE_MOVED`, also where it stays, or `GUILLOTIERE_EVICTED`, where it found no room. A place that a key moves to
+/// `GUILLOTIERE_MOVED`, also where it stays, or `GUILLOTIERE_EVICTED`, where it found no room when its turn came, also if this
+/// frame uses it: `guillotiere_cache_repack_keeping_all` evicts none. A place that a key moves to
 /// can overlap one that a later change moves from: take the changes that wait, then copy the page, then call this, and copy
 /// all pixels from that copy. The page may have no slots in reserve then; keys in reserve stay. `DONE`; `NO_PAGE`, `SLOTS`
 /// (only of a page with more than 4194303 keys) or `MEMORY`, and then all is as it was; `EMPTY`.
@@ -350,6 +412,39 @@ pub extern "C" fn guillotiere_cache_repack(cache: Option<&mut CacheHandle>, page
     match answer {
         Ok(true) => DONE,
         Ok(false) => NO_PAGE,
+        Err(error) => status_of_cache_error(error),
+    }
+}
+
+/// Repacks the keys of a page as `guillotiere_cache_repack` does, but only where each of them finds room, so that no key is
+/// evicted. `DONE`; `NO_ROOM` if one would find none, `NO_PAGE`, `SLOTS` (only of a page with more than 4194303 keys) or
+/// `MEMORY`, and then all is as it was; `EMPTY`.
+#[no_mangle]
+pub extern "C" fn guillotiere_cache_repack_keeping_all(
+    cache: Option<&mut CacheHandle>,
+    page: u32,
+) -> u32 {
+    let alloc = Global;
+    let cache = match cache {
+        Some(cache) => cache,
+        None => return crate::plain::NULL_POINTER,
+    };
+    if !cache.holds() {
+        return EMPTY;
+    }
+    let mut held = cache.take(alloc);
+    let is_there = page < held.cache().pages();
+    let answer = held.repack_keeping_all(page);
+    cache.put(held);
+    match answer {
+        Ok(true) => DONE,
+        Ok(false) => {
+            if is_there {
+                NO_ROOM
+            } else {
+                NO_PAGE
+            }
+        }
         Err(error) => status_of_cache_error(error),
     }
 }

@@ -61,8 +61,8 @@ impl CacheHandle {
     }
 }
 
-/// The same place for a call that only reads: what lies at the pointer is lent to it, and any number of such calls may run
-/// at once.
+/// The place of a cache for a call that only reads: what lies at the pointer is lent to it, and any number of
+/// such calls may run at once.
 #[repr(C)]
 pub struct CacheReader {
     at: *const u8,

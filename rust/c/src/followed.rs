@@ -5,7 +5,7 @@ use wollemigo_core::atlas_cache::{
     CacheChange, CacheError, CacheOptions, Changes, Inserted, OptionsError, Place, TextureCache,
 };
 use wollemigo_core::guillotiere::Size;
-use wollemigo_support::alloc::Global;
+use wollemigo_support::alloc::{AllocError, Global};
 use wollemigo_support::prelude::Vec;
 
 /// A cache, and the changes that weren't handed over yet. Those that were stay in the list until the last one is handed
@@ -53,6 +53,17 @@ impl FollowedCache {
         &self.cache
     }
 
+    /// A copy, which goes on by itself, in new memory: the cache stores the same, and the same changes weren't handed over.
+    pub fn clone(&self) -> Result<FollowedCache, AllocError> {
+        let cache = self.cache.clone()?;
+        let changes = Vec::from_slice(*self.changes.allocator(), &self.changes[self.taken..])?;
+        Ok(FollowedCache {
+            cache,
+            changes,
+            taken: 0,
+        })
+    }
+
     /// The first change that wasn't handed over yet, which is handed over now; None if there is none.
     pub fn next_change(&mut self) -> Option<CacheChange<u64>> {
         take_first(&mut self.changes, &mut self.taken)
@@ -90,16 +101,34 @@ impl FollowedCache {
         self.cache.trim(frames, &mut self.changes)
     }
 
+    /// As `TextureCache::end_batch`. Its changes come behind those that weren't handed over.
+    pub fn end_batch(&mut self, keys: usize) -> Result<(), CacheError> {
+        drop_taken(&mut self.changes, &mut self.taken);
+        self.cache.end_batch(keys, &mut self.changes)
+    }
+
     /// As `TextureCache::shrink`. Its changes come behind those that weren't handed over.
     pub fn shrink(&mut self) -> Result<(), CacheError> {
         drop_taken(&mut self.changes, &mut self.taken);
         self.cache.shrink(&mut self.changes)
     }
 
+    /// As `TextureCache::compact`. Its changes come behind those that weren't handed over.
+    pub fn compact(&mut self, pixels: u64) -> Result<u64, CacheError> {
+        drop_taken(&mut self.changes, &mut self.taken);
+        self.cache.compact(pixels, &mut self.changes)
+    }
+
     /// As `TextureCache::repack`. Its changes come behind those that weren't handed over.
     pub fn repack(&mut self, page: u32) -> Result<bool, CacheError> {
         drop_taken(&mut self.changes, &mut self.taken);
         self.cache.repack(page, &mut self.changes)
+    }
+
+    /// As `TextureCache::repack_keeping_all`. Its changes come behind those that weren't handed over.
+    pub fn repack_keeping_all(&mut self, page: u32) -> Result<bool, CacheError> {
+        drop_taken(&mut self.changes, &mut self.taken);
+        self.cache.repack_keeping_all(page, &mut self.changes)
     }
 
     /// As `TextureCache::reserve`.

@@ -12,6 +12,7 @@ mod atlas;
 mod atlas_handle;
 mod atlas_lists;
 mod cache;
+mod cache_copy;
 mod cache_figures;
 mod cache_handle;
 mod cache_order;

@@ -57,7 +57,8 @@ pub extern "C" fn guillotiere_atlas_new(
     start(alloc, width, height, &DEFAULT_OPTIONS, MOST_SLOTS, atlas)
 }
 
-/// The same with these options. `BAD_CALL` also if they aren't valid.
+/// Makes an atlas with these options, where the handle holds nothing. `DONE`; `BAD_CALL` if a side isn't above 0 or the
+/// options aren't valid; `MEMORY`; `OCCUPIED`, before all others, if the handle holds an atlas already.
 #[no_mangle]
 pub extern "C" fn guillotiere_atlas_with_options(
     width: i32,
@@ -78,7 +79,9 @@ pub extern "C" fn guillotiere_atlas_with_options(
     start(alloc, width, height, &options, MOST_SLOTS, atlas)
 }
 
-/// The same with a limit on the slots that are used at once. `BAD_CALL` also if it isn't from 1 to `GUILLOTIERE_MOST_SLOTS`.
+/// Makes an atlas with these options and a limit on the slots that are used at once, where the handle holds nothing. `DONE`;
+/// `BAD_CALL` if a side isn't above 0, the options aren't valid, or the limit isn't from 1 to `GUILLOTIERE_MOST_SLOTS`; `MEMORY`;
+/// `OCCUPIED`, before all others, if the handle holds an atlas already.
 #[no_mangle]
 pub extern "C" fn guillotiere_atlas_with_slot_limit(
     width: i32,

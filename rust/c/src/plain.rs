@@ -210,7 +210,7 @@ pub struct PlainChangeCount {
     pub failures: usize,
 }
 
-/// The same for C.
+/// A size as C has it.
 pub fn plain_size(size: Size) -> PlainSize {
     PlainSize {
         width: size.width,
@@ -218,7 +218,7 @@ pub fn plain_size(size: Size) -> PlainSize {
     }
 }
 
-/// The same for C.
+/// A rectangle as C has it.
 pub fn plain_rectangle(rectangle: Rectangle) -> PlainRectangle {
     let Rectangle { min, max } = rectangle;
     PlainRectangle {
@@ -229,7 +229,7 @@ pub fn plain_rectangle(rectangle: Rectangle) -> PlainRectangle {
     }
 }
 
-/// The same for C.
+/// A live box as C has it.
 pub fn plain_allocation(allocation: Allocation) -> PlainAllocation {
     PlainAllocation {
         id: allocation.id.serialize(),
@@ -237,7 +237,7 @@ pub fn plain_allocation(allocation: Allocation) -> PlainAllocation {
     }
 }
 
-/// The same for C.
+/// What a box was and what it became, as C has it.
 pub fn plain_change(change: Change) -> PlainChange {
     PlainChange {
         before: plain_allocation(change.old),
@@ -245,7 +245,7 @@ pub fn plain_change(change: Change) -> PlainChange {
     }
 }
 
-/// The same for C.
+/// Counts of slots as C has them.
 pub fn plain_slots(slots: SlotCount) -> PlainSlots {
     PlainSlots {
         used: slots.used,
@@ -254,7 +254,7 @@ pub fn plain_slots(slots: SlotCount) -> PlainSlots {
     }
 }
 
-/// The same for C.
+/// Options as C has them.
 pub fn plain_options(options: AllocatorOptions) -> PlainOptions {
     PlainOptions {
         alignment_width: options.alignment.width,
@@ -264,7 +264,7 @@ pub fn plain_options(options: AllocatorOptions) -> PlainOptions {
     }
 }
 
-/// The same for Rattle.
+/// Options of C's as the library has them.
 pub fn options_for(options: &PlainOptions) -> AllocatorOptions {
     AllocatorOptions {
         alignment: size2(options.alignment_width, options.alignment_height),

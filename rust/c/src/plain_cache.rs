@@ -98,7 +98,7 @@ const NOTHING: PlainCacheChange = PlainCacheChange {
     to: NOWHERE,
 };
 
-/// The same for C.
+/// A key's place as C has it.
 pub fn plain_place(place: Place) -> PlainPlace {
     PlainPlace {
         number: place.number,
@@ -108,7 +108,7 @@ pub fn plain_place(place: Place) -> PlainPlace {
     }
 }
 
-/// The same for C.
+/// Hits, misses and evictions as C has them.
 pub fn plain_counts(counts: Counts) -> PlainCounts {
     PlainCounts {
         hits: counts.hits,
@@ -117,7 +117,7 @@ pub fn plain_counts(counts: Counts) -> PlainCounts {
     }
 }
 
-/// The same for C.
+/// What a cache did, as C has it.
 pub fn plain_cache_change(change: CacheChange<u64>) -> PlainCacheChange {
     match change {
         CacheChange::PageAdded { page, size } => PlainCacheChange {
@@ -153,7 +153,7 @@ pub fn plain_cache_change(change: CacheChange<u64>) -> PlainCacheChange {
     }
 }
 
-/// The same for Rattle.
+/// A cache's options of C's as the library has them.
 pub fn cache_options_for(options: &PlainCacheOptions) -> CacheOptions {
     CacheOptions {
         page: size2(options.page.width, options.page.height),
@@ -171,7 +171,7 @@ pub fn cache_options_for(options: &PlainCacheOptions) -> CacheOptions {
     }
 }
 
-/// The same for C.
+/// A cache's options as C has them.
 pub fn plain_cache_options(options: CacheOptions) -> PlainCacheOptions {
     PlainCacheOptions {
         page: plain_size(options.page),

@@ -74,7 +74,7 @@ const NO_PLACE: PlainMaybePlaced = PlainMaybePlaced {
     },
 };
 
-/// The same for C.
+/// A sprite's place as C has it.
 pub fn plain_placed(placed: Placed) -> PlainPlaced {
     PlainPlaced {
         area: plain_rectangle(placed.area),
@@ -82,7 +82,7 @@ pub fn plain_placed(placed: Placed) -> PlainPlaced {
     }
 }
 
-/// The same for C.
+/// The place of a sprite that may have none, as C has it.
 pub fn plain_maybe_placed(place: Option<Placed>) -> PlainMaybePlaced {
     match place {
         Some(placed) => PlainMaybePlaced {
@@ -93,7 +93,7 @@ pub fn plain_maybe_placed(place: Option<Placed>) -> PlainMaybePlaced {
     }
 }
 
-/// The same for C.
+/// A sprite's place on one of several sheets, as C has it.
 pub fn plain_on_page(place: OnPage) -> PlainOnPage {
     PlainOnPage {
         page: place.page,
@@ -120,7 +120,7 @@ fn allowed_for(options: &PlainSheetOptions) -> Option<Allowed> {
     }
 }
 
-// The same for Rattle, over these sheets.
+// A sheet's options of C's as the library has them, over these sheets.
 fn options_with(options: &PlainSheetOptions, allowed: Allowed, padding: u16) -> SheetOptions {
     SheetOptions {
         allowed,
@@ -132,7 +132,7 @@ fn options_with(options: &PlainSheetOptions, allowed: Allowed, padding: u16) -> 
     }
 }
 
-/// The same for Rattle; None if the sheets are of no kind, or the padding is above 65535.
+/// A sheet's options of C's as the library has them; None if the sheets are of no kind, or the padding is above 65535.
 pub fn sheet_options_for(options: &PlainSheetOptions) -> Option<SheetOptions> {
     if options.padding > 65_535 {
         return None;

@@ -60,7 +60,8 @@ pub extern "C" fn guillotiere_simple_new(
     start(alloc, width, height, &DEFAULT_OPTIONS, simple)
 }
 
-/// The same with these options. `BAD_CALL` also if they aren't valid.
+/// Makes a simple allocator with these options, where the handle holds nothing. `DONE`; `BAD_CALL` if a side isn't above 0
+/// or the options aren't valid; `MEMORY`; `OCCUPIED`, before all others, if the handle holds one already.
 #[no_mangle]
 pub extern "C" fn guillotiere_simple_with_options(
     width: i32,

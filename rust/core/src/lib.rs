@@ -33,6 +33,8 @@ pub mod atlas_maxrects;
 #[doc(hidden)]
 pub mod atlas_model;
 #[doc(hidden)]
+pub mod atlas_pages;
+#[doc(hidden)]
 pub mod atlas_search;
 #[cfg(feature = "sheet")]
 #[doc(hidden)]

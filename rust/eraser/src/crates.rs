@@ -14,16 +14,17 @@ pub struct Crate {
 }
 
 /// The crates that become modules of the library's one crate: those that these stand on, and these.
-const LIBRARY: [&str; 5] = [
+const LIBRARY: [&str; 6] = [
     "guillotiere",
     "guillotiere_recording",
     "atlas_sheet",
     "atlas_cache",
+    "atlas_pages",
     "guillotiere_total",
 ];
 
-/// Crates that don't erase, and stand in rust/ by hand.
-const BY_HAND: [&str; 1] = ["test_memory"];
+/// Modules that don't erase: the crate of each, its source, and the package that has the same, which stands in rust/ by hand.
+const BY_HAND: [(&str, &str, &str); 1] = [("guillotiere_tests", "refusing.rt", "test_memory")];
 
 /// The folder below rust/ of the exports for C.
 pub const EXPORTS_FOLDER: &str = "c";
@@ -76,11 +77,11 @@ impl Crates {
         Ok(Crates { all, library, laws })
     }
 
-    /// Those that are erased.
-    pub fn erased(&self) -> impl Iterator<Item = &Crate> {
-        self.all
-            .iter()
-            .filter(|c| !BY_HAND.contains(&c.name.as_str()))
+    /// The package by hand that has what a source of a crate has, if there is one.
+    pub fn by_hand(&self, of: &Crate, file: &Path) -> Option<&'static str> {
+        let is_it =
+            |(name, source, _): &&(&str, &str, &str)| *name == of.name && Path::new(source) == file;
+        BY_HAND.iter().find(is_it).map(|(_, _, package)| *package)
     }
 
     /// Where the sources of a crate go.
@@ -171,16 +172,14 @@ impl Crates {
             "wollemigo-support = {{ path = \"{}/support\", features = [{}] }}\n",
             rust, support
         ));
-        for need in of.needs.iter().filter(|n| !self.library.contains(*n)) {
-            let folder = if BY_HAND.contains(&need.as_str()) {
-                rust
-            } else {
-                ".."
-            };
+        for (_, _, package) in BY_HAND.iter().filter(|it| it.0 == of.name) {
             text.push_str(&format!(
                 "{} = {{ path = \"{}/{}\" }}\n",
-                need, folder, need
+                package, rust, package
             ));
+        }
+        for need in of.needs.iter().filter(|n| !self.library.contains(*n)) {
+            text.push_str(&format!("{} = {{ path = \"../{}\" }}\n", need, need));
         }
         text
     }
@@ -195,7 +194,8 @@ impl Crates {
             .map(|at| &text[at..])
             .ok_or_else(|| Fault::of(name, "it has no profiles"))?;
         let packages: String = self
-            .erased()
+            .all
+            .iter()
             .filter(|of| !self.is_kept(of))
             .map(|of| format!("    \"{}\",\n", of.name))
             .collect();

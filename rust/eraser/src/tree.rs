@@ -63,28 +63,36 @@ impl Tree {
             counts: BTreeMap::new(),
         };
         let texts = tree.add_roots(root, &crates)?;
-        for of in crates.erased().filter(|of| part.has(crates.is_kept(of))) {
-            let folder = root.join("crates").join(&of.name);
-            let is_program = folder.join("src/main.rt").is_file();
-            for file in sources(&folder.join("src"))? {
+        for of in crates.all.iter().filter(|of| part.has(crates.is_kept(of))) {
+            let folder = root.join("crates").join(&of.name).join("src");
+            let files = sources(&folder)?;
+            if !crates.library.contains(&of.name) {
+                tree.add_package(&crates, of, &files);
+            }
+            for file in files {
                 jobs.push(Job {
                     of,
-                    path: folder.join("src").join(&file),
+                    path: folder.join(&file),
                     file,
                 });
-            }
-            if !crates.library.contains(&of.name) {
-                let package = crates.package(of);
-                tree.files
-                    .insert(package.join("Cargo.toml"), crates.manifest(of, is_program));
-                if is_program {
-                    tree.files
-                        .insert(package.join("tests/stored.rs"), stored_test(&of.name));
-                }
             }
         }
         tree.erase_all(root, &crates, &texts, jobs)?;
         Ok(tree)
+    }
+
+    /// Adds what a package of its own has beside its sources.
+    fn add_package(&mut self, crates: &Crates, of: &Crate, files: &BTreeSet<PathBuf>) {
+        let package = crates.package(of);
+        let is_program = files.contains(Path::new("main.rt"));
+        let mut add = |file: &str, text: String| self.files.insert(package.join(file), text);
+        add("Cargo.toml", crates.manifest(of, is_program));
+        if is_program {
+            add("tests/stored.rs", stored_test(&of.name));
+        }
+        if is_program && files.len() > 1 {
+            add("src/lib.rs", modules_of(&of.name, files));
+        }
     }
 
     /// Adds what comes from no one source: the library's root, what is written of the exports for C, and the workspace of programs. Gives
@@ -225,7 +233,7 @@ fn is_of_laws(file: &Path) -> bool {
 /// The laws of all sources, by their names.
 fn laws(root: &Path, crates: &Crates) -> Result<BTreeSet<String>, Fault> {
     let mut found = BTreeSet::new();
-    for of in crates.erased() {
+    for of in &crates.all {
         let folder = root.join("crates").join(&of.name).join("src");
         for file in sources(&folder)? {
             let name = format!("crates/{}/src/{}", of.name, file.display());
@@ -244,6 +252,13 @@ fn erase_one(
     job: &Job<'_>,
 ) -> Result<(String, BTreeMap<u32, usize>), Fault> {
     let name = format!("crates/{}/src/{}", job.of.name, job.file.display());
+    if let Some(package) = crates.by_hand(job.of, &job.file) {
+        let text = format!(
+            "// In the place of {} by rust/erase: don't edit.\npub use {}::*;\n",
+            name, package
+        );
+        return Ok((text, BTreeMap::new()));
+    }
     let text = fs::read_to_string(&job.path).map_err(|e| Fault::of(&name, &e.to_string()))?;
     let (text, counts) = erased(&name, &text, &crates.place(job.of))?;
     if is_of_laws(&job.file) && !Source::new(&name, &text)?.is_empty() {
@@ -261,6 +276,24 @@ fn erase_one(
         whole = layout::laid_out(&name, &whole, &root.join("rust"))?;
     }
     Ok((whole, counts))
+}
+
+/// The modules of a program, as a library beside it: so the tests of rust/tests reach them.
+fn modules_of(name: &str, files: &BTreeSet<PathBuf>) -> String {
+    let is_module = |file: &&PathBuf| {
+        file.components().count() == 1 && *file != Path::new("main.rt") && !is_of_laws(file)
+    };
+    let modules: String = files
+        .iter()
+        .filter(is_module)
+        .map(|file| format!("pub mod {};\n", file.with_extension("").display()))
+        .collect();
+    let text = format!("//! The modules of the program, for tests.\n{}", modules);
+    format!(
+        "// Written by rust/erase from crates/{}/src: don't edit.\n{}",
+        name,
+        with_head(&text, false, "")
+    )
 }
 
 /// The text of a root file with the attributes of its crate, behind its documentation.

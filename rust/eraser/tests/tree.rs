@@ -15,12 +15,14 @@ const KEPT: [&str; 4] = [
     "core/src/lib.rs",
 ];
 
-const PROGRAMS: [&str; 6] = [
+const PROGRAMS: [&str; 8] = [
     "erased/Cargo.toml",
     "erased/lines/Cargo.toml",
     "erased/lines/src/lib.rs",
     "erased/tool/Cargo.toml",
+    "erased/tool/src/lib.rs",
     "erased/tool/src/main.rs",
+    "erased/tool/src/words.rs",
     "erased/tool/tests/stored.rs",
 ];
 
@@ -41,8 +43,9 @@ fn repository(name: &str) -> PathBuf {
     for of in ["guillotiere", "exports", "lines"] {
         write(&root, &format!("crates/{}/src/lib.rt", of), LIBRARY);
     }
-    let main = "//! The program.\nuse lines::one;\n\nfn main() {\n    let _one = one();\n}\n";
+    let main = "//! The program.\nmod words;\n\nuse lines::one;\n\nfn main() {\n    let _one = one();\n}\n";
     write(&root, "crates/tool/src/main.rt", main);
+    write(&root, "crates/tool/src/words.rt", LIBRARY);
     write(
         &root,
         "rust/Cargo.toml",
@@ -83,9 +86,33 @@ fn programs_are_apart_from_what_is_kept() {
     );
     let tool = &tree.files[Path::new("erased/tool/Cargo.toml")];
     assert!(tool.contains("lines = { path = \"../lines\" }"), "{}", tool);
+    let modules = &tree.files[Path::new("erased/tool/src/lib.rs")];
+    assert!(modules.ends_with("\n\npub mod words;\n"), "{}", modules);
     // As the rules leave it: rustfmt would put the bracket behind the type.
     let lines = &tree.files[Path::new("erased/lines/src/lib.rs")];
     assert!(lines.contains("pub fn one() -> u32\n{\n"), "{}", lines);
+    fs::remove_dir_all(root).expect("the folder goes");
+}
+
+#[test]
+fn a_module_by_hand_is_its_package() {
+    let root = repository("hand");
+    let text = "guillotiere:\nguillotiere_tests: guillotiere\nplayer: guillotiere_tests\n";
+    write(&root, "crates.txt", text);
+    for name in [
+        "guillotiere_tests/src/lib",
+        "guillotiere_tests/src/refusing",
+        "player/src/lib",
+    ] {
+        write(&root, &format!("crates/{}.rt", name), LIBRARY);
+    }
+    let tree = Tree::made(&root, Part::Programs).expect("a tree");
+    let of = |path: &str| tree.files[&Path::new("erased").join(path)].as_str();
+    let by_hand = "test_memory = { path = \"../../test_memory\" }\n";
+    assert!(of("guillotiere_tests/src/refusing.rs").ends_with("\npub use test_memory::*;\n"));
+    assert!(of("guillotiere_tests/src/lib.rs").contains("pub fn one()"));
+    assert!(of("guillotiere_tests/Cargo.toml").contains(by_hand));
+    assert!(!of("player/Cargo.toml").contains(by_hand));
     fs::remove_dir_all(root).expect("the folder goes");
 }
 

@@ -80,7 +80,7 @@ impl AtlasAllocator {
         AtlasAllocator::try_with_options(size, &DEFAULT_OPTIONS)
     }
 
-    /// The same with these options.
+    /// An atlas of this size with these options: one free rectangle.
     ///
     /// ```
     /// use guillotiere::{size2, AllocatorOptions, AtlasAllocator};
@@ -111,7 +111,7 @@ impl AtlasAllocator {
         Ok(AtlasAllocator::over(made))
     }
 
-    /// The same with a limit on the slots that are used at once, from 1 to `MOST_SLOTS`.
+    /// An atlas of this size with these options, and a limit on the slots that are used at once, from 1 to `MOST_SLOTS`.
     ///
     /// # Errors
     ///
@@ -162,8 +162,19 @@ impl AtlasAllocator {
         convert::slots(self.atlas.slots())
     }
 
-    /// The areas of all live and of all free rectangles, in unit squares. Two passes over the slots. With `free_iter` they tell how full an
-    /// atlas is, and how much of what is free is of use for a size:
+    /// The areas of all live and of all free rectangles, in unit squares. Two passes over the slots. With `unusable_area` they tell how
+    /// full an atlas is, and how much of what is free is of use for a size.
+    #[must_use]
+    pub fn areas(&self) -> Areas {
+        Areas {
+            allocated: self.atlas.allocated_area(),
+            free: self.atlas.free_area(),
+        }
+    }
+
+    /// The area that is free in rectangles which have no room for a request of this size, rounded up to the alignment, in unit squares: all
+    /// that is free, if a side is below 1. Asked with the usual size it says how fragmented the atlas is: where that is much of
+    /// what is free, it is time to rearrange. One pass over the slots, and no memory.
     ///
     /// ```
     /// use guillotiere::{size2, AtlasAllocator};
@@ -173,15 +184,29 @@ impl AtlasAllocator {
     /// let _ = atlas.allocate(size2(10, 24));
     /// let areas = atlas.areas();
     /// assert_eq!(areas.allocated * 100 / (areas.allocated + areas.free), 68); // percent
-    /// let usable = atlas.free_iter().filter(|free| free.size().width >= 60 && free.size().height >= 20);
-    /// assert_eq!((areas.free, usable.count()), (54 * 24, 0)); // nothing has room for 60 by 20: rearrange
+    /// assert_eq!(atlas.unusable_area(size2(54, 24)), 0);
+    /// assert_eq!(atlas.unusable_area(size2(60, 20)), areas.free); // nothing has room for 60 by 20
     /// ```
     #[must_use]
-    pub fn areas(&self) -> Areas {
-        Areas {
-            allocated: self.atlas.allocated_area(),
-            free: self.atlas.free_area(),
-        }
+    pub fn unusable_area(&self, requested_size: Size) -> u64 {
+        self.atlas
+            .unusable_area(convert::library_size(requested_size))
+    }
+
+    /// The free rectangle of the largest area; of several the topmost one, and of these the leftmost. None if nothing is free. A request of
+    /// that area, but of other sides, needn't have room: `can_fit` tells. One pass over the slots, and no memory.
+    ///
+    /// ```
+    /// use guillotiere::{size2, AtlasAllocator};
+    ///
+    /// let mut atlas = AtlasAllocator::new(size2(64, 64));
+    /// let _ = atlas.allocate(size2(64, 60));
+    /// assert_eq!(atlas.largest_free().unwrap().size(), size2(64, 4));
+    /// ```
+    #[must_use]
+    pub fn largest_free(&self) -> Option<Rectangle> {
+        let found = self.atlas.largest_free()?;
+        Some(convert::rectangle(&found))
     }
 
     /// The rectangle of a live id; None for every other id.

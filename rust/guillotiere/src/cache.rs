@@ -160,7 +160,7 @@ impl<K: Copy + Eq + Hash, S: BuildHasher> TextureCache<K, S> {
         }
     }
 
-    /// The same, with a hasher for the keys.
+    /// No pages and no entries, with a hasher for the keys.
     ///
     /// ```
     /// use guillotiere::cache::{CacheOptions, TextureCache};
@@ -354,6 +354,36 @@ impl<K: Copy + Eq + Hash, S: BuildHasher> TextureCache<K, S> {
         self.reporting(|cache, changes| cache.trim(frames, changes))
     }
 
+    /// Ends a batch, which was drawn, where the frame has no room for what comes next in it: this many of the most recently used keys go,
+    /// all if there are no more, each reported by a change, the most recently used first. The frame goes on: an insertion evicts
+    /// nothing of what is left that it used, and `trim` counts it as one frame.
+    ///
+    /// It is for frames that are full again and again; where a single one is, `begin_frame` lets go less. A batch should take few keys,
+    /// `len() / 512 + 1` say, and twice as many each time that there is no room still. If the next frame asks for all that it draws by
+    /// `get` before it inserts any, it evicts none of that before it is drawn.
+    ///
+    /// ```
+    /// use guillotiere::cache::{CacheOptions, Inserted, TextureCache};
+    /// use guillotiere::size2;
+    ///
+    /// let mut glyphs = TextureCache::new(&CacheOptions::new(size2(64, 64))).unwrap();
+    /// let _ = glyphs.insert('a', size2(64, 32))?;
+    /// let _ = glyphs.insert('b', size2(64, 32))?;
+    /// assert_eq!(glyphs.insert('c', size2(64, 32))?, Inserted::FrameFull);
+    /// glyphs.end_batch(1)?; // once 'a' and 'b' were drawn
+    /// assert!(glyphs.insert('c', size2(64, 32))?.place().is_some());
+    /// assert!(glyphs.keys().eq(['c', 'a']));
+    /// # Ok::<(), guillotiere::cache::CacheError>(())
+    /// ```
+    ///
+    /// # Errors
+    ///
+    /// `Memory` if memory for the changes is refused: then nothing changed. None is asked for where `reserve_changes` made room for as many
+    /// as there are keys.
+    pub fn end_batch(&mut self, keys: usize) -> Result<(), CacheError> {
+        self.reporting(|cache, changes| cache.end_batch(keys, changes))
+    }
+
     /// Removes the pages after the last one with a key, each reported by a change, the last one first; the others stay, with
     /// their sizes, and so do all keys. After `clear` all pages go. A page that goes takes its slots in reserve along, and one that is
     /// added later has none; entries in reserve stay (`reserve`).
@@ -366,9 +396,41 @@ impl<K: Copy + Eq + Hash, S: BuildHasher> TextureCache<K, S> {
         self.reporting(|cache, changes| cache.shrink(changes))
     }
 
+    /// Moves keys of the last page to the pages before it, so that `shrink` can give it back, as many as some pixels are enough for: after a
+    /// burst a call in each frame empties page after page, where a `repack` would take too long for one. The most recently used key comes
+    /// first; each that lies on the last page, on no more pixels, padding included, than are left, moves to the first page before it that
+    /// has room for it, reported by a change. No key goes, none counts as used, and no page grows or goes. Returns how many pixels moved:
+    /// 0 where there are fewer than two pages, or where no key moved.
+    ///
+    /// All moves lead from the last page to other ones, on which nothing comes free: so the pixels can be copied one after another.
+    ///
+    /// ```
+    /// use guillotiere::cache::{CacheOptions, TextureCache};
+    /// use guillotiere::size2;
+    ///
+    /// let mut glyphs = TextureCache::new(&CacheOptions { pages: 2, ..CacheOptions::new(size2(64, 64)) }).unwrap();
+    /// for glyph in ['a', 'b', 'c'] {
+    ///     let _ = glyphs.insert(glyph, size2(64, 32))?; // 'c' comes onto a second page
+    /// }
+    /// glyphs.remove('b');
+    /// assert_eq!(glyphs.compact(64 * 32)?, 64 * 32);
+    /// glyphs.shrink()?;
+    /// assert_eq!((glyphs.pages(), glyphs.peek('c').unwrap().page), (1, 0));
+    /// # Ok::<(), guillotiere::cache::CacheError>(())
+    /// ```
+    ///
+    /// # Errors
+    ///
+    /// `Memory` if memory for the changes is refused: then nothing changed. None is asked for where `reserve_changes` made room for as many
+    /// as there are keys. `Memory` or `Slots` if a page that has room is refused what the move takes: then what moved before stays, and is
+    /// reported.
+    pub fn compact(&mut self, pixels: u64) -> Result<u64, CacheError> {
+        self.reporting(|cache, changes| cache.compact(pixels, changes))
+    }
+
     /// Repacks the keys of a page, the largest first, and among equal areas the most recently used, so that what is free
     /// comes together. Returns whether there is such a page. Each of its keys is reported by a change, as moved, even if it stays,
-    /// or as evicted, where it found no room. A place that a key moves to can overlap one that a later change moves from: follow the
+    /// or as evicted, where it found no room when its turn came, also if this frame uses it: `repack_keeping_all` evicts none. A place that a key moves to can overlap one that a later change moves from: follow the
     /// changes that wait, copy the page, then call this, and copy all pixels from that copy. The page may have no slots in reserve then;
     /// entries in reserve stay (`reserve`).
     ///
@@ -394,6 +456,26 @@ impl<K: Copy + Eq + Hash, S: BuildHasher> TextureCache<K, S> {
     /// `Slots` if the page has too few, which takes more than 4,194,303 keys on it; `Memory` if memory is refused. Then all is as before.
     pub fn repack(&mut self, page: u32) -> Result<bool, CacheError> {
         self.reporting(|cache, changes| cache.repack(page, changes))
+    }
+
+    /// Repacks the keys of a page as `repack` does, but only where each of them finds room, so that no key is evicted. Returns whether it
+    /// did; if not, there is no such page, or `repack` would evict some of its keys, and all is as before.
+    ///
+    /// ```
+    /// use guillotiere::cache::{CacheOptions, TextureCache};
+    /// use guillotiere::size2;
+    ///
+    /// let mut glyphs = TextureCache::new(&CacheOptions::new(size2(64, 64))).unwrap();
+    /// let _ = glyphs.insert('g', size2(10, 20))?;
+    /// assert!(glyphs.repack_keeping_all(0)?);
+    /// # Ok::<(), guillotiere::cache::CacheError>(())
+    /// ```
+    ///
+    /// # Errors
+    ///
+    /// As `repack`.
+    pub fn repack_keeping_all(&mut self, page: u32) -> Result<bool, CacheError> {
+        self.reporting(|cache, changes| cache.repack_keeping_all(page, changes))
     }
 
     /// Makes sure that there is memory for this many more entries. A key that is added takes one of them; one that goes gives none back,

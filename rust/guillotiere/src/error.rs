@@ -1,5 +1,6 @@
 //! Why a call of an allocator can't be made, or was refused.
 use core::fmt;
+use wollemigo_core::atlas_pages::PagesError;
 use wollemigo_core::guillotiere as library;
 #[cfg(feature = "recording")]
 use wollemigo_core::guillotiere_recording::RecordingError;
@@ -29,6 +30,8 @@ pub enum AtlasError {
     SlotLimit,
     /// A side of the new size is less than the present one.
     Shrinks,
+    /// There is no page of this number.
+    NoPage,
     /// An id isn't live, or is in a list of ids twice.
     NotLive,
     /// More slots would be used than the atlas's limit allows.
@@ -47,6 +50,7 @@ impl fmt::Display for AtlasError {
             AtlasError::Thresholds => "the small threshold is above the large one",
             AtlasError::SlotLimit => "the limit on slots is not from 1 to 16777216",
             AtlasError::Shrinks => "a side of the new size is less than the present one",
+            AtlasError::NoPage => "there is no such page",
             AtlasError::NotLive => "the id is not live",
             AtlasError::Slots => "no slot is left",
             AtlasError::Memory => "memory was refused",
@@ -89,8 +93,22 @@ impl From<CallError> for AtlasError {
             CallError::SlotLimit => AtlasError::SlotLimit,
             CallError::Shrinks => AtlasError::Shrinks,
             CallError::Refused(error) => AtlasError::from(error),
-            // No call here names a page or asks a rectangle of the library for its sides.
-            CallError::NoPage | CallError::Unmeasurable => unreachable!("{}", error),
+            CallError::NoPage => AtlasError::NoPage,
+            // No call here asks a rectangle of the library for its sides.
+            CallError::Unmeasurable => unreachable!("{}", error),
+        }
+    }
+}
+
+impl From<PagesError> for AtlasError {
+    fn from(error: PagesError) -> AtlasError {
+        match error {
+            PagesError::EmptySize => AtlasError::EmptySize,
+            PagesError::Alignment => AtlasError::Alignment,
+            PagesError::Thresholds => AtlasError::Thresholds,
+            PagesError::NoPage => AtlasError::NoPage,
+            PagesError::Shrinks => AtlasError::Shrinks,
+            PagesError::Refused(error) => AtlasError::from(error),
         }
     }
 }

@@ -3,7 +3,7 @@
 //! | you have | take |
 //! |---|---|
 //! | things under keys, such as glyphs, of which more come than a texture holds | [`cache::TextureCache`]: it adds pages, lets them grow, and evicts what wasn't used |
-//! | rectangles that you ask for and give back yourself | [`AtlasAllocator`] |
+//! | rectangles that you ask for and give back yourself | [`AtlasAllocator`]; on the layers of a texture array [`PagedAtlas`] |
 //! | rectangles for one frame, all dropped at once | [`SimpleAtlasAllocator`] |
 //! | all sprites known beforehand | [`sheet::pack`]: the smallest sheet that is found |
 //! | an allocator that is to be kept in a file | [`recording::RecordingAllocator`] |
@@ -57,21 +57,24 @@
 //! | call | its time grows by |
 //! |---|---|
 //! | [`AtlasAllocator::new`] | nothing; it takes 10,860 bytes |
-//! | [`allocate`](AtlasAllocator::allocate), [`can_fit`](AtlasAllocator::can_fit) | the lists of free boxes that are as wide or as high, at most 103, since boxes are listed by 52 bands of their widths and 52 of their heights; of the boxes of a list that have just that side only the first is looked at; where none has it, the free boxes that are larger in both, one by one |
+//! | [`allocate`](AtlasAllocator::allocate), [`can_fit`](AtlasAllocator::can_fit) | the lists of free boxes that are about as wide or as high, at most 103, since boxes are listed by 52 bands of their widths and 52 of their heights; of the boxes of one size in a list only the first is looked at; where none has just that width or height, one box of each size that is larger in both and may leave over less than the best so far |
 //! | [`deallocate`](AtlasAllocator::deallocate) | the slots that go where free space is joined, each of which goes once |
 //! | `atlas[id]`, [`get`](AtlasAllocator::get), [`size`](AtlasAllocator::size), [`is_empty`](AtlasAllocator::is_empty) | nothing |
-//! | [`iter`](AtlasAllocator::iter), [`free_iter`](AtlasAllocator::free_iter) and the `for_each` calls, which take no memory; [`allocations`](AtlasAllocator::allocations) and [`free_rectangles`](AtlasAllocator::free_rectangles), which gather a list; [`areas`](AtlasAllocator::areas), `clone` | the most slots that were used at once |
+//! | [`iter`](AtlasAllocator::iter), [`free_iter`](AtlasAllocator::free_iter) and the `for_each` calls, which take no memory; [`allocations`](AtlasAllocator::allocations) and [`free_rectangles`](AtlasAllocator::free_rectangles), which gather a list; [`areas`](AtlasAllocator::areas), [`unusable_area`](AtlasAllocator::unusable_area), [`largest_free`](AtlasAllocator::largest_free), `clone` | the most slots that were used at once |
 //! | [`grow`](AtlasAllocator::grow) | the boxes and groups along the first cut |
 //! | [`rearrange`](AtlasAllocator::rearrange), [`resize_and_rearrange`](AtlasAllocator::resize_and_rearrange) | sorting all live boxes, and a request for each |
 //! | [`clear`](AtlasAllocator::clear), [`reset`](AtlasAllocator::reset) | the lists that had free boxes, at most 2,704 |
+//! | [`PagedAtlas::allocate`] | a request to each page, until one has room; where none has, the making of a page |
+//! | [`PagedAtlas::shrink`], [`clear`](PagedAtlas::clear), [`iter`](PagedAtlas::iter) | the pages, `iter` also by the most slots of each |
 //! | `get`, `peek`, `contains_key` of a cache, `insert` of a key that is held | one look-up |
 //! | `insert` of a new key | a request to each page, until one has room, but for pages that refused a size no larger, of the last two, and haven't changed since; if none has room, an eviction and one more request, up to 16 times, and then the keys that this frame didn't use, until without them a page would have room |
 //! | an eviction | a freeing; it passes each blank key that is older than the key that goes (see `insert`) once, and not again until it is used |
 //! | `remove`, `begin_frame` of a cache | one look-up, and a freeing; nothing |
 //! | `iter`, `keys` of a cache | the keys, by a step each, without a look-up |
 //! | `drain_changes` | the changes |
-//! | `trim` | the keys that go |
+//! | `trim`, `end_batch` | the keys that go |
 //! | `reserve_slots`, `clear` of a cache | the pages; `clear` also by the keys |
+//! | `compact` | all keys, and for each of the last page that is small enough a request to each page before it that isn't known to have no room |
 //! | `repack` | all keys, and the sorting of those on that page |
 //! | `unusable_area` | the slots of that page |
 //! | `sheet::pack`, `fill` and the others | a request for each sprite, times the ways and sheets that are tried, times `effort` |
@@ -127,6 +130,7 @@ mod atlas;
 pub mod cache;
 mod convert;
 mod error;
+mod paged;
 #[cfg(feature = "recording")]
 pub mod recording;
 #[cfg(feature = "serialization")]
@@ -142,6 +146,7 @@ mod walks;
 
 pub use crate::atlas::AtlasAllocator;
 pub use crate::error::AtlasError;
+pub use crate::paged::{PageAllocation, PagedAtlas, PagesIter};
 pub use crate::simple::SimpleAtlasAllocator;
 #[cfg(feature = "std")]
 pub use crate::svg::{dump_into_svg, dump_svg};

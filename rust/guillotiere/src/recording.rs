@@ -97,7 +97,7 @@ impl RecordingAllocator {
         RecordingAllocator::try_with_options(size, &DEFAULT_OPTIONS)
     }
 
-    /// The same with these options.
+    /// A recording atlas of this size with these options: one free rectangle.
     ///
     /// # Panics
     ///

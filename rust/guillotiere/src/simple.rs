@@ -46,7 +46,7 @@ impl SimpleAtlasAllocator {
         SimpleAtlasAllocator::try_with_options(size, &DEFAULT_OPTIONS)
     }
 
-    /// The same with these options.
+    /// A simple allocator of this size with these options: one free rectangle.
     ///
     /// # Panics
     ///

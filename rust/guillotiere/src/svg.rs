@@ -32,7 +32,7 @@ pub fn dump_svg(atlas: &AtlasAllocator, output: &mut dyn Write) -> Result<()> {
     writeln!(output, "</svg>")
 }
 
-/// The same without the beginning and the end of the document, moved and scaled so that it fills `rect`, if that is
+/// What an atlas holds as SVG, without the beginning and the end of a document, moved and scaled so that it fills `rect`, if that is
 /// given. Needs the feature `std`, which is on by default.
 ///
 /// ```

@@ -28,9 +28,7 @@ impl AtlasAllocator {
     /// ```
     #[must_use]
     pub fn iter(&self) -> LiveIter<'_> {
-        LiveIter {
-            left: self.numbered_slots(),
-        }
+        live_rectangles(self.library())
     }
 
     /// The free rectangles, one after another, in an order that is left open: no list is made, and no memory taken. A walk to the end is
@@ -47,7 +45,7 @@ impl AtlasAllocator {
     #[must_use]
     pub fn free_iter(&self) -> FreeIter<'_> {
         FreeIter {
-            left: self.numbered_slots(),
+            left: numbered_slots(self.library()),
         }
     }
 
@@ -115,9 +113,14 @@ impl<'a> IntoIterator for &'a AtlasAllocator {
 // The slots of an atlas with their numbers, of which some were passed at both ends.
 type Slots<'a> = Enumerate<slice::Iter<'a, Slot>>;
 
-impl AtlasAllocator {
-    fn numbered_slots(&self) -> Slots<'_> {
-        store_of(self.library()).slots().iter().enumerate()
+fn numbered_slots(atlas: &library::AtlasAllocator<Global>) -> Slots<'_> {
+    store_of(atlas).slots().iter().enumerate()
+}
+
+/// The live rectangles of an atlas of the library.
+pub(crate) fn live_rectangles(atlas: &library::AtlasAllocator<Global>) -> LiveIter<'_> {
+    LiveIter {
+        left: numbered_slots(atlas),
     }
 }
 
@@ -127,7 +130,7 @@ fn live_in((number, slot): (usize, &Slot)) -> Option<Allocation> {
     let mut found = None;
     visit_allocated(slice::from_ref(slot), |_, area: &library::Rectangle| {
         found = Some(Allocation {
-            id: convert::id(slot_id(number, slot.node.generation)),
+            id: convert::id(slot_id(number, slot.generation)),
             rectangle: convert::rectangle(area),
         });
     });

@@ -293,6 +293,76 @@ fn free_area_of_no_use() {
     assert_eq!(cache.unusable_area(1, size2(8, 16)), Ok(None));
 }
 
+// Key 2, the largest, comes first to the corner, and 3, 6 by 8, to its right; for 1, as large as 3, a strip of 7 rows is left below. So all
+// stays as it is, while 1 is there; once it is gone, the two move.
+#[test]
+fn a_repacking_that_keeps_all() {
+    let mut cache = TextureCache::new(&CacheOptions::new(size2(16, 16))).unwrap();
+    let sizes = [(1, size2(6, 8)), (2, size2(10, 9)), (3, size2(6, 8))];
+    for (key, size) in sizes {
+        assert!(matches!(cache.insert(key, size), Ok(Inserted::Placed(_))));
+    }
+    let before: Vec<_> = cache.iter().collect();
+    assert_eq!(cache.drain_changes().len(), 1);
+    assert_eq!(cache.repack_keeping_all(0), Ok(false));
+    assert_eq!(cache.repack_keeping_all(1), Ok(false));
+    assert_eq!(cache.drain_changes().len(), 0);
+    assert!(cache.iter().eq(before));
+    let evictions = cache.statistics().evictions;
+    cache.remove(1);
+    assert_eq!(cache.repack_keeping_all(0), Ok(true));
+    assert_eq!(cache.drain_changes().len(), 2);
+    assert_eq!(cache.statistics().evictions, evictions);
+    let corner = |key| cache.peek(key).unwrap().rectangle.min;
+    assert_eq!((corner(3), corner(2)), (point2(10, 0), point2(0, 0)));
+}
+
+// What was used last goes first, each key reported; the frame goes on, so what is left of it stays.
+#[test]
+fn a_batch_ends_in_a_frame_that_goes_on() {
+    let mut cache = TextureCache::new(&CacheOptions { pages: 1, ..CacheOptions::new(size2(32, 32)) }).unwrap();
+    cache.begin_frame();
+    let halves = |key| (key, size2(32, 16));
+    for (key, size) in ['a', 'b'].map(halves) {
+        assert!(matches!(cache.insert(key, size), Ok(Inserted::Placed(_))));
+    }
+    assert_eq!(cache.insert('c', size2(32, 16)), Ok(Inserted::FrameFull));
+    cache.drain_changes().for_each(drop);
+    let from = cache.peek('b').unwrap();
+    assert_eq!(cache.end_batch(1), Ok(()));
+    assert!(cache.drain_changes().eq([CacheChange::Evicted { key: 'b', place: from }]));
+    assert!(matches!(cache.insert('c', size2(32, 16)), Ok(Inserted::Placed(_))));
+    assert_eq!(cache.insert('b', size2(32, 16)), Ok(Inserted::FrameFull));
+    assert!(cache.keys().eq(['c', 'a']));
+    assert_eq!(cache.end_batch(9), Ok(()));
+    assert!(cache.is_empty());
+}
+
+// What is left of a burst moves from the last page to the pages before it, so many pixels in each call; then the page goes.
+#[test]
+fn a_last_page_is_emptied_a_few_pixels_at_a_time() {
+    let options = CacheOptions { pages: 2, padding: 0, ..CacheOptions::new(size2(16, 16)) };
+    let mut cache = TextureCache::new(&CacheOptions { largest_page: size2(16, 16), ..options }).unwrap();
+    for (key, size) in [(1, size2(16, 8)), (2, size2(16, 8)), (3, size2(8, 8)), (4, size2(8, 8))] {
+        assert!(matches!(cache.insert(key, size), Ok(Inserted::Placed(_))));
+    }
+    cache.remove(2);
+    while cache.next_change().is_some() {}
+    assert_eq!(cache.compact(63), Ok(0));
+    for (key, corner) in [(4, point2(0, 8)), (3, point2(8, 8))] {
+        assert_eq!(cache.shrink(), Ok(()));
+        assert_eq!(cache.drain_changes().len(), 0);
+        let from = cache.peek(key).unwrap();
+        assert_eq!(cache.compact(64), Ok(64));
+        let to = cache.peek(key).unwrap();
+        assert_eq!((from.page, to.page, to.rectangle.min), (1, 0, corner));
+        assert!(cache.drain_changes().eq([CacheChange::Moved { key, from, to }]));
+    }
+    assert_eq!(cache.shrink(), Ok(()));
+    assert!(cache.drain_changes().eq([CacheChange::PageRemoved { page: 1 }]));
+    assert!(cache.keys().eq([4, 3, 1]));
+}
+
 // A renderer that copies by one picture of the page for each call has the right pixels, also where two repackings came before.
 #[test]
 fn changes_of_two_calls_are_not_mixed() {

@@ -18,6 +18,7 @@ fn goes_anywhere<T: Send + Sync + UnwindSafe + RefUnwindSafe + Unpin + Debug + '
 fn all_types_go_to_other_threads_and_through_unwinding() {
     goes_anywhere::<AtlasAllocator>();
     goes_anywhere::<SimpleAtlasAllocator>();
+    goes_anywhere::<PagedAtlas>();
     goes_anywhere::<TextureCache>();
     goes_anywhere::<TextureCache<(u32, char), RandomState>>();
     goes_anywhere::<RecordingAllocator>();
@@ -52,6 +53,7 @@ fn values_are_compared_hashed_and_made() {
         assert_eq!(T::default(), value);
     }
     is_hashed::<Allocation>();
+    is_hashed::<PageAllocation>();
     is_hashed::<Change>();
     is_hashed::<ChangeList>();
     is_hashed::<SlotCount>();

@@ -13,7 +13,7 @@ import xml.etree.ElementTree
 sys.dont_write_bytecode = True
 import icons  # noqa: E402
 import readers  # noqa: E402
-from common import ROOT, frames, main, run, test  # noqa: E402
+from common import ROOT, frames, main, read, run, test, write  # noqa: E402
 from PIL import Image  # noqa: E402
 
 
@@ -39,8 +39,7 @@ def listed(form, out):
     if form in ('cocos', 'cocos3'):
         return [re.findall('<key>(.*\\.png)</key>', open(each).read()) for each in readers.numbered(path)
                 if plistlib.load(open(each, 'rb'))]
-    with open(path) as file:
-        text = file.read()
+    text = read(path)
     names = re.findall(r'^([^\s:]+)\n(?:  rotate.*\n(?:  .*\n)*?  index: (-?\d+)|(?:index: (\d+)\n)?bounds)', text, re.M)
     inside = [re.sub(r'\.png$', '_%s.png' % (old or new), name) if (old or new or '-1') != '-1' else name for name, old, new in names]
     return [inside]
@@ -80,8 +79,7 @@ def in_order_elsewhere(room):
     for form, pattern in (('unity', r'"name": "(hero/walk_\d+\.png)",\s+"rect"'), ('css', r'^\.elsewhere-css-hero-walk_(\d+)-png \{')):
         out = os.path.join(room, 'elsewhere ' + form)
         run(folder, out, '--form', form, '--size', '50', '50', '--pages', '99')
-        with open(out + ('.json' if form == 'unity' else '.css')) as file:
-            text = file.read()
+        text = read(out + ('.json' if form == 'unity' else '.css'))
         found = re.findall(pattern, text, re.M)
         assert (found if form == 'unity' else ['hero/walk_%s.png' % number for number in found]) == walk, (form, found, text[:3000])
 
@@ -124,39 +122,9 @@ def common_frames(room):
         icons.compare(readers.read('json-hash', out), icons.originals(folder), False)
 
 
-# Names of files, what is asked for, the animations in the record, and the lines.
-NAMED = [
-    (['run_1.png', 'run_2.png', 'run_3.png'], [], {'run': 'run_1.png run_2.png run_3.png'}, []),
-    (['fly%d.png' % number for number in (1, 2, 4)], [], {}, ["fly isn't an animation: number 3 is missing"]),
-    (['run_1.png', 'run_2.png', 'run.png'], [], {}, ["run isn't an animation: run.png has its name"]),
-    (['run_1.png', 'run_2.PNG', 'run_3.png'], [], {}, ['run isn\'t an animation: names end in ".PNG" and ".png"']),
-    (['run_1.png', 'run_2.png', 'run-1.png'], [], {}, ['run isn\'t an animation: "-" and "_" stand before the numbers']),
-    (['jump_1.png', 'jump_01.png', 'jump_2.png'], [], {}, ["jump isn't an animation: numbers are written in several widths"]),
-    (['icon_16.png', 'icon_32.png', 'icon_64.png', 'v1.5.png', 'v1.6.png'], [], {}, []),
-    (['icon_16.png', 'icon_32.png', 'icon_8.png', 'v1.5.png', 'v1.6.png'], ['--animations', 'icon*'],
-     {'icon': 'icon_8.png icon_16.png icon_32.png'}, []),
-    (['run_1.png', 'run_2.png'], ['--animations', 'walk*'], {'run': 'run_1.png run_2.png'},
-     ['--animations walk*: no picture with a number is like it']),
-]
-
-
-def by_names(room):
-    """Which names make an animation; a line says what one lacks."""
-    for number, (names, more, played, lines) in enumerate(NAMED):
-        folder, out = os.path.join(room, 'names %d' % number), os.path.join(room, 'named %d' % number)
-        draw(folder, names)
-        done = run(folder, out, *more)
-        assert done.stderr.splitlines() == ['guillotiere-sheet: ' + line for line in lines], (names, done.stderr)
-        told = readers.read_json(out + '.json').get('animations', {})
-        assert told == {name: frames.split() for name, frames in played.items()}, (names, told)
-    run(folder, out, '--animations', 'a[', status=2)
-    run(folder, out, '--animations', 'a', '--no-animations', status=2)
-
-
 def as_on_the_page(room):
     """What docs/PACK.md tells of names that are near an animation, row by row."""
-    with open(os.path.join(ROOT, 'docs', 'PACK.md'), encoding='utf-8') as file:
-        table = re.search(r'^\| files \| line \|\n\|---\|---\|\n((?:\|.*\n)+)', file.read(), re.M).group(1)
+    table = re.search(r'^\| files \| line \|\n\|---\|---\|\n((?:\|.*\n)+)', read(os.path.join(ROOT, 'docs', 'PACK.md')), re.M).group(1)
     rows = [row.strip('| ').split(' | ') for row in table.splitlines()]
     assert len(rows) >= 6, rows
     for number, (files, told) in enumerate(rows):
@@ -184,8 +152,7 @@ def timed(room):
     draw(folder, ['hero/die_1.png', 'hero/die_2.png', 'hero/walk_1.png', 'hero/walk_2.png', 'coin_1.png', 'coin_2.png', 'a.png'])
 
     def tell(text):
-        with open(os.path.join(folder, 'animations.txt'), 'w') as file:
-            file.write(text)
+        write(os.path.join(folder, 'animations.txt'), text)
     tell('# how they are played\nhero/* 12.5\n\nhero/die 4 once\ncoin 20 loop\n')
     wanted = {'hero/walk': (12.5, True), 'hero/die': (4, False), 'coin': (20, True)}
     for form in [*readers.READERS, 'unity', 'css']:
@@ -204,8 +171,7 @@ def timed(room):
             found = {each['name']: (each['frameRate'], each['loop']) for each in readers.read_json(out + '.json')['animations']}
             assert found == wanted, found
         if 'godot' in form:
-            with open(out + '.tres') as file:
-                found = re.findall(r'"loop": (\w+),\n"name": &?"(.*)",\n"speed": (.*)\n', file.read())
+            found = re.findall(r'"loop": (\w+),\n"name": &?"(.*)",\n"speed": (.*)\n', read(out + '.tres'))
             assert {name: (float(speed), loop == 'true') for loop, name, speed in found} == {**wanted, 'a.png': (7, True)}, found
     tell('run 5\n')
     assert run(folder, out).stderr.endswith('/animations.txt: line 1: no animation is like it\n')
@@ -216,7 +182,7 @@ def timed(room):
 
 
 def all_tests(room):
-    for each in (in_order, in_order_elsewhere, together, common_frames, by_names, as_on_the_page, timed):
+    for each in (in_order, in_order_elsewhere, together, common_frames, as_on_the_page, timed):
         test('animations: ' + each.__name__, each, room)
 
 

@@ -6,16 +6,19 @@ import signal
 import subprocess
 import sys
 import tempfile
+import time
 
 sys.dont_write_bytecode = True
 ROOT = os.path.dirname(os.path.dirname(os.path.dirname(os.path.dirname(os.path.abspath(__file__)))))
 sys.path.append(os.path.join(ROOT, 'gate'))
 from pngs import chunk, png  # noqa: E402, F401
-from runner import Suite, outcome  # noqa: E402
+from runner import Suite, outcome, read, write  # noqa: E402, F401
 
 PROGRAM = os.path.abspath(sys.argv[1]) if len(sys.argv) == 2 else sys.exit(sys.modules['__main__'].__doc__)
 SUITE = Suite()
-test = SUITE.run
+test, check = SUITE.run, SUITE.judge
+# Root opens what is closed to others, so another user runs the program where it is root that tests.
+USER = {'user': 65534, 'group': 65534, 'extra_groups': []} if os.geteuid() == 0 else {}
 # Programs begun here mind a closed terminal and Ctrl-C, even where the gate runs by nohup: a signal that this process handles is in them as
 # it is at first.
 signal.signal(signal.SIGHUP, lambda *_: None)
@@ -47,6 +50,20 @@ def run(*words, status=0, **more):
     return done
 
 
+def grey(wide, high, value=7):
+    """A PNG of one grey."""
+    return png(wide, high, 8, 0, [bytes([value]) * wide] * high)
+
+
+WHOLE = grey(8, 8)
+GOOD = {'a.png': WHOLE, 'b.png': grey(9, 4)}
+
+
+def written(folder):
+    """The names of all files and folders, but for the stamps."""
+    return sorted(name for _, folders, names in os.walk(folder) for name in folders + names if not name.endswith('.stamp'))
+
+
 def put(folder, files):
     """Writes files by their names; a text is where a link leads to."""
     for name, data in files.items():
@@ -57,6 +74,15 @@ def put(folder, files):
             continue
         with open(path, 'wb') as file:
             file.write(data)
+
+
+def wait_for(has_come, seconds=30):
+    end = time.time() + seconds
+    while time.time() < end:
+        if has_come():
+            return True
+        time.sleep(0.05)
+    return False
 
 
 def frames(out):

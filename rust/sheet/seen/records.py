@@ -17,7 +17,7 @@ sys.dont_write_bytecode = True
 HERE = os.path.dirname(os.path.abspath(__file__))
 import icons  # noqa: E402
 import readers  # noqa: E402
-from common import frames, main, run, test  # noqa: E402
+from common import frames, main, read, run, test, write  # noqa: E402
 from PIL import Image  # noqa: E402
 
 ANCHORED = ['json-hash', 'json-array', 'phaser', 'starling', 'cocos3']
@@ -31,8 +31,7 @@ def walking(room):
         icons.save(folder, 'hero/walk_%d.png' % number, Image.new('RGBA', (20 + number, 10), (number, 1, 2, 255)))
     for number in (16, 32):
         icons.save(folder, 'icon%d.png' % number, Image.new('RGBA', (number, number), (9, number, 2, 255)))
-    with open(os.path.join(folder, 'anchors.txt'), 'w') as file:
-        file.write('# feet\nhero/* 0.5 1\n\nwalk_12.png 0.25 -1.5\n')
+    write(os.path.join(folder, 'anchors.txt'), '# feet\nhero/* 0.5 1\n\nwalk_12.png 0.25 -1.5\n')
     names = ['hero/walk_%d.png' % number for number in range(1, count + 1)]
     originals = {name: picture for name, picture in icons.originals(folder, '.png').items()}
     for more in ([], ['--trim', '--size', '72', '72', '--pages', '9', '--group']):
@@ -67,8 +66,7 @@ def played(form, out, originals, names):
         found = readers.read(form, out)
         indexed = {names[number - 1]: found.pop(('hero/walk.png', number)) for number in range(1, len(names) + 1)}
         icons.compare({**found, **indexed}, originals, False)
-        with open(out + '.atlas') as file:
-            assert [int(index) for index in re.findall(r'index: (\d+)', file.read())] == list(range(1, len(names) + 1))
+        assert [int(index) for index in re.findall(r'index: (\d+)', read(out + '.atlas'))] == list(range(1, len(names) + 1))
         return
     if form in ('godot', 'godot3'):
         found = readers.godot_animations(out + '.tres')
@@ -113,8 +111,7 @@ def filters(folder, room):
                              (['--filter', 'nearest'], 'filter: Nearest,Nearest\nrepeat: none\n'),
                              (['--filter', 'mipmap', '--wrap', 'x'], 'filter: MipMapLinearLinear,Linear\nrepeat: x\n')):
             run(folder, out, '--form', form, *words)
-            with open(out + '.atlas', encoding='utf-8') as file:
-                assert lines in file.read()
+            assert lines in read(out + '.atlas')
 
 
 GODOT = """extends SceneTree
@@ -160,8 +157,7 @@ def by_godot(folder, room):
         icons.save(walk, 'hero/walk_%d.png' % number, Image.new('RGBA', (20 + number, 10), (number, 1, 2, 255)))
     run(walk, os.path.join(project, 'sheet'), '--form', 'godot3', '--trim', '--size', '256', '256', '--pages', '9', '--frame-rate', '7.5')
     for name, text in (('project.godot', 'config_version=4\n'), ('show.gd', GODOT)):
-        with open(os.path.join(project, name), 'w') as file:
-            file.write(text)
+        write(os.path.join(project, name), text)
     words = [program, '--path', project, '-s', 'show.gd'] + ([] if program.endswith('-server') else ['--no-window'])
     done = subprocess.run(words, stdout=subprocess.PIPE, stderr=subprocess.STDOUT, text=True, timeout=200,
                           env=dict(os.environ, HOME=project))
@@ -202,8 +198,7 @@ def templates(folder, room):
         texts = []
         for words in (['--form', form], ['--template', os.path.join(by_hand, name)]):
             run(folder, out, '--size', '256', '256', '--pages', '9', *words)
-            with open(out + ending, encoding='utf-8') as file:
-                texts.append(file.read())
+            texts.append(read(out + ending))
         assert texts[0] == texts[1]
     run(folder, out, '--template', os.path.join(by_hand, 'love.lua.tera'))
     with open(out + '.lua', encoding='utf-8') as file:
@@ -231,8 +226,7 @@ def small_files(room):
     found = {}
     for name in originals:
         path = '%s-%s.tres' % (out, name.replace('/', '-'))
-        with open(path, encoding='utf-8') as file:
-            parts = {kind: (heads, body) for kind, heads, body in readers.sections(file.read())}
+        parts = {kind: (heads, body) for kind, heads, body in readers.sections(read(path))}
         assert parts['gd_resource'][0] == {'type': 'AtlasTexture', 'load_steps': 2, 'format': 3}
         body, page = parts['resource'][1], parts['ext_resource'][0]
         x, y, wide, high = (int(value) for value in body['region'][1])
@@ -248,8 +242,7 @@ def small_files(room):
         file.write('{{ animation.name }} {{ animation.loop }}{% for one in animation.frames %} {{ one.image }}:{{ one.name }}:'
                    '{{ one.source.width }}{% endfor %}')
     run(folder, out, *words, '--template', template)
-    with open(out + '-hero-walk.txt') as file:
-        told = file.read().split(' ')
+    told = read(out + '-hero-walk.txt').split(' ')
     sheet = told[2].split(':')[0]
     assert told == ['hero/walk', 'true', *('%s:hero/walk_%d:%d' % (sheet, number, 20 + number) for number in (1, 2, 3))], told
     icons.save(folder, 'hero-walk_1.png', Image.new('RGBA', (9, 9)))

@@ -17,7 +17,7 @@ import urllib.parse
 import zlib
 
 sys.dont_write_bytecode = True
-from common import ROOT, frames, main, png, put, run, test  # noqa: E402
+from common import ROOT, frames, main, png, put, read, run, test, write  # noqa: E402
 from PIL import Image  # noqa: E402
 
 sys.path.append(os.path.join(ROOT, 'web'))
@@ -177,15 +177,13 @@ def around(sheet, box, original, far, is_trimmed):
 def premultiplied(folder, originals, room):
     out = os.path.join(room, 'premultiplied')
     run(folder, out, '--premultiply', '--form', 'libgdx')
-    with open(out + '.atlas', encoding='utf-8') as file:
-        assert 'pma' not in file.read()
+    assert 'pma' not in read(out + '.atlas')
     run(folder, out, '--premultiply', '--form', 'libgdx-new')
     for name, picture in readers.read('libgdx-new', out).items():
         given, got = (list(each.getdata()) for each in (originals[name], picture))
         wanted = [tuple((2 * colour * pixel[3] + 255) // 510 for colour in pixel[:3]) + (pixel[3],) for pixel in given]
         assert got == wanted, name
-    with open(out + '.atlas', encoding='utf-8') as file:
-        assert '\npma: true\n' in file.read()
+    assert '\npma: true\n' in read(out + '.atlas')
 
 
 def scaled(folder, originals, room):
@@ -256,8 +254,7 @@ def others(room):
     put(folder, {'g.png': png(2, 1, 16, 0, [bytes([255, 255, 255, 254])], [(b'tRNS', bytes([255, 255]))])})
     for name in ('notes.txt', '.hidden.png', '.folder/broken.png'):
         os.makedirs(os.path.dirname(os.path.join(folder, name)), exist_ok=True)
-        with open(os.path.join(folder, name), 'w') as file:
-            file.write('no picture')
+        write(os.path.join(folder, name), 'no picture')
     out = os.path.join(room, 'others sheet')
     run(folder, out)
     found = readers.read('json-hash', out)
@@ -364,8 +361,7 @@ def as_webp(folder, originals, room):
         path = os.path.join(room, 'path %d' % len(line))
         os.mkdir(path)
         if script:
-            with open(os.path.join(path, 'cwebp'), 'w') as file:
-                file.write('#!/bin/sh\nPATH=/usr/bin:/bin\n%s\n' % script)
+            write(os.path.join(path, 'cwebp'), '#!/bin/sh\nPATH=/usr/bin:/bin\n%s\n' % script)
             os.chmod(os.path.join(path, 'cwebp'), 0o755)
         told = run(folder, out, '--image', 'webp', '--padding', '9', status=1, env=dict(os.environ, PATH=path)).stderr
         assert told.startswith('guillotiere-sheet: sheet.webp: ' + line), told
@@ -387,13 +383,11 @@ def css(chromium, folder, way, room, most=0, more=()):
     """A screenshot of the page beside one of the pictures themselves in the same lines."""
     out = os.path.join(room, 'css' + way)
     run(folder, out, '--form', 'css', '--page', *WAYS[way], *more)
-    with open(out + '.html', encoding='utf-8') as file:
-        text = file.read()
+    text = read(out + '.html')
     names = sorted(icons.originals(folder))
     assert text.count('<i ') == len(names)
     shown = page_of_pictures(folder, text)
-    with open(os.path.join(room, 'pictures.html'), 'w', encoding='utf-8') as file:
-        file.write(shown)
+    write(os.path.join(room, 'pictures.html'), shown)
     size = (800, 1400)
     sheet, pictures = (screenshot(chromium, os.path.join(room, page), size, room) for page in ('css%s.html' % way, 'pictures.html'))
     assert len(set(pictures.getdata())) > 100
@@ -414,12 +408,10 @@ def retina(chromium, room):
             words = [word for word in WAYS[way] if more or word != '--turn']
             run(folder, out, '--form', 'css', '--page', '--scale', scale, '--no-animations', *words, *more)
         assert not os.path.exists(both + '@0.5x.css')
-        with open(both + '.html', encoding='utf-8') as file:
-            text = file.read()
+        text = read(both + '.html')
         shown = re.sub(r'<i class="[^"]*" title="([^"]*)"></i>', lambda match: '<img style="margin: 3px; width: %gpx" src="file://%s">' % (
             Image.open(os.path.join(folder, match.group(1))).width / 2, urllib.parse.quote(os.path.join(folder, match.group(1)))), text)
-        with open(os.path.join(room, 'retina pictures.html'), 'w', encoding='utf-8') as file:
-            file.write(shown)
+        write(os.path.join(room, 'retina pictures.html'), shown)
         by_hand = os.path.join(room, 'retina pictures.html')
         for factor, pages in ((1, (half + '@0.5x.html', both + '.html')), (2, (by_hand, both + '.html'))):
             shots = [screenshot(chromium, page, (500, 400), room, factor) for page in pages]

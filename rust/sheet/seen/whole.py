@@ -1,12 +1,14 @@
 #!/usr/bin/env python3
 """Kills guillotiere-sheet at each step that changes OUT's folder, runs it twice at once, and stops it by signals: whoever finds a record
-finds the pictures that belong to it, and the next run leaves nothing but the set.
+finds the pictures that belong to it, and the next run leaves nothing but the set. And long work: a search that ends in time, what a
+terminal shows of it, and smaller PNG files.
 
     rust/sheet/seen/whole.py PROGRAM
 
 The last line is 'N passed, M failed'. It needs Pillow, and gcc on Linux."""
+import io
 import os
-import resource
+import pty
 import shutil
 import signal
 import subprocess
@@ -16,7 +18,8 @@ import time
 sys.dont_write_bytecode = True
 import icons  # noqa: E402
 import readers  # noqa: E402
-from common import PROGRAM, begun, ended, main, test  # noqa: E402
+from common import PROGRAM, begun, ended, main, read, test  # noqa: E402
+from common import run as run_well  # noqa: E402
 from PIL import Image  # noqa: E402
 
 HERE = os.path.dirname(os.path.abspath(__file__))
@@ -154,8 +157,7 @@ def to_the_disk(library, room):
     for number in (1, 2):
         log = os.path.join(room, 'log %d' % number)
         assert run([folder, os.path.join(inside, 'sheet'), *['--trim'][:number - 1]], library, STEP_LOG=log).returncode == 0
-        with open(log) as file:
-            steps = file.read().split()
+        steps = read(log).split()
         # At the end the folder of parts, which isn't there any more, and the lock.
         replaced = ['unlink', 'fsync'] if number == 2 else []
         assert steps == ['mkdir', 'fsync', 'fsync', 'fsync', 'fsync', 'rename', 'fsync', *replaced, 'rename', 'rename', 'rename', 'fsync',
@@ -180,40 +182,25 @@ def hung_up(room):
 
 
 def asked_to_end(room):
-    """Where a hangup is ignored, as by nohup, other signals do what they do otherwise: nothing is left half done, and with --keep-best the
-    best sheet is written."""
+    """By signals, also where a hangup is ignored, as by nohup: nothing is left half done, and with --keep-best the best is written."""
     folder, originals = pictures(room, 'asked', 40, 20)
-    for how in (signal.SIGTERM, signal.SIGINT):
+    for how, is_by_nohup in ((signal.SIGINT, False), (signal.SIGINT, True), (signal.SIGTERM, True)):
         for more, status in (([], 130), (['--keep-best'], 0)):
-            inside = os.path.join(room, 'asked %d %d' % (how, status))
+            inside = os.path.join(room, 'asked %d %d %d' % (how, is_by_nohup, status))
             os.mkdir(inside)
             out = os.path.join(inside, 'sheet')
             running = begun([PROGRAM, folder, out, '--effort', '100000000', *more], stdout=subprocess.DEVNULL, stderr=subprocess.PIPE,
-                            preexec_fn=lambda: signal.signal(signal.SIGHUP, signal.SIG_IGN))
+                            preexec_fn=(lambda: signal.signal(signal.SIGHUP, signal.SIG_IGN)) if is_by_nohup else None)
+            # The first sheet that is found is told.
             assert b'so far a sheet of ' in running.stderr.readline()
-            running.send_signal(signal.SIGHUP)
+            if is_by_nohup:
+                running.send_signal(signal.SIGHUP)
             time.sleep(0.3)
             assert running.poll() is None
             running.send_signal(how)
             running.stderr.close()
             assert running.wait(timeout=60) == status, (how, more, running.returncode)
             assert not hidden(inside) and found('json-hash', out) == (told(originals) if status == 0 else None), os.listdir(inside)
-
-
-def too_long(room):
-    """A file that may not grow is a failed write, and the earlier set stays."""
-    inside = os.path.join(room, 'too long')
-    os.mkdir(inside)
-    out = os.path.join(inside, 'sheet')
-    (old, originals), (new, _) = pictures(room, 'short', 4, 20), pictures(room, 'long', 60, 30)
-    assert run([old, out]).returncode == 0
-
-    def limit():
-        signal.signal(signal.SIGXFSZ, signal.SIG_DFL)
-        resource.setrlimit(resource.RLIMIT_FSIZE, (3000, 3000))
-    done = ended([new, out], preexec_fn=limit)
-    assert done.returncode == 1 and "it can't be written there: File too large" in done.stderr, (done.returncode, done.stderr)
-    assert not hidden(inside) and found('json-hash', out) == told(originals)
 
 
 def untouched(room):
@@ -237,11 +224,83 @@ def untouched(room):
     assert found('json-hash', os.path.join(inside, 'sheet')) is not None
 
 
+def side(out):
+    with Image.open(out + '.png') as sheet:
+        return sheet.size[0]
+
+
+def in_time(folder, room):
+    """It ends in time with a sheet that isn't larger than one without tries, or before, where so many tries are done."""
+    plain, out = os.path.join(room, 'plain'), os.path.join(room, 'timed')
+    run_well(folder, plain)
+    for more, least, most in ((['--time', '2'], 2, 60), (['--time', '500', '--effort', '30'], 0, 200),
+                              (['--time', '2', '--scale', '1,0.5'], 2, 60),
+                              (['--time', '2', '--size', '256', '256', '--pages', '9'], 0, 60)):
+        begun = time.time()
+        run_well(folder, out, *more)
+        assert least <= time.time() - begun < most, (more, time.time() - begun)
+        if '--pages' not in more:
+            assert side(out) <= side(plain), more
+            icons.compare(readers.read('json-hash', out), icons.originals(folder), False)
+    assert run_well(folder, out, '--time', '-1', status=2).stdout == ''
+    run_well(folder, out, '--keep-best', status=2)
+
+
+def shown(folder, room):
+    """On a terminal a line says how far it is; elsewhere nothing does."""
+    out = os.path.join(room, 'shown')
+    assert run_well(folder, out).stderr == ''
+    ours, theirs = pty.openpty()
+    running = begun([PROGRAM, folder, out, '--time', '2'], stdout=subprocess.DEVNULL, stderr=theirs,
+                    env=dict(os.environ, TERM='xterm'))
+    os.close(theirs)
+    text = b''
+    while True:
+        try:
+            part = os.read(ours, 65536)
+        except OSError:
+            break
+        if not part:
+            break
+        text += part
+    os.close(ours)
+    assert running.wait(timeout=60) == 0 and b'packing' in text and b'so far a sheet of ' in text, text[-2000:]
+
+
+def small(room):
+    """The same pixels in fewer bytes: about what Pillow makes with `optimize`, and with a palette or without alpha where that does."""
+    folder = os.path.join(room, 'small')
+    icons.fill(folder, count=40)
+    few = os.path.join(room, 'few')
+    for number in range(9):
+        icons.save(few, '%dx.png' % number, Image.new('RGBA', (9 + number, 9), (number, 1, 2, 255 - 20 * number)))
+    solid = os.path.join(room, 'solid')
+    gradients = [Image.linear_gradient('L'), Image.linear_gradient('L').rotate(90), Image.radial_gradient('L')]
+    icons.save(solid, 'a.png', Image.merge('RGB', gradients).resize((64, 64)))
+    for inside, more, mode in ((folder, ['--trim'], 'RGBA'), (few, [], 'P'), (solid, ['--border', '0'], 'RGB'),
+                               (few, ['--extrude', '1'], 'P')):
+        out, plain = os.path.join(room, 'small sheet'), os.path.join(room, 'large sheet')
+        run_well(inside, out, '--compress', *more)
+        run_well(inside, plain, *more)
+        icons.compare(readers.read('json-hash', out), icons.originals(inside), '--trim' in more)
+        with Image.open(out + '.png') as ours, Image.open(plain + '.png') as theirs:
+            assert ours.mode == mode, (ours.mode, more)
+            assert ours.convert('RGBA').tobytes() == theirs.tobytes()
+            smaller = io.BytesIO()
+            theirs.save(smaller, 'png', optimize=True)
+        sizes = [os.path.getsize(path + '.png') for path in (out, plain)] + [len(smaller.getvalue())]
+        assert sizes[0] <= sizes[1] and sizes[0] <= 1.04 * sizes[2], sizes
+
+
 def all_tests(room):
+    folder = os.path.join(room, 'icons')
+    icons.fill(folder, count=60)
+    test('in time', in_time, folder, room)
+    test('shown', shown, folder, room)
+    test('small', small, room)
     test('untouched', untouched, room)
     test('hung up', hung_up, room)
     test('asked to end', asked_to_end, room)
-    test('too long', too_long, room)
     library = os.path.join(room, 'steps.so')
     compiler = shutil.which('gcc')
     if compiler is None or not sys.platform.startswith('linux'):

@@ -46,7 +46,7 @@ pub struct Made {
 pub struct Stamp {
     pub made: Made,
     pub outputs: Vec<Written>,
-    /// The same, as they lay there.
+    /// The outputs, as they lay in their places.
     pub placed: Vec<Input>,
     /// Files of the set before that are called by what they have, and stay for those who read its record.
     pub before: Vec<Written>,

@@ -81,8 +81,8 @@ fn folded(word: u64) -> u64 {
 #[cfg(not(target_pointer_width = "64"))]
 use folded_by_halves as folded;
 
-/// The same from products of 64 bits. Where pointers have 32 bits, as in WebAssembly, a product of 128 bits is a call that gives it
-/// through memory. The sums stay below 2^64.
+/// What `folded` gives, from products of 64 bits. Where pointers have 32 bits, as in WebAssembly, a product of 128 bits is a call that
+/// gives it through memory. The sums stay below 2^64.
 #[cfg(any(test, not(target_pointer_width = "64")))]
 #[inline]
 fn folded_by_halves(word: u64) -> u64 {

@@ -17,7 +17,7 @@ pub fn below(state: &mut u64, bound: u16) -> u16 {
     ((next(state) >> 40) % u64::from(bound)) as u16
 }
 
-/// The same as a side of a box.
+/// A side of a box below the bound; 0 where that is 0.
 pub fn side(state: &mut u64, bound: u16) -> i32 {
     i32::from(below(state, bound))
 }

@@ -5,7 +5,7 @@ use crate::plain::{DONE, EMPTY, NULL_POINTER};
 use wollemigo_core::atlas_allocator::store_of;
 use wollemigo_core::atlas_search::cut::Orientation;
 use wollemigo_core::atlas_store::slots::walks::slot_id;
-use wollemigo_core::atlas_store::slots::{Node, NodeKind};
+use wollemigo_core::atlas_store::slots::{NodeKind, Slot};
 use wollemigo_support::raw::slice_mut;
 
 /// A member by its slot; links are numbers of slots, 4294967295 for none. The axis is that of the sequence it is in.
@@ -28,29 +28,29 @@ pub struct PlainMember {
 }
 
 // A used slot; None of an unused one.
-fn plain_member(number: usize, node: &Node) -> Option<PlainMember> {
-    let (kind, id) = match node.kind {
+fn plain_member(number: usize, slot: &Slot) -> Option<PlainMember> {
+    let (kind, id) = match slot.kind {
         NodeKind::Container => (0, 0),
-        NodeKind::Alloc => (1, slot_id(number, node.generation).serialize()),
+        NodeKind::Alloc => (1, slot_id(number, slot.generation).serialize()),
         NodeKind::Free => (2, 0),
         NodeKind::Unused => return None,
     };
-    let axis = match node.axis {
+    let axis = match slot.axis {
         Orientation::Horizontal => 0,
         Orientation::Vertical => 1,
     };
     Some(PlainMember {
         number: number as u32,
-        parent: node.parent.number,
-        previous: node.previous.number,
-        next: node.next.number,
+        parent: slot.parent.number,
+        previous: slot.previous.number,
+        next: slot.next.number,
         kind,
         axis,
         id,
-        min_x: node.area.min.x,
-        min_y: node.area.min.y,
-        max_x: node.area.max.x,
-        max_y: node.area.max.y,
+        min_x: slot.area.min.x,
+        min_y: slot.area.min.y,
+        max_x: slot.area.max.x,
+        max_y: slot.area.max.y,
     })
 }
 
@@ -73,7 +73,7 @@ pub extern "C" fn guillotiere_atlas_members(
     let held = atlas.lent();
     let mut many = 0;
     for (number, slot) in store_of(held).slots().iter().enumerate() {
-        if let Some(member) = plain_member(number, &slot.node) {
+        if let Some(member) = plain_member(number, slot) {
             if let Some(place) = found.get_mut(many) {
                 *place = member;
             }

@@ -1,5 +1,4 @@
-//! The module for JavaScript (web/): the exports for C, whose modules `build.rs` lists, and what only JavaScript has beside them. One of
-//! these, `copying`, stands within a module of the library.
+//! The module for JavaScript (web/): the exports for C, whose modules `build.rs` lists, and what only JavaScript has beside them.
 #![allow(dead_code, unused_imports, unused_labels, unused_variables)]
 
 #[cfg(not(feature = "only-cache"))]

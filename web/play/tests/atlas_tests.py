@@ -375,6 +375,3 @@ def test_what_a_rearrangement_loses_is_told(page):
     assert len(page.compare()[0]) == 20
     page.click('#undo')
     assert page.trouble() == '' and len(page.compare()[0]) == 21
-
-
-TESTS = [each for name, each in sorted(globals().items()) if name.startswith('test_')]

@@ -112,6 +112,3 @@ def test_measures_the_time(page):
     times = page.run('return play.player.beside.found.map(({ time }) => time)')
     told = page.run('return [...document.querySelectorAll("#beside-rows td:last-child")].map((each) => each.textContent)')
     assert all(0 < each < 1 for each in times) and all(re.fullmatch(r'[\d.]+ (ns|µs)', each) for each in told), (times, told)
-
-
-TESTS = [each for name, each in sorted(globals().items()) if name.startswith('test_')]

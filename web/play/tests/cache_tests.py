@@ -196,6 +196,3 @@ def test_a_texel_is_a_pixel(page):
       return [width - 2 * parseFloat(borderLeftWidth) - canvas.width, height - 2 * parseFloat(borderTopWidth) - canvas.height];
     })""")
     assert sizes and all(each == [0, 0] for each in sizes), sizes
-
-
-TESTS = [each for name, each in sorted(globals().items()) if name.startswith('test_')]

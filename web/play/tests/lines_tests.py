@@ -110,6 +110,3 @@ def test_lines_beside_the_shelves(page):
     open_page(page)
     held, refused = page.run('const { boxes, refused } = how.shelf.found.atlas.at(-1); return [boxes.length, refused]')
     assert told_by(page, page.run(LINES, 'shelf')) == [[held, refused]]
-
-
-TESTS = [each for name, each in sorted(globals().items()) if name.startswith('test_')]

@@ -1,6 +1,8 @@
 """The page in a browser, and what atlas_tool answers to the same lines."""
+import os
 import re
 import subprocess
+import time
 import urllib.request
 
 
@@ -51,6 +53,18 @@ class Page:
 
     def trouble(self):
         return self.run('const note = document.getElementById("trouble"); return note.hidden ? "" : note.textContent')
+
+    def saved(self, selector, name):
+        """What a button downloads, which is then removed."""
+        self.click(selector)
+        path, end = os.path.join(self.browser.downloads, name), time.time() + 20
+        while not (os.path.exists(path) and os.path.getsize(path)):
+            assert time.time() < end, os.listdir(self.browser.downloads)
+            time.sleep(0.1)
+        with open(path, 'rb') as file:
+            content = file.read()
+        os.remove(path)
+        return content
 
     def lines(self):
         return self.run('return play.player.session.lines')

@@ -33,6 +33,3 @@ def test_buttons_are_large_enough(page):
     small = page.run('return [...document.querySelectorAll("button, select, .bar input:not([type=checkbox])")].filter((each) => each.offsetParent'
                      ' && !each.closest("#classes") && each.getBoundingClientRect().height < 24).map((each) => each.outerHTML)')
     assert small == []
-
-
-TESTS = [each for name, each in sorted(globals().items()) if name.startswith('test_')]

@@ -1,8 +1,6 @@
 """The session of the atlas as lines: pasted in, played, copied out, carried by a link."""
-import os
 import random
 import struct
-import time
 
 
 def drawn_lines(seed, count):
@@ -77,14 +75,7 @@ def test_goes_through_the_lines(page):
 
 
 def test_saves_a_picture(page):
-    page.click('#save')
-    path, end = os.path.join(page.browser.downloads, 'atlas.png'), time.time() + 20
-    while not (os.path.exists(path) and os.path.getsize(path)):
-        assert time.time() < end, os.listdir(page.browser.downloads)
-        time.sleep(0.1)
-    with open(path, 'rb') as file:
-        head = file.read(24)
-    os.remove(path)
+    head = page.saved('#save', 'atlas.png')
     wanted = page.run('const { width, height } = document.getElementById("base"); return [width, height]')
     assert head[:8] == b'\x89PNG\r\n\x1a\n' and list(struct.unpack('>II', head[16:24])) == wanted
 
@@ -151,6 +142,3 @@ def test_plain_link(page):
         page.compare()
     page.open('#elsewhere')
     assert page.trouble() == '' and len(page.compare()[0]) == 16
-
-
-TESTS = [each for name, each in sorted(globals().items()) if name.startswith('test_')]

@@ -1,11 +1,21 @@
-"""The tab of sheets: pictures are chosen as files, and the sheet is that of atlas_pack for the same sizes."""
+"""The tab of sheets: pictures are chosen as files, and the sheet is that of atlas_pack for the same sizes. And sizes of a person's own,
+pasted into the tabs; and the outcome as JSON, PNG and SVG."""
 import json
 import os
 import struct
 import subprocess
-import time
+import xml.etree.ElementTree as xml
 
 from pngs import png
+
+SIZES = [(20, 60), (64, 8), (33, 31), (300, 300), (1, 1)]
+FORMS = {
+    'by spaces': '20 60\n64 8\n 33  31 \n\n300 300\n1\t1\n', 'by x': '20x60\n64 x 8\n33X31\n300×300\n1x1', 'by commas': '20,60\n64, 8\n33,31\n300 , 300\n1;1',
+    'lists of JSON': '[[20, 60], [64, 8], [33, 31], [300, 300], [1, 1]]',
+    'objects of JSON': '[{"w":20,"h":60},{"w":64,"h":8},{"width":33,"height":31},{"w":300,"h":300,"name":"x"},{"w":1,"h":1}]',
+    'frames of JSON': '{"a":{"frame":{"x":5,"y":5,"w":20,"h":60}},"b":{"frame":{"w":64,"h":8}},"c":{"w":33,"h":31},"d":[300,300],"e":{"w":1,"h":1}}',
+}
+NONE = ['', '20', '20 60 5', '20 60\nx', '20.5 60', '-1 5', '[[1]]', '[1, 2]', '{"a"', '[]', '{}', '[null]', '[["1", 2]]', '[[1.5, 2]]']
 
 
 def write(path, width, height, colour):
@@ -33,6 +43,18 @@ def choose(page, made):
     page.wait('play.sheet.pictures.length === %d' % len(made))
 
 
+def chosen(page):
+    made = pictures(page.folder)
+    choose(page, made)
+    return made
+
+
+def several(page):
+    """As many sheets of 128 as are needed."""
+    page.browser.choose('#sheet-greatest', '128')
+    page.browser.choose('#sheet-pages', 'several')
+
+
 def compare(page, made, settings):
     """The page's JSON is that of atlas_pack, and each picture's pixels are there."""
     lines = ['sheet %s json' % settings] + ['%s %d %d' % (name, wide, high) for name, (_, wide, high, _) in sorted(made.items())]
@@ -56,15 +78,13 @@ def compare(page, made, settings):
 
 
 def test_packs_chosen_pictures(page):
-    made = pictures(page.folder)
-    choose(page, made)
+    made = chosen(page)
     compare(page, made, 'squares 1 4096 padding 1 effort 200')
     assert page.trouble() == '' and '14 pictures on a sheet of' in page.text('sheet-told')
 
 
 def test_each_setting(page):
-    made = pictures(page.folder)
-    choose(page, made)
+    made = chosen(page)
     page.browser.choose('#sheet-kind', 'powers')
     page.browser.choose('#sheet-greatest', '1024')
     compare(page, made, 'powers 1024 padding 1 effort 200')
@@ -119,8 +139,7 @@ def compare_sheets(page, made, settings):
 
 
 def test_several_sheets(page):
-    made = pictures(page.folder)
-    choose(page, made)
+    made = chosen(page)
     page.browser.choose('#sheet-greatest', '128')
     assert 'no sheet that is allowed takes them all' in page.text('sheet-told')
     page.browser.choose('#sheet-pages', 'several')
@@ -136,10 +155,8 @@ def test_several_sheets(page):
 
 
 def test_a_folder_stays_together(page):
-    made = pictures(page.folder)
-    choose(page, made)
-    page.browser.choose('#sheet-greatest', '128')
-    page.browser.choose('#sheet-pages', 'several')
+    made = chosen(page)
+    several(page)
     made = in_folders(page, made)
     apart = compare_sheets(page, made, 'squares 1 128 padding 1 effort 200 pages 99')
     page.click('#sheet-groups')
@@ -149,35 +166,24 @@ def test_a_folder_stays_together(page):
 
 
 def test_downloads_one_of_several(page):
-    made = pictures(page.folder)
-    choose(page, made)
-    page.browser.choose('#sheet-greatest', '128')
-    page.browser.choose('#sheet-pages', 'several')
+    made = chosen(page)
+    several(page)
     assert page.run('return document.getElementById("sheet-png").hidden')
-    page.click('#sheets figure:nth-of-type(2) button')
-    path, end = os.path.join(page.browser.downloads, 'sheet-1.png'), time.time() + 20
-    while not (os.path.exists(path) and os.path.getsize(path)):
-        assert time.time() < end, os.listdir(page.browser.downloads)
-        time.sleep(0.1)
-    with open(path, 'rb') as file:
-        head = file.read(24)
+    head = page.saved('#sheets figure:nth-of-type(2) button', 'sheet-1.png')
     size = json.loads(page.run('return play.sheet.json()'))['textures'][1]['size']
     assert struct.unpack('>II', head[16:24]) == (size['w'], size['h'])
-    os.remove(path)
 
 
 def test_picture_that_is_too_large_for_each_sheet(page):
     path = os.path.join(page.folder, 'large.png')
     write(path, 200, 9, (1, 2, 3))
     choose(page, {'large.png': (path, 200, 9, (1, 2, 3))})
-    page.browser.choose('#sheet-greatest', '128')
-    page.browser.choose('#sheet-pages', 'several')
+    several(page)
     assert 'one of them is too large for an empty sheet' in page.text('sheet-told')
 
 
 def test_tells_that_no_sheet_takes_all(page):
-    made = pictures(page.folder)
-    choose(page, made)
+    made = chosen(page)
     page.browser.choose('#sheet-kind', 'heights')
     page.browser.fill('#sheet-width', '30')
     assert 'no sheet that is allowed takes them all' in page.text('sheet-told')
@@ -185,25 +191,11 @@ def test_tells_that_no_sheet_takes_all(page):
 
 
 def test_downloads(page):
-    made = pictures(page.folder)
-    choose(page, made)
-    folder = page.browser.downloads
-    page.click('#sheet-png')
-    page.click('#sheet-json')
-    end = time.time() + 20
-    paths = [os.path.join(folder, 'sheet.png'), os.path.join(folder, 'sheet.json')]
-    while not all(os.path.exists(path) and os.path.getsize(path) for path in paths):
-        assert time.time() < end, os.listdir(folder)
-        time.sleep(0.1)
-    with open(paths[0], 'rb') as file:
-        head = file.read(24)
-    with open(paths[1]) as file:
-        told = json.load(file)
+    made = chosen(page)
+    head, told = page.saved('#sheet-png', 'sheet.png'), json.loads(page.saved('#sheet-json', 'sheet.json'))
     assert head[:8] == b'\x89PNG\r\n\x1a\n'
     assert struct.unpack('>II', head[16:24]) == (told['meta']['size']['w'], told['meta']['size']['h'])
     assert sorted(told['frames']) == sorted(made) and told['meta']['image'] == 'sheet.png'
-    for path in paths:
-        os.remove(path)
 
 
 def test_files_that_are_no_pictures(page):
@@ -249,4 +241,66 @@ def test_drops_pictures(page):
     assert page.run('const [{ name, width, height }] = play.sheet.pictures; return [name, width, height]') == ['dropped.png', 12, 9]
 
 
-TESTS = [each for name, each in sorted(globals().items()) if name.startswith('test_')]
+def drawn(content):
+    """The boxes of an SVG, by their parts: corner, sides and title."""
+    parts = []
+    for part in xml.fromstring(content):
+        boxes = []
+        for rect in part:
+            boxes.append(tuple(int(rect.get(key)) for key in ('x', 'y', 'width', 'height')) + (rect[0].text,))
+        parts.append(sorted(boxes))
+    return parts
+
+
+def test_sizes_are_asked_for(page):
+    """In each form, in a new atlas like the one that was there."""
+    page.play(['atlas 200 150 4 2 30 100', 'alloc 9 9'])
+    wanted = ['atlas 200 150 4 2 30 100'] + ['alloc %d %d' % size for size in SIZES]
+    for name, text in FORMS.items():
+        page.play(text.split('\n'))
+        assert page.lines() == wanted, (name, page.lines())
+    live, _ = page.compare()
+    assert len(live) == 4 and page.trouble() == ''
+    for text in NONE[1:]:
+        page.play(text.split('\n'))
+        assert page.lines() == wanted and "can't be played" in page.trouble(), (text, page.trouble())
+
+
+def test_the_atlas_is_saved(page):
+    """As JSON and as SVG: what the tool tells of the same lines."""
+    lines = ['atlas 200 150'] + ['alloc %d %d' % size for size in SIZES]
+    page.play(lines)
+    _, size, live, holes = page.tool.boxes(lines)
+    sided = {number: (x0, y0, x1 - x0, y1 - y0) for number, (x0, y0, x1, y1) in live.items()}
+    told = json.loads(page.saved('#save-json', 'atlas.json'))
+    of = lambda box: tuple(box[key] for key in ('x', 'y', 'width', 'height'))  # noqa: E731
+    free = sorted((x0, y0, x1 - x0, y1 - y0) for x0, y0, x1, y1 in holes)
+    assert (told['size']['width'], told['size']['height']) == size
+    assert {box['id']: of(box) for box in told['live']} == sided and sorted(map(of, told['free'])) == free
+    (boxes,) = drawn(page.saved('#save-svg', 'atlas.svg'))
+    assert boxes == sorted([(*sides, str(number)) for number, sides in sided.items()] + [(*sides, 'free') for sides in free])
+
+
+def test_sizes_are_packed(page):
+    """On a sheet, in each form; the SVG has the places of the JSON."""
+    page.click('#tab-sheet')
+    page.click('#sheet-own > summary')
+    for name, text in FORMS.items():
+        page.run('document.getElementById("sheet-sizes").value = arguments[0]', text)
+        page.click('#sheet-take')
+        told = json.loads(page.run('return play.sheet.json()'))
+        frames = told['frames']
+        assert [(frame['frame']['w'], frame['frame']['h']) for _, frame in sorted(frames.items())] == SIZES, (name, frames)
+    (boxes,) = drawn(page.saved('#sheet-svg', 'sheet.svg'))
+    assert boxes == sorted((*(frame['frame'][key] for key in 'xywh'), name) for name, frame in frames.items())
+    assert page.saved('#sheet-png', 'sheet.png')[:8] == b'\x89PNG\r\n\x1a\n'
+    page.browser.choose('#sheet-greatest', '512')
+    page.browser.choose('#sheet-pages', 'several')
+    parts = drawn(page.saved('#sheet-svg', 'sheet.svg'))
+    assert len(parts) == page.run('return play.sheet.sheet.sizes.length') and sum(map(len, parts)) == len(SIZES)
+    for text in NONE:
+        page.run('document.getElementById("sheet-sizes").value = arguments[0]', text)
+        page.click('#sheet-take')
+        assert page.trouble().startswith('These are no sizes'), text
+    page.browser.choose('#sheet-pages', 'one')
+    page.click('#tab-atlas')

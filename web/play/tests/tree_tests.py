@@ -142,6 +142,3 @@ def test_a_large_tree_waits(page):
     page.wait('document.getElementById("tree-note").hidden && document.querySelectorAll("#tree [role=treeitem]").length > 5')
     assert page.run('return document.querySelectorAll("#tree [role=treeitem]").length') < 30
     page.compare()
-
-
-TESTS = [each for name, each in sorted(globals().items()) if name.startswith('test_')]

@@ -129,6 +129,12 @@ export class Atlases {
     this.sum.add(this.call(it, (atlas) => atlas.canFit(width, height)).value);
     this.sum.add(this.call(it, (atlas) => atlas.canGrowTo(Math.imul(4, width), Math.imul(4, height))).value);
     this.sum.add(it.atlas === null ? 1 : it.atlas.isEmpty);
+    const unusable = this.call(it, (atlas) => atlas.unusableArea(width, height));
+    this.sum.add(unusable.status);
+    this.sum.wide(unusable.value ?? 7);
+    const { value, status } = this.call(it, (atlas) => atlas.largestFree());
+    this.sum.add(status === 0 && value === null ? numberOf('NO_ROOM') : status);
+    this.sum.box(value);
   }
 
   grow() {

@@ -79,7 +79,7 @@ export class Cache {
   }
 
   letGo() {
-    const kind = this.draw.below(20);
+    const kind = this.draw.below(23);
     let place = null;
     if (kind < 12) {
       const key = this.someKey();
@@ -89,9 +89,21 @@ export class Cache {
       this.sum.add(this.call((cache) => cache.trim(frames)).status);
     } else if (kind < 16) {
       this.sum.add(this.call((cache) => cache.shrink()).status);
-    } else if (kind < 19) {
+    } else if (kind < 18) {
       const page = this.draw.below(5);
       this.sum.add(this.call((cache) => cache.repack(page)).status);
+    } else if (kind < 19) {
+      const page = this.draw.below(5);
+      const { status, value } = this.call((cache) => cache.repackKeepingAll(page));
+      this.sum.add(value === false ? numberOf('NO_ROOM') : status);
+    } else if (kind < 20) {
+      const keys = this.draw.below(4);
+      this.sum.add(this.call((cache) => cache.endBatch(keys)).status);
+    } else if (kind < 22) {
+      const pixels = this.draw.below(4000);
+      const { status, value } = this.call((cache) => cache.compact(pixels));
+      this.sum.add(status);
+      this.sum.wide(value ?? 7);
     } else {
       this.sum.add(this.call((cache) => cache.clear()).status);
     }

@@ -83,15 +83,18 @@ module _ (v : Stored) (a : IsAtlas v) (request : Sides) where
   pub no_room-unrounded : (CanBeRounded (options_of v.shelf.options) request → ⊥) → (sides_of v.size).width ≤ 2147483647
       → (sides_of v.size).height ≤ 2147483647 → HasNoRoom (free_in now) (options_of v.shelf.options) request
   no_room-unrounded misfit wide high =
-      no_room_unrounded (free_in now) (options_of v.shelf.options) request (sides_of v.size) misfit (free_in_place (sides_of v.size) (tree_of (nodes v.shelf.slots)) a.sound.well_formed) wide high
+      no_room_unrounded (free_in now) (options_of v.shelf.options) request (sides_of v.size) misfit
+      (free_in_place (sides_of v.size) (tree_of (nodes v.shelf.slots)) a.sound.well_formed) wide high
 
   pub no_room-none : (size : Sides) → size ≡ wanted
       → ((free : List Box) → AreFreeBoxes (nodes v.shelf.slots) free → (b : Box) → IsFitting free size b → ⊥)
       → HasNoRoom (free_in now) (options_of v.shelf.options) request
-  no_room-none size e none room = none (free_in now) free_here room.box (subst (λ r. IsFitting (free_in now) r room.box) (sym e) room.fitting)
+  no_room-none size e none room = none (free_in now) free_here room.box
+      (subst (λ r. IsFitting (free_in now) r room.box) (sym e) room.fitting)
 
   -- The slot that is taken.
-  module _ (p : Found) (chosen : IsChosen v.shelf (rounded (options_of v.shelf.options) request) p) (positive : IsPositive request) (plan : Plan)
+  module _ (p : Found) (chosen : IsChosen v.shelf (rounded (options_of v.shelf.options) request) p) (positive : IsPositive request)
+      (plan : Plan)
       (line : IsPlanFor (node_in v.shelf p.at.number) (rounded (options_of v.shelf.options) request) plan) where
     pub takes : Takes now request (chosen_box v p)
     takes = record { positive = positive; pick = chosen.pick (free_in now) free_here }
@@ -129,13 +132,18 @@ module _ (v : Stored) (a : IsAtlas v) (request : Sides) where
     }
 
     -- The request is placed and granted.
-    module _ (u : Shelf) (made : Allocation) (to : ℕ) (h : Holding) (w : IsGrantMade u p plan made to a.holding h) (same_options : u.options ≡ v.shelf.options) (few : v.used + slots_of plan ≤ v.limit) where
+    module _ (u : Shelf) (made : Allocation) (to : ℕ) (h : Holding) (w : IsGrantMade u p plan made to a.holding h)
+        (same_options : u.options ≡ v.shelf.options) (few : v.used + slots_of plan ≤ v.limit) where
       -- The box that it is granted.
       abbrev pub box : Box
       box = box_at (chosen_box v p).min (rounded (options_of v.shelf.options) request)
 
       abbrev pub after : (used turns : ℕ) → State
-      after used turns = state_of (record { stored = record { shelf = u; first = v.first; used = used; size = v.size; limit = v.limit }; turns = turns; capacity = 0 })
+      after used turns = state_of (record {
+        stored = record { shelf = u; first = v.first; used = used; size = v.size; limit = v.limit };
+        turns = turns;
+        capacity = 0;
+      })
 
       tree-placed : tree_of
           (nodes u.slots) ≡ place (sides_of v.size) (chosen_box v p) wanted made.id (tree_of (nodes v.shelf.slots))
@@ -147,11 +155,13 @@ module _ (v : Stored) (a : IsAtlas v) (request : Sides) where
       more = planned-used (sides_of v.size) v.shelf a.holding p.at.number wanted placing u to plan h line w.planned
 
       kept-placed : length u.slots ≡ max
-          (length v.shelf.slots) (tree.node_count (place (sides_of v.size) (chosen_box v p) wanted made.id (tree_of (nodes v.shelf.slots))).members)
+          (length v.shelf.slots) (tree.node_count (place (sides_of v.size) (chosen_box v p) wanted made.id
+          (tree_of (nodes v.shelf.slots))).members)
       kept-placed = search (rules, unused_list-count, more, need, place_nodes)
 
       pub state-placing : (used turns : ℕ) → after used turns ≡ after_placing now (chosen_box v p) wanted made.id
-      state-placing used turns = state-placed (after used turns) now (chosen_box v p) wanted made.id tree-placed refl (ap options_of same_options) refl kept-placed
+      state-placing used turns = state-placed (after used turns) now (chosen_box v p) wanted made.id tree-placed refl
+          (ap options_of same_options) refl kept-placed
 
       short : to < 2 ^ 24
       short =
@@ -162,8 +172,10 @@ module _ (v : Stored) (a : IsAtlas v) (request : Sides) where
       unused =
           let is : made.id % 2 ^ 24 ≡ to = ap (λ i. i % 2 ^ 24) w.names ∙ id_of-slot to (node_in u to).generation short in
           ap (λ m. slot_count made.id (ids m)) (members-IsAtlas v a)
-          ∙ slot_count-none (nodes v.shelf.slots) a.holding.sequence a.holding.tree made.id a.holds.stands (nodes-short v.shelf.slots a.holds.short)
-          (λ q. planned-unused v.shelf u p.at.number to plan a.holding h a.holds chosen.free w.planned (ap (λ k. (node_in v.shelf k).kind) (sym is) ∙ q))
+          ∙ slot_count-none (nodes v.shelf.slots) a.holding.sequence a.holding.tree made.id a.holds.stands
+          (nodes-short v.shelf.slots a.holds.short)
+          (λ q. planned-unused v.shelf u p.at.number to plan a.holding h a.holds chosen.free w.planned
+          (ap (λ k. (node_in v.shelf k).kind) (sym is) ∙ q))
 
       pub grants : (used turns : ℕ)
           → Grants now request (chosen_box v p) (record { id = made.id; box = box }) (after used turns)
@@ -185,7 +197,8 @@ module _ (v : Stored) (a : IsAtlas v) (request : Sides) where
         across = rw w.planned.sequence a.across;
         first = a.first ∙ sym (planned-first u p.at.number to plan a.holding h w.planned);
         used = omega (arith, more, a.used);
-        sound = placing_sound now (chosen_box v p) request (record { id = made.id; box = box }) (after (v.used + slots_of plan) 0) a.sound (grants (v.used + slots_of plan) 0);
+        sound = placing_sound now (chosen_box v p) request (record { id = made.id; box = box }) (after (v.used + slots_of plan) 0) a.sound
+            (grants (v.used + slots_of plan) 0);
         exact = a.exact;
         limited = a.limited;
       }
@@ -197,11 +210,13 @@ module _ (v : Stored) (a : IsAtlas v) (request : Sides) where
           let grown : Stored = record { shelf = u; first = v.first; used = v.used + slots_of plan; size = v.size; limit = v.limit } in
           let its : Grant = record { id = made.id; box = box } in
           let shown : live_box (after (v.used + slots_of plan) 0) made.id ≡ Some box =
-          (grant_adds now (after (v.used + slots_of plan) 0) a.sound request its (chosen_box v p, grants (v.used + slots_of plan) 0)).here in
+          (grant_adds now (after (v.used + slots_of plan) 0) a.sound request its (chosen_box v p, grants (v.used + slots_of plan) 0)).here
+          in
           let named = named-true ns to made.id short (ap is_alloc w.planned.granted) (sym w.names) in
           let read : named_area ns made.id ≡ Some (node_at ns to).area =
           ap (λ b. cond b (Some (node_at ns (made.id % 2 ^ 24)).area) None) named.0 ∙ ap (λ k. Some (node_at ns k).area) named.1 in
-          let both : Some (rectangle_of box) ≡ Some (node_at ns to).area = sym (ap (option_map rectangle_of) shown) ∙ named-IsAtlas grown atlas-placed made.id ∙ read in
+          let both : Some (rectangle_of box) ≡ Some (node_at ns to).area = sym (ap (option_map rectangle_of) shown) ∙
+          named-IsAtlas grown atlas-placed made.id ∙ read in
           let there : rectangle_of box ≡ (node_at ns to).area = cc in
           w.area ∙ sym there
 
@@ -210,11 +225,17 @@ pub record IsDone (v : Stored) (request : Sides) (u : Shelf) (needed : ℕ) (mad
   pub atlas : IsAtlas (record { shelf = u; first = v.first; used = v.used + needed; size = v.size; limit = v.limit })
   pub granted : (turns before : ℕ)
       → (f : Box) × Grants (state_of (record { stored = v; turns = before; capacity = 0 })) request f (grant_of made)
-      (state_of (record { stored = record { shelf = u; first = v.first; used = v.used + needed; size = v.size; limit = v.limit }; turns = turns; capacity = 0 }))
+      (state_of (record {
+        stored = record { shelf = u; first = v.first; used = v.used + needed; size = v.size; limit = v.limit };
+        turns =
+            turns;
+        capacity = 0;
+      }))
   pub exact : IsUnsigned made.rectangle
 
 -- A request that was rounded, and the slot that it takes.
-module _ (v : Stored) (a : IsAtlas v) (request : Sides) (size : Size) (sized : CanBeRounded (options_of v.shelf.options) request × (size ≡ size_of (rounded (options_of v.shelf.options) request)))
+module _ (v : Stored) (a : IsAtlas v) (request : Sides) (size : Size) (sized : CanBeRounded (options_of v.shelf.options) request ×
+    (size ≡ size_of (rounded (options_of v.shelf.options) request)))
     (p : Found) (chosen : IsChosen v.shelf (sides_of size) p) where
   same_sides : sides_of size ≡ rounded (options_of v.shelf.options) request
   same_sides = sides_of-size size (rounded (options_of v.shelf.options) request) sized.1
@@ -233,10 +254,12 @@ module _ (v : Stored) (a : IsAtlas v) (request : Sides) (size : Size) (sized : C
   taken-fits = chosen-fits v.shelf a.holding (at-rest v a request) (sides_of size) p chosen
 
   -- In the words of the calls: `made` are the slots once there is room.
-  module _ (leaf : Node) (read : leaf ≡ node_in v.shelf p.at.number) (plan : Plan) (line : IsPlanFor leaf (sides_of size) plan) (feasible : IsFeasible plan (extent_of leaf) (across_of leaf))
+  module _ (leaf : Node) (read : leaf ≡ node_in v.shelf p.at.number) (plan : Plan) (line : IsPlanFor leaf (sides_of size) plan)
+      (feasible : IsFeasible plan (extent_of leaf) (across_of leaf))
       {A : Type 0} (made : Store A) (same : shelf_of made ≡ v.shelf) (needed : ℕ) (is_needed : needed ≡ slots_of plan) where
     line_here : IsPlanFor (node_in v.shelf p.at.number) (rounded (options_of v.shelf.options) request) plan
-    line_here = subst (λ r. IsPlanFor (node_in v.shelf p.at.number) r plan) same_sides (subst (λ n. IsPlanFor n (sides_of size) plan) read line)
+    line_here = subst (λ r. IsPlanFor (node_in v.shelf p.at.number) r plan) same_sides
+        (subst (λ n. IsPlanFor n (sides_of size) plan) read line)
 
     feasible_here : IsFeasible plan (extent_of (node_in v.shelf p.at.number)) (across_of (node_in v.shelf p.at.number))
     feasible_here = subst (λ n. IsFeasible plan (extent_of n) (across_of n)) read feasible
@@ -244,14 +267,20 @@ module _ (v : Stored) (a : IsAtlas v) (request : Sides) (size : Size) (sized : C
     pub refused-step : (result : Result (Option Allocation) AtlasError) (error : AtlasError) → result ≡ Err error
         → IsShortOf v.used v.limit needed (length v.shelf.slots) error → (turns before : ℕ)
         → Step (state_of (record { stored = v; turns = before; capacity = 0 })) (Allocate request) (allocate_reply result)
-        (state_of (record { stored = record { shelf = shelf_of made; first = v.first; used = v.used; size = v.size; limit = v.limit }; turns = turns; capacity = 0 }))
+        (state_of (record {
+          stored = record { shelf = shelf_of made; first = v.first; used = v.used; size = v.size; limit = v.limit };
+          turns = turns;
+          capacity = 0;
+        }))
     refused-step result error is short turns before = grind (arith, step-refused, chosen_here, line_here)
 
-    module _ (ok : (v.used + needed ≤ v.limit) × ((v.used + needed ≤ length made.slots.items) ⊎ (v.used + needed ≤ vec_capacity made.slots))) where
+    module _ (ok : (v.used + needed ≤ v.limit) × ((v.used + needed ≤ length made.slots.items) ⊎
+        (v.used + needed ≤ vec_capacity made.slots))) where
       grantable_here : IsGrantable made (rounded (options_of v.shelf.options) request) p plan a.holding
       grantable_here =
           let long : length made.slots.items ≡ length v.shelf.slots = ap (λ s. length s.slots) same in
-          grantable v a request p chosen_here sized.0.positive plan line_here made feasible_here same (omega (arith, ok.0, is_needed)) (elim ok.1 [
+          grantable v a request p chosen_here sized.0.positive plan line_here made feasible_here same (omega (arith, ok.0, is_needed))
+          (elim ok.1 [
             | inl s ↦ inl (omega (arith, is_needed, long))
             | inr s ↦ inr (omega (arith, is_needed))
           ])
@@ -267,16 +296,35 @@ module _ (v : Stored) (a : IsAtlas v) (request : Sides) (size : Size) (sized : C
           let same_options : u.options ≡ v.shelf.options = told.takes.options ∙ ap (λ s. s.options) same in
           let few : v.used + slots_of plan ≤ v.limit = omega (arith, ok.0, is_needed) in
           let cut : Box = box v a request p chosen_here sized.0.positive plan line_here u allocation got.0 got.1 got.2 same_options few in
-          let there : allocation.rectangle ≡ rectangle_of cut = area-placed v a request p chosen_here sized.0.positive plan line_here u allocation got.0 got.1 got.2 same_options few in
-          let made_in : (turns before : ℕ) → Grants (state_of (record { stored = v; turns = before; capacity = 0 })) request (chosen_box v p) (record { id = allocation.id; box = cut })
-          (state_of (record { stored = record { shelf = u; first = v.first; used = v.used + slots_of plan; size = v.size; limit = v.limit }; turns = turns; capacity = 0 })) =
-          (λ turns before. grants v a request p chosen_here sized.0.positive plan line_here u allocation got.0 got.1 got.2 same_options few (v.used + slots_of plan) turns) in
+          let there : allocation.rectangle ≡ rectangle_of cut = area-placed v a request p chosen_here sized.0.positive plan line_here u
+          allocation got.0 got.1 got.2 same_options few in
+          let made_in : (turns before : ℕ) → Grants (state_of (record { stored = v; turns = before; capacity = 0 })) request
+          (chosen_box v p) (record { id = allocation.id; box = cut })
+          (state_of (record {
+            stored = record { shelf = u; first = v.first; used = v.used + slots_of plan; size = v.size; limit = v.limit };
+            turns = turns;
+            capacity = 0;
+          })) =
+          (λ turns before. grants v a request p chosen_here sized.0.positive plan line_here u allocation got.0 got.1 got.2 same_options few
+          (v.used + slots_of plan) turns) in
           subst (λ n. IsDone v request u n allocation) (sym is_needed) (record {
             atlas = atlas-placed v a request p chosen_here sized.0.positive plan line_here u allocation got.0 got.1 got.2 same_options few;
             granted = (λ turns before. (
               chosen_box v p,
-              subst (λ b. Grants (state_of (record { stored = v; turns = before; capacity = 0 })) request (chosen_box v p) (record { id = allocation.id; box = b })
-                  (state_of (record { stored = record { shelf = u; first = v.first; used = v.used + slots_of plan; size = v.size; limit = v.limit }; turns = turns; capacity = 0 }))) (sym (ap box_of there)) (made_in turns before),
+              subst (λ b. Grants (state_of (record { stored = v; turns = before; capacity = 0 })) request (chosen_box v p)
+                  (record { id = allocation.id; box = b })
+                  (state_of (record {
+                    stored = record {
+                      shelf = u;
+                      first = v.first;
+                      used = v.used + slots_of plan;
+                      size = v.size;
+                      limit =
+                          v.limit;
+                    };
+                    turns = turns;
+                    capacity = 0;
+                  }))) (sym (ap box_of there)) (made_in turns before),
             ));
             exact = unsigned_of allocation.rectangle cut there;
           })

@@ -55,7 +55,12 @@ pub record HasGrown (v : Stored) (size : Size) (u : Shelf) (link : Link) (used :
   pub atlas : IsAtlas (record { shelf = u; first = link; used = used; size = size; limit = v.limit })
   pub step : (turns before : ℕ)
       → Step (state_of (record { stored = v; turns = before; capacity = 0 })) (Grow (sides_of size)) Done
-      (state_of (record { stored = record { shelf = u; first = link; used = used; size = size; limit = v.limit }; turns = turns; capacity = 0 }))
+      (state_of (record {
+        stored = record { shelf = u; first = link; used = used; size = size; limit = v.limit };
+        turns = turns;
+        capacity =
+            0;
+      }))
 
 module _ (v : Stored) (a : IsAtlas v) where
   abbrev pub now : State
@@ -86,7 +91,8 @@ module _ (v : Stored) (a : IsAtlas v) where
     exact-new = size_is size positive-new
 
     -- What a growth leaves.
-    module _ (u : Shelf) (first n : ℕ) (h : Holding) (w : IsGrownHolding u (sides_of v.size) (sides_of size) first n a.holding h) (same_options : u.options ≡ v.shelf.options) where
+    module _ (u : Shelf) (first n : ℕ) (h : Holding) (w : IsGrownHolding u (sides_of v.size) (sides_of size) first n a.holding h)
+        (same_options : u.options ≡ v.shelf.options) where
       tree-grown : tree_of (nodes u.slots) ≡ grown (sides_of v.size) (sides_of size) (tree_of (nodes v.shelf.slots))
       tree-grown = grind (arith, tree_of-Stands, nodes-below, nonempty-total, tree_of-IsAtlas)
 
@@ -101,13 +107,25 @@ module _ (v : Stored) (a : IsAtlas v) where
 
         kept-grown : length u.slots ≡ max
             (length v.shelf.slots) (tree.node_count (grown (sides_of v.size) (sides_of size) (tree_of (nodes v.shelf.slots))).members)
-        kept-grown = omega (arith, unused_list-count v.shelf a.holding a.holds, unused_list-count u h w.tree.holds, more, w.unused_list, nodes-grown)
+        kept-grown = omega (
+          arith,
+          unused_list-count v.shelf a.holding a.holds,
+          unused_list-count u h w.tree.holds,
+          more,
+          w.unused_list,
+          nodes-grown,
+        )
 
         abbrev pub after : (link : Link) (used turns : ℕ) → State
-        after link used turns = state_of (record { stored = record { shelf = u; first = link; used = used; size = size; limit = v.limit }; turns = turns; capacity = 0 })
+        after link used turns = state_of (record {
+          stored = record { shelf = u; first = link; used = used; size = size; limit = v.limit };
+          turns = turns;
+          capacity = 0;
+        })
 
         pub state-after : (link : Link) (used turns : ℕ) → after link used turns ≡ after_growth now (sides_of size)
-        state-after link used turns = state-grown (after link used turns) now (sides_of size) tree-grown refl (ap options_of same_options) refl kept-grown
+        state-after link used turns = state-grown (after link used turns) now (sides_of size) tree-grown refl (ap options_of same_options)
+            refl kept-grown
 
         atlas-after : (link : Link) → link.number ≡ first → (few : nodes_grown now (sides_of size) ≤ v.limit)
             → IsAtlas (record { shelf = u; first = link; used = v.used + n; size = size; limit = v.limit })
@@ -125,7 +143,8 @@ module _ (v : Stored) (a : IsAtlas v) where
         }
 
     -- The growth that isn't of one free box.
-    module _ (p : Growth) (plan : (h : Holding) → IsTreeOf v.shelf (sides_of v.size) v.first.number h → IsGrowthOf (sides_of v.size) (sides_of size) h p) where
+    module _ (p : Growth) (plan : (h : Holding) → IsTreeOf v.shelf (sides_of v.size) v.first.number h →
+        IsGrowthOf (sides_of v.size) (sides_of size) h p) where
       plan-here : IsGrowthOf (sides_of v.size) (sides_of size) a.holding p
       plan-here = plan a.holding tree-here
 
@@ -139,7 +158,8 @@ module _ (v : Stored) (a : IsAtlas v) where
       tree-from = subst (λ s. IsTreeOf v.shelf s v.first.number a.holding) (sym from-is) tree-here
 
       plan-from : IsGrowthOf (sides_of p.from) (sides_of p.to) a.holding p
-      plan-from = subst (λ s. IsGrowthOf s (sides_of p.to) a.holding p) (sym from-is) (subst (λ s. IsGrowthOf (sides_of v.size) s a.holding p) (sym to-is) plan-here)
+      plan-from = subst (λ s. IsGrowthOf s (sides_of p.to) a.holding p) (sym from-is)
+          (subst (λ s. IsGrowthOf (sides_of v.size) s a.holding p) (sym to-is) plan-here)
 
       pub some-plan : (h : Holding) × (first : ℕ) × IsTreeOf v.shelf (sides_of p.from) first h
           × IsGrowthOf (sides_of p.from) (sides_of p.to) h p
@@ -152,17 +172,20 @@ module _ (v : Stored) (a : IsAtlas v) where
         busy : is_one_free (erase a.holding.tree) ≡ false
         busy = grind (arith, one_free-idle, tree_of-IsAtlas)
 
-        module _ (n : ℕ) (counted : (h : Holding) (first : ℕ) → IsTreeOf v.shelf (sides_of p.from) first h → IsGrowthOf (sides_of p.from) (sides_of p.to) h p
+        module _ (n : ℕ) (counted : (h : Holding) (first : ℕ) → IsTreeOf v.shelf (sides_of p.from) first h →
+            IsGrowthOf (sides_of p.from) (sides_of p.to) h p
             → is_one_free (erase h.tree) ≡ false → IsNeedOf (sides_of p.from) (sides_of p.to) h n) where
           need-from : IsNeedOf (sides_of p.from) (sides_of p.to) a.holding n
           need-from = counted a.holding v.first.number tree-from plan-from busy
 
           need-here : IsNeedOf (sides_of v.size) (sides_of size) a.holding n
-          need-here = subst (λ s. IsNeedOf (sides_of v.size) s a.holding n) to-is (subst (λ s. IsNeedOf s (sides_of p.to) a.holding n) from-is need-from)
+          need-here = subst (λ s. IsNeedOf (sides_of v.size) s a.holding n) to-is
+              (subst (λ s. IsNeedOf s (sides_of p.to) a.holding n) from-is need-from)
 
           grown-nodes : nodes_grown now (sides_of size) ≡ v.used + n
           grown-nodes =
-              let all : tree.node_count (grown (sides_of v.size) (sides_of size) (tree_of (nodes v.shelf.slots))).members ≡ tree.node_count (grown_members (sides_of v.size) (sides_of size) a.holding.sequence.axis (erase a.holding.tree)).members =
+              let all : tree.node_count (grown (sides_of v.size) (sides_of size) (tree_of (nodes v.shelf.slots))).members ≡ tree.node_count
+              (grown_members (sides_of v.size) (sides_of size) a.holding.sequence.axis (erase a.holding.tree)).members =
               ap (λ t. tree.node_count (grown (sides_of v.size) (sides_of size) t).members) (tree_of-IsAtlas v a) in
               omega (arith, grow_nodes (sides_of v.size) (sides_of size) (tree_of (nodes v.shelf.slots)), all, need-here, a.used)
 
@@ -178,7 +201,18 @@ module _ (v : Stored) (a : IsAtlas v) where
             pub refused-step : (result : Result (Unit {0}) AtlasError) (error : AtlasError) → result ≡ Err error
                 → IsShortOf v.used v.limit n (length v.shelf.slots) error → (turns before : ℕ)
                 → Step (state_of (record { stored = v; turns = before; capacity = 0 })) (Grow (sides_of size)) (done_reply result)
-                (state_of (record { stored = record { shelf = shelf_of made; first = v.first; used = v.used; size = v.size; limit = v.limit }; turns = turns; capacity = 0 }))
+                (state_of (record {
+                  stored = record {
+                    shelf = shelf_of made;
+                    first = v.first;
+                    used = v.used;
+                    size = v.size;
+                    limit =
+                        v.limit;
+                  };
+                  turns = turns;
+                  capacity = 0;
+                }))
             refused-step result error is short turns before = grind (arith, step-refused)
 
             module _ (ok : (v.used + n ≤ v.limit) × ((v.used + n ≤ length made.slots.items) ⊎ (v.used + n ≤ vec_capacity made.slots))) where
@@ -194,23 +228,31 @@ module _ (v : Stored) (a : IsAtlas v) where
                   let u : Shelf = shelf_of new in
                   let got = told.grown a.holding n growable-here in
                   let w : IsGrownHolding u (sides_of v.size) (sides_of size) link.number n a.holding got.0 =
-                  subst (λ s. IsGrownHolding u (sides_of v.size) s link.number n a.holding got.0) to-is (subst (λ s. IsGrownHolding u s (sides_of p.to) link.number n a.holding got.0) from-is got.1) in
+                  subst (λ s. IsGrownHolding u (sides_of v.size) s link.number n a.holding got.0) to-is
+                  (subst (λ s. IsGrownHolding u s (sides_of p.to) link.number n a.holding got.0) from-is got.1) in
                   let same_options : u.options ≡ v.shelf.options = told.takes.options ∙ ap (λ s. s.options) same in
                   let few : nodes_grown now (sides_of size) ≤ v.limit = omega (arith, ok.0, grown-nodes) in
                   record {
                     atlas = atlas-after u link.number n got.0 w same_options need-here link refl few;
-                    step = λ turns before. (larger, few, state-after u link.number n got.0 w same_options need-here link (v.used + n) turns);
+                    step = λ turns before. (
+                      larger,
+                      few,
+                      state-after u link.number n got.0 w same_options need-here link (v.used + n)
+                          turns,
+                    );
                   }
 
     -- The growth of one free box.
     module _ (none : live_in now ≡ []) (u : Shelf) (same_options : u.options ≡ v.shelf.options)
-        (grew : (h : Holding) (old : Sides) → IsTreeOf v.shelf old v.first.number h → IsLone v.first.number h → (h' : Holding) × IsGrownHolding u old (sides_of size) v.first.number 0 h h') where
+        (grew : (h : Holding) (old : Sides) → IsTreeOf v.shelf old v.first.number h → IsLone v.first.number h → (h' : Holding) ×
+        IsGrownHolding u old (sides_of size) v.first.number 0 h h') where
       pub box-done : HasGrown v size u v.first v.used
       box-done =
           let lone = lone-here none in
           let got = grew a.holding (sides_of v.size) tree-here lone in
           let same_used : v.used + 0 ≡ v.used = omega arith in
-          let one : tree.node_count (grown_members (sides_of v.size) (sides_of size) a.holding.sequence.axis (erase a.holding.tree)).members ≡ 1 =
+          let one : tree.node_count (grown_members (sides_of v.size) (sides_of size) a.holding.sequence.axis (erase a.holding.tree)).members
+          ≡ 1 =
           ap (λ k. tree.node_count (grown_members (sides_of v.size) (sides_of size) a.holding.sequence.axis (erase k)).members) lone.tree in
           let need : IsNeedOf (sides_of v.size) (sides_of size) a.holding 0 = omega (arith, ap numbers lone.tree, one) in
           let all : tree.node_count (grown (sides_of v.size) (sides_of size) (tree_of (nodes v.shelf.slots))).members ≡ 1 =

@@ -81,7 +81,8 @@ module _ (s : State) (sound : IsSound s) (wide : s.size.width ≤ 2147483647) (h
       → IfOk r (λ found. All (λ (a : Allocation). IsMeasurable a.rectangle) (items found))
   measurable_grants items (Ok found) are =
       grants_measured (items found)
-      (All-same_counts same_grant same_grant-itself same_grant-true (λ (g : Grant). InPlace g.box) (map grant_of (items found)) (live_in s) are.list.live
+      (All-same_counts same_grant same_grant-itself same_grant-true (λ (g : Grant). InPlace g.box) (map grant_of (items found)) (live_in s)
+      are.list.live
       (live_in_place s.size s.tree sound.well_formed)) are.exact
   measurable_grants items (Err error) are = tt
 

@@ -111,7 +111,8 @@ module _ (old : State) (order : List Allocation) (now : State) (at failed : ℕ)
             few = omega (arith, i.few);
             length = length-set boxes failed x ∙ i.length;
             left = drop-set-lt (at + 1) boxes failed x (omega (arith, i.few)) ∙ left_here;
-            part = subst (λ l. IsPartOfRefit old (map grant_of order) (moved_so_far changes l) new (map grant_of (drop (at + 1) order))) (sym front)
+            part = subst (λ l. IsPartOfRefit old (map grant_of order) (moved_so_far changes l) new (map grant_of (drop (at + 1) order)))
+                (sym front)
                 (subst (λ l. IsPartOfRefit old (map grant_of order) l new (map grant_of (drop (at + 1) order)))
                 (failure-moved changes (take failed boxes) x)
                 (part-failure old now new (map grant_of order) (moved_so_far changes (take failed boxes)) (grant_of x)

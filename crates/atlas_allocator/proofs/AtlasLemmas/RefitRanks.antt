@@ -82,7 +82,8 @@ ranked_from_neighbours [] near apart = tt
 ranked_from_neighbours (x ∷ []) near apart = (All-nil (Precedes (grant_of x)), tt)
 ranked_from_neighbours (x ∷ y ∷ rest) near apart =
     let later : IsRanked (map grant_of (y ∷ rest)) = ranked_from_neighbours (y ∷ rest) (λ k d l. near (suc k) d (omega arith)) (λ k.
-    let count : count_by (has_slot k) (map grant_of (x ∷ y ∷ rest)) ≡ one_if (has_slot k (grant_of x)) + count_by (has_slot k) (map grant_of (y ∷ rest)) =
+    let count : count_by (has_slot k) (map grant_of (x ∷ y ∷ rest)) ≡ one_if (has_slot k (grant_of x)) + count_by (has_slot k)
+    (map grant_of (y ∷ rest)) =
     count_by-cons (has_slot k) (grant_of x) (map grant_of (y ∷ rest)) in
     let few : count_by (has_slot k) (map grant_of (x ∷ y ∷ rest)) ≤ 1 = apart k in
     omega arith) in
@@ -95,9 +96,11 @@ ranked_from_neighbours (x ∷ y ∷ rest) near apart =
     differ : slot_of (grant_of y) ≡ slot_of (grant_of x) → ⊥
     differ e =
         let s = slot_of (grant_of x) in
-        let c : count_by (has_slot s) (map grant_of (x ∷ y ∷ rest)) ≡ one_if (has_slot s (grant_of x)) + count_by (has_slot s) (map grant_of (y ∷ rest)) =
+        let c : count_by (has_slot s) (map grant_of (x ∷ y ∷ rest)) ≡ one_if (has_slot s (grant_of x)) + count_by (has_slot s)
+        (map grant_of (y ∷ rest)) =
         count_by-cons (has_slot s) (grant_of x) (map grant_of (y ∷ rest)) in
-        let d : count_by (has_slot s) (map grant_of (y ∷ rest)) ≡ one_if (has_slot s (grant_of y)) + count_by (has_slot s) (map grant_of rest) =
+        let d : count_by (has_slot s) (map grant_of (y ∷ rest)) ≡ one_if (has_slot s (grant_of y)) + count_by (has_slot s)
+        (map grant_of rest) =
         count_by-cons (has_slot s) (grant_of y) (map grant_of rest) in
         let p : one_if (has_slot s (grant_of x)) ≡ 1 = ap one_if (eq-eqb s s refl) in
         let q : one_if (has_slot s (grant_of y)) ≡ 1 = ap one_if (eq-eqb (slot_of (grant_of y)) s e) in
@@ -124,7 +127,8 @@ pub ranked_from_sort : (xs ys : List Allocation) → IsPermutation xs ys → IsS
     → AreRising (map grant_of xs) → IsRanked (map grant_of ys)
 ranked_from_sort xs ys moved sorted rising =
     ranked_from_neighbours ys
-    (λ k d l. lexical _ _ _ _ (subst (λ j. is_lt (refit_order (refit_key (get_or ys j d)) (refit_key (get_or ys k d))) ≡ false) (add-one k) (sorted k d (omega arith) (omega arith))))
+    (λ k d l. lexical _ _ _ _ (subst (λ j. is_lt (refit_order (refit_key (get_or ys j d)) (refit_key (get_or ys k d))) ≡ false) (add-one k)
+    (sorted k d (omega arith) (omega arith))))
     (permuted_apart (map grant_of xs) (map grant_of ys) (IsPermutation-map grant_of xs ys moved) (rising_apart (map grant_of xs) rising))
 
 -- What a list of live grants becomes that is put into this order.
@@ -132,6 +136,7 @@ pub refit_order_of : (s : State) (gs hs : List Grant) → IsLiveList s gs → Is
     → IsRefitOrder (live_in s) hs
 refit_order_of s gs hs listed moved order = record {
   permuted = IsPermutation-trans (live_in s) gs hs
-      (IsPermutation-sym gs (live_in s) (permuted_from_counts same_grant same_grant-itself same_grant-true gs (live_in s) listed.live)) moved;
+      (IsPermutation-sym gs (live_in s) (permuted_from_counts same_grant same_grant-itself same_grant-true gs (live_in s) listed.live))
+      moved;
   ranked = order;
 }

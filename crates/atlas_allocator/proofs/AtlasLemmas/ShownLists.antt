@@ -37,7 +37,8 @@ exact-allocated k (n ∷ ns) exact = by_kind n.kind refl (exact-allocated (k + 1
     by_kind : (d : NodeKind) → n.kind ≡ d → All HasExact (allocated_from (k + 1) ns)
         → All HasExact (cond (is_alloc d) (allocation_at k n ∷ allocated_from (k + 1) ns) (allocated_from (k + 1) ns))
     by_kind kind.Alloc e rest =
-        All-cons HasExact (allocation_at k n) (allocated_from (k + 1) ns) (exact 0 (subst (λ d. 0 < use_count d) (sym e) (omega arith))) rest
+        All-cons HasExact (allocation_at k n) (allocated_from (k + 1) ns) (exact 0 (subst (λ d. 0 < use_count d) (sym e) (omega arith)))
+        rest
     by_kind kind.Container e rest = rest
     by_kind kind.Free e rest = rest
     by_kind kind.Unused e rest = rest

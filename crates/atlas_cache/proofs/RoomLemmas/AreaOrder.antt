@@ -1,5 +1,6 @@
 -- Allocations that were sorted by their areas, the largest first.
-use Rattle.std.proofs.Common.{◌+◌, ◌≡◌, ◌==◌, ◌≤◌, ◌&&◌, not, pos, ℕ, Bool, List, [], ◌∷◌, length, get_or, filter, Ordering, refl, sym, ap, ◌∙◌, arith}
+use Rattle.std.proofs.Common.{◌+◌, ◌≡◌, ◌==◌, ◌≤◌, ◌&&◌, not, pos, ℕ, Bool, List, [], ◌∷◌, length, get_or, filter, Ordering, refl, sym, ap}
+use Rattle.std.proofs.Common.{◌∙◌, arith}
 use Rattle.std.specs.List.{AllAdjacentBelow}
 use Rattle.std.specs.List.Sorted.{ties, IsSortedByKey, IsStableByKey}
 use Rattle.std.specs.Ordering.{is_lt, nat_cmp}
@@ -40,5 +41,6 @@ pub ties_stay : (held order : List Allocation) → IsStableByKey reversed_area r
 ties_stay held order stable n =
     let tie : Allocation → Bool = ties (λ x y. is_lt (reversed_order (reversed_area x) (reversed_area y))) (of_area n) in
     let same : (a : Allocation) → tie a ≡ (area_held a == n) =
-    λ a. ap (λ k. not (is_lt (nat_cmp (area_held a) k)) && not (is_lt (nat_cmp k (area_held a)))) (area_is n) ∙ equal_ties (area_held a) n in
+    λ a. ap (λ k. not (is_lt (nat_cmp (area_held a) k)) && not (is_lt (nat_cmp k (area_held a)))) (area_is n) ∙
+    equal_ties (area_held a) n in
     sym (same_filter tie (λ a. area_held a == n) same order) ∙ stable (of_area n) ∙ same_filter tie (λ a. area_held a == n) same held

@@ -12,7 +12,8 @@ use Rattle.guillotiere.specs.declared.Size.{Size}
 use Rattle.guillotiere.specs.Boxes.{Fits, Sides}
 use Rattle.guillotiere.specs.Callers.{AddsBox, HasFrame, HasSameBoxes, IsAnswer, KeepsFrame, LeavesNoBox}
 use Rattle.guillotiere.specs.Choice.{rounded, Options}
-use Rattle.guillotiere.specs.Pages.{rectangle_on, AddsBoxOn, HasRoomFor, HasRoomOn, HasSameRectangles, KeepsPages, LeavesNoBoxOn, NoneHasRoomBelow}
+use Rattle.guillotiere.specs.Pages.{rectangle_on, AddsBoxOn, HasRoomFor, HasRoomOn, HasSameRectangles, KeepsPages, LeavesNoBoxOn}
+use Rattle.guillotiere.specs.Pages.{NoneHasRoomBelow}
 use Rattle.guillotiere.specs.Pixels.{box_of, options_of, sides_of, size_of}
 use Rattle.guillotiere.specs.Replies.{IsExact}
 use Rattle.guillotiere.specs.Changes.{only}

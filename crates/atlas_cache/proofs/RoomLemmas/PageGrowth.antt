@@ -14,7 +14,8 @@ use Rattle.guillotiere.specs.States.{started, State}
 use Rattle.guillotiere.specs.Stored.{AtlasValue, state_of}
 use Rattle.atlas_cache.specs.declared.options.CacheOptions.{CacheOptions}
 use Rattle.atlas_cache.specs.Asking.{AreUsable}
-use Rattle.atlas_cache.specs.Rooms.{both_sides, grown_sides, growth_left, grows_in_width, page_sizes, size_of_page, AreAllLargest, KeepsRooms, RoomsState}
+use Rattle.atlas_cache.specs.Rooms.{both_sides, grown_sides, growth_left, grows_in_width, page_sizes, size_of_page, AreAllLargest}
+use Rattle.atlas_cache.specs.Rooms.{KeepsRooms, RoomsState}
 use Rattle.atlas_cache.proofs.RoomLemmas.KeptPages.{page_at}
 
 -- A side above 0 is the natural number that it counts as.
@@ -59,7 +60,8 @@ is_grown largest sides positive fits smaller =
   where
     by_test : (b : Bool) → grows_in_width largest sides ≡ b
         → (sides.width < largest.width) ⊎ (sides.height < largest.height)
-        → Grows largest sides (cond b (record sides { width = min (2 * sides.width) largest.width }) (record sides { height = min (2 * sides.height) largest.height }))
+        → Grows largest sides (cond b (record sides { width = min (2 * sides.width) largest.width })
+        (record sides { height = min (2 * sides.height) largest.height }))
     by_test true is lesser =
         let less : sides.width < largest.width = grind (arith, nat_tests) in
         record {

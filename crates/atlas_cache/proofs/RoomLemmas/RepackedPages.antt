@@ -1,5 +1,6 @@
 -- What placing anew makes of the rectangles of a page by their ids.
-use Rattle.std.proofs.Common.{rules, ◌≡◌, ◌==◌, ◌<◌, ◌≤◌, ◌++◌, ◌∷◌, [], ℕ, List, Option, None, Some, length, map, get_or, option_map, All, Bool, true, false, cond, Contains}
+use Rattle.std.proofs.Common.{rules, ◌≡◌, ◌==◌, ◌<◌, ◌≤◌, ◌++◌, ◌∷◌, [], ℕ, List, Option, None, Some, length, map, get_or, option_map, All}
+use Rattle.std.proofs.Common.{Bool, true, false, cond, Contains}
 use Rattle.std.proofs.Common.{slice_get, slice_set, refl, sym, ap, ◌∙◌, subst, arith, IsPermutation}
 use Rattle.std.specs.List.{count_by, find}
 use Rattle.std.proofs.lemmas.Bool.{eq-eqb}
@@ -23,7 +24,8 @@ use Rattle.guillotiere.specs.Replies.{grant_of, IsExact}
 use Rattle.guillotiere.specs.States.{State, after_refit, live_in, started, IsSound}
 use Rattle.guillotiere.specs.Stored.{AtlasValue, state_of}
 use Rattle.guillotiere.specs.Trees.{Grant, live}
-use Rattle.guillotiere.proofs.ListLemmas.CallerLemmas.{count_by-permutation, find-counted_once, find-permutation, slice_get-set_here, slice_get-set_other, Contains-find}
+use Rattle.guillotiere.proofs.ListLemmas.CallerLemmas.{count_by-permutation, find-counted_once, find-permutation, slice_get-set_here}
+use Rattle.guillotiere.proofs.ListLemmas.CallerLemmas.{slice_get-set_other, Contains-find}
 use Rattle.guillotiere.proofs.ListLemmas.ListCounts.{count_by-cons}
 use Rattle.guillotiere.proofs.StepLemmas.LiveBoxes.{few_live}
 use Rattle.guillotiere.proofs.StepLemmas.RefittedTrees.{refitted, HasAlignedBox, IsMovable, IsRefitted}
@@ -46,7 +48,8 @@ shown_among [] exact id = refl
 shown_among (a ∷ held) exact id = by_test (a.id == id) (shown_among held (All-tail HasExact a held exact) id)
   where
     by_test : (b : Bool) → granted_to (map grant_of held) id ≡ rectangle_among held id
-        → option_map rectangle_of (option_map (λ (g : Grant). g.box) (cond b (Some (grant_of a)) (find (λ g. g.id == id) (map grant_of held))))
+        → option_map rectangle_of (option_map (λ (g : Grant). g.box) (cond b (Some (grant_of a))
+        (find (λ g. g.id == id) (map grant_of held))))
         ≡ option_map (λ (k : Allocation). k.rectangle) (cond b (Some a) (find (λ k. k.id == id) held))
     by_test true rest = ap Some (sym (All-head HasExact a held exact))
     by_test false rest = rest
@@ -153,8 +156,10 @@ module _ {A : Type 0} (s start t : State) (order : List Allocation) (list : Chan
           let before = subst (IsPermutation (map grant_of order)) (olds cs fs) all.before in
           let few : (id : ℕ) → count_by (λ (g : Grant). g.id == id) (map grant_of order) ≤ 1 =
           λ id. omega (arith, counted_among order id, once id) in
-          let exact_olds = All-map HasExact (λ (c : Change). c.old) cs (All-weaker IsExactChange (λ c. HasExact c.old) (λ c e. e.0) cs exact_list.changes) in
-          let exact_news = All-map HasExact (λ (c : Change). c.new) cs (All-weaker IsExactChange (λ c. HasExact c.new) (λ c e. e.1) cs exact_list.changes) in
+          let exact_olds = All-map HasExact (λ (c : Change). c.old) cs (All-weaker IsExactChange (λ c. HasExact c.old) (λ c e. e.0) cs
+          exact_list.changes) in
+          let exact_news = All-map HasExact (λ (c : Change). c.new) cs (All-weaker IsExactChange (λ c. HasExact c.new) (λ c e. e.1) cs
+          exact_list.changes) in
           let exact_before = All-append HasExact (map (λ c. c.old) cs) fs exact_olds exact_list.failures in
           record {
             before = λ id. names id ∙ sym (shown_among order exact id)

@@ -44,7 +44,8 @@ module _ (pages : List AtlasValue) (page : ℕ) (a : AtlasValue) (is : a ≡ get
       → (IsPositive (sides_of asked) → Fits (rounded (state_of a).options (sides_of asked)) (box_sides box) → ⊥)
       → HasNoRoomWithout asked pages page ids → HasNoRoomWithout asked pages page (and_id ids id)
   none_there asked ids id b box sound live inside free large none =
-      page_has pages page a a is within (λ v. HasRoom (free_in (after_freeing (state_of v) (and_id ids id))) (state_of v).options (sides_of asked) → ⊥)
+      page_has pages page a a is within (λ v. HasRoom (free_in (after_freeing (state_of v) (and_id ids id))) (state_of v).options
+      (sides_of asked) → ⊥)
       (λ room. room_is_around (state_of a) ids id b box (sides_of asked) sound live free inside (none a here) (large room.positive) room)
 
   pub none_around : (asked : Size) (ids : ℕ → Bool) (id : ℕ) (box : Box) → IsSound (state_of a) → IsLive (state_of a) id

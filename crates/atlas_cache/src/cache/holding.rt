@@ -1,5 +1,6 @@
 //! Steps over the pages and the entries of a cache: what is live on the pages stays what the entries hold, each once.
-ghost use Rattle.std.specs.Prelude.{◌≡◌, ◌≢◌, ◌+◌, ◌-◌, ◌<◌, ◌≤◌, max, [], ◌∷◌, ◌++◌, length, false, true, IfErr, IfNone, IfOk, IfSome, IsNone, None, Ok};
+ghost use Rattle.std.specs.Prelude.{◌≡◌, ◌≢◌, ◌+◌, ◌-◌, ◌<◌, ◌≤◌, max, [], ◌∷◌, ◌++◌, length, false, true, IfErr, IfNone, IfOk, IfSome};
+ghost use Rattle.std.specs.Prelude.{IsNone, None, Ok};
 ghost use Rattle.std.specs.Prelude.{Err, OnErr, Some};
 ghost use Rattle.guillotiere.specs.Pages.{HasSameRectangles, LeavesNoBoxOn, NoneHasRoomBelow};
 ghost use Rattle.atlas_cache.specs.Caches.{entries_of, entry_for, shown, HoldsEntries, IsBordered, IsFound, IsOldestLying};

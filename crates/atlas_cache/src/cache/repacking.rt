@@ -9,7 +9,8 @@ ghost use Rattle.atlas_cache.specs.Caches.{entries_of, AreBordered, IsBordered};
 ghost use Rattle.atlas_cache.specs.Clearing.{TellsChanges};
 ghost use Rattle.atlas_entries.specs.Entries.{entry_at};
 ghost use Rattle.atlas_cache.specs.Relocating.{become, former_id, held_on, numbered_as, renewed_by, told_as, told_of, AreInIdOrder};
-ghost use Rattle.atlas_cache.specs.Relocating.{Repacks};
+ghost use Rattle.atlas_cache.specs.Relocating.{keys_of, Repacks};
+ghost use Rattle.atlas_cache.specs.Repacking.{LosesSome};
 ghost use Rattle.atlas_cache.specs.Rooms.{IsRefusal};
 ghost use Rattle.atlas_entries.specs.declared.error.CacheError.TheVariants.{Slots};
 
@@ -104,7 +105,7 @@ fn settle<K: Copy + Eq + Hash, S: BuildHasher, A: Allocator + Copy>(
                 rectangle: change.new.rectangle,
                 ..entry
             };
-            entries.move_to(number, moved.id, moved.rectangle);
+            entries.move_to(number, moved.page, moved.id, moved.rectangle);
             let to = place_of(moved, options);
             changes.push_reserved(CacheChange::Moved { key, from, to });
         }
@@ -155,8 +156,8 @@ impl<K: Copy + Eq + Hash, S: BuildHasher, A: Allocator + Copy> TextureCache<K, S
     /// `rectangle`, and among equal areas the most recently used; the page doesn't grow. Returns whether there is such a page; if
     /// not, nothing changes. Each entry of the page is added to the changes once, the most recently used first: as
     /// `Moved`, also where it stays in its place, or as `Evicted`, which is counted, where it found no room when its
-    /// turn came. Every other entry stays, and so do the order of use, the frame, the options and what entries are in reserve;
-    /// the page may have no slots in reserve then.
+    /// turn came, also if this frame uses it: `repack_keeping_all` evicts none. Every other entry stays, and so do the order of use, the
+    /// frame, the options and what entries are in reserve; the page may have no slots in reserve then.
     ///
     /// A place that an entry moves to can overlap one that a later change moves from: copy all pixels from the page as
     /// it was before the call. `Slots` if the page has too few of them, which takes more than 4,194,303 entries on it, `Memory` if
@@ -173,6 +174,55 @@ impl<K: Copy + Eq + Hash, S: BuildHasher, A: Allocator + Copy> TextureCache<K, S
         ensures capacity { vec_capacity changes.old ≤ vec_capacity changes.new }
         ensures short { result ≡ Err Slots → 16777216 < 1 + 4 * length (held_on page self.old.entries) }
     {
+        self.repack_page(page, false, changes)
+    }
+
+    /// Places the entries of a page anew as `repack` does, but only where each of them finds room: no key goes, and none is counted as
+    /// evicted. Returns whether it did; if not, there is no such page, or `repack` would evict some of its entries, and nothing changes.
+    /// Takes what `repack` takes, also where nothing changes.
+    pub fn repack_keeping_all(
+        &mut self,
+        page: u32,
+        changes: &mut Changes<K, A>,
+    ) -> Result<bool, CacheError>
+        ensures repacks { result ≡ Ok true → Repacks page changes.old.items changes.new.items self.old self.new }
+        ensures keys { result ≡ Ok true → keys_of self.new.entries ≡ keys_of self.old.entries }
+        ensures counts { result ≡ Ok true → self.new.counts ≡ self.old.counts }
+        ensures there { result ≡ Ok true → page < length self.old.pages }
+        ensures loses { result ≡ Ok false → page < length self.old.pages
+            → LosesSome self.old.pages page (held_on page self.old.entries) }
+        ensures absent { length self.old.pages ≤ page → result ≡ Ok false }
+        ensures none { result ≡ Ok false → (self.new ≡ self.old) × (changes.new.items ≡ changes.old.items) }
+        ensures told { TellsChanges K.eq changes.old.items changes.new.items self.old self.new }
+        ensures refused { OnErr result ((self.new ≡ self.old) × (changes.new.items ≡ changes.old.items)) }
+        ensures errors { IfErr result IsRefusal }
+        ensures capacity { vec_capacity changes.old ≤ vec_capacity changes.new }
+        ensures short { result ≡ Err Slots → 16777216 < 1 + 4 * length (held_on page self.old.entries) }
+    {
+        self.repack_page(page, true, changes)
+    }
+
+    // Places the entries of a page anew; if `whole`, only where each finds room. Whether it did.
+    fn repack_page(
+        &mut self,
+        page: u32,
+        whole: bool,
+        changes: &mut Changes<K, A>,
+    ) -> Result<bool, CacheError>
+        ensures repacks { result ≡ Ok true → Repacks page changes.old.items changes.new.items self.old self.new }
+        ensures keys { result ≡ Ok true → IsTrue whole → keys_of self.new.entries ≡ keys_of self.old.entries }
+        ensures counts { result ≡ Ok true → IsTrue whole → self.new.counts ≡ self.old.counts }
+        ensures there { result ≡ Ok true → page < length self.old.pages }
+        ensures loses { result ≡ Ok false → page < length self.old.pages
+            → IsTrue whole × LosesSome self.old.pages page (held_on page self.old.entries) }
+        ensures absent { length self.old.pages ≤ page → result ≡ Ok false }
+        ensures none { result ≡ Ok false → (self.new ≡ self.old) × (changes.new.items ≡ changes.old.items) }
+        ensures told { TellsChanges K.eq changes.old.items changes.new.items self.old self.new }
+        ensures refused { OnErr result ((self.new ≡ self.old) × (changes.new.items ≡ changes.old.items)) }
+        ensures errors { IfErr result IsRefusal }
+        ensures capacity { vec_capacity changes.old ≤ vec_capacity changes.new }
+        ensures short { result ≡ Err Slots → 16777216 < 1 + 4 * length (held_on page self.old.entries) }
+    {
         if page >= self.rooms.len() {
             return Ok(false);
         }
@@ -180,7 +230,9 @@ impl<K: Copy + Eq + Hash, S: BuildHasher, A: Allocator + Copy> TextureCache<K, S
         let before = self.entries.len();
         changes.reserve(before)?;
         let held = rectangles_of(&self.entries, page, *changes.allocator())?;
-        let mut list = self.rooms.repack(page, held)?;
+        let Some(mut list) = self.rooms.repack(page, held, whole)? else {
+            return Ok(false);
+        };
         sort_by_id(&mut list.changes);
         let options = self.rooms.options();
         settle_all(&mut self.entries, &options, &list.changes, page, changes);

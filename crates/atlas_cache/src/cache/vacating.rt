@@ -1,5 +1,6 @@
 //! Room for a request by the eviction of what lies in one box of a page.
-ghost use Rattle.std.specs.Prelude.{◌≡◌, ◌+◌, ◌<◌, ◌≤◌, ◌++◌, ◌∷◌, [], ℕ, List, nat_le, false, true, length, IfOk, IfSome, IsSome, None, Ok, Some, slice_get};
+ghost use Rattle.std.specs.Prelude.{◌≡◌, ◌+◌, ◌<◌, ◌≤◌, ◌++◌, ◌∷◌, [], ℕ, List, nat_le, false, true, length, IfOk, IfSome, IsSome, None};
+ghost use Rattle.std.specs.Prelude.{Ok, Some, slice_get};
 ghost use Rattle.std.specs.Prelude.{vec_capacity, vec_len, IsOk, IsOkUnless, OnErr};
 ghost use Rattle.guillotiere.specs.Boxes.{IsPositive};
 ghost use Rattle.atlas_cache.specs.declared.cache.vacating.Vacated.TheVariants.{Crowded, Room, Unmarked};

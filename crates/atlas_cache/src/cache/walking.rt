@@ -1,8 +1,8 @@
 //! The keys of a cache in the order of their use.
-ghost use Rattle.std.specs.Prelude.{◌≡◌, None, Some, IfNone, IfSome, option_map};
+ghost use Rattle.std.specs.Prelude.{◌≡◌, ◌∷◌, None, Some, IfNone, IfSome, option_map};
 ghost use Rattle.atlas_entries.specs.declared.entries.Entry.{Entry};
 ghost use Rattle.atlas_cache.specs.Caches.{entries_of, entry_for};
-ghost use Rattle.atlas_entries.specs.Entries.{entry_at, IsNumber};
+ghost use Rattle.atlas_entries.specs.Entries.{entry_at, without_number, IsNumber};
 ghost use Rattle.atlas_cache.specs.Walking.{first_entry, keyed, last_entry, IsNext, ShowsOlder};
 
 use crate::cache::TextureCache;
@@ -12,12 +12,14 @@ use atlas_entries::entries::{Entries, Entry};
 use std::alloc::Allocator;
 use std::hash::{BuildHasher, Hash};
 
-// The most recently used entry with its number; None if there is none.
-fn newest<K: Copy + Eq + Hash, S: BuildHasher, A: Allocator + Copy>(
+/// The most recently used entry with its number; None if there is none.
+pub fn newest<K: Copy + Eq + Hash, S: BuildHasher, A: Allocator + Copy>(
     entries: &Entries<K, S, A>,
 ) -> Option<(u32, Entry<K>)>
     ensures here { IfSome result (λ found. entry_at found.0 entries.now.entries ≡ Some found.1) }
     ensures first { IfSome result (λ found. first_entry (entries_of entries.now.entries) ≡ Some found.1) }
+    ensures rest { IfSome result (λ found. entries_of entries.now.entries
+        ≡ found.1 ∷ entries_of (without_number found.0 entries.now.entries)) }
     ensures none { IfNone result (first_entry (entries_of entries.now.entries) ≡ None) }
 {
     let Some(number) = entries.newest() else {

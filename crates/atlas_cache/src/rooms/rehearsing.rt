@@ -10,7 +10,7 @@ use guillotiere::{AllocId, Rectangle, Size};
 use std::alloc::{AllocError, Allocator};
 
 impl<A: Allocator + Copy> Rooms<A> {
-    /// Begins a rehearsal on a page: no rectangle is shown as freed. An error is a refusal of memory for the marks, one for each slot of it.
+    /// Begins a rehearsal on a page: no rectangle is shown as freed. An error: memory for the marks is refused, one for each slot of it.
     pub(crate) fn show_none(&self, page: u32, marks: &mut Vec<bool, A>) -> Result<(), AllocError>
         requires { page < length self.now.pages }
         ensures { OnOk result (AreShownOn self.now.pages page marks.new.items (λ id. false)) }

@@ -1,6 +1,6 @@
 //! A page's rectangles placed anew, and the areas of a page.
 ghost use Rattle.std.specs.Prelude.{◌≡◌, ◌+◌, ◌-◌, ◌*◌, ◌<◌, All, Err, IsPermutation, length, map, slice_get, IfErr, IfOk, IfSome};
-ghost use Rattle.std.specs.Prelude.{IsOkUnless, Ok, OnErr, OnOk, Some};
+ghost use Rattle.std.specs.Prelude.{IsOkUnless, IsTrue, Ok, OnErr, OnOk, None, Some, []};
 ghost use Rattle.guillotiere.specs.Boxes.{area, box_sides};
 ghost use Rattle.guillotiere.specs.Pixels.{box_of, sides_of};
 ghost use Rattle.guillotiere.specs.Rearranging.{rearrangement_of, AreExactChanges};
@@ -11,7 +11,7 @@ ghost use Rattle.guillotiere.specs.States.{used_in};
 ghost use Rattle.guillotiere.specs.Steps.{Step};
 ghost use Rattle.guillotiere.specs.Steps.AtlasCall.{Allocate};
 ghost use Rattle.guillotiere.specs.Stored.{state_of};
-ghost use Rattle.atlas_cache.specs.Repacking.{free_by_page, live_by_page, IsLargestFirst, NamesPage, PlacesAnew};
+ghost use Rattle.atlas_cache.specs.Repacking.{free_by_page, live_by_page, IsLargestFirst, LosesSome, NamesPage, PlacesAnew};
 ghost use Rattle.atlas_cache.specs.Repacking.{RepacksPage};
 ghost use Rattle.atlas_cache.specs.Rooms.{page_sizes, IsRefusal};
 ghost use Rattle.atlas_entries.specs.declared.error.CacheError.TheVariants.{Slots};
@@ -25,7 +25,7 @@ use std::alloc::Allocator;
 use std::cmp::Reverse;
 
 // How many pixels a rectangle has. A coordinate below 0 counts as 0.
-fn area_of(rectangle: Rectangle) -> u64
+pub(crate) fn area_of(rectangle: Rectangle) -> u64
     ensures { result ≡ area (box_of rectangle) }
 {
     extent(rectangle.min.x, rectangle.max.x) * extent(rectangle.min.y, rectangle.max.y)
@@ -42,7 +42,7 @@ fn sort_by_area<A: Allocator>(held: &mut Vec<Allocation, A>) -> Result<(), Cache
 }
 
 // The size of a rectangle.
-fn size_of_box(rectangle: Rectangle) -> Size
+pub(crate) fn size_of_box(rectangle: Rectangle) -> Size
     requires { IsExact rectangle }
     ensures { sides_of result ≡ box_sides (box_of rectangle) }
 {
@@ -105,19 +105,23 @@ impl<A: Allocator + Copy> Rooms<A> {
     /// of boxes. If the list names what is live on the page, each once, then the answer lists each rectangle of the
     /// page once: those that were placed anew, with their former and their new ids, and those that found no room when
     /// their turn came, whose ids are no longer live. All former ids of the page are void. Other pages stay as they
-    /// are. `Slots` if the page has too few of them, which takes more than 4,194,303 rectangles, `Memory` if memory is refused; then
-    /// nothing changes.
+    /// are. None, and then nothing changes, exactly if `whole` is asked for and one would find no room. `Slots` if the page has too few
+    /// of them, which takes more than 4,194,303 rectangles, `Memory` if memory is refused; then nothing changes.
     pub fn repack(
         &mut self,
         page: u32,
         held: Vec<Allocation, A>,
-    ) -> Result<ChangeList<A>, CacheError>
+        whole: bool,
+    ) -> Result<Option<ChangeList<A>>, CacheError>
         requires page { page < length self.old.pages }
         requires exact { All HasExactRectangle held.items }
         ensures repacks { NamesPage self.old.pages page held.items
-            → IfOk result (RepacksPage self.old.pages self.new.pages page) }
-        ensures placed { IfOk result (λ list. PlacesAnew self.old.pages self.new.pages page held.items
-            list.changes.items list.failures.items) }
+            → IfOk result (λ made. IfSome made (RepacksPage self.old.pages self.new.pages page)) }
+        ensures placed { IfOk result (λ made. IfSome made (λ list. PlacesAnew self.old.pages self.new.pages page held.items
+            list.changes.items list.failures.items)) }
+        ensures all { IsTrue whole → IfOk result (λ made. IfSome made (λ list. list.failures.items ≡ [])) }
+        ensures loses { result ≡ Ok None → IsTrue whole × LosesSome self.old.pages page held.items }
+        ensures stays { result ≡ Ok None → self.new ≡ self.old }
         ensures sizes { page_sizes self.new.pages ≡ page_sizes self.old.pages }
         ensures options { self.new.options ≡ self.old.options }
         ensures refused { OnErr result (self.new ≡ self.old) }
@@ -134,9 +138,12 @@ impl<A: Allocator + Copy> Rooms<A> {
         };
         let list = place_all(&mut placed, order)?;
         placed.prove_sound();
+        if whole && !list.failures.is_empty() {
+            return Ok(None);
+        }
         self.pages[page] = placed;
         self.refused[page] = NOTHING;
-        Ok(list)
+        Ok(Some(list))
     }
 
     /// The area of all live rectangles of a page together, in unit squares. Requires that there is such a page. Takes no

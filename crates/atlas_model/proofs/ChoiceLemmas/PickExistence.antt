@@ -1,10 +1,13 @@
 -- Where a request has room there is a pick: the least fitting box by class, equal side, margin and place.
-use Rattle.std.proofs.Common.{◌≡◌, ℕ, ◌-◌, ◌≤◌, ◌<◌, ◌==◌, Bool, true, false, cond, not, ltb, nat_le, ◌&&◌, ◌||◌, List, [], ◌∷◌, refl, ap, sym, subst, ◌∙◌, arith, inl, inr, ◌⊎◌, Contains}
+use Rattle.std.proofs.Common.{◌≡◌, ℕ, ◌-◌, ◌≤◌, ◌<◌, ◌==◌, Bool, true, false, cond, not, ltb, nat_le, ◌&&◌, ◌||◌, List, [], ◌∷◌, refl, ap}
+use Rattle.std.proofs.Common.{sym, subst, ◌∙◌, arith, inl, inr, ◌⊎◌, Contains}
 use Rattle.std.specs.List.{sum_by}
-use Rattle.std.proofs.lemmas.Bool.{true≢false, cases_lt, cases_Bool, eqb-true, eqb-false, eq-eqb, le-leb, leb-true, ltb-true, and_parts, and_from, or_cases, or_left, or_right}
+use Rattle.std.proofs.lemmas.Bool.{true≢false, cases_lt, cases_Bool, eqb-true, eqb-false, eq-eqb, le-leb, leb-true, ltb-true, and_parts}
+use Rattle.std.proofs.lemmas.Bool.{and_from, or_cases, or_left, or_right}
 use Rattle.std.proofs.lemmas.List.Sums.{get_or-le-sum_by}
 use Rattle.atlas_model.specs.Boxes.{Sides, Box, box_sides, Fits, IsPositive}
-use Rattle.atlas_model.specs.Choice.{Options, rounded, class_of, least_margin, HasEqualSide, IsFitting, IsCandidate, HasBetterMargin, IsBest, ComesFirst, IsPick, HasRoom, HasNoRoom}
+use Rattle.atlas_model.specs.Choice.{Options, rounded, class_of, least_margin, HasEqualSide, IsFitting, IsCandidate, HasBetterMargin}
+use Rattle.atlas_model.specs.Choice.{IsBest, ComesFirst, IsPick, HasRoom, HasNoRoom}
 use Rattle.atlas_model.specs.Laws.StepLaws.{PicksExist, SmallerFits}
 use Rattle.atlas_model.proofs.TreeLemmas.TreeIds.{Contains-first, Contains-later, Contains-none, Contains-cons_cases}
 use Rattle.atlas_model.proofs.ChoiceLemmas.RoundedSides.{rounded_monotone}

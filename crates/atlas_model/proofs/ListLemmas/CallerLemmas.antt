@@ -1,5 +1,6 @@
 -- Lists as callers meet them: counts and searches under a permutation, a filter and a map.
-use Rattle.std.proofs.Common.{rules, ◌≡◌, ◌≢◌, ◌↔◌, ℕ, zero, suc, ◌+◌, ◌≤◌, ◌<◌, slice_get, slice_set, get_or, Bool, true, false, cond, List, [], ◌∷◌, map, length}
+use Rattle.std.proofs.Common.{rules, ◌≡◌, ◌≢◌, ◌↔◌, ℕ, zero, suc, ◌+◌, ◌≤◌, ◌<◌, slice_get, slice_set, get_or, Bool, true, false, cond}
+use Rattle.std.proofs.Common.{List, [], ◌∷◌, map, length}
 use Rattle.std.proofs.Common.{refl, ap, subst, sym, ◌∙◌, arith, Contains, IsPermutation, inl, inr, Option, Some, None}
 use Rattle.std.proofs.lemmas.List.Sorted.{sum_by-IsPermutation, Contains-permutation}
 use Rattle.std.specs.List.{count_by, filter, find}

@@ -1,11 +1,13 @@
 -- What each simple allocator keeps is kept by a grant, and so are boxes that are held.
-use Rattle.std.proofs.Common.{◌≡◌, ℕ, ◌+◌, ◌≤◌, Bool, true, false, cond, ◌&&◌, ◌||◌, ltb, leb, List, [], ◌∷◌, ◌++◌, Option, Some, None, Result, Ok, Err, ◌⊎◌, refl, ap, sym, subst, arith, rules}
+use Rattle.std.proofs.Common.{◌≡◌, ℕ, ◌+◌, ◌≤◌, Bool, true, false, cond, ◌&&◌, ◌||◌, ltb, leb, List, [], ◌∷◌, ◌++◌, Option, Some, None}
+use Rattle.std.proofs.Common.{Result, Ok, Err, ◌⊎◌, refl, ap, sym, subst, arith, rules}
 use Rattle.std.specs.Option.{IfSome}
 use Rattle.std.specs.Result.{IfOk}
 use Rattle.std.specs.List.{All, count_by, filter}
 use Rattle.std.proofs.lemmas.Bool.{leb-true, and_parts}
 use Rattle.std.proofs.lemmas.Bool.Decides.{nat_tests}
-use Rattle.std.proofs.lemmas.List.Elements.{All-nil, All-cons, All-head, All-tail, All-append, All-contains, All-filter, filter_passes, All-weaker}
+use Rattle.std.proofs.lemmas.List.Elements.{All-nil, All-cons, All-head, All-tail, All-append, All-contains, All-filter, filter_passes}
+use Rattle.std.proofs.lemmas.List.Elements.{All-weaker}
 use Rattle.std.proofs.lemmas.List.Sums.{sum_by-cons, sum_by-append}
 use Rattle.atlas_model.specs.declared.geometry.Rectangle.{Rectangle}
 use Rattle.atlas_model.specs.declared.error.AtlasError.{AtlasError}
@@ -15,7 +17,8 @@ use Rattle.atlas_model.specs.Boxes.Axis.{Horizontal, Vertical}
 use Rattle.atlas_model.specs.Cuts.{cut_axis, split_along, leftover_along}
 use Rattle.atlas_model.specs.Choice.{Options, AreValid, rounded}
 use Rattle.atlas_model.specs.Simple.SimpleAtlasCall.{Allocate}
-use Rattle.atlas_model.specs.Simple.{SimpleState, IsSimple, SimplyGrants, IsGuarded, is_kept, kept_rest, simple_start, SimpleStep, simple_answer}
+use Rattle.atlas_model.specs.Simple.{SimpleState, IsSimple, SimplyGrants, IsGuarded, is_kept, kept_rest, simple_start, SimpleStep}
+use Rattle.atlas_model.specs.Simple.{simple_answer}
 
 abbrev pub one_if : Bool → ℕ
 one_if b = cond b 1 0
@@ -48,7 +51,8 @@ cells_down p1 p2 p q1 q2 q h k = grind arith
 
 -- Of a box that isn't empty and that a request fits, each unit square lies in the granted part, the split or the leftover.
 pub squares_of_cut : (axis : Axis) (f : Box) (r : Sides) (x y : ℕ) → IsNonempty f → Fits r (box_sides f)
-    → one_if (covers x y (box_at f.min r)) + (one_if (covers x y (split_along axis f r)) + one_if (covers x y (leftover_along axis f r))) ≡ one_if (covers x y f)
+    → one_if (covers x y (box_at f.min r)) + (one_if (covers x y (split_along axis f r)) + one_if (covers x y (leftover_along axis f r))) ≡
+    one_if (covers x y f)
 squares_of_cut Horizontal f r x y nonempty fits = search (rules, cells_across, parts)
 squares_of_cut Vertical f r x y nonempty fits = search (rules, cells_down, parts)
 
@@ -70,7 +74,15 @@ grant-squares old new s box simple grants x y =
     let cut = squares_of_cut axis f r x y own.0 fitting.fits in
     let few = kept_le (is_kept old.options) (split_along axis f r) (leftover_along axis f r) (covers x y) in
     let e : one_if (covers x y box) ≡ one_if (covers x y (box_at f.min r)) = ap (λ b. one_if (covers x y b)) grants.granted in
-    omega (arith, grants.free (covers x y), sum_by-cons (λ b. one_if (covers x y b)) f new.free, sum_by-append (λ b. one_if (covers x y b)) (kept_rest old.options f r) old.free, cut, few, e)
+    omega (
+      arith,
+      grants.free (covers x y),
+      sum_by-cons (λ b. one_if (covers x y b)) f new.free,
+      sum_by-append (λ b. one_if (covers x y b)) (kept_rest old.options f r) old.free,
+      cut,
+      few,
+      e,
+    )
 
 -- A fact of all boxes, by a count of those that fail it.
 
@@ -120,9 +132,11 @@ grant-boxes old new s box simple grants =
     let kept = kept-placed old.options old.size (cut_axis (box_sides f) r) f r simple.valid own.0 own.1 fitting.fits in
     let before : count_by bad (kept_rest old.options f r ++ old.free) ≡ 0 =
     count-none bad (kept_rest old.options f r ++ old.free)
-    (All-weaker (P old.size) (λ b. bad b ≡ false) (not_misplaced old.size) (kept_rest old.options f r ++ old.free) (All-append (P old.size) (kept_rest old.options f r) old.free kept simple.boxes)) in
+    (All-weaker (P old.size) (λ b. bad b ≡ false) (not_misplaced old.size) (kept_rest old.options f r ++ old.free)
+    (All-append (P old.size) (kept_rest old.options f r) old.free kept simple.boxes)) in
     let after : count_by bad new.free ≡ 0 = omega (arith, grants.free bad, sum_by-cons (λ b. one_if (bad b)) f new.free, before) in
-    let here : All (P old.size) new.free = All-weaker (λ b. bad b ≡ false) (P old.size) (well_placed old.size) new.free (none-count bad new.free after) in
+    let here : All (P old.size) new.free = All-weaker (λ b. bad b ≡ false) (P old.size) (well_placed old.size) new.free
+    (none-count bad new.free after) in
     subst (λ size. All (P size) new.free) (sym grants.size) here
 
 -- A grant keeps what each simple allocator keeps.
@@ -144,12 +158,21 @@ grant-guarded old new s box held simple grants guarded = record {
       let f = grants.picked in
       let fitting = grants.pick.best.candidate.fitting in
       let own = All-contains (λ b. IsNonempty b × IsWithin old.size b) old.free f simple.boxes fitting.is_free in
-      let granted : IsWithin old.size (box_at f.min (rounded old.options s)) = (omega (arith, own.0, own.1, fitting.fits), omega (arith, own.0, own.1, fitting.fits)) in
-      let now : All (λ b. IsWithin old.size b) (box ∷ held) = All-cons (λ b. IsWithin old.size b) box held (subst (IsWithin old.size) (sym grants.granted) granted) guarded.within in
+      let granted : IsWithin old.size (box_at f.min (rounded old.options s)) =
+      (omega (arith, own.0, own.1, fitting.fits), omega (arith, own.0, own.1, fitting.fits)) in
+      let now : All (λ b. IsWithin old.size b) (box ∷ held) = All-cons (λ b. IsWithin old.size b) box held
+      (subst (IsWithin old.size) (sym grants.granted) granted) guarded.within in
       subst (λ size. All (λ b. IsWithin size b) (box ∷ held)) (sym grants.size) now;
   disjoint = λ x y.
       let g = λ (b : Box). one_if (covers x y b) in
-      omega (arith, guarded.disjoint x y, grant-squares old new s box simple grants x y, sum_by-append g (box ∷ held) new.free, sum_by-cons g box held, sum_by-append g held old.free);
+      omega (
+        arith,
+        guarded.disjoint x y,
+        grant-squares old new s box simple grants x y,
+        sum_by-append g (box ∷ held) new.free,
+        sum_by-cons g box held,
+        sum_by-append g held old.free,
+      );
 }
 
 -- A new allocator.

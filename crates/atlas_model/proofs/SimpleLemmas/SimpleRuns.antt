@@ -9,7 +9,8 @@ use Rattle.atlas_model.specs.Boxes.{Box, covers}
 use Rattle.atlas_model.specs.Simple.SimpleAtlasCall.{Allocate, Grow, Clear, Reset, Start}
 use Rattle.atlas_model.specs.Simple.SimpleAnswer.{Granted, NoRoom, Done, Refused, BadCall}
 use Rattle.atlas_model.specs.Simple.{SimpleState, IsSimple, IsGuarded, SimpleAtlasCall, SimpleAnswer, SimpleStep}
-use Rattle.atlas_model.specs.Simple.SimpleRuns.{SimpleRun, held_after, held_along, granted_boxes, is_start, has_start, SimpleRunsKeepGuard, SimpleStartsGuard, GuardedAreDisjoint}
+use Rattle.atlas_model.specs.Simple.SimpleRuns.{SimpleRun, held_after, held_along, granted_boxes, is_start, has_start, SimpleRunsKeepGuard}
+use Rattle.atlas_model.specs.Simple.SimpleRuns.{SimpleStartsGuard, GuardedAreDisjoint}
 use Rattle.atlas_model.proofs.SimpleLemmas.SimpleGrants.{one_if, start-simple}
 use Rattle.atlas_model.proofs.SimpleLemmas.SimpleSteps.{step-simple, step-held, starts-guarded, none-guarded}
 
@@ -30,7 +31,8 @@ held-along [] [] old new held simple run guarded = subst (λ s. IsGuarded s held
 held-along [] (answer ∷ answers) old new held simple run guarded = absurd run
 held-along (call ∷ calls) [] old new held simple run guarded = absurd run
 held-along (call ∷ calls) (answer ∷ answers) old new held simple (mid, step, run) guarded =
-    held-along calls answers mid new (held_after held call answer) (step-simple old mid call answer simple step) run (step-held old mid call answer held simple step guarded)
+    held-along calls answers mid new (held_after held call answer) (step-simple old mid call answer simple step) run
+    (step-held old mid call answer held simple step guarded)
 
 -- What is held without a start.
 
@@ -79,5 +81,6 @@ simple_starts_guard = record {
 
 pub guarded_are_disjoint : GuardedAreDisjoint
 guarded_are_disjoint s held guarded x y =
-    let more : count_by (covers x y) held ≤ count_by (covers x y) (held ++ s.free) = omega (arith, sum_by-append (λ (b : Box). one_if (covers x y b)) held s.free) in
+    let more : count_by (covers x y) held ≤ count_by (covers x y) (held ++ s.free) =
+    omega (arith, sum_by-append (λ (b : Box). one_if (covers x y b)) held s.free) in
     omega (arith, more, guarded.disjoint x y)

@@ -1,5 +1,6 @@
 -- Each step of the simple allocator keeps what it keeps, and the boxes that are held.
-use Rattle.std.proofs.Common.{◌≡◌, ℕ, ◌+◌, ◌≤◌, ◌<◌, Bool, true, false, ltb, List, [], ◌∷◌, ◌++◌, map, refl, ap, sym, ◌∙◌, subst, arith, rules}
+use Rattle.std.proofs.Common.{◌≡◌, ℕ, ◌+◌, ◌≤◌, ◌<◌, Bool, true, false, ltb, List, [], ◌∷◌, ◌++◌, map, refl, ap, sym, ◌∙◌, subst, arith}
+use Rattle.std.proofs.Common.{rules}
 use Rattle.std.specs.List.{All, count_by}
 use Rattle.std.proofs.lemmas.Bool.{ltb-true}
 use Rattle.std.proofs.lemmas.Bool.Decides.{nat_tests}
@@ -13,10 +14,12 @@ use Rattle.atlas_model.specs.Trees.{Grant}
 use Rattle.atlas_model.specs.States.{State, live_in, free_in}
 use Rattle.atlas_model.specs.Simple.SimpleAtlasCall.{Allocate, Grow, Clear, Reset, Start}
 use Rattle.atlas_model.specs.Simple.SimpleAnswer.{Granted, NoRoom, Done, Refused, BadCall}
-use Rattle.atlas_model.specs.Simple.{SimpleState, IsSimple, SimplyGrows, StartsFrom, IsGuarded, is_kept, added_by, live_boxes, SimpleAtlasCall, SimpleAnswer, SimpleStep}
+use Rattle.atlas_model.specs.Simple.{SimpleState, IsSimple, SimplyGrows, StartsFrom, IsGuarded, is_kept, added_by, live_boxes}
+use Rattle.atlas_model.specs.Simple.{SimpleAtlasCall, SimpleAnswer, SimpleStep}
 use Rattle.atlas_model.specs.Simple.SimpleRuns.{held_after}
 use Rattle.atlas_model.proofs.TreeLemmas.BoxLists.{squares_in_one, boxes_in_place}
-use Rattle.atlas_model.proofs.SimpleLemmas.SimpleGrants.{one_if, squares_of_cut, kept_le, count-none, none-count, misplaced, well_placed, not_misplaced, kept-placed, grant-simple, grant-guarded, start-simple}
+use Rattle.atlas_model.proofs.SimpleLemmas.SimpleGrants.{one_if, squares_of_cut, kept_le, count-none, none-count, misplaced, well_placed}
+use Rattle.atlas_model.proofs.SimpleLemmas.SimpleGrants.{not_misplaced, kept-placed, grant-simple, grant-guarded, start-simple}
 
 -- A unit square lies inside a size, or no box within the size covers it.
 
@@ -103,7 +106,8 @@ grow-boxes old new n simple fits grows =
     let free = All-weaker (P old.size) (P n) wider old.free simple.boxes in
     let before : count_by bad (added_by old n ++ old.free) ≡ 0 =
     count-none bad (added_by old n ++ old.free)
-    (All-weaker (P n) (λ b. bad b ≡ false) (not_misplaced n) (added_by old n ++ old.free) (All-append (P n) (added_by old n) old.free kept free)) in
+    (All-weaker (P n) (λ b. bad b ≡ false) (not_misplaced n) (added_by old n ++ old.free)
+    (All-append (P n) (added_by old n) old.free kept free)) in
     let after : count_by bad new.free ≡ 0 = grows.free bad ∙ before in
     let here : All (P n) new.free = All-weaker (λ b. bad b ≡ false) (P n) (well_placed n) new.free (none-count bad new.free after) in
     subst (λ size. All (P size) new.free) (sym grows.size) here
@@ -124,10 +128,12 @@ pub grow-guarded : (old new : SimpleState) (n : Sides) (held : List Box) → IsS
 grow-guarded old new n held simple fits grows guarded = record {
   within =
       let wider : (b : Box) → IsWithin old.size b → IsWithin n b = λ b h. (omega (arith, h, fits), omega (arith, h, fits)) in
-      subst (λ size. All (λ b. IsWithin size b) held) (sym grows.size) (All-weaker (λ b. IsWithin old.size b) (λ b. IsWithin n b) wider held guarded.within);
+      subst (λ size. All (λ b. IsWithin size b) held) (sym grows.size) (All-weaker (λ b. IsWithin old.size b) (λ b. IsWithin n b) wider held
+      guarded.within);
   disjoint = λ x y.
       let g = λ (b : Box). one_if (covers x y b) in
-      let before : count_by (covers x y) held + count_by (covers x y) old.free ≤ 1 = omega (arith, guarded.disjoint x y, sum_by-append g held old.free) in
+      let before : count_by (covers x y) held + count_by (covers x y) old.free ≤ 1 =
+      omega (arith, guarded.disjoint x y, sum_by-append g held old.free) in
       let apart = grown-apart old n held simple fits guarded.within x y before in
       omega (arith, apart, grown-count old new n (covers x y) grows, sum_by-append g held new.free);
 }
@@ -161,9 +167,12 @@ starts-simple source new starts = record {
   boxes =
       let P : Sides → Box → Type 0 = λ size b. IsNonempty b × IsWithin size b in
       let bad = misplaced source.size in
-      let free : All (P source.size) (free_in source) = free-all (P source.size) (live_in source) (free_in source) (boxes_in_place source.size source.tree starts.sound.well_formed) in
-      let none : count_by bad new.free ≡ 0 = starts.free bad ∙ count-none bad (free_in source) (All-weaker (P source.size) (λ b. bad b ≡ false) (not_misplaced source.size) (free_in source) free) in
-      subst (λ size. All (P size) new.free) (sym starts.size) (All-weaker (λ b. bad b ≡ false) (P source.size) (well_placed source.size) new.free (none-count bad new.free none));
+      let free : All (P source.size) (free_in source) = free-all (P source.size) (live_in source) (free_in source)
+      (boxes_in_place source.size source.tree starts.sound.well_formed) in
+      let none : count_by bad new.free ≡ 0 = starts.free bad ∙ count-none bad (free_in source)
+      (All-weaker (P source.size) (λ b. bad b ≡ false) (not_misplaced source.size) (free_in source) free) in
+      subst (λ size. All (P size) new.free) (sym starts.size) (All-weaker (λ b. bad b ≡ false) (P source.size) (well_placed source.size)
+      new.free (none-count bad new.free none));
   disjoint = λ x y. omega (arith, started-count source new starts x y);
 }
 
@@ -172,8 +181,14 @@ starts-guarded source new starts = record {
   within =
       subst (λ size. All (λ b. IsWithin size b) (live_boxes source)) (sym starts.size)
       (within-all source.size (live_boxes source)
-      (mapped-all (λ b. IsNonempty b × IsWithin source.size b) (live_in source) (free_in source) (boxes_in_place source.size source.tree starts.sound.well_formed)));
-  disjoint = λ x y. omega (arith, started-count source new starts x y, sum_by-append (λ b. one_if (covers x y b)) (live_boxes source) new.free);
+      (mapped-all (λ b. IsNonempty b × IsWithin source.size b) (live_in source) (free_in source)
+      (boxes_in_place source.size source.tree starts.sound.well_formed)));
+  disjoint = λ x y. omega (
+    arith,
+    started-count source new starts x y,
+    sum_by-append (λ b. one_if (covers x y b)) (live_boxes source)
+        new.free,
+  );
 }
 
 -- Each step.
@@ -203,16 +218,26 @@ last-guarded : (s : SimpleState) (box : Box) (held : List Box) → IsGuarded s (
 last-guarded s box held guarded = record {
   within =
       let P : Box → Type 0 = λ b. IsWithin s.size b in
-      All-append P held (box ∷ []) (All-tail P box held guarded.within) (All-cons P box [] (All-head P box held guarded.within) (All-nil P));
+      All-append P held (box ∷ []) (All-tail P box held guarded.within)
+      (All-cons P box [] (All-head P box held guarded.within) (All-nil P));
   disjoint = λ x y.
       let g = λ (b : Box). one_if (covers x y b) in
-      omega (arith, guarded.disjoint x y, sum_by-append g (box ∷ held) s.free, sum_by-cons g box held, sum_by-append g (held ++ box ∷ []) s.free, sum_by-append g held (box ∷ []), sum_by-cons g box []);
+      omega (
+        arith,
+        guarded.disjoint x y,
+        sum_by-append g (box ∷ held) s.free,
+        sum_by-cons g box held,
+        sum_by-append g (held ++ box ∷ []) s.free,
+        sum_by-append g held (box ∷ []),
+        sum_by-cons g box [],
+      );
 }
 
 pub step-held : (old new : SimpleState) (call : SimpleAtlasCall) (answer : SimpleAnswer) (held : List Box)
     → IsSimple old → SimpleStep old call answer new
     → IsGuarded old held → IsGuarded new (held_after held call answer)
-step-held old new (Allocate r) (Granted box) held simple step guarded = last-guarded new box held (grant-guarded old new r box held simple step guarded)
+step-held old new (Allocate r) (Granted box) held simple step guarded = last-guarded new box held
+    (grant-guarded old new r box held simple step guarded)
 step-held old new (Allocate r) NoRoom held simple step guarded = subst (λ s. IsGuarded s held) (sym step.1) guarded
 step-held old new (Allocate r) (Refused Memory) held simple step guarded = subst (λ s. IsGuarded s held) (sym step.1) guarded
 step-held old new (Grow n) Done held simple step guarded = grow-guarded old new n held simple step.0 step.1 guarded

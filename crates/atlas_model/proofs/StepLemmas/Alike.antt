@@ -23,7 +23,8 @@ use Rattle.atlas_model.proofs.StepLemmas.StepEffects.{picks_are_one}
 use Rattle.atlas_model.proofs.TreeLemmas.TreeIds.{Contains-first, Contains-later, Contains-none, Contains-cons_cases, unused-absent}
 use Rattle.atlas_model.proofs.TreeLemmas.TreeKept.{ids-nf, ids-grown}
 use Rattle.atlas_model.proofs.TreeLemmas.TreePuts.{ids-put}
-use Rattle.atlas_model.proofs.TreeLemmas.RenamedTrees.{agreeing_renamed, ids-renamed, nodes-renamed, free_renamed, need_renamed, grown_renamed, place_renamed, release_renamed, with_name-itself, with_name-other}
+use Rattle.atlas_model.proofs.TreeLemmas.RenamedTrees.{agreeing_renamed, ids-renamed, nodes-renamed, free_renamed, need_renamed}
+use Rattle.atlas_model.proofs.TreeLemmas.RenamedTrees.{grown_renamed, place_renamed, release_renamed, with_name-itself, with_name-other}
 
 -- The ids after a change.
 
@@ -201,7 +202,8 @@ module _ (f g : ℕ → ℕ) (s t : State) (a : AreAlike f g s t) where
       → slot_count other_id (ids t.tree.members) ≡ 0 → IsNewName f s.tree name
       → AreAlike (with_name f id name) (with_name g other_id name) (after_placing s b r id) (after_placing t b r other_id)
   granted_alike r b id other_id name unused unused' new =
-      subst (λ n. AreAlike (with_name f id name) (with_name g other_id name) (after_placing s b r id) (with_tree (record t { size = n }) (place n b r other_id t.tree)))
+      subst (λ n. AreAlike (with_name f id name) (with_name g other_id name) (after_placing s b r id)
+      (with_tree (record t { size = n }) (place n b r other_id t.tree)))
       (sym a.size) (alike_after (with_name f id name) (with_name g other_id name) s.size (place s.size b r id s.tree)
       (place s.size b r other_id t.tree)
       (place_renamed g s.size t.tree b r other_id name absent' ∙ ap (place s.size b r name) a.tree
@@ -369,7 +371,8 @@ by_call f g s t s' t' (Grow n) (Grow m) reply answer sound a same h k met met' =
 by_call f g s t s' t' call twin reply answer sound a same h k met met' = absurd same
 
 pub answers_without_ids : AnswersWithoutIds
-answers_without_ids f g s t s' t' call twin reply answer sound sound' a same h k met met' = by_call f g s t s' t' call twin reply answer sound a same h k met met'
+answers_without_ids f g s t s' t' call twin reply answer sound sound' a same h k met met' =
+    by_call f g s t s' t' call twin reply answer sound a same h k met met'
 
 -- The names of ids that aren't live don't count.
 

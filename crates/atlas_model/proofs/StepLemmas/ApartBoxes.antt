@@ -63,7 +63,8 @@ live_lie_within s id b sound is =
     let at = box_owner s id b is in
     let place : IsNonempty at.0.box × IsWithin s.size at.0.box =
     All-contains (λ k. IsNonempty k × IsWithin s.size k) (boxes_in s) at.0.box (sound_is_tiled s sound).boxes
-    (Contains-append_left (map (λ (k : Grant). k.box) (live_in s)) (free_in s) at.0.box (Contains-map (λ (k : Grant). k.box) (live_in s) at.0 at.1)) in
+    (Contains-append_left (map (λ (k : Grant). k.box) (live_in s)) (free_in s) at.0.box
+    (Contains-map (λ (k : Grant). k.box) (live_in s) at.0 at.1)) in
     subst (λ k. IsNonempty k × IsWithin s.size k) at.3 place
 
 pub share_nothing : (s : State) (i j : ℕ) (b c : Box) → IsSound s → (i ≡ j → ⊥) → live_box s i ≡ Some b
@@ -76,7 +77,8 @@ share_nothing s i j b c sound differ is is' x y = by_tests (covers x y b) (cover
     by_tests true true here there =
         let g = box_owner s i b is in
         let h = box_owner s j c is' in
-        let few : count_by (λ (k : Grant). covers x y k.box) (live_in s) ≤ 1 = omega (arith, covered_few s sound x y, count_boxes s (covers x y)) in
+        let few : count_by (λ (k : Grant). covers x y k.box) (live_in s) ≤ 1 = omega
+        (arith, covered_few s sound x y, count_boxes s (covers x y)) in
         let same : g.0 ≡ h.0 = counted_once (λ (k : Grant). covers x y k.box) (live_in s) g.0 h.0 few g.1 h.1
         (ap (covers x y) g.3 ∙ here) (ap (covers x y) h.3 ∙ there) in
         absurd (differ (sym g.2 ∙ ap (λ (k : Grant). k.id) same ∙ h.2))
@@ -148,7 +150,8 @@ all_lie_within s sound id = grind (arith, live_lie_within)
 -- A shown rectangle lies within the atlas.
 pub shown_within : (s : State) → IsSound s → (id : ℕ) (o : Option Rectangle) → o ≡ rectangle_in s id
     → IfSome o (λ r. IsWithin s.size (box_of r))
-shown_within s sound id o is = subst (λ k. IfSome k (λ r. IsWithin s.size (box_of r))) (sym is) (weaker (rectangle_in s id) (all_lie_within s sound id))
+shown_within s sound id o is = subst (λ k. IfSome k (λ r. IsWithin s.size (box_of r))) (sym is)
+    (weaker (rectangle_in s id) (all_lie_within s sound id))
   where
     weaker : (k : Option Rectangle) → IfSome k (λ r. IsNonempty (box_of r) × IsWithin s.size (box_of r))
         → IfSome k (λ r. IsWithin s.size (box_of r))

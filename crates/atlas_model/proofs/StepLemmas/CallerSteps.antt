@@ -17,7 +17,8 @@ use Rattle.atlas_model.proofs.StepLemmas.StepEffects.{grants_lie_inside, freeing
 use Rattle.atlas_model.proofs.StepLemmas.SoundSteps.{steps_keep, freeing_sound}
 use Rattle.atlas_model.proofs.TreeLemmas.TreeLive.{live_release}
 use Rattle.atlas_model.proofs.ListLemmas.CallerLemmas.{find-filter_gone, find-filter_kept}
-use Rattle.atlas_model.proofs.StepLemmas.LiveBoxes.{is_for, live_have_boxes, unlive_box, granted_unused, granted_live, granted_here, granted_others, granted_boxes, granted_count, freed_box, freed_others, freed_count}
+use Rattle.atlas_model.proofs.StepLemmas.LiveBoxes.{is_for, live_have_boxes, unlive_box, granted_unused, granted_live, granted_here}
+use Rattle.atlas_model.proofs.StepLemmas.LiveBoxes.{granted_others, granted_boxes, granted_count, freed_box, freed_others, freed_count}
 use Rattle.atlas_model.proofs.StepLemmas.GuardedBoxes.{guarded_grant, guarded_freeing, guarded_growth}
 
 -- An unchanged state keeps what is live.
@@ -34,7 +35,8 @@ batch_leaves old new ids sound is = record {
       ∙ ap (option_map (λ (g : Grant). g.box)) (find-filter_gone (is_for id) (λ g. not (is_among ids g.id)) (hits id among) (live_in old));
   others = λ id apart.
       shown id
-      ∙ ap (option_map (λ (g : Grant). g.box)) (find-filter_kept (is_for id) (λ g. not (is_among ids g.id)) (misses id apart) (live_in old));
+      ∙ ap (option_map (λ (g : Grant). g.box)) (find-filter_kept (is_for id) (λ g. not (is_among ids g.id)) (misses id apart)
+      (live_in old));
 }
   where
     shown : (id : ℕ)
@@ -85,7 +87,8 @@ module _ (old new : State) (sound : IsSound old) where
     grant_keeps : KeepsLive old new
     grant_keeps = record {
       sound = sound_new;
-      kept = λ id live. granted_others old new r g sound_new (grants_lie_inside old new r g sound step) id (λ same. absurd (dead id same live));
+      kept = λ id live. granted_others old new r g sound_new (grants_lie_inside old new r g sound step) id
+          (λ same. absurd (dead id same live));
     }
       where
         dead : (id : ℕ) → id ≡ g.id → IsLive old id → ⊥
@@ -125,7 +128,8 @@ module _ (old new : State) (sound : IsSound old) where
       record {
         sound = sound_new;
         live = its.live;
-        guarded = λ held guarded. guarded_growth old new sound sound_new (subst (λ s. Fits old.size s.size) (sym step.2) step.0) its held guarded;
+        guarded = λ held guarded. guarded_growth old new sound sound_new (subst (λ s. Fits old.size s.size) (sym step.2) step.0) its held
+            guarded;
       }
   growth_keeps n (Refused error) step = all_kept old new sound (refusals_change_nothing old new (Grow n) (Refused error) step refl)
   growth_keeps n BadCall step = all_kept old new sound step.1

@@ -44,7 +44,8 @@ live_are_guarded s sound = (
 
 module _ (old new : State) (sound_old : IsSound old) (sound_new : IsSound new) where
   -- A grant joins what is guarded.
-  module _ (same : new.size ≡ old.size) (r : Sides) (g : Grant) (step : IsGrantStep old r g new) (held : List Box) (were : AreGuarded old held) where
+  module _ (same : new.size ≡ old.size) (r : Sides) (g : Grant) (step : IsGrantStep old r g new) (held : List Box)
+      (were : AreGuarded old held) where
     once : (x y n : ℕ) → count_by (covers x y) (boxes_in new) ≡ n
         → count_by (covers x y) ((g.box ∷ held) ++ free_in new) ≤ 1
     once x y n e =
@@ -58,8 +59,10 @@ module _ (old new : State) (sound_old : IsSound old) (sound_new : IsSound new) w
         let few : count_by (covers x y) (held ++ free_in old) ≤ 1 = were.disjoint x y in
         let more : count_by p (live_in new) ≡ one_if (p g) + count_by p (live_in old) =
         count_by-permutation p (g ∷ live_in old) (live_in new) step.live ∙ count_by-cons p g (live_in old) in
-        let after : count_by (covers x y) (boxes_in new) ≡ count_by p (live_in new) + count_by (covers x y) (free_in new) = count_boxes new (covers x y) in
-        let before : count_by (covers x y) (boxes_in old) ≡ count_by p (live_in old) + count_by (covers x y) (free_in old) = count_boxes old (covers x y) in
+        let after : count_by (covers x y) (boxes_in new) ≡ count_by p (live_in new) + count_by (covers x y) (free_in new) =
+        count_boxes new (covers x y) in
+        let before : count_by (covers x y) (boxes_in old) ≡ count_by p (live_in old) + count_by (covers x y) (free_in old) =
+        count_boxes old (covers x y) in
         by_count n e one parts was few more after before
       where
         by_count : (n : ℕ) → count_by (covers x y) (boxes_in new) ≡ n
@@ -67,9 +70,12 @@ module _ (old new : State) (sound_old : IsSound old) (sound_new : IsSound new) w
             → count_by (covers x y) (held ++ free_in new) ≡ count_by (covers x y) held + count_by (covers x y) (free_in new)
             → count_by (covers x y) (held ++ free_in old) ≡ count_by (covers x y) held + count_by (covers x y) (free_in old)
             → count_by (covers x y) (held ++ free_in old) ≤ 1
-            → count_by (λ (k : Grant). covers x y k.box) (live_in new) ≡ one_if (covers x y g.box) + count_by (λ (k : Grant). covers x y k.box) (live_in old)
-            → count_by (covers x y) (boxes_in new) ≡ count_by (λ (k : Grant). covers x y k.box) (live_in new) + count_by (covers x y) (free_in new)
-            → count_by (covers x y) (boxes_in old) ≡ count_by (λ (k : Grant). covers x y k.box) (live_in old) + count_by (covers x y) (free_in old)
+            → count_by (λ (k : Grant). covers x y k.box) (live_in new) ≡ one_if (covers x y g.box) + count_by
+            (λ (k : Grant). covers x y k.box) (live_in old)
+            → count_by (covers x y) (boxes_in new) ≡ count_by (λ (k : Grant). covers x y k.box) (live_in new) + count_by (covers x y)
+            (free_in new)
+            → count_by (covers x y) (boxes_in old) ≡ count_by (λ (k : Grant). covers x y k.box) (live_in old) + count_by (covers x y)
+            (free_in old)
             → count_by (covers x y) ((g.box ∷ held) ++ free_in new) ≤ 1
         by_count zero e one parts was few more after before = omega arith
         by_count (suc n) e one parts was few more after before =
@@ -80,11 +86,13 @@ module _ (old new : State) (sound_old : IsSound old) (sound_new : IsSound new) w
 
     pub guarded_grant : AreGuarded new (g.box ∷ held)
     guarded_grant =
-        let at : Contains (live_in new) g = Contains-permutation (g ∷ live_in old) (live_in new) g step.live (Contains-first g (live_in old)) in
+        let at : Contains (live_in new) g = Contains-permutation (g ∷ live_in old) (live_in new) g step.live
+        (Contains-first g (live_in old)) in
         let place : IsNonempty g.box × IsWithin new.size g.box =
         All-contains (λ (k : Grant). IsNonempty k.box × IsWithin new.size k.box) (live_in new) g
         (live_in_place new.size new.tree sound_new.well_formed) at in
-        guarded new (g.box ∷ held) (All-cons (IsWithin new.size) g.box held place.1 (subst (λ s. All (IsWithin s) held) (sym same) were.within))
+        guarded new (g.box ∷ held) (All-cons (IsWithin new.size) g.box held place.1
+        (subst (λ s. All (IsWithin s) held) (sym same) were.within))
         (λ x y. once x y (count_by (covers x y) (boxes_in new)) refl)
 
   -- A freed box leaves what is guarded.
@@ -102,10 +110,12 @@ module _ (old new : State) (sound_old : IsSound old) (sound_new : IsSound new) w
             let owner = box_owner old id b is in
             let found = find-counted (λ (k : Grant). covers x y k.box) (filter (is_for id) (live_in old)) (omega (arith, e)) in
             let kept = Contains-filter (is_for id) (live_in old) found.0 found.2 in
-            let alike : found.0 ≡ owner.0 = counted_once (is_for id) (live_in old) found.0 owner.0 (omega (arith, step.one)) kept.0 owner.1 kept.1 (eq-eqb owner.0.id id owner.2) in
+            let alike : found.0 ≡ owner.0 = counted_once (is_for id) (live_in old) found.0 owner.0 (omega (arith, step.one)) kept.0 owner.1
+            kept.1 (eq-eqb owner.0.id id owner.2) in
             let yes : covers x y b ≡ true = ap (covers x y) (sym owner.3 ∙ ap (λ (k : Grant). k.box) (sym alike)) ∙ found.3 in
             let one : one_if (covers x y b) ≡ 1 = ap one_if yes in
-            let less : count_by (λ (k : Grant). covers x y k.box) (filter (is_for id) (live_in old)) ≤ length (filter (is_for id) (live_in old)) =
+            let less : count_by (λ (k : Grant). covers x y k.box) (filter (is_for id) (live_in old)) ≤ length
+            (filter (is_for id) (live_in old)) =
             count_by-le-length (λ (k : Grant). covers x y k.box) (filter (is_for id) (live_in old)) in
             let few : length (filter (is_for id) (live_in old)) ≡ live_count id old = length-filter (is_for id) (live_in old) in
             omega (arith, step.one)
@@ -122,12 +132,15 @@ module _ (old new : State) (sound_old : IsSound old) (sound_new : IsSound new) w
         count_by-append (covers x y) held (free_in old) in
         let few : count_by (covers x y) (b ∷ held ++ free_in old) ≤ 1 = were.disjoint x y in
         let left : count_by p (live_in new) ≡ count_by p (filter (λ g. not (is_for id g)) (live_in old)) = ap (count_by p) step.live in
-        let both : count_by p (filter (λ g. not (is_for id g)) (live_in old)) + count_by p (filter (is_for id) (live_in old)) ≡ count_by p (live_in old) =
+        let both : count_by p (filter (λ g. not (is_for id g)) (live_in old)) + count_by p (filter (is_for id) (live_in old)) ≡ count_by p
+        (live_in old) =
         sum_by-filter_both (λ g. not (is_for id g)) (is_for id) (λ g. twice (is_for id g)) (λ k. one_if (p k)) (live_in old) in
         let gone : count_by p (filter (is_for id) (live_in old)) ≤ one_if (covers x y b) = freed_few x y in
         let less : count_by p (live_in old) ≤ count_by p (live_in new) + one_if (covers x y b) = omega arith in
-        let after : count_by (covers x y) (boxes_in new) ≡ count_by p (live_in new) + count_by (covers x y) (free_in new) = count_boxes new (covers x y) in
-        let before : count_by (covers x y) (boxes_in old) ≡ count_by p (live_in old) + count_by (covers x y) (free_in old) = count_boxes old (covers x y) in
+        let after : count_by (covers x y) (boxes_in new) ≡ count_by p (live_in new) + count_by (covers x y) (free_in new) =
+        count_boxes new (covers x y) in
+        let before : count_by (covers x y) (boxes_in old) ≡ count_by p (live_in old) + count_by (covers x y) (free_in old) =
+        count_boxes old (covers x y) in
         by_count n e one parts was few less after before
       where
         twice : (c : Bool) → c ≡ not (not c)
@@ -139,9 +152,12 @@ module _ (old new : State) (sound_old : IsSound old) (sound_new : IsSound new) w
             → count_by (covers x y) (held ++ free_in new) ≡ count_by (covers x y) held + count_by (covers x y) (free_in new)
             → count_by (covers x y) (held ++ free_in old) ≡ count_by (covers x y) held + count_by (covers x y) (free_in old)
             → count_by (covers x y) (b ∷ held ++ free_in old) ≤ 1
-            → count_by (λ (k : Grant). covers x y k.box) (live_in old) ≤ count_by (λ (k : Grant). covers x y k.box) (live_in new) + one_if (covers x y b)
-            → count_by (covers x y) (boxes_in new) ≡ count_by (λ (k : Grant). covers x y k.box) (live_in new) + count_by (covers x y) (free_in new)
-            → count_by (covers x y) (boxes_in old) ≡ count_by (λ (k : Grant). covers x y k.box) (live_in old) + count_by (covers x y) (free_in old)
+            → count_by (λ (k : Grant). covers x y k.box) (live_in old) ≤ count_by (λ (k : Grant). covers x y k.box) (live_in new) + one_if
+            (covers x y b)
+            → count_by (covers x y) (boxes_in new) ≡ count_by (λ (k : Grant). covers x y k.box) (live_in new) + count_by (covers x y)
+            (free_in new)
+            → count_by (covers x y) (boxes_in old) ≡ count_by (λ (k : Grant). covers x y k.box) (live_in old) + count_by (covers x y)
+            (free_in old)
             → count_by (covers x y) (held ++ free_in new) ≤ 1
         by_count zero e one parts was few less after before = omega arith
         by_count (suc n) e one parts was few less after before =
@@ -166,8 +182,10 @@ module _ (old new : State) (sound_old : IsSound old) (sound_new : IsSound new) w
         count_by-append (covers x y) held (free_in old) in
         let few : count_by (covers x y) (held ++ free_in old) ≤ 1 = were.disjoint x y in
         let kept : count_by p (live_in new) ≡ count_by p (live_in old) = ap (count_by p) step.live in
-        let after : count_by (covers x y) (boxes_in new) ≡ count_by p (live_in new) + count_by (covers x y) (free_in new) = count_boxes new (covers x y) in
-        let before : count_by (covers x y) (boxes_in old) ≡ count_by p (live_in old) + count_by (covers x y) (free_in old) = count_boxes old (covers x y) in
+        let after : count_by (covers x y) (boxes_in new) ≡ count_by p (live_in new) + count_by (covers x y) (free_in new) =
+        count_boxes new (covers x y) in
+        let before : count_by (covers x y) (boxes_in old) ≡ count_by p (live_in old) + count_by (covers x y) (free_in old) =
+        count_boxes old (covers x y) in
         by_count n e parts was few kept after before
       where
         by_count : (n : ℕ) → count_by (covers x y) held ≡ n
@@ -175,8 +193,10 @@ module _ (old new : State) (sound_old : IsSound old) (sound_new : IsSound new) w
             → count_by (covers x y) (held ++ free_in old) ≡ count_by (covers x y) held + count_by (covers x y) (free_in old)
             → count_by (covers x y) (held ++ free_in old) ≤ 1
             → count_by (λ (k : Grant). covers x y k.box) (live_in new) ≡ count_by (λ (k : Grant). covers x y k.box) (live_in old)
-            → count_by (covers x y) (boxes_in new) ≡ count_by (λ (k : Grant). covers x y k.box) (live_in new) + count_by (covers x y) (free_in new)
-            → count_by (covers x y) (boxes_in old) ≡ count_by (λ (k : Grant). covers x y k.box) (live_in old) + count_by (covers x y) (free_in old)
+            → count_by (covers x y) (boxes_in new) ≡ count_by (λ (k : Grant). covers x y k.box) (live_in new) + count_by (covers x y)
+            (free_in new)
+            → count_by (covers x y) (boxes_in old) ≡ count_by (λ (k : Grant). covers x y k.box) (live_in old) + count_by (covers x y)
+            (free_in old)
             → count_by (covers x y) (held ++ free_in new) ≤ 1
         by_count zero e parts was few kept after before = omega (arith, covered_few new sound_new x y)
         by_count (suc n) e parts was few kept after before =
@@ -189,5 +209,6 @@ module _ (old new : State) (sound_old : IsSound old) (sound_new : IsSound new) w
     pub guarded_growth : AreGuarded new held
     guarded_growth =
         guarded new held
-        (All-weaker (IsWithin old.size) (IsWithin new.size) (λ b h. (omega (arith, h.0, larger.0), omega (arith, h.1, larger.1))) held were.within)
+        (All-weaker (IsWithin old.size) (IsWithin new.size) (λ b h. (omega (arith, h.0, larger.0), omega (arith, h.1, larger.1))) held
+        were.within)
         (λ x y. grown_once x y (count_by (covers x y) held) refl)

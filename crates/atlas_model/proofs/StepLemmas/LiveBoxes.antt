@@ -18,7 +18,8 @@ use Rattle.atlas_model.proofs.TreeLemmas.TreeIds.{Contains-first}
 use Rattle.atlas_model.proofs.ListLemmas.ListCounts.{count_some, split_at, IsSplitAt}
 use Rattle.atlas_model.proofs.TreeLemmas.BoxLists.{count_live}
 use Rattle.atlas_model.proofs.StepLemmas.RunOrder.{runs_keep_order}
-use Rattle.atlas_model.proofs.ListLemmas.CallerLemmas.{length-permutation, find-counted, find-counted_once, find-uncounted, find-permutation, find-filter_kept, find-filter_gone, count_by-permutation}
+use Rattle.atlas_model.proofs.ListLemmas.CallerLemmas.{length-permutation, find-counted, find-counted_once, find-uncounted}
+use Rattle.atlas_model.proofs.ListLemmas.CallerLemmas.{find-permutation, find-filter_kept, find-filter_gone, count_by-permutation}
 
 pub sound_is_tiled : SoundIsTiled
 sound_is_tiled s sound = (runs_keep_order s s [] [] sound refl).1.tiled
@@ -32,7 +33,8 @@ counted_live s id some =
     at_split (split_at (λ k. k == id) (ids s.tree.members) (omega (arith, some, count_live (λ k. k == id) s.size s.tree)))
   where
     at_split : IsSplitAt (λ k. k == id) (ids s.tree.members) → Contains (ids s.tree.members) id
-    at_split at = subst (λ l. Contains l id) (sym at.is) (subst (Contains (at.before ++ at.here ∷ at.after)) (eqb-true at.here id at.passes) (Contains-append_right at.before (at.here ∷ at.after) at.here (Contains-first at.here at.after)))
+    at_split at = subst (λ l. Contains l id) (sym at.is) (subst (Contains (at.before ++ at.here ∷ at.after)) (eqb-true at.here id at.passes)
+        (Contains-append_right at.before (at.here ∷ at.after) at.here (Contains-first at.here at.after)))
 
 live_counted : (s : State) (id : ℕ) → IsLive s id → 1 ≤ live_count id s
 live_counted s id at =

@@ -60,7 +60,10 @@ inserted g (x ∷ xs) ranked differ =
       | inl before ↦ (
         g ∷ x ∷ xs,
         IsPermutation-refl (g ∷ x ∷ xs),
-        (All-cons (Precedes g) x xs before (All-weaker (Precedes x) (Precedes g) (λ h later. onward g x h before later) xs ranked.0), ranked),
+        (
+          All-cons (Precedes g) x xs before (All-weaker (Precedes x) (Precedes g) (λ h later. onward g x h before later) xs ranked.0),
+          ranked,
+        ),
       )
       | inr after ↦
           let rest = inserted g xs ranked.1 (All-tail (Differ g) x xs differ) in (

@@ -24,9 +24,11 @@ three_ordered = record {
       (IsPermutation-middle (grant 3 (box 0 3 5 10) ∷ grant 2 (box 5 3 10 10) ∷ []) (grant 0 (box 0 0 10 3)) []);
   ranked = (
     All-cons (Precedes (grant 3 (box 0 3 5 10))) (grant 2 (box 5 3 10 10)) (grant 0 (box 0 0 10 3) ∷ []) (inr (refl, omega arith))
-        (All-cons (Precedes (grant 3 (box 0 3 5 10))) (grant 0 (box 0 0 10 3)) [] (inl (omega arith)) (All-nil (Precedes (grant 3 (box 0 3 5 10))))),
+        (All-cons (Precedes (grant 3 (box 0 3 5 10))) (grant 0 (box 0 0 10 3)) [] (inl (omega arith))
+        (All-nil (Precedes (grant 3 (box 0 3 5 10))))),
     (
-      All-cons (Precedes (grant 2 (box 5 3 10 10))) (grant 0 (box 0 0 10 3)) [] (inl (omega arith)) (All-nil (Precedes (grant 2 (box 5 3 10 10)))),
+      All-cons (Precedes (grant 2 (box 5 3 10 10))) (grant 0 (box 0 0 10 3)) [] (inl (omega arith))
+          (All-nil (Precedes (grant 2 (box 5 3 10 10)))),
       (All-nil (Precedes (grant 0 (box 0 0 10 3))), tt),
     ),
   );

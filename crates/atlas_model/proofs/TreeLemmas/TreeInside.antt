@@ -146,7 +146,8 @@ module _ (s : ℕ → Bool) (f : Box) where
   joined_later axis o across e m outside h = by_cases (among-free_before axis o across e m h)
     where
       by_cases : Joins axis o across e m → Among f (free_among axis (moved axis o e) across m)
-      by_cases (inl (k, r, is, eq)) = absurd (outside (subst (IsInside (box_at o (sized axis e across))) eq (inside_first axis o e k across)))
+      by_cases (inl (k, r, is, eq)) = absurd (outside (subst (IsInside (box_at o (sized axis e across))) eq
+          (inside_first axis o e k across)))
       by_cases (inr (inl eq)) = absurd (outside (subst (IsInside (box_at o (sized axis e across))) eq (inside_itself _)))
       by_cases (inr (inr later)) = later
 
@@ -209,7 +210,8 @@ module _ (s : ℕ → Bool) (f : Box) where
   none_inside axis o across (Seq e inner rest) none = (
     none_inside (other axis) o e inner (λ g at. none g (subst (λ gs. Contains gs g) (sym (live_among-seq axis o across e inner rest))
         (Contains-append_left (live_among (other axis) o e inner) (live_among axis (moved axis o e) across rest) g at))),
-    none_inside axis (moved axis o e) across rest (λ g at. none g (subst (λ gs. Contains gs g) (sym (live_among-seq axis o across e inner rest))
+    none_inside axis (moved axis o e) across rest (λ g at. none g (subst (λ gs. Contains gs g)
+        (sym (live_among-seq axis o across e inner rest))
         (Contains-append_right (live_among (other axis) o e inner) (live_among axis (moved axis o e) across rest) g at))),
   )
 
@@ -252,7 +254,8 @@ room_comes_from_inside size t set part f well those at =
         let kept = Contains-filter (λ (k : Grant). not (part k.id)) (live size t) g
         (subst (λ gs. Contains gs g) (live_release size part t) in_part) in
         let there : part g.id ≡ true =
-        All-contains (λ (k : Grant). set k.id ≡ true → IsInside k.box f → part k.id ≡ true) (live size t) g those.inside kept.0 chosen within in
+        All-contains (λ (k : Grant). set k.id ≡ true → IsInside k.box f → part k.id ≡ true) (live size t) g those.inside kept.0 chosen
+        within in
         true≢false (sym kept.1 ∙ ap not there)
 
 inside_or_not : (b f : Box) → IsInside b f ⊎ (IsInside b f → ⊥)

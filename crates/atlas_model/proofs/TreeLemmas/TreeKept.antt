@@ -202,8 +202,12 @@ kept-widened old new axis m pos le k = by_test (ltb u n) refl
         let lt : u < n = ltb-true u n is in
         record {
           sum = let back : u + (n - u + 0) ≡ n = omega arith in back;
-          cut =
-              (side_positive (other axis) old pos, k.sum ∙ ap (λ a. side a new) (sym (other_twice axis)), k.cut, (let d : 0 < n - u = omega arith in d, tt));
+          cut = (
+            side_positive (other axis) old pos,
+            k.sum ∙ ap (λ a. side a new) (sym (other_twice axis)),
+            k.cut,
+            (let d : 0 < n - u = omega arith in d, tt),
+          );
           normal = (k.busy, k.normal, (refl, tt));
         }
     by_test false is =
@@ -221,7 +225,8 @@ kept-grown old new axis (Free e End) pos fit sum cut normal =
     record { sum = omega arith; cut = (side_positive axis new (longer_positive old new pos fit), tt); normal = (refl, tt) }
 kept-grown old new axis m pos fit sum cut normal =
     kept-widened old new axis (lengthened_to (side axis old) (side axis new) m) pos (longer_side (other axis) old new fit)
-    (kept-lengthened_to (side (other axis) old) (side axis old) (side axis new) m (longer_side axis old new fit) (record { sum = sum; cut = cut; normal = normal; busy = refl }))
+    (kept-lengthened_to (side (other axis) old) (side axis old) (side axis new) m (longer_side axis old new fit)
+    (record { sum = sum; cut = cut; normal = normal; busy = refl }))
 
 ids-widened : (u n : ℕ) (axis : Axis) (m : Members) → ids (widened u n axis m).members ≡ ids m
 ids-widened u n axis m = grind (arith, append-nil)

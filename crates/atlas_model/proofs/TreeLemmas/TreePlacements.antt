@@ -13,7 +13,8 @@ use Rattle.atlas_model.specs.Trees.{Grant, grant, slot_count, Members, Tree, Lea
 use Rattle.atlas_model.specs.Trees.{free_boxes, live, total, IsCut, IsWellFormed, begins_free, is_idle, IsNormal}
 use Rattle.atlas_model.specs.Trees.Members.{End, Free, Alloc, Seq}
 use Rattle.std.specs.List.{Contains}
-use Rattle.atlas_model.proofs.TreeLemmas.TreeBasics.{one_if, same_box-true, same_box-itself, live_among, free_among, live_among-seq, free_among-seq}
+use Rattle.atlas_model.proofs.TreeLemmas.TreeBasics.{one_if, same_box-true, same_box-itself, live_among, free_among, live_among-seq}
+use Rattle.atlas_model.proofs.TreeLemmas.TreeBasics.{free_among-seq}
 use Rattle.atlas_model.proofs.TreeLemmas.TreeTiles.{squares_of_leaves}
 use Rattle.atlas_model.proofs.TreeLemmas.TreePuts.{CutSays, cut_says, sized_back, ids-put, normal-put, cut-put, live-put}
 
@@ -94,8 +95,11 @@ normal-placed f r id axis o across End n = tt
 normal-placed f r id axis o across (Free e rest) n =
     grind (arith, begins-placed, normal-placed f r id axis (moved axis o e) across rest n.1, normal-put)
 normal-placed f r id axis o across (Alloc i e rest) n = normal-placed f r id axis (moved axis o e) across rest n
-normal-placed f r id axis o across (Seq e inner rest) n =
-    (busy-placed f r id (other axis) o e inner n.1 n.0, normal-placed f r id (other axis) o e inner n.1, normal-placed f r id axis (moved axis o e) across rest n.2)
+normal-placed f r id axis o across (Seq e inner rest) n = (
+  busy-placed f r id (other axis) o e inner n.1 n.0,
+  normal-placed f r id (other axis) o e inner n.1,
+  normal-placed f r id axis (moved axis o e) across rest n.2,
+)
 
 one_more : (a c n k h : ℕ) → h ≡ 1 + n → a ≡ c + n * k → k + a ≡ c + h * k
 one_more a c n k h p q = rw p (omega arith)
@@ -167,11 +171,13 @@ live-placed p f r id pos fit axis o across (Free e rest) =
     by_test : (b : Bool) → same_box (box_at o (sized axis e across)) f ≡ b
         → hits f (free_among axis o across (Free e rest)) ≡ one_if b + n
         → a ≡ c + n * one_if (p (grant id (box_at f.min r)))
-        → count_by p (live_among axis o across (cond b (put (cut (box_sides f) r) axis e across (side axis r) (side (other axis) r) id after) (Free e after)))
+        → count_by p (live_among axis o across (cond b (put (cut (box_sides f) r) axis e across (side axis r) (side (other axis) r) id
+        after) (Free e after)))
         ≡ c + hits f (free_among axis o across (Free e rest)) * one_if (p (grant id (box_at f.min r)))
     by_test true same is h =
         ap (count_by p)
-        (live-put (cut (box_sides f) r) axis o e across id r after (says_member axis o e across f r same pos fit) (along_fits axis e across r (fits_member axis o e across f r same fit)))
+        (live-put (cut (box_sides f) r) axis o e across id r after (says_member axis o e across f r same pos fit)
+        (along_fits axis e across r (fits_member axis o e across f r same fit)))
         ∙ ap (λ k. count_by p ((grant id (box_at k r)) ∷ live_among axis (moved axis o e) across after))
         (ap (λ k. k.min) (same_box-true (box_at o (sized axis e across)) f same))
         ∙ sum_by-cons (λ k. one_if (p k)) (grant id (box_at f.min r)) (live_among axis (moved axis o e) across after)
@@ -196,7 +202,8 @@ live-placed p f r id pos fit axis o across (Seq e inner rest) =
     (hits f (free_among (other axis) o e inner)) (hits f (free_among axis (moved axis o e) across rest))
     (one_if (p (grant id (box_at f.min r))))
     (live-placed p f r id pos fit (other axis) o e inner) (live-placed p f r id pos fit axis (moved axis o e) across rest)
-    (ap (count_by p) (live_among-seq axis o across e inner rest) ∙ sum_by-append (λ k. one_if (p k)) (live_among (other axis) o e inner) (live_among axis (moved axis o e) across rest))
+    (ap (count_by p) (live_among-seq axis o across e inner rest) ∙ sum_by-append (λ k. one_if (p k)) (live_among (other axis) o e inner)
+    (live_among axis (moved axis o e) across rest))
     (hits-seq f axis o across e inner rest)
 
 -- A well formed tree has one leaf at most of a box that is not empty.

@@ -11,7 +11,8 @@ use Rattle.atlas_model.specs.Laws.TreeLaws.{IsGrown, LiesInOneOf}
 use Rattle.atlas_model.specs.Trees.{IsNormal, Grant, Members, Tree, total, IsCut, IsWellFormed, free_boxes, live}
 use Rattle.atlas_model.specs.Trees.Members.{End, Free, Alloc, Seq}
 use Rattle.std.specs.List.{All, Contains}
-use Rattle.atlas_model.proofs.TreeLemmas.TreeBasics.{other_twice, longer_side, moved-twice, live_among, free_among, live_among-seq, free_among-seq}
+use Rattle.atlas_model.proofs.TreeLemmas.TreeBasics.{other_twice, longer_side, moved-twice, live_among, free_among, live_among-seq}
+use Rattle.atlas_model.proofs.TreeLemmas.TreeBasics.{free_among-seq}
 use Rattle.atlas_model.proofs.TreeLemmas.TreeGrowth.{total-nf}
 use Rattle.atlas_model.proofs.TreeLemmas.TreeIds.{Contains-first, Contains-later, Contains-none}
 use Rattle.atlas_model.proofs.TreeLemmas.TreeKept.{grown_kept, cut-mark}
@@ -81,7 +82,9 @@ room-nf b axis o across (Free e rest) cut (inr h) =
 room-nf b axis o across (Alloc id e rest) cut h = room-nf b axis (moved axis o e) across rest cut.1 h
 room-nf b axis o across (Seq e inner rest) cut h =
     room-seq_before b axis o across e (nf inner) (nf rest) (total-nf inner ∙ cut.1)
-    (both (room_cases b (free_among (other axis) o e inner) (free_among axis (moved axis o e) across rest) (subst (LiesAmong b) (free_among-seq axis o across e inner rest) h)) (room-nf b (other axis) o e inner cut.2) (room-nf b axis (moved axis o e) across rest cut.3))
+    (both (room_cases b (free_among (other axis) o e inner) (free_among axis (moved axis o e) across rest)
+    (subst (LiesAmong b) (free_among-seq axis o across e inner rest) h)) (room-nf b (other axis) o e inner cut.2)
+    (room-nf b axis (moved axis o e) across rest cut.3))
   where
     both : {A B C D : Type 0} → A ⊎ B → (A → C) → (B → D) → C ⊎ D
     both (inl a) f g = inl (f a)
@@ -106,7 +109,9 @@ room-mark s id b chosen axis o across (Alloc i e rest) (inr h) =
     grind (arith, room-mark s id b chosen axis (moved axis o e) across rest h)
 room-mark s id b chosen axis o across (Seq e inner rest) h =
     subst (LiesAmong b) (sym (free_among-seq axis o across e (mark s inner) (mark s rest)))
-    (joined (holds_cases id b (live_among (other axis) o e inner) (live_among axis (moved axis o e) across rest) (subst (Holds id b) (live_among-seq axis o across e inner rest) h)) (room-mark s id b chosen (other axis) o e inner) (room-mark s id b chosen axis (moved axis o e) across rest))
+    (joined (holds_cases id b (live_among (other axis) o e inner) (live_among axis (moved axis o e) across rest)
+    (subst (Holds id b) (live_among-seq axis o across e inner rest) h)) (room-mark s id b chosen (other axis) o e inner)
+    (room-mark s id b chosen axis (moved axis o e) across rest))
   where
     joined : Holds id b (live_among (other axis) o e inner) ⊎ Holds id b (live_among axis (moved axis o e) across rest)
         → (Holds id b (live_among (other axis) o e inner) → LiesAmong b (free_among (other axis) o e (mark s inner)))
@@ -155,7 +160,8 @@ room-lengthened b d axis o across (Free e (Seq k inner rest)) (inr h) =
 room-lengthened b d axis o across (Alloc id e rest) h = room-lengthened b d axis (moved axis o e) across rest h
 room-lengthened b d axis o across (Seq e inner rest) h =
     subst (LiesAmong b) (sym (free_among-seq axis o across e inner (lengthened d rest)))
-    (either (room_cases b (free_among (other axis) o e inner) (free_among axis (moved axis o e) across rest) (subst (LiesAmong b) (free_among-seq axis o across e inner rest) h)) (room-lengthened b d axis (moved axis o e) across rest))
+    (either (room_cases b (free_among (other axis) o e inner) (free_among axis (moved axis o e) across rest)
+    (subst (LiesAmong b) (free_among-seq axis o across e inner rest) h)) (room-lengthened b d axis (moved axis o e) across rest))
   where
     either : LiesAmong b (free_among (other axis) o e inner)
         ⊎ LiesAmong b (free_among axis (moved axis o e) across rest)
@@ -186,10 +192,12 @@ room-widened b old new axis m wide h = by_test (ltb u n) refl
     n = side (other axis) new
 
     by_test : (x : Bool) → ltb u n ≡ x
-        → LiesAmong b (free_boxes new (cond x (record { axis = other axis; members = Seq u m (Free (n - u) End) }) (record { axis = axis; members = m })))
+        → LiesAmong b (free_boxes new (cond x (record { axis = other axis; members = Seq u m (Free (n - u) End) })
+        (record { axis = axis; members = m })))
     by_test true lt =
         subst (LiesAmong b) (sym (free_among-seq (other axis) origin (side (other (other axis)) new) u m (Free (n - u) End)))
-        (room_left b (free_among (other (other axis)) origin u m) (free_among (other axis) (moved (other axis) origin u) (side (other (other axis)) new) (Free (n - u) End))
+        (room_left b (free_among (other (other axis)) origin u m) (free_among (other axis) (moved (other axis) origin u)
+        (side (other (other axis)) new) (Free (n - u) End))
         (subst (λ a. LiesAmong b (free_among a origin u m)) (sym (other_twice axis)) h))
     by_test false ge = grind arith
 
@@ -235,7 +243,8 @@ freed_has_room size t s g well at chosen = (room.0, room.1, room.2, sides_inside
     room : LiesInOneOf (free_boxes size (release s t)) g.box
     room =
         lies_in_one g.box (free_boxes size (release s t))
-        (room-nf g.box t.axis origin (side (other t.axis) size) (mark s t.members) (cut-mark s (side (other t.axis) size) t.members well.cut)
+        (room-nf g.box t.axis origin (side (other t.axis) size) (mark s t.members)
+        (cut-mark s (side (other t.axis) size) t.members well.cut)
         (room-mark s g.id g.box chosen t.axis origin (side (other t.axis) size) t.members (holds_from g (live size t) at)))
 
 -- Each earlier free box lies in a free box after a freeing.

@@ -88,7 +88,8 @@ squares_of_leaves x y axis o across (Seq e inner rest) cut =
     sum_by-append (λ (l : Leaf). one_if (covers x y l.box)) (leaves (other axis) o e inner)
     (leaves axis (moved axis o e) across rest)
     ∙ ap₂ ◌+◌
-    (squares_of_leaves x y (other axis) o e inner cut.2 ∙ ap (λ b. one_if (covers x y b)) (ap (λ k. box_at o (sized (other axis) k e)) cut.1 ∙ turned axis o e across))
+    (squares_of_leaves x y (other axis) o e inner cut.2 ∙ ap (λ b. one_if (covers x y b))
+    (ap (λ k. box_at o (sized (other axis) k e)) cut.1 ∙ turned axis o e across))
     (squares_of_leaves x y axis (moved axis o e) across rest cut.3)
     ∙ split axis o e (total rest) across x y
 
@@ -138,7 +139,8 @@ sound_leaves limit axis o across (Alloc id e rest) cut pos fit =
 sound_leaves limit axis o across (Seq e inner rest) cut pos fit =
     All-append (IsInPlace limit) _ _
     (sound_leaves limit (other axis) o e inner cut.2 cut.0
-    (subst (IsWithin limit) (sym (ap (λ k. box_at o (sized (other axis) k e)) cut.1 ∙ turned axis o e across)) (first_within limit axis o e (total rest) across fit)))
+    (subst (IsWithin limit) (sym (ap (λ k. box_at o (sized (other axis) k e)) cut.1 ∙ turned axis o e across))
+    (first_within limit axis o e (total rest) across fit)))
     (sound_leaves limit axis (moved axis o e) across rest cut.3 pos (rest_within limit axis o e (total rest) across fit))
 
 pub boxes_within : (size : Sides) (t : Tree) → IsWellFormed size t
@@ -146,7 +148,8 @@ pub boxes_within : (size : Sides) (t : Tree) → IsWellFormed size t
 boxes_within size t well =
     sound_leaves size t.axis origin (side (other t.axis) size) t.members well.cut
     (side_positive (other t.axis) size well.nonempty)
-    (subst (IsWithin size) (sym (ap (λ k. box_at origin (sized t.axis k (side (other t.axis) size))) well.along ∙ whole_box-sized t.axis size)) (omega arith, omega arith))
+    (subst (IsWithin size) (sym (ap (λ k. box_at origin (sized t.axis k (side (other t.axis) size))) well.along ∙
+    whole_box-sized t.axis size)) (omega arith, omega arith))
 
 pub leaves_tile : LeavesTile
 leaves_tile size t well = record { squares = squares_once size t well; boxes = boxes_within size t well }

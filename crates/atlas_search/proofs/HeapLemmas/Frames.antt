@@ -38,8 +38,10 @@ heap-longer es fs up top (Top at left right) long kept h =
         above-frame es fs at right (ap item_box here) (λ k l. ap item_box (on_right k l)) h.1.1,
       ),
       (
-        subst (λ n. IsHeap fs at n left) (sym (ap (λ (e : Item). e.left) here)) (heap-longer es fs at (item_at es at).left left long on_left h.2.0),
-        subst (λ n. IsHeap fs at n right) (sym (ap (λ (e : Item). e.right) here)) (heap-longer es fs at (item_at es at).right right long on_right h.2.1),
+        subst (λ n. IsHeap fs at n left) (sym (ap (λ (e : Item). e.left) here))
+            (heap-longer es fs at (item_at es at).left left long on_left h.2.0),
+        subst (λ n. IsHeap fs at n right) (sym (ap (λ (e : Item). e.right) here))
+            (heap-longer es fs at (item_at es at).right right long on_right h.2.1),
       ),
     )
 
@@ -66,7 +68,9 @@ heap-moved es fs up up' at left right long h once here kept =
         above-frame es fs at right (ap item_box here) (λ k l. ap item_box (on_right k l)) h.1.1,
       ),
       (
-        subst (λ n. IsHeap fs at n left) (sym (ap (λ (e : Item). e.left) here)) (heap-frame es fs at (item_at es at).left left long on_left h.2.0),
-        subst (λ n. IsHeap fs at n right) (sym (ap (λ (e : Item). e.right) here)) (heap-frame es fs at (item_at es at).right right long on_right h.2.1),
+        subst (λ n. IsHeap fs at n left) (sym (ap (λ (e : Item). e.left) here))
+            (heap-frame es fs at (item_at es at).left left long on_left h.2.0),
+        subst (λ n. IsHeap fs at n right) (sym (ap (λ (e : Item). e.right) here))
+            (heap-frame es fs at (item_at es at).right right long on_right h.2.1),
       ),
     )

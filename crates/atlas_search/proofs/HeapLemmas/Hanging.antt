@@ -6,7 +6,7 @@ use Rattle.atlas_model.specs.Pixels.{box_of}
 use Rattle.atlas_search.specs.Numbers.{occurs, same, no_slot}
 use Rattle.atlas_search.specs.Rectangles.{IsSolid}
 use Rattle.atlas_search.proofs.Occurrences.{same-self}
-use Rattle.atlas_search.specs.HeapCalls.{AreApart, IsHungLeft, IsLinked, IsMelded, KeepsAreas}
+use Rattle.atlas_search.specs.HeapCalls.{AreApart, IsHungLeft, IsLinked, IsMelded, KeepsAreas, KeepsKinds}
 use Rattle.atlas_search.specs.Heaps.{Heap, IsAbove, IsHeap, members}
 use Rattle.atlas_search.specs.Heaps.Heap.{None, Top}
 use Rattle.atlas_search.specs.Items.{Item, item_at, item_box, linked}
@@ -30,7 +30,7 @@ pub top-in : (es : List Item) (up top : ℕ) (h : Heap) → IsHeap es up top h �
 top-in es up top None h some = absurd (some h)
 top-in es up top (Top at left right) h some = omega (arith, same-self at, ap (λ n. same n at) h.0.0, occurs-top top at left right)
 
-top-up : (es : List Item) (up top : ℕ) (h : Heap) → IsHeap es up top h → top ≢ no_slot → (item_at es top).up ≡ up
+pub top-up : (es : List Item) (up top : ℕ) (h : Heap) → IsHeap es up top h → top ≢ no_slot → (item_at es top).up ≡ up
 top-up es up top None h some = absurd (some h)
 top-up es up top (Top at left right) h some = ap (λ n. (item_at es n).up) h.0.0 ∙ h.0.2
 
@@ -41,7 +41,7 @@ first-of es up top (Top at left right) h j l =
     subst (λ n. ComesFirst (item_box (item_at es n)) (item_box (item_at es j))) (sym h.0.0) (top-first es up top at left right h j l)
 
 -- What hung to the left areas.
-pub hung-areas : (es fs : List Item) (above less : ℕ) → IsHungLeft es fs above less → KeepsAreas es fs
+pub hung-areas : (es fs : List Item) (above less : ℕ) → IsHungLeft es fs above less → KeepsKinds es fs
 hung-areas es fs above less is = record {
   long = is.long;
   areas = λ k. elim (cases_eq k above) [
@@ -58,19 +58,44 @@ hung-areas es fs above less is = record {
       | inr far ↦ ap (λ (t : Item). t.is_free) (is.others k ne far)
     ]
   ];
+  forks = λ k. elim (cases_eq k above) [
+    | inl e ↦ ap (λ n. (item_at fs n).is_fork) e ∙ ap (λ (t : Item). t.is_fork) is.upper ∙ sym (ap (λ n. (item_at es n).is_fork) e)
+    | inr ne ↦ elim (cases_eq k less) [
+      | inl e ↦ ap (λ n. (item_at fs n).is_fork) e ∙ ap (λ (t : Item). t.is_fork) is.lower ∙ sym (ap (λ n. (item_at es n).is_fork) e)
+      | inr far ↦ ap (λ (t : Item). t.is_fork) (is.others k ne far)
+    ]
+  ];
 }
 
-pub areas-then : (es fs gs : List Item) → KeepsAreas es fs → KeepsAreas fs gs → KeepsAreas es gs
+pub areas-then : (es fs gs : List Item) → KeepsKinds es fs → KeepsKinds fs gs → KeepsKinds es gs
 areas-then es fs gs a b = record {
+  long = b.long ∙ a.long;
+  areas = λ k. b.areas k ∙ a.areas k;
+  frees = λ k. b.frees k ∙ a.frees k;
+  forks = λ k. b.forks k ∙ a.forks k;
+}
+
+pub areas-self : (es : List Item) → KeepsKinds es es
+areas-self es = record { long = refl; areas = λ k. refl; frees = λ k. refl; forks = λ k. refl }
+
+-- What stays without the forks.
+pub plain-areas : (es fs : List Item) → KeepsKinds es fs → KeepsAreas es fs
+plain-areas es fs a = record { long = a.long; areas = a.areas; frees = a.frees }
+
+pub plain-then : (es fs gs : List Item) → KeepsAreas es fs → KeepsAreas fs gs → KeepsAreas es gs
+plain-then es fs gs a b = record {
   long = b.long ∙ a.long;
   areas = λ k. b.areas k ∙ a.areas k;
   frees = λ k. b.frees k ∙ a.frees k;
 }
 
-pub areas-self : (es : List Item) → KeepsAreas es es
-areas-self es = record { long = refl; areas = λ k. refl; frees = λ k. refl }
+pub plain-self : (es : List Item) → KeepsAreas es es
+plain-self es = record { long = refl; areas = λ k. refl; frees = λ k. refl }
 
-pub boxes-same : (es fs : List Item) → KeepsAreas es fs → (k : ℕ) → item_box (item_at fs k) ≡ item_box (item_at es k)
+pub plain-boxes : (es fs : List Item) → KeepsAreas es fs → (k : ℕ) → item_box (item_at fs k) ≡ item_box (item_at es k)
+plain-boxes es fs a k = ap box_of (a.areas k)
+
+pub boxes-same : (es fs : List Item) → KeepsKinds es fs → (k : ℕ) → item_box (item_at fs k) ≡ item_box (item_at es k)
 boxes-same es fs a k = ap box_of (a.areas k)
 
 -- A heap hangs below an entry, to the left, and what was there goes right.
@@ -111,7 +136,7 @@ pub record IsHanging (es fs : List Item) (up top : ℕ) (g h : Heap) (above rest
   pub some : rest ≢ no_slot
   pub first : IsAbove fs above left
   pub has : (k : ℕ) → occurs k (members whole) + occurs k (members left) ≡ occurs k (members g) + occurs k (members h)
-  pub areas : KeepsAreas es fs
+  pub areas : KeepsKinds es fs
   pub others : (k : ℕ) → occurs k (members g) + occurs k (members h) ≡ 0 → item_at fs k ≡ item_at es k
 
 pub hanging-begins : (es : List Item) (up top under rest : ℕ) (g h : Heap) → AreApart es up top g under rest h
@@ -252,7 +277,13 @@ module _ (es fs gs : List Item) (up top : ℕ) (g h : Heap) (above rest : ℕ) (
   -- What is right below an entry isn't that.
   pub next-apart : (item_at fs above).right ≢ no_slot → above ≢ (item_at fs above).right
   next-apart more e =
-      omega (arith, all above, same-self above, top-in fs above (item_at fs above).right p.right p.high more, ap (λ n. occurs n (members p.right)) e)
+      omega (
+        arith,
+        all above,
+        same-self above,
+        top-in fs above (item_at fs above).right p.right p.high more,
+        ap (λ n. occurs n (members p.right)) e,
+      )
 
   -- What is on the right goes left: it hangs below the entry as before.
   pub swap-hangs : (item_at fs above).right ≢ no_slot
@@ -265,7 +296,8 @@ module _ (es fs gs : List Item) (up top : ℕ) (g h : Heap) (above rest : ℕ) (
         upper = is.here;
         lower =
             is.others next (λ e. next-apart more (sym e))
-            ∙ ap (λ u. linked (item_at fs next) u (item_at fs next).left (item_at fs next).right) (top-up fs above next p.right p.high more);
+            ∙ ap (λ u. linked (item_at fs next) u (item_at fs next).left (item_at fs next).right)
+            (top-up fs above next p.right p.high more);
         others = λ k ne far. is.others k ne;
       }
 
@@ -290,7 +322,8 @@ module _ (es fs gs : List Item) (up top : ℕ) (g h : Heap) (above rest : ℕ) (
 pub other-in : (es : List Item) (up one under other : ℕ) (g h : Heap) → AreApart es up one g under other h → other < length es
 other-in es up one under other g h a = heap-inside es under other h a.part other (top-in es under other h a.part a.more)
 
-pub other-solid : (es : List Item) (up one under other : ℕ) (g h : Heap) → AreApart es up one g under other h → IsSolid (item_at es other).area
+pub other-solid : (es : List Item) (up one under other : ℕ) (g h : Heap) → AreApart es up one g under other h →
+    IsSolid (item_at es other).area
 other-solid es up one under other g h a = a.exact other (omega (arith, top-in es under other h a.part a.more))
 
 pub one-in : (es : List Item) (up one under other : ℕ) (g h : Heap) → AreApart es up one g under other h → one < length es

@@ -1,12 +1,12 @@
 -- Two heaps become one: the top that comes first hangs where both shall, and the other heap below it.
-use Rattle.std.proofs.Common.{◌≡◌, ◌≢◌, ℕ, ◌<◌, List, length, set, ap, sym, ◌∙◌, subst, arith}
+use Rattle.std.proofs.Common.{◌≡◌, ℕ, ◌<◌, List, length, set, ap, sym, ◌∙◌, subst, arith}
 use Rattle.std.proofs.lemmas.Bool.{cases_eq}
 use Rattle.std.proofs.lemmas.List.{get_or-set_same, get_or-set_other, length-set}
 use Rattle.std.proofs.Common.{inl, inr}
 use Rattle.atlas_model.specs.Choice.{ComesFirst}
 use Rattle.atlas_search.specs.Numbers.{occurs}
 use Rattle.atlas_search.specs.Rectangles.{IsSolid}
-use Rattle.atlas_search.specs.HeapCalls.{AreApart, IsLinked, IsMelded, KeepsAreas}
+use Rattle.atlas_search.specs.HeapCalls.{AreApart, IsLinked, IsMelded, KeepsKinds}
 use Rattle.atlas_search.specs.Heaps.{Heap, IsAbove, members}
 use Rattle.atlas_search.specs.Items.{Item, item_at, item_box, linked, no_item}
 use Rattle.atlas_search.proofs.HeapLemmas.Frames.{above-frame, heap-frame}
@@ -30,7 +30,7 @@ linked-as es fs at up left right up' left' right' u l r is = record {
   others = is.others;
 }
 
-pub linked-areas : (es fs : List Item) (at up left right : ℕ) → IsLinked es fs at up left right → KeepsAreas es fs
+pub linked-areas : (es fs : List Item) (at up left right : ℕ) → IsLinked es fs at up left right → KeepsKinds es fs
 linked-areas es fs at up left right is = record {
   long = is.long;
   areas = λ k. elim (cases_eq k at) [
@@ -40,6 +40,10 @@ linked-areas es fs at up left right is = record {
   frees = λ k. elim (cases_eq k at) [
     | inl e ↦ ap (λ n. (item_at fs n).is_free) e ∙ ap (λ (t : Item). t.is_free) is.here ∙ sym (ap (λ n. (item_at es n).is_free) e)
     | inr ne ↦ ap (λ (t : Item). t.is_free) (is.others k ne)
+  ];
+  forks = λ k. elim (cases_eq k at) [
+    | inl e ↦ ap (λ n. (item_at fs n).is_fork) e ∙ ap (λ (t : Item). t.is_fork) is.here ∙ sym (ap (λ n. (item_at es n).is_fork) e)
+    | inr ne ↦ ap (λ (t : Item). t.is_fork) (is.others k ne)
   ];
 }
 
@@ -85,7 +89,8 @@ module _ (es fs : List Item) (up one under other up' : ℕ) (g h : Heap) (a : Ar
   above-raised first =
       let boxes = boxes-same es fs (linked-areas es fs one up' (item_at es one).left (item_at es one).right is) in
       above-frame es fs one h (boxes one) (λ k l. boxes k)
-      (λ j l. first-then (item_box (item_at es one)) (item_box (item_at es other)) (item_box (item_at es j)) first (first-of es under other h a.part j l))
+      (λ j l. first-then (item_box (item_at es one)) (item_box (item_at es other)) (item_box (item_at es j)) first
+      (first-of es under other h a.part j l))
 
   pub melded-raised : (gs : List Item) → IsMelded fs gs up' one g h → IsMelded es gs up' one g h
   melded-raised gs m = record {
@@ -95,5 +100,5 @@ module _ (es fs : List Item) (up one under other up' : ℕ) (g h : Heap) (a : Ar
     others = λ k none. m.others k none ∙ is.others k (λ e. omega (arith, none, there, ap (λ n. occurs n (members g)) e));
   }
 
-  pub areas-raised : (gs : List Item) → KeepsAreas fs gs → KeepsAreas es gs
+  pub areas-raised : (gs : List Item) → KeepsKinds fs gs → KeepsKinds es gs
   areas-raised gs b = areas-then es fs gs (linked-areas es fs one up' (item_at es one).left (item_at es one).right is) b

@@ -1,14 +1,16 @@
 -- Where an entry stands in a heap, and what may hang below it in place of what does.
-use Rattle.std.proofs.Common.{◌≡◌, ℕ, ◌+◌, ◌<◌, List, length, ap, sym, ◌∙◌, subst, inl, inr, arith}
+use Rattle.std.proofs.Common.{◌≡◌, ℕ, ◌+◌, ◌<◌, ◌≤◌, List, length, ap, sym, ◌∙◌, subst, inl, inr, arith}
 use Rattle.std.proofs.lemmas.Bool.{cases_eq}
 use Rattle.atlas_model.specs.Choice.{ComesFirst}
 use Rattle.atlas_search.specs.Numbers.{occurs, same}
 use Rattle.atlas_search.proofs.Occurrences.{same-self, same-ne}
+use Rattle.atlas_search.specs.Forks.{Reroutes}
 use Rattle.atlas_search.specs.Heaps.{Heap, IsAbove, IsHeap, members}
 use Rattle.atlas_search.specs.Heaps.Heap.{None, Top}
 use Rattle.atlas_search.specs.Items.{Item, item_at, item_box}
 use Rattle.atlas_search.proofs.HeapLemmas.Frames.{above-frame, heap-frame, parts}
 use Rattle.atlas_search.proofs.SearchLemmas.Heaps.{first-then, occurs-top}
+use Rattle.atlas_search.proofs.SearchLemmas.Routes.{reroutes-same, reroutes-top}
 
 -- Entry x hangs where it did, and these two heaps hang below it; entries that `others` counts keep all.
 pub record IsRehung (es fs : List Item) (x : ℕ) (others : ℕ → ℕ) (left right : Heap) : Type 0 where
@@ -39,6 +41,8 @@ pub record IsPlaced (es : List Item) (up top : ℕ) (h : Heap) (x : ℕ) : Type 
   pub high : IsHeap es x (item_at es x).right right
   pub counts : (k : ℕ) → occurs k (members h) ≡ same k x + (occurs k (members left) + occurs k (members right)) + others k
   pub put : (fs : List Item) (l r : Heap) → IsRehung es fs x others l r → IsWith fs up top x others l r
+  pub routes : (fs : List Item) (l r : Heap) (new : IsRehung es fs x others l r) → Reroutes es fs (Top x left right) (Top x l r)
+      → Reroutes es fs h (put fs l r new).it
 
 -- The top stands in its heap.
 pub at-top : (es : List Item) (up top at : ℕ) (left right : Heap) → IsHeap es up top (Top at left right)
@@ -65,6 +69,7 @@ at-top es up top at left right h = record {
     );
     counts = λ k. omega (arith, occurs-top k at l r);
   };
+  routes = λ fs l r new re. re;
 }
 
 -- Entries below x come after what x comes after.
@@ -87,6 +92,20 @@ above-with es i x old left right new others above among here on_left on_right co
       ]
     ]
 
+-- What is known of a heap is known of one below.
+rehung-less : (es fs : List Item) (x : ℕ) (others more : ℕ → ℕ) (l r : Heap) → ((k : ℕ) → more k ≤ others k)
+    → IsRehung es fs x others l r → IsRehung es fs x more l r
+rehung-less es fs x others more l r less new = record {
+  long = new.long;
+  boxes = new.boxes;
+  kept = λ k m. new.kept k (omega (arith, m, less k));
+  up = new.up;
+  above_left = new.above_left;
+  above_right = new.above_right;
+  low = new.low;
+  high = new.high;
+}
+
 pub in-left : (es : List Item) (up top at : ℕ) (left right : Heap) → IsHeap es up top (Top at left right)
     → (x : ℕ) → IsPlaced es at (item_at es at).left left x → IsPlaced es up top (Top at left right) x
 in-left es up top at left right h x p = record {
@@ -100,16 +119,8 @@ in-left es up top at left right h x p = record {
   high = p.high;
   counts = λ k. omega (arith, occurs-top k at left right, p.counts k);
   put = λ fs l r new.
-      let w = p.put fs l r (record {
-        long = new.long;
-        boxes = new.boxes;
-        kept = λ k m. new.kept k (omega (arith, m));
-        up = new.up;
-        above_left = new.above_left;
-        above_right = new.above_right;
-        low = new.low;
-        high = new.high;
-      }) in
+      let w = p.put fs l r (rehung-less es fs x (λ k. same k at + occurs k (members right) + p.others k) p.others l r (λ k. omega arith)
+      new) in
       let here : item_at fs at ≡ item_at es at = new.kept at (omega (arith, same-self at)) in
       record {
         it = Top at w.it right;
@@ -117,7 +128,8 @@ in-left es up top at left right h x p = record {
           (h.0.0, omega (arith, h.0.1, new.long), ap (λ (e : Item). e.up) here ∙ h.0.2),
           (
             above-frame es fs at w.it (new.boxes at) (λ k m. new.boxes k)
-                (above-with es at x left l r w.it p.others h.1.0 (λ k m. omega (arith, m, p.counts k)) (omega (arith, p.counts x, same-self x)) new.above_left new.above_right w.counts),
+                (above-with es at x left l r w.it p.others h.1.0 (λ k m. omega (arith, m, p.counts k))
+                (omega (arith, p.counts x, same-self x)) new.above_left new.above_right w.counts),
             above-frame es fs at right (new.boxes at) (λ k m. new.boxes k) h.1.1,
           ),
           (
@@ -128,6 +140,14 @@ in-left es up top at left right h x p = record {
         );
         counts = λ k. omega (arith, occurs-top k at w.it right, w.counts k);
       };
+  routes = λ fs l r new re.
+      let here : item_at fs at ≡ item_at es at = new.kept at (omega (arith, same-self at)) in
+      reroutes-top es fs at left right (p.put fs l r (rehung-less es fs x (λ k. same k at + occurs k (members right) + p.others k) p.others
+      l r (λ k. omega arith) new)).it
+      right (ap (λ (e : Item). e.area) here) (ap (λ (e : Item). e.is_fork) here)
+      (p.routes fs l r (rehung-less es fs x (λ k. same k at + occurs k (members right) + p.others k) p.others l r (λ k. omega arith) new)
+      re)
+      (reroutes-same es fs right (λ k m. new.kept k (omega (arith, m))));
 }
 
 pub in-right : (es : List Item) (up top at : ℕ) (left right : Heap) → IsHeap es up top (Top at left right)
@@ -143,16 +163,8 @@ in-right es up top at left right h x p = record {
   high = p.high;
   counts = λ k. omega (arith, occurs-top k at left right, p.counts k);
   put = λ fs l r new.
-      let w = p.put fs l r (record {
-        long = new.long;
-        boxes = new.boxes;
-        kept = λ k m. new.kept k (omega (arith, m));
-        up = new.up;
-        above_left = new.above_left;
-        above_right = new.above_right;
-        low = new.low;
-        high = new.high;
-      }) in
+      let w = p.put fs l r (rehung-less es fs x (λ k. same k at + occurs k (members left) + p.others k) p.others l r (λ k. omega arith) new)
+      in
       let here : item_at fs at ≡ item_at es at = new.kept at (omega (arith, same-self at)) in
       record {
         it = Top at left w.it;
@@ -161,7 +173,8 @@ in-right es up top at left right h x p = record {
           (
             above-frame es fs at left (new.boxes at) (λ k m. new.boxes k) h.1.0,
             above-frame es fs at w.it (new.boxes at) (λ k m. new.boxes k)
-                (above-with es at x right l r w.it p.others h.1.1 (λ k m. omega (arith, m, p.counts k)) (omega (arith, p.counts x, same-self x)) new.above_left new.above_right w.counts),
+                (above-with es at x right l r w.it p.others h.1.1 (λ k m. omega (arith, m, p.counts k))
+                (omega (arith, p.counts x, same-self x)) new.above_left new.above_right w.counts),
           ),
           (
             subst (λ n. IsHeap fs at n left) (sym (ap (λ (e : Item). e.left) here))
@@ -171,6 +184,14 @@ in-right es up top at left right h x p = record {
         );
         counts = λ k. omega (arith, occurs-top k at left w.it, w.counts k);
       };
+  routes = λ fs l r new re.
+      let here : item_at fs at ≡ item_at es at = new.kept at (omega (arith, same-self at)) in
+      reroutes-top es fs at left right left
+      (p.put fs l r (rehung-less es fs x (λ k. same k at + occurs k (members left) + p.others k) p.others l r (λ k. omega arith) new)).it
+      (ap (λ (e : Item). e.area) here) (ap (λ (e : Item). e.is_fork) here)
+      (reroutes-same es fs left (λ k m. new.kept k (omega (arith, m))))
+      (p.routes fs l r (rehung-less es fs x (λ k. same k at + occurs k (members left) + p.others k) p.others l r (λ k. omega arith) new)
+      re);
 }
 
 -- Each entry of a heap stands somewhere in it.

@@ -35,7 +35,8 @@ spine-is es (suc bound) up top None short h l = cond-true (top == no_slot) 0 _ (
 spine-is es (suc bound) up top (Top at left right) short h l =
     let ne : top ≢ no_slot = λ e. omega (arith, e, h.0.0, h.0.1, short) in
     cond-false (top == no_slot) 0 _ (ne_eqb top no_slot ne)
-    ∙ ap suc (ap (λ n. spine es bound (item_at es n).right) h.0.0 ∙ spine-is es bound at (item_at es at).right right short h.2.1 (omega (arith, l)))
+    ∙ ap suc (ap (λ n. spine es bound (item_at es n).right) h.0.0 ∙ spine-is es bound at (item_at es at).right right short h.2.1
+    (omega (arith, l)))
 
 -- A heap's spine is at most as long as there are entries.
 spine-of : (es : List Item) (up top : ℕ) (h : Heap) → length es ≤ no_slot → IsHeap es up top h

@@ -16,7 +16,7 @@ use Rattle.atlas_search.specs.Numbers.{no_slot, occurs}
 use Rattle.atlas_search.specs.Lookups.{HasShown, AreListed, AreBelow, HasAdded, IsItemBelow}
 use Rattle.atlas_search.specs.Searches.{Shown}
 use Rattle.atlas_search.specs.Tables.{head_of, is_used_at}
-use Rattle.atlas_search.specs.Ways.{IsShowable}
+use Rattle.atlas_search.specs.Showing.{IsListShowable}
 use Rattle.atlas_search.proofs.SearchLemmas.BandLaws.{band_below}
 use Rattle.atlas_search.proofs.SearchLemmas.Heaps.{listed-some}
 use Rattle.atlas_search.proofs.SearchLemmas.ShownItems.{append-none, shown_items-has, shown_items-in}
@@ -46,7 +46,8 @@ module _ (o : Options) (es : List Item) (end : ℕ) (r : Sides) where
           | inr x ↦ Contains-append_right a.more b.more _ (b.each i free x)
         ];
         seen = λ is_large shown h.
-            subst (λ (list : List Shown). HasSeen u is_large r list) (append_assoc shown a.more b.more) (b.seen is_large (shown ++ a.more) (a.seen is_large shown h));
+            subst (λ (list : List Shown). HasSeen u is_large r list) (append_assoc shown a.more b.more)
+            (b.seen is_large (shown ++ a.more) (a.seen is_large shown h));
       }
 
   module _ (heads : List Link) (a : AreListed o heads es) where
@@ -93,7 +94,7 @@ module _ (o : Options) (es : List Item) (end : ℕ) (r : Sides) where
       bands-of_list i e = grind (arith, band_below)
 
       -- The list as a heap.
-      pub showable : (h : Heap) × IsShowable es (head_of heads (number_of place)).number h
+      pub showable : (h : Heap) × IsListShowable es (head_of heads (number_of place)).number h
           × ((i : ℕ) → occurs i (members h) ≡ occurs i (a.free_lists (number_of place)))
       showable =
           let list = a.lists (number_of place) number-below in (
@@ -104,11 +105,13 @@ module _ (o : Options) (es : List Item) (end : ℕ) (r : Sides) where
               heap = list.1;
               once = λ i. omega (arith, a.once (number_of place) i number-below, list.2 i);
               exact = λ i h. a.exact i (a.own (number_of place) i number-below (omega (arith, h, list.2 i))).0;
+              sorted = list.3;
             },
             list.2,
           )
 
-      module _ (w : AreBelow end place.row place.column) (xs : List ℕ) (same : (i : ℕ) → occurs i xs ≡ occurs i (a.free_lists (number_of place))) where
+      module _ (w : AreBelow end place.row place.column) (xs : List ℕ) (same : (i : ℕ) →
+          occurs i xs ≡ occurs i (a.free_lists (number_of place))) where
         of_list : (c : Shown) → Contains (shown_items es xs) c
             → ((item_at es c.at).is_free ≡ true) × (c ≡ shown_item es c.at) × IsItemBelow o es end c.at
         of_list c h =

@@ -1,14 +1,15 @@
 -- Bands keep the order of sides, boxes of one list are of one class, and the lists of a class are its window.
-use Rattle.std.proofs.Common.{◌≡◌, ℕ, zero, suc, ◌+◌, ◌-◌, ◌*◌, ◌/◌, ◌<◌, ◌≤◌, ◌⊎◌, inl, inr, ◌↔◌, ℤ, pos, negsuc, ◌≤ℤ◌, ◌<ℤ◌, true, false, nat_lt, refl, sym, ◌∙◌, subst, arith}
+use Rattle.std.proofs.Common.{◌≡◌, ℕ, zero, suc, ◌+◌, ◌-◌, ◌*◌, ◌/◌, ◌<◌, ◌≤◌, ◌⊎◌, inl, inr, ◌↔◌, ℤ, pos, negsuc, ◌≤ℤ◌, true, false}
+use Rattle.std.proofs.Common.{nat_lt, refl, sym, ◌∙◌, subst, arith}
 use Rattle.std.specs.Prelude.{if◌then◌else◌, int_le}
-use Rattle.std.proofs.lemmas.Bool.{cases_Bool, cond_both, cond-true, cond-false, ltb-true, ltb-false, leb-true, leb-false, le-leb, lt-leb, or_cases, or_from, or_parts, both_ways}
+use Rattle.std.proofs.lemmas.Bool.{cases_Bool, cond_both, cond-true, cond-false, ltb-true, ltb-false, leb-true, leb-false, le-leb, lt-leb}
+use Rattle.std.proofs.lemmas.Bool.{or_cases, or_from, or_parts, both_ways}
 use Rattle.std.proofs.lemmas.Int.{ints}
 use Rattle.atlas_model.specs.Boxes.{Sides, IsPositive}
 use Rattle.atlas_model.specs.Pixels.{natural}
 use Rattle.atlas_model.specs.Choice.{Options, AreValid, class_of, reaches}
 use Rattle.atlas_search.specs.Bands.{step_of, passes, band_of, list_of, border_of, start_of, IsInWindow}
-use Rattle.atlas_search.proofs.SearchLemmas.BandSteps.{step_of-last, step_of-most}
-use Rattle.atlas_search.specs.Lookups.{IsTop}
+use Rattle.atlas_search.proofs.SearchLemmas.BandSteps.{step_of-most}
 
 -- ---- steps keep the order
 
@@ -53,13 +54,10 @@ passes-true t n h = cond-true (int_le t (pos n)) 1 0 h
 passes-false : (t : ℤ) (n : ℕ) → int_le t (pos n) ≡ false → passes t n ≡ 0
 passes-false t n h = cond-false (int_le t (pos n)) 1 0 h
 
-passes-top : (t top : ℤ) (n : ℕ) → t ≤ℤ top → top ≤ℤ pos n → int_le t (pos n) ≡ true
-passes-top t top n a b = grind (arith, ints)
-
 passes-most : (t : ℤ) (n : ℕ) → passes t n ≤ 1
 passes-most t n = cond_both (int_le t (pos n)) 1 0 (λ v. v ≤ 1) (λ _. omega arith) (λ _. omega arith)
 
-passes-le : (t : ℤ) (a b : ℕ) → a ≤ b → passes t a ≤ passes t b
+pub passes-le : (t : ℤ) (a b : ℕ) → a ≤ b → passes t a ≤ passes t b
 passes-le t a b l = grind (arith, cases_Bool, passes-most, passes-true, passed-le, passes-false)
 
 -- ---- bands
@@ -71,13 +69,6 @@ band_mono o a b l = grind (arith, step_of-le, passes-le)
 pub band_below : (o : Options) (n : ℕ) → band_of o n < 52
 unfolding band_of
 band_below o n = grind (arith, step_of-most, passes-most)
-
--- Above 256 and both thresholds there is one band.
-pub band_last : (o : Options) (side top : ℤ) → pos 256 <ℤ side → IsTop o top → top ≤ℤ side
-    → band_of o (natural side) ≡ 51
-unfolding band_of
-band_last o (pos n) top above is l = grind (arith, ints, step_of-last, passes-true, passes-top)
-band_last o (negsuc n) top above is l = grind (arith, ints)
 
 -- A threshold of the options: the small or the large one.
 abbrev pub IsThreshold : Options → ℤ → Type 0
@@ -179,7 +170,8 @@ module _ (o : Options) (s : Sides) where
     to-window-1 h = grind (arith, cases_Bool, class-2, class-0, not_reached, reached)
 
     from-window-1 : IsInWindow o 1 row column → class_of o s ≡ 1
-    from-window-1 w = class-1 (not_reaches_from o.large_threshold w.row_ends w.column_ends) (reaches_from o.small_threshold (inl refl) positive w.begins)
+    from-window-1 w = class-1 (not_reaches_from o.large_threshold w.row_ends w.column_ends)
+        (reaches_from o.small_threshold (inl refl) positive w.begins)
 
     to-window-2 : class_of o s ≡ 2 → IsInWindow o 2 row column
     to-window-2 h = grind (arith, cases_Bool, band_below, reached, class-1, class-0)
@@ -217,4 +209,5 @@ same_class o s t valid p q e =
     let bands = same_bands o s t e in
     let c = class_of o t in
     let w = (window_law o t c valid q (class_of-most o t)).0 refl in
-    (window_law o s c valid p (class_of-most o t)).1 (subst (λ i. IsInWindow o c i (band_of o s.height)) (sym bands.0) (subst (λ j. IsInWindow o c (band_of o t.width) j) (sym bands.1) w))
+    (window_law o s c valid p (class_of-most o t)).1 (subst (λ i. IsInWindow o c i (band_of o s.height)) (sym bands.0)
+    (subst (λ j. IsInWindow o c (band_of o t.width) j) (sym bands.1) w))

@@ -1,5 +1,6 @@
 -- The search for the box that a request takes, and that what it finds is the pick.
-use Rattle.std.proofs.Common.{◌≡◌, ℕ, ◌-◌, ◌<◌, ◌≤◌, ◌↔◌, ◌⊎◌, min, Bool, List, [], ◌∷◌, ◌++◌, ℤ, pos, ◌-ℤ◌, ◌≤ℤ◌, ◌<ℤ◌, refl, ◌∙◌, subst, inl, inr, arith}
+use Rattle.std.proofs.Common.{◌≡◌, ℕ, ◌-◌, ◌<◌, ◌≤◌, ◌↔◌, ◌⊎◌, min, Bool, List, [], ◌∷◌, ◌++◌, ℤ, pos, ◌-ℤ◌, ◌≤ℤ◌, ◌<ℤ◌, refl, ◌∙◌, subst}
+use Rattle.std.proofs.Common.{inl, inr, arith}
 use Rattle.std.specs.List.{Contains}
 use Rattle.std.proofs.lemmas.Int.{ints}
 use Rattle.std.proofs.lemmas.List.Elements.{Contains-push, Contains-push_cases, Contains-append_left}
@@ -105,7 +106,8 @@ not_precedes-good is_large r b c fb fc h =
 
 push-each : {P : Shown → Type 0} (shown : List Shown) (c : Shown) → ((d : Shown) → Contains shown d → P d) → P c
     → (d : Shown) → Contains (shown ++ c ∷ []) d → P d
-push-each {P} shown c each last d has = elim (Contains-push_cases shown c d has) [ inl earlier ↦ each d earlier | inr same ↦ subst P same last ]
+push-each {P} shown c each last d has = elim (Contains-push_cases shown c d has)
+    [ inl earlier ↦ each d earlier | inr same ↦ subst P same last ]
 
 pub none_more : (r : Sides) (shown : List Shown) (c : Shown) → FitsNone r shown → (Fits r (box_sides c.box) → ⊥)
     → FitsNone r (shown ++ c ∷ [])
@@ -130,7 +132,8 @@ best_replaced is_large r shown f c best fits better = record {
   fits = fits;
   best =
       push-each shown c (λ d earlier fits'.
-      as_good-trans is_large r c.box f.box d.box better.0 (best.best d earlier fits')) (λ _. as_good-same is_large r c.box c.box (λ k. k) refl);
+      as_good-trans is_large r c.box f.box d.box better.0 (best.best d earlier fits'))
+      (λ _. as_good-same is_large r c.box c.box (λ k. k) refl);
   first =
       push-each shown c (λ d earlier fits' good.
       comes_first-trans c.box f.box d.box

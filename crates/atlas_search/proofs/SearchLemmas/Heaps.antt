@@ -1,10 +1,12 @@
 -- Lists as heaps: the order of their entries, and what is read of them.
-use Rattle.std.proofs.Common.{◌≡◌, ◌≢◌, ℕ, ◌+◌, ◌<◌, ◌≤◌, List, [], ◌∷◌, ◌++◌, length, map, get_or, refl, ap, sym, ◌∙◌, subst, inl, inr, arith}
+use Rattle.std.proofs.Common.{◌≡◌, ◌≢◌, ℕ, ◌+◌, ◌<◌, ◌≤◌, List, [], ◌∷◌, ◌++◌, length, map, get_or, refl, ap, sym, ◌∙◌, subst, inl, inr}
+use Rattle.std.proofs.Common.{arith}
 use Rattle.std.proofs.lemmas.Bool.{cases_eq}
 use Rattle.std.proofs.lemmas.List.{get_or-map}
 use Rattle.atlas_model.specs.Boxes.{Box}
 use Rattle.atlas_model.specs.Choice.{ComesFirst}
-use Rattle.atlas_search.specs.Heaps.{Heap, IsHeap, IsListed, members, tag_of}
+use Rattle.atlas_search.specs.Forks.{IsListed}
+use Rattle.atlas_search.specs.Heaps.{Heap, IsHeap, members, tag_of}
 use Rattle.atlas_search.specs.Heaps.Heap.{None, Top}
 use Rattle.atlas_search.specs.Items.{Item, item_at, item_box, no_item}
 use Rattle.atlas_search.specs.Numbers.{occurs, same, no_slot}
@@ -27,7 +29,11 @@ first-then a b c f g = grind arith
 
 -- What begins with the lesser corner comes first.
 pub corner-first : (a b : Box) → a.min.x < 4294967296 → b.min.x < 4294967296 → corner_of a ≤ corner_of b → ComesFirst a b
-corner-first a b na nb l = elim (cases_eq a.min.y b.min.y) [ inl e ↦ inr (e, omega (arith, e, na, nb, l)) | inr ne ↦ inl (omega (arith, ne, na, nb, l)) ]
+corner-first a b na nb l = elim (cases_eq a.min.y b.min.y) [
+  | inl e ↦ inr (e, omega (arith, e, na, nb, l))
+  | inr ne ↦ inl
+      (omega (arith, ne, na, nb, l))
+]
 
 -- What is read of an entry.
 pub item-read : {E : Type 0} (item : E → Item) (xs : List E) (i : ℕ) (x : E) → i < length xs → x ≡ get_or xs i x

@@ -101,7 +101,8 @@ module _ (o : Options) (es : List Item) (r : Sides) where
       → IsPick free o r (box_of found.rectangle)
   pick-of_items heads a least end found is from b free all =
       let class = is.class in
-      let fits_at : (c : Box) (i : ℕ) → item_box (item_at es i) ≡ c → Fits r (box_sides c) → Fits r (item_sides (item_at es i)) = (λ c i e h. subst (λ (x : Box). Fits r (box_sides x)) (sym e) h) in
+      let fits_at : (c : Box) (i : ℕ) → item_box (item_at es i) ≡ c → Fits r (box_sides c) → Fits r (item_sides (item_at es i)) =
+      (λ c i e h. subst (λ (x : Box). Fits r (box_sides x)) (sym e) h) in
       let only : FitsOnlyFrom class free o r = (λ c fitting.
       let at = all.of_item c fitting.is_free in
       subst (λ (x : Box). class ≤ class_of o (box_sides x)) at.2
@@ -111,12 +112,16 @@ module _ (o : Options) (es : List Item) (r : Sides) where
             let at = b.are_shown.of_lists c h in
             let e : c.box ≡ item_box (item_at es c.at) = ap (λ (s : Shown). s.box) at.1 in (
               subst (λ (x : Box). Contains free x) (sym e) (all.of_box c.at at.0),
-              subst (λ (x : Box). class_of o (box_sides x) ≤ class) (sym e) (class-below o heads es r a class end c.at is.few is.ends at.0 at.2),
+              subst (λ (x : Box). class_of o (box_sides x) ≤ class) (sym e)
+                  (class-below o heads es r a class end c.at is.few is.ends at.0 at.2),
             );
         each = λ c fitting ec.
             let at = all.of_item c fitting.is_free in
             let same_class : class_of o (item_sides (item_at es at.0)) ≡ class = ap (λ (x : Box). class_of o (box_sides x)) at.2 ∙ ec in
-            let below = below-class o heads es r a class end at.0 is.ends at.1 same_class in
-            (at.0, subst (λ (x : Box). Contains b.shown (shown_at x at.0)) at.2 (b.are_shown.each at.0 at.1 below (fits_at c at.0 at.2 fitting.fits)));
+            let below = below-class o heads es r a class end at.0 is.ends at.1 same_class in (
+              at.0,
+              subst (λ (x : Box). Contains b.shown (shown_at x at.0)) at.2
+                  (b.are_shown.each at.0 at.1 below (fits_at c at.0 at.2 fitting.fits)),
+            );
       } in
       pick_of_class class free o r b.shown (shown_at (box_of found.rectangle) found.at.number) only of b.best

@@ -1,12 +1,15 @@
 -- The numbers of a mask after each operation on its bits.
-use Rattle.std.proofs.Common.{◌≡◌, ◌≢◌, ℕ, zero, suc, ◌+◌, ◌-◌, ◌*◌, ◌/◌, ◌%◌, ◌^◌, ◌<◌, ◌≤◌, inl, inr, min, max, Bool, true, false, not, ◌&&◌, ◌||◌, ◌==◌, nat_le, nat_lt, refl, sym, ap, ◌∙◌, arith, w64, bit_and, bit_or, rules}
+use Rattle.std.proofs.Common.{◌≡◌, ◌≢◌, ℕ, zero, suc, ◌+◌, ◌-◌, ◌*◌, ◌/◌, ◌%◌, ◌^◌, ◌<◌, ◌≤◌, inl, inr, min, max, Bool, true, false, not}
+use Rattle.std.proofs.Common.{◌&&◌, ◌||◌, ◌==◌, nat_le, nat_lt, refl, sym, ap, ◌∙◌, arith, w64, bit_and, bit_or, rules}
 use Rattle.std.proofs.Math.Nat.{mod-eq_of_lt}
 use Rattle.std.specs.Int.{bit_at, trailing_zeros}
 use Rattle.std.specs.Int.Bits.{and_self}
 use Rattle.std.specs.Int.Count.{count_trailing_zeros}
 use lib.Count.{under}
 use Rattle.std.proofs.lemmas.Nat.{one_shl, shr-shr, shr_split, and_shr, pow_pos}
-use Rattle.std.proofs.lemmas.Nat.Bits.{bit_at-zero, bit_at_lowest, bit_at-suc, bit_at_and, bit_at_or, bit_at_ones, bit_at_ones_above, bit_at_above, bit_at-lt, bit_at_cat_low, bit_at_cat_high, bit_at_set_same, bit_at_set_other, bit_at_clear_same, bit_at_clear_other, bit_at-trailing_zeros}
+use Rattle.std.proofs.lemmas.Nat.Bits.{bit_at-zero, bit_at_lowest, bit_at-suc, bit_at_and, bit_at_or, bit_at_ones, bit_at_ones_above}
+use Rattle.std.proofs.lemmas.Nat.Bits.{bit_at_above, bit_at-lt, bit_at_cat_low, bit_at_cat_high, bit_at_set_same, bit_at_set_other}
+use Rattle.std.proofs.lemmas.Nat.Bits.{bit_at_clear_same, bit_at_clear_other, bit_at-trailing_zeros}
 use Rattle.std.proofs.lemmas.Bool.{cases_lt, lt-ltb, le-ltb, le-leb, lt-leb, eq-eqb, ne_eqb, and_right, both_ways}
 use Rattle.atlas_search.specs.declared.masks.Mask.{Mask}
 use Rattle.atlas_search.specs.Masks.{has, IsMarked}
@@ -49,12 +52,17 @@ pub without_others : (n k j : ℕ) → n < 2 ^ 64 → k < 64 → j ≢ k
     → has (of_bits (bit_and n (2 ^ 64 - 1 - 1 * 2 ^ k % 2 ^ 64))) j ≡ has (of_bits n) j
 unfolding has
 without_others n k j fits within apart =
-    ap is_one (elim (cases_lt j 64) [ inl l ↦ bit_at_clear_other w64 n k within j l apart | inr g ↦ and_above n (2 ^ 64 - 1 - 1 * 2 ^ k % 2 ^ 64) j fits g ])
+    ap is_one (elim (cases_lt j 64) [
+      | inl l ↦ bit_at_clear_other w64 n k within j l apart
+      | inr g ↦ and_above n
+          (2 ^ 64 - 1 - 1 * 2 ^ k % 2 ^ 64) j fits g
+    ])
 
 from_low : (n k j : ℕ) → n < 2 ^ 64 → j < k → bit_at (n / 2 ^ k * 2 ^ k % 2 ^ 64) j ≡ 0
 from_low n k j fits l =
     let whole : n / 2 ^ k * 2 ^ k + 0 ≡ n / 2 ^ k * 2 ^ k = omega arith in
-    ap (λ x. bit_at x j) (mod-eq_of_lt (omega (arith, shr_split n k, fits)) ∙ sym whole) ∙ bit_at_cat_low (n / 2 ^ k) k 0 j l ∙ bit_at-zero j
+    ap (λ x. bit_at x j) (mod-eq_of_lt (omega (arith, shr_split n k, fits)) ∙ sym whole) ∙ bit_at_cat_low (n / 2 ^ k) k 0 j l ∙
+    bit_at-zero j
 
 from_high : (n k j : ℕ) → n < 2 ^ 64 → k ≤ j → bit_at (n / 2 ^ k * 2 ^ k % 2 ^ 64) j ≡ bit_at n j
 from_high n k j fits g =

@@ -5,7 +5,8 @@ use Rattle.std.specs.List.{Contains, All}
 use Rattle.std.proofs.lemmas.Bool.{eq-eqb, ne_eqb}
 use Rattle.std.proofs.lemmas.List.Elements.{All-contains}
 use Rattle.atlas_model.specs.Boxes.{Sides, Box, box_sides, Fits, IsNonempty, IsWithin}
-use Rattle.atlas_model.specs.Choice.{Options, up, rounded, class_of, HasEqualSide, IsFitting, IsCandidate, HasBetterMargin, IsPick, HasNoRoom}
+use Rattle.atlas_model.specs.Choice.{Options, up, rounded, class_of, HasEqualSide, IsFitting, IsCandidate, HasBetterMargin, IsPick}
+use Rattle.atlas_model.specs.Choice.{HasNoRoom}
 use Rattle.atlas_search.specs.Requests.{CanBeRounded}
 use Rattle.atlas_search.specs.Searches.{Shown, shown_at, IsAsGood, IsBestShown, FitsOnlyFrom, AreOfClass}
 use Rattle.atlas_search.proofs.SearchLemmas.BestMargins.{margin-equal_side, equal_side-margin, equal_side_cases}
@@ -59,8 +60,10 @@ pub pick_of_class : (class : ℕ) (free : List Box) (o : Options) (r : Sides) (s
 pick_of_class class free o r shown f from of best =
     let own = of.of_class f best.is_shown in
     let fitting : IsFitting free r f.box = record { is_free = own.0; fits = best.fits } in
-    let seen : (c : Box) → IsCandidate free o r c → (at : ℕ) × Contains shown (shown_at c at) = λ c candidate. of_lowest class free o r shown f c from of best.is_shown best.fits candidate in
-    let good : (c : Box) → IsCandidate free o r c → IsAsGood (class_of o r == 2) r f.box c = λ c candidate. best.best (shown_at c (seen c candidate).0) (seen c candidate).1 candidate.fitting.fits in
+    let seen : (c : Box) → IsCandidate free o r c → (at : ℕ) × Contains shown (shown_at c at) =
+    λ c candidate. of_lowest class free o r shown f c from of best.is_shown best.fits candidate in
+    let good : (c : Box) → IsCandidate free o r c → IsAsGood (class_of o r == 2) r f.box c =
+    λ c candidate. best.best (shown_at c (seen c candidate).0) (seen c candidate).1 candidate.fitting.fits in
     record {
       best = record {
         candidate = record { fitting = fitting; lowest = λ c h. omega (arith, own.1, from c h) };

@@ -1,5 +1,6 @@
 -- A search before a row and a column: the request's own row and column first, and the rest only if no equal side was found.
-use Rattle.std.proofs.Common.{◌≡◌, ℕ, zero, suc, ◌+◌, ◌*◌, ◌<◌, ◌≤◌, ◌⊎◌, ◌==◌, ◌&&◌, ◌||◌, nat_lt, nat_le, Bool, true, false, cond, List, [], ◌∷◌, length, refl, ap, sym, ◌∙◌, subst, inl, inr, arith}
+use Rattle.std.proofs.Common.{◌≡◌, ℕ, zero, suc, ◌+◌, ◌*◌, ◌<◌, ◌≤◌, ◌⊎◌, ◌==◌, ◌&&◌, ◌||◌, nat_lt, nat_le, Bool, true, false, cond, List}
+use Rattle.std.proofs.Common.{[], ◌∷◌, length, refl, ap, sym, ◌∙◌, subst, inl, inr, arith}
 use Rattle.std.proofs.lemmas.Bool.{cases_eq, cond_both, true≢false}
 use Rattle.std.proofs.lemmas.Bool.Decides.{nat_tests}
 use Rattle.atlas_search.specs.declared.bands.Place.{Place}
@@ -33,7 +34,11 @@ unfolding numbers_where
 where-has p zero i l h = absurd (omega arith)
 where-has p (suc n) i l h =
     cond_both (p n) (n ∷ numbers_where p n) (numbers_where p n) (λ xs. 0 < occurs i xs)
-    (λ t. elim (cases_eq i n) [ inl e ↦ omega (arith, same-self n, ap (λ k. occurs k (n ∷ numbers_where p n)) e) | inr ne ↦ omega (arith, where-has p n i (omega arith) h) ])
+    (λ t. elim (cases_eq i n) [
+      | inl e ↦ omega (arith, same-self n, ap (λ k. occurs k (n ∷ numbers_where p n)) e)
+      | inr ne ↦ omega
+          (arith, where-has p n i (omega arith) h)
+    ])
     (λ f. elim (cases_eq i n) [ inl e ↦ absurd (true≢false (sym h ∙ ap p e ∙ f)) | inr ne ↦ where-has p n i (omega arith) h ])
 
 where-only : (p : ℕ → Bool) (n i : ℕ) → 0 < occurs i (numbers_where p n) → p i ≡ true
@@ -105,7 +110,8 @@ module _ (o : Options) (heads : List Link) (es : List Item) (own : Place) (r : S
 
   is_apart : ℕ → Bool
   is_apart i =
-      ((item_at es i).is_free && (nat_lt (row_of i) end && nat_lt (column_of i) end)) && (nat_lt own.row (row_of i) && nat_lt own.column (column_of i))
+      ((item_at es i).is_free && (nat_lt (row_of i) end && nat_lt (column_of i) end)) &&
+      (nat_lt own.row (row_of i) && nat_lt own.column (column_of i))
 
   inside-free : (i : ℕ) → (item_at es i).is_free ≡ true → i < length es
   inside-free i free =
@@ -168,7 +174,8 @@ module _ (o : Options) (heads : List Link) (es : List Item) (own : Place) (r : S
         | inr ne ↦ elim (cases_eq j own.column) [
           | inl e ↦
               let reaches = subst (λ k. (least ≤ i) ⊎ (least ≤ k)) e at.3 in
-              let marked = search.left.in_column i (omega (arith, at.0, ne)) hi (subst (λ k. is_used_at heads (52 * i + k) ≡ true) e full) reaches in
+              let marked = search.left.in_column i (omega (arith, at.0, ne)) hi (subst (λ k. is_used_at heads (52 * i + k) ≡ true) e full)
+              reaches in
               inl (inr (e, marked-below rows in_column end i br marked at.2.0))
           | inr ne' ↦ inr (omega (arith, at.0, ne), omega (arith, at.1, ne'), at.2)
         ]

@@ -1,5 +1,6 @@
 -- From turn to turn of a search: what is left of the lists of a request's own row and column, and which free entries it may still fit.
-use Rattle.std.proofs.Common.{◌≡◌, ℕ, ◌+◌, ◌*◌, ◌<◌, ◌≤◌, ◌⊎◌, ◌||◌, ◌==◌, max, nat_le, true, false, List, sym, ◌∙◌, subst, refl, inl, inr, arith}
+use Rattle.std.proofs.Common.{◌≡◌, ℕ, ◌+◌, ◌*◌, ◌<◌, ◌≤◌, ◌⊎◌, ◌||◌, ◌==◌, max, nat_le, true, false, List, sym, ◌∙◌, subst, refl, inl, inr}
+use Rattle.std.proofs.Common.{arith}
 use Rattle.std.proofs.lemmas.Bool.{cases_eq, cases_lt, eq-eqb, ne_eqb, true≢false}
 use Rattle.std.proofs.lemmas.Bool.Decides.{nat_tests}
 use Rattle.atlas_search.specs.declared.bands.Place.{Place}
@@ -31,7 +32,8 @@ pub least-reached : (heads : List Link) (own : Place) (least : ℕ) (columns use
     → AreReaching heads own least
 least-reached heads own least columns used rows both each_column each_row later either first i j hi hj past under full =
     elim (cases_eq i own.row) [
-      | inl e ↦ inr (first j (either j ∙ or_left _ (has rows j) (each_column j under hj (subst (λ k. is_used_at heads (52 * k + j) ≡ true) e full))))
+      | inl e ↦ inr (first j (either j ∙ or_left _ (has rows j) (each_column j under hj
+          (subst (λ k. is_used_at heads (52 * k + j) ≡ true) e full))))
       | inr ne ↦
           let marked = marked-from used rows (own.row + 1) i later (each_row i j hi hj full) (omega (arith, past, ne)) in
           inl (first i (either i ∙ or_right (has columns i) _ marked))
@@ -60,10 +62,12 @@ left-next heads own first end least columns rows later_columns later_rows lr lc 
     record {
       in_row = λ j l hj full reaches. elim reaches [
         | inl h ↦ absurd (omega (arith, h, lr, from))
-        | inr h ↦ marked-from columns later_columns end j fc (left.in_row j l hj full (inr (omega (arith, h, from, begins)))) (omega (arith, h, from))
+        | inr h ↦ marked-from columns later_columns end j fc (left.in_row j l hj full (inr (omega (arith, h, from, begins))))
+            (omega (arith, h, from))
       ];
       in_column = λ i l hi full reaches. elim reaches [
-        | inl h ↦ marked-from rows later_rows end i fr (left.in_column i l hi full (inl (omega (arith, h, from, begins)))) (omega (arith, h, from))
+        | inl h ↦ marked-from rows later_rows end i fr (left.in_column i l hi full (inl (omega (arith, h, from, begins))))
+            (omega (arith, h, from))
         | inr h ↦ absurd (omega (arith, h, lc, from))
       ];
     }
@@ -71,8 +75,10 @@ left-next heads own first end least columns rows later_columns later_rows lr lc 
 module _ (o : Options) (heads : List Link) (es : List Item) (r : Sides) (a : AreListed o heads es) where
   -- The class of a free entry, by its bands.
   class-window : (i : ℕ) → (item_at es i).is_free ≡ true
-      → IsInWindow o (class_of o (item_sides (item_at es i))) (band_of o (item_sides (item_at es i)).width) (band_of o (item_sides (item_at es i)).height)
-  class-window i free = (window_law o (item_sides (item_at es i)) _ a.valid (positive-at o es 0 r heads a i free) (class_of-most o _)).0 refl
+      → IsInWindow o (class_of o (item_sides (item_at es i))) (band_of o (item_sides (item_at es i)).width)
+      (band_of o (item_sides (item_at es i)).height)
+  class-window i free = (window_law o (item_sides (item_at es i)) _ a.valid (positive-at o es 0 r heads a i free) (class_of-most o _)).0
+      refl
 
   -- Those that reach the first row or column of a class have it or a later one.
   pub class-from : (class least : ℕ) → class < 3 → start_of o class ≤ least → FitsItemsFrom o es least r
@@ -98,7 +104,8 @@ module _ (o : Options) (heads : List Link) (es : List Item) (r : Sides) (a : Are
       let within = class-window i free in
       elim (cases_lt class (class_of o (item_sides (item_at es i)))) [
         | inl l ↦
-            let far = start_mono o (class + 1) (class_of o (item_sides (item_at es i))) a.valid (omega (arith, l)) (omega (arith, class_of-most o (item_sides (item_at es i)))) in
+            let far = start_mono o (class + 1) (class_of o (item_sides (item_at es i))) a.valid (omega (arith, l))
+            (omega (arith, class_of-most o (item_sides (item_at es i)))) in
             absurd (elim within.begins [ inl h ↦ omega (arith, h, far, ends, below.0) | inr h ↦ omega (arith, h, far, ends, below.1) ])
         | inr g ↦ g
       ]
@@ -107,7 +114,8 @@ module _ (o : Options) (heads : List Link) (es : List Item) (r : Sides) (a : Are
       → class_of o (item_sides (item_at es i)) ≡ class
       → IsItemBelow o es end i
   below-class class end i ends free e =
-      let within = subst (λ k. IsInWindow o k (band_of o (item_sides (item_at es i)).width) (band_of o (item_sides (item_at es i)).height)) e (class-window i free) in
+      let within = subst (λ k. IsInWindow o k (band_of o (item_sides (item_at es i)).width) (band_of o (item_sides (item_at es i)).height))
+      e (class-window i free) in
       (omega (arith, ends, within.row_ends), omega (arith, ends, within.column_ends))
 
   module _ (own : Place) (er : own.row ≡ band_of o r.width) (ec : own.column ≡ band_of o r.height) where
@@ -135,7 +143,8 @@ module _ (o : Options) (heads : List Link) (es : List Item) (r : Sides) (a : Are
               true≢false (sym (or_left _ (has rows column) marked) ∙ sym (either column) ∙ empty column)
           | inr ne ↦ elim (cases_eq column own.column) [
             | inl e ↦
-                let marked = left.in_column row (omega (arith, past, ne)) (band_below o _) (subst (λ k. is_used_at heads (52 * row + k) ≡ true) e full)
+                let marked = left.in_column row (omega (arith, past, ne)) (band_below o _)
+                (subst (λ k. is_used_at heads (52 * row + k) ≡ true) e full)
                 (subst (λ k. (end ≤ row) ⊎ (end ≤ k)) e (from i free fits)) in
                 true≢false (sym (or_right (has columns row) _ marked) ∙ sym (either row) ∙ empty row)
             | inr ne' ↦ apart row column (omega (arith, past, ne)) (band_below o _) (omega (arith, under, ne')) (band_below o _) full

@@ -52,7 +52,13 @@ pub calm-marked : (ns ms : List Node) (i : ℕ) (n : Node) → IsWritten ns ms i
     → IsCalmBut ms i
 calm-marked ns ms i n w calm =
     record {
-      apart = λ k ki f g. grind (arith, w.others k ki, cases_eq (node_at ms k).next.number i, w.others (node_at ms k).next.number, (calm k).apart);
+      apart = λ k ki f g. grind (
+        arith,
+        w.others k ki,
+        cases_eq (node_at ms k).next.number i,
+        w.others (node_at ms k).next.number,
+        (calm k).apart,
+      );
       nested = λ k ki f b a. grind (arith, w.others k ki, (calm k).nested);
     }
 

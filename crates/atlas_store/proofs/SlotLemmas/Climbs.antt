@@ -196,7 +196,8 @@ module _ (ns : List Node) (old : List Bool) (leaf : ℕ) (short : length ns ≤ 
       beside : (i : ℕ) → IsUsedAt ns i → o i ≡ false → (node_at ns i).parent.number ≡ parent
           → ShowsBut parent o with_leaf n → Shows o with_leaf n
       beside i u c e f =
-          closed-shown ns s n short is.top is.stands o with_leaf i u c (λ ne. ap o e ∙ shut (λ z. ne (e ∙ z))) (subst (λ q. ShowsBut q o with_leaf n) (sym e) f)
+          closed-shown ns s n short is.top is.stands o with_leaf i u c (λ ne. ap o e ∙ shut (λ z. ne (e ∙ z)))
+          (subst (λ q. ShowsBut q o with_leaf n) (sym e) f)
 
       used_before : ((node_at ns low).previous.number ≡ no_slot → ⊥) → IsUsedAt ns (node_at ns low).previous.number
           × ((node_at ns (node_at ns low).previous.number).parent.number ≡ (node_at ns low).parent.number)
@@ -204,7 +205,8 @@ module _ (ns : List Node) (old : List Bool) (leaf : ℕ) (short : length ns ≤ 
         | inl e ↦ absurd (ne e)
         | inr u ↦ (
           u.0,
-          let ok : (node_at ns (node_at ns low).previous.number).next.number ≡ no_slot → ⊥ = λ z. none-open ns o none_open low (sym u.1 ∙ z) first in
+          let ok : (node_at ns (node_at ns low).previous.number).next.number ≡ no_slot → ⊥ =
+              λ z. none-open ns o none_open low (sym u.1 ∙ z) first in
               sym (rw u.1 at (sibling ns (node_at ns low).previous.number s 0 n is.stands.standing (member _ u.0) ok)),
         )
       ]
@@ -217,7 +219,8 @@ module _ (ns : List Node) (old : List Bool) (leaf : ℕ) (short : length ns ≤ 
           let u = used_before ne in
           beside _ u.0 x.before (u.1 ∙ sym to_at.1) (k.shown s n held is new_id)
       ends-shown (inr (inl ne)) =
-          beside _ (used_after ne) y.after (sibling ns high s 0 n is.stands.standing (member high y.used) ne ∙ to_high.1) (k.shown s n held is new_id)
+          beside _ (used_after ne) y.after (sibling ns high s 0 n is.stands.standing (member high y.used) ne ∙ to_high.1)
+          (k.shown s n held is new_id)
       ends-shown (inr (inr e)) =
           top-shown ns s n short is.top is.stands o with_leaf parent (to_at.1 ∙ e) (k.shown s n held is new_id)
 
@@ -256,7 +259,8 @@ module _ (ns : List Node) (old : List Bool) (leaf : ℕ) (short : length ns ≤ 
               → held2 (leaf_id ns leaf) ≡ false → (node_at ns low).previous.number ≡ no_slot
               → (node_at ns high).next.number ≡ no_slot → (parent ≡ no_slot → ⊥)
               → (node_at ns parent).kind ≡ kind.Container → IsOpenedAt o (is_open ns (set (set marks at true) parent true)) parent
-              → ShowsBut (node_at ns parent).parent.number (is_open ns (set (set marks at true) parent true)) (and_id held2 (leaf_id ns leaf)) n2
+              → ShowsBut (node_at ns parent).parent.number (is_open ns (set (set marks at true) parent true))
+              (and_id held2 (leaf_id ns leaf)) n2
           climb-shown s2 n2 held2 x2 no2 np nn some was w =
               let whole = rw nn at (line-after ns o all.0 low high y.last all.1) in
               let each = (λ (i : ℕ) (u : IsUsedAt ns i) (e : (node_at ns i).parent.number ≡ parent).

@@ -4,7 +4,8 @@ use Rattle.std.proofs.lemmas.Bool.{cond_both, eqb-true, true≢false}
 use Rattle.atlas_store.specs.declared.slots.Node.{Node}
 use Rattle.atlas_store.specs.Slots.{node_at}
 use Rattle.atlas_search.specs.Numbers.{no_slot, same}
-use Rattle.atlas_store.specs.Slots.Numbered.{Numbered, weigh, tally, first_slot, edited_in, on_free, on_alloc, on_seq, grown_by, lifted_to, is_free_at, is_alloc_at, is_seq_at, End, Free, Alloc, Seq}
+use Rattle.atlas_store.specs.Slots.Numbered.{Numbered, weigh, tally, first_slot, edited_in, on_free, on_alloc, on_seq, grown_by, lifted_to}
+use Rattle.atlas_store.specs.Slots.Numbered.{is_free_at, is_alloc_at, is_seq_at, End, Free, Alloc, Seq}
 use Rattle.atlas_store.specs.Slots.Standing.{Sequence, Standing, inside}
 use Rattle.atlas_store.proofs.SlotLemmas.Frames.{same-self, one_of, ne-from_count, Standing-same}
 use Rattle.atlas_store.proofs.SlotLemmas.Weights.{places, places-some, not_here}
@@ -48,7 +49,8 @@ pub record IsCarried (is : Numbered → Bool) (R : (across : ℕ) → (old new :
       → R a (Seq i e k m) (Seq i e l n)
 
 module _ (is : Numbered → Bool) (change : ℕ → Numbered → Numbered) where
-  module _ (R : (across : ℕ) → (old new : Numbered) → Type 0) (kept : IsCarried is R) (here : (a : ℕ) (m : Numbered) → is m ≡ true → R a m (change a m)) where
+  module _ (R : (across : ℕ) → (old new : Numbered) → Type 0) (kept : IsCarried is R)
+      (here : (a : ℕ) (m : Numbered) → is m ≡ true → R a m (change a m)) where
     choice : (a : ℕ) (m v : Numbered) → (is m ≡ false → R a m v) → R a m (cond (is m) (change a m) v)
     choice a m v other = cond_both (is m) (change a m) v (λ x. R a m x) (here a m) other
 
@@ -75,13 +77,15 @@ module _ (is : Numbered → Bool) (change : ℕ → Numbered → Numbered) where
   weigh-same w here = edited-keeps (λ a m n. weigh w n ≡ weigh w m) (grind arith) here
 
   -- A change at the only place adds y to what the slots weigh, and takes x away.
-  module _ (ns : List Node) (w : ℕ → ℕ) (x y : ℕ) (never : is End ≡ false) (here : (s : Sequence) (b p : ℕ) (m : Numbered) → is m ≡ true → Standing ns s b p m → weigh w (change s.width m) + x ≡ weigh w m + y) where
-    pub weigh-edited : (s : Sequence) (b p : ℕ) (n : Numbered) → Standing ns s b p n → places is n ≡ 1
-        → weigh w (edited_in is change (change s.width) n) + x ≡ weigh w n + y
-    weigh-edited s b p n h one =
-        (edited-keeps (λ a m v. (places is m ≡ 0 → v ≡ m)
-        × ((s : Sequence) (b p : ℕ) → a ≡ s.width → Standing ns s b p m → places is m ≡ 1 → weigh w v + x ≡ weigh w m + y))
-        (grind (arith, one_of, not_here)) (grind (arith, places-some is never)) s.width n).1 s b p refl h one
+  module _ (ns : List Node) (w : ℕ → ℕ) (x y : ℕ) (never : is End ≡ false)
+      (here : (s : Sequence) (b p : ℕ) (m : Numbered) → is m ≡ true → Standing ns s b p m → weigh w (change s.width m) + x ≡ weigh w m + y)
+    where
+      pub weigh-edited : (s : Sequence) (b p : ℕ) (n : Numbered) → Standing ns s b p n → places is n ≡ 1
+          → weigh w (edited_in is change (change s.width) n) + x ≡ weigh w n + y
+      weigh-edited s b p n h one =
+          (edited-keeps (λ a m v. (places is m ≡ 0 → v ≡ m)
+          × ((s : Sequence) (b p : ℕ) → a ≡ s.width → Standing ns s b p m → places is m ≡ 1 → weigh w v + x ≡ weigh w m + y))
+          (grind (arith, one_of, not_here)) (grind (arith, places-some is never)) s.width n).1 s b p refl h one
 
 -- Of the tree n one place changes: there the nodes ms hold what becomes of the members from the place on, and the slots
 -- outside of a part with the place stay.

@@ -1,5 +1,6 @@
 -- The last leaf reaches to the far corner of a size, or a leaf that does is appended.
-use Rattle.std.proofs.Common.{ℕ, ◌+◌, ◌<◌, ◌≤◌, ◌≡◌, ◌≢◌, ◌∙◌, true, false, cond, List, refl, sym, ap, arith, length, set, get_or-set_same, get_or-set_other, length-set}
+use Rattle.std.proofs.Common.{ℕ, ◌+◌, ◌<◌, ◌≤◌, ◌≡◌, ◌≢◌, ◌∙◌, true, false, cond, List, refl, sym, ap, arith, length, set, get_or-set_same}
+use Rattle.std.proofs.Common.{get_or-set_other, length-set}
 use Rattle.std.proofs.lemmas.Bool.{cases_eq, cond_both}
 use Rattle.std.proofs.lemmas.List.{get_or_past, length-map}
 use Rattle.atlas_store.specs.declared.slots.Slot.{Slot}
@@ -13,12 +14,13 @@ use Rattle.atlas_model.specs.Boxes.{Sides, other}
 use Rattle.atlas_model.specs.Pixels.{sides_of, size_of, rectangle_of}
 use Rattle.atlas_model.specs.Trees.{total}
 use Rattle.atlas_store.specs.Slots.SlotCalls.{CanAppendTo}
-use Rattle.atlas_store.specs.Slots.{nodes, node_at, use_count, axis_of, KeepsUse}
+use Rattle.atlas_store.specs.Slots.{nodes, node_at, use_count, axis_of, KeepsUse, node_of}
 use Rattle.atlas_search.specs.Numbers.{no_slot, same}
 use Rattle.atlas_search.specs.Rectangles.{beyond_in}
 use Rattle.atlas_store.specs.Slots.Numbered.{Numbered, weigh, tally, erase, first_slot, edited_in, End, Free, Alloc, Seq}
 use Rattle.atlas_store.specs.Slots.Standing.{Sequence, Standing, Stands, IsLinkedIn, member_box}
-use Rattle.atlas_store.specs.Slots.Growing.{is_last, extended, with_free_after, lengthened_by, last_after, last_slot, stretched, appended, stretched_area, Reaches}
+use Rattle.atlas_store.specs.Slots.Growing.{is_last, extended, with_free_after, lengthened_by, last_after, last_slot, stretched, appended}
+use Rattle.atlas_store.specs.Slots.Growing.{stretched_area, Reaches}
 use Rattle.atlas_store.proofs.SlotLemmas.Frames.{IsWritten, Standing-same, same-self, same-ne, used-le, ne-from_count}
 use Rattle.atlas_store.proofs.SlotLemmas.ReadTrees.{HasMember, nonempty-tally}
 use Rattle.atlas_store.proofs.SlotLemmas.Edits.{edited-keeps}
@@ -197,7 +199,7 @@ used-within : (ns : List Node) (i : ℕ) → (node_at ns i).kind ≢ kind.Unused
 used-within ns i used = grind (arith, get_or_past)
 
 pub last-inside : (slots : List Slot) (i k : ℕ) → CanAppendTo (nodes slots) i k → i < length slots
-last-inside slots i k can = omega (arith, used-within (nodes slots) i can.used, length-map slots (λ (s : Slot). s.node))
+last-inside slots i k can = omega (arith, used-within (nodes slots) i can.used, length-map slots node_of)
 
 -- What the writes make.
 pub appended-by : (ns ms1 ms : List Node) (at fresh : Link) (size : Size) (leaf unused n1 n2 : Node)

@@ -28,11 +28,14 @@ followers-outermost zero ns s b q End h none l = refl
 followers-outermost zero ns s b q n h none l = absurd (omega arith)
 followers-outermost (suc bound) ns s b q End h none l = refl
 followers-outermost (suc bound) ns s b q (Free i e rest) h none l =
-    rw (ne_eqb i no_slot (ne-from_same no_slot i (omega arith)), h.0.next) (omega (arith, followers-outermost bound ns s i (q + e) rest h.2 (omega arith) (omega arith)))
+    rw (ne_eqb i no_slot (ne-from_same no_slot i (omega arith)), h.0.next)
+    (omega (arith, followers-outermost bound ns s i (q + e) rest h.2 (omega arith) (omega arith)))
 followers-outermost (suc bound) ns s b q (Alloc i g e rest) h none l =
-    rw (ne_eqb i no_slot (ne-from_same no_slot i (omega arith)), h.0.next) (omega (arith, followers-outermost bound ns s i (q + e) rest h.3 (omega arith) (omega arith)))
+    rw (ne_eqb i no_slot (ne-from_same no_slot i (omega arith)), h.0.next)
+    (omega (arith, followers-outermost bound ns s i (q + e) rest h.3 (omega arith) (omega arith)))
 followers-outermost (suc bound) ns s b q (Seq i e inner rest) h none l =
-    rw (ne_eqb i no_slot (ne-from_same no_slot i (omega arith)), h.0.next) (omega (arith, followers-outermost bound ns s i (q + e) rest h.3 (omega arith) (omega arith)))
+    rw (ne_eqb i no_slot (ne-from_same no_slot i (omega arith)), h.0.next)
+    (omega (arith, followers-outermost bound ns s i (q + e) rest h.3 (omega arith) (omega arith)))
 
 pub outermost-numbers : (n : Numbered) → outermost n ≤ numbers n
 outermost-numbers End = omega arith

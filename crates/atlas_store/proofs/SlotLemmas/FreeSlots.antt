@@ -1,5 +1,6 @@
 -- The free slots of slots that stand for a tree: their boxes are the tree's free boxes, and their rectangles are exact.
-use Rattle.std.proofs.Common.{ℕ, ◌+◌, ◌<◌, ◌≤◌, ◌≡◌, ◌⊎◌, inl, inr, List, ◌∷◌, ◌++◌, refl, sym, ap, ◌∙◌, arith, length, zero, suc, subst, false}
+use Rattle.std.proofs.Common.{ℕ, ◌+◌, ◌<◌, ◌≤◌, ◌≡◌, ◌⊎◌, inl, inr, List, ◌∷◌, ◌++◌, refl, sym, ap, ◌∙◌, arith, length, zero, suc, subst}
+use Rattle.std.proofs.Common.{false}
 use Rattle.std.specs.Prelude.{Contains, slice_index_or}
 use Rattle.std.proofs.lemmas.Bool.{cases_eq, cases_lt}
 use Rattle.std.proofs.lemmas.List.Elements.{Contains-append_left, Contains-append_right, Contains-append_cases}
@@ -40,7 +41,8 @@ free_from-seq : (s : Sequence) (p i e : ℕ) (inner rest : Numbered)
     → free_from s p (Seq i e inner rest) ≡ free_from (inside s i p e) s.start inner ++ free_from s (p + e) rest
 free_from-seq s p i e inner rest =
     free_among-seq s.axis (spot s.axis p s.start) s.width e (erase inner) (erase rest)
-    ∙ ap (λ o. free_among (other s.axis) o e (erase inner) ++ free_among s.axis (moved s.axis (spot s.axis p s.start) e) s.width (erase rest)) (sym (spot-other s.axis p s.start))
+    ∙ ap (λ o. free_among (other s.axis) o e (erase inner) ++ free_among s.axis (moved s.axis (spot s.axis p s.start) e) s.width
+    (erase rest)) (sym (spot-other s.axis p s.start))
     ∙ ap (λ bs. free_from (inside s i p e) s.start inner ++ bs) (free_from-rest s p e rest)
 
 box-exact : (n : Node) (b : Box) → n.area ≡ rectangle_of b → node_box n ≡ b
@@ -70,7 +72,8 @@ slot-of_box ns s before p (Free i e rest) h b c =
 slot-of_box ns s before p (Alloc i g e rest) h b c =
     slot-of_box ns s i (p + e) rest h.3 b (subst (λ bs. Contains bs b) (free_from-rest s p e rest) c)
 slot-of_box ns s before p (Seq i e inner rest) h b c =
-    let at : Contains (free_from (inside s i p e) s.start inner ++ free_from s (p + e) rest) b = subst (λ bs. Contains bs b) (free_from-seq s p i e inner rest) c in
+    let at : Contains (free_from (inside s i p e) s.start inner ++ free_from s (p + e) rest) b =
+    subst (λ bs. Contains bs b) (free_from-seq s p i e inner rest) c in
     elim (Contains-append_cases (free_from (inside s i p e) s.start inner) (free_from s (p + e) rest) b at) [
       | inl y ↦ slot-of_box ns (inside s i p e) no_slot s.start inner h.2 b y
       | inr y ↦ slot-of_box ns s i (p + e) rest h.3 b y
@@ -89,18 +92,24 @@ box-of_slot ns s before p End h i free l = absurd (omega arith)
 box-of_slot ns s before p (Free j e rest) h i free l =
     let b = node_box (node_at ns i) in
     subst (λ bs. Contains bs b) (sym (free_from-free s p j e rest)) (elim (cases_eq i j) [
-      | inl x ↦ subst (Contains (member_box s p e ∷ free_from s (p + e) rest)) (sym (ap (λ k. node_box (node_at ns k)) x ∙ box-exact (node_at ns j) (member_box s p e) h.1)) (at_head (member_box s p e) (free_from s (p + e) rest))
-      | inr ne ↦ in_rest (member_box s p e) b (free_from s (p + e) rest) (box-of_slot ns s j (p + e) rest h.2 i free (omega (arith, same-ne i j ne)))
+      | inl x ↦ subst (Contains (member_box s p e ∷ free_from s (p + e) rest))
+          (sym (ap (λ k. node_box (node_at ns k)) x ∙ box-exact (node_at ns j) (member_box s p e) h.1))
+          (at_head (member_box s p e) (free_from s (p + e) rest))
+      | inr ne ↦ in_rest (member_box s p e) b (free_from s (p + e) rest)
+          (box-of_slot ns s j (p + e) rest h.2 i free (omega (arith, same-ne i j ne)))
     ])
 box-of_slot ns s before p (Alloc j g e rest) h i free l =
     let ne : i ≡ j → ⊥ = (λ x. free≢ _ h.0.kind (ap (λ k. (node_at ns k).kind) (sym x) ∙ free)) in
-    subst (λ bs. Contains bs (node_box (node_at ns i))) (sym (free_from-rest s p e rest)) (box-of_slot ns s j (p + e) rest h.3 i free (omega (arith, same-ne i j ne)))
+    subst (λ bs. Contains bs (node_box (node_at ns i))) (sym (free_from-rest s p e rest))
+    (box-of_slot ns s j (p + e) rest h.3 i free (omega (arith, same-ne i j ne)))
 box-of_slot ns s before p (Seq j e inner rest) h i free l =
     let ne : i ≡ j → ⊥ = (λ q. sequence≢ _ h.0.kind (ap (λ k. (node_at ns k).kind) (sym q) ∙ free)) in
     let b = node_box (node_at ns i) in
     subst (λ bs. Contains bs b) (sym (free_from-seq s p j e inner rest)) (elim (cases_lt 0 (tally i inner)) [
-      | inl y ↦ Contains-append_left (free_from (inside s j p e) s.start inner) (free_from s (p + e) rest) b (box-of_slot ns (inside s j p e) no_slot s.start inner h.2 i free y)
-      | inr y ↦ Contains-append_right (free_from (inside s j p e) s.start inner) (free_from s (p + e) rest) b (box-of_slot ns s j (p + e) rest h.3 i free (omega (arith, same-ne i j ne)))
+      | inl y ↦ Contains-append_left (free_from (inside s j p e) s.start inner) (free_from s (p + e) rest) b
+          (box-of_slot ns (inside s j p e) no_slot s.start inner h.2 i free y)
+      | inr y ↦ Contains-append_right (free_from (inside s j p e) s.start inner) (free_from s (p + e) rest) b
+          (box-of_slot ns s j (p + e) rest h.3 i free (omega (arith, same-ne i j ne)))
     ])
 
 -- The free slots have the free boxes of the tree.

@@ -1,5 +1,6 @@
 -- What the writes of `join_next` make.
-use Rattle.std.proofs.Common.{ℕ, ◌<◌, ◌≤◌, ◌≡◌, List, refl, sym, ap, ◌∙◌, inl, inr, arith, length, set, get_or-set_same, get_or-set_other, length-set}
+use Rattle.std.proofs.Common.{ℕ, ◌<◌, ◌≤◌, ◌≡◌, List, refl, sym, ap, ◌∙◌, inl, inr, arith, length, set, get_or-set_same, get_or-set_other}
+use Rattle.std.proofs.Common.{length-set}
 use Rattle.std.proofs.lemmas.List.{get_or_past}
 use Rattle.atlas_store.specs.declared.slots.Node.{Node}
 use Rattle.atlas_search.specs.declared.link.Link.{Link}
@@ -57,8 +58,13 @@ can-join ns i j a short t fi nj fj na =
     let here_j : 0 < tally j n = rw (h.numbered j, fj) (omega arith) in
     let f = suffix-at ns i s no_slot 0 n h.standing here in
     record {
-      apart = apart_first ns i j a f.at f.before f.start f.members u fi nj fj na f.begins (λ k. omega (arith, f.within k, once k)) f.standing;
-      after = elim (next-in ns j s no_slot 0 n h.standing here_j) [ inl z ↦ inl (sym na ∙ z) | inr y ↦ inr (used-inside ns a (rw (← h.numbered a, ← na) y)) ];
+      apart = apart_first ns i j a f.at f.before f.start f.members u fi nj fj na f.begins (λ k. omega (arith, f.within k, once k))
+          f.standing;
+      after = elim (next-in ns j s no_slot 0 n h.standing here_j) [
+        | inl z ↦ inl (sym na ∙ z)
+        | inr y ↦ inr
+            (used-inside ns a (rw (← h.numbered a, ← na) y))
+      ];
     }
 
 pub joined-by : (ns ms : List Node) (i j a : ℕ) (n1 n2 : Node) → length ns < no_slot → CanJoin ns i j a

@@ -94,7 +94,8 @@ module _ (ns ms : List Node) (i j a : ℕ) (w : IsJoinOf ns ms i j a) where
   pub tallies-joined : (s : Sequence) (n : Numbered) → Stands ns s n → (x : ℕ)
       → tally x (joined i n) + same x j ≡ tally x n
   tallies-joined s n h x =
-      let all = weigh-edited (is_free_at i) joining ns (same x) (same x j) 0 refl (λ s b p. free_here i _ (grind (arith, next_free s b p))) s no_slot 0 n h.standing (free_place ns i s n w.free h) in omega (arith, all)
+      let all = weigh-edited (is_free_at i) joining ns (same x) (same x j) 0 refl (λ s b p. free_here i _ (grind (arith, next_free s b p)))
+      s no_slot 0 n h.standing (free_place ns i s n w.free h) in omega (arith, all)
 
   used_after : (x : ℕ) → use_count (node_at ms x).kind + same x j ≡ use_count (node_at ns x).kind
   used_after x = grind (arith, same-self, same-ne)
@@ -104,7 +105,8 @@ module _ (ns ms : List Node) (i j a : ℕ) (w : IsJoinOf ns ms i j a) where
       let once : (k : ℕ) → tally k n ≤ 1 = λ k. omega (arith, h.numbered k, used-le (node_at ns k).kind) in
       let none : tally no_slot n ≡ 0 = h.numbered no_slot ∙ ap use_count w.ends in
       record {
-        standing = Standing-edited ns ms (is_free_at i) joining n (taken_in n once none) s no_slot 0 n (λ x. omega arith) (free_place ns i s n w.free h) h.standing;
+        standing = Standing-edited ns ms (is_free_at i) joining n (taken_in n once none) s no_slot 0 n (λ x. omega arith)
+            (free_place ns i s n w.free h) h.standing;
         numbered = λ x. omega (arith, tallies-joined s n h x, used_after x, h.numbered x);
       }
 

@@ -70,7 +70,16 @@ live-Standing p ns s b q (Seq j e inner rest) h =
     let in_it = ap (λ o. count_by p (live_among (other s.axis) o e (erase inner))) (spot-other s.axis q s.start) in
     let on = ap (λ o. count_by p (live_among s.axis o s.width (erase rest))) (moved-spot s.axis q s.start e) in
     let both = ap (count_by p) (live_among-seq s.axis (spot s.axis q s.start) s.width e (erase inner) (erase rest)) in
-    omega (arith, none, both, count_by-append p, in_it, on, live-Standing p ns (inside s j q e) no_slot s.start inner h.2, live-Standing p ns s j (q + e) rest h.3)
+    omega (
+      arith,
+      none,
+      both,
+      count_by-append p,
+      in_it,
+      on,
+      live-Standing p ns (inside s j q e) no_slot s.start inner h.2,
+      live-Standing p ns s j (q + e) rest h.3,
+    )
 
 -- What is free among standing members.
 pub free-Standing : (p : Box → Bool) (ns : List Node) (s : Sequence) (b q : ℕ) (n : Numbered) → Standing ns s b q n
@@ -89,7 +98,16 @@ free-Standing p ns s b q (Seq j e inner rest) h =
     let in_it = ap (λ o. count_by p (free_among (other s.axis) o e (erase inner))) (spot-other s.axis q s.start) in
     let on = ap (λ o. count_by p (free_among s.axis o s.width (erase rest))) (moved-spot s.axis q s.start e) in
     let both = ap (count_by p) (free_among-seq s.axis (spot s.axis q s.start) s.width e (erase inner) (erase rest)) in
-    omega (arith, none, both, count_by-append p, in_it, on, free-Standing p ns (inside s j q e) no_slot s.start inner h.2, free-Standing p ns s j (q + e) rest h.3)
+    omega (
+      arith,
+      none,
+      both,
+      count_by-append p,
+      in_it,
+      on,
+      free-Standing p ns (inside s j q e) no_slot s.start inner h.2,
+      free-Standing p ns s j (q + e) rest h.3,
+    )
 
 -- The live grants are those of the allocated slots.
 pub live-Stands : (p : Grant → Bool) (ns : List Node) (s : Sequence) (n : Numbered) → Stands ns s n

@@ -20,7 +20,14 @@ parent-kind ns k s b p End h l = absurd (omega arith)
 parent-kind ns k s b p (Free j e rest) h l = grind (arith, parent-kind ns k s j (p + e) rest h.2, same-ne)
 parent-kind ns k s b p (Alloc j g e rest) h l = grind (arith, parent-kind ns k s j (p + e) rest h.3, same-ne)
 parent-kind ns k s b p (Seq j e inner rest) h l =
-    search (rules, split_pos, same-ne, parent-kind ns k (inside s j p e) no_slot s.start inner h.2, same-self, parent-kind ns k s j (p + e) rest h.3)
+    search (
+      rules,
+      split_pos,
+      same-ne,
+      parent-kind ns k (inside s j p e) no_slot s.start inner h.2,
+      same-self,
+      parent-kind ns k s j (p + e) rest h.3,
+    )
 
 pub container-kind : (ns : List Node) (k : ℕ) → (s : Sequence) (n : Numbered) → s.parent ≡ no_slot → Stands ns s n
     → (node_at ns k).kind ≡ kind.Free → ((node_at ns k).parent.number ≡ no_slot → ⊥)

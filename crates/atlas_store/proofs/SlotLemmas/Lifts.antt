@@ -22,12 +22,14 @@ parent-in ns k s b p End h l = absurd (omega arith)
 parent-in ns k s b p (Free j e rest) h l =
     elim (cases_eq k j) [
       | inl x ↦ inl (rw x h.0.parent)
-      | inr ne ↦ wider (node_at ns k).parent.number s.parent rest (Free j e rest) (omega arith) (parent-in ns k s j (p + e) rest h.2 (omega (arith, same-ne k j ne)))
+      | inr ne ↦ wider (node_at ns k).parent.number s.parent rest (Free j e rest) (omega arith)
+          (parent-in ns k s j (p + e) rest h.2 (omega (arith, same-ne k j ne)))
     ]
 parent-in ns k s b p (Alloc j g e rest) h l =
     elim (cases_eq k j) [
       | inl x ↦ inl (rw x h.0.parent)
-      | inr ne ↦ wider (node_at ns k).parent.number s.parent rest (Alloc j g e rest) (omega arith) (parent-in ns k s j (p + e) rest h.3 (omega (arith, same-ne k j ne)))
+      | inr ne ↦ wider (node_at ns k).parent.number s.parent rest (Alloc j g e rest) (omega arith)
+          (parent-in ns k s j (p + e) rest h.3 (omega (arith, same-ne k j ne)))
     ]
 parent-in ns k s b p (Seq j e inner rest) h l =
     elim (cases_eq k j) [
@@ -37,7 +39,8 @@ parent-in ns k s b p (Seq j e inner rest) h l =
           | inl x ↦ inr (omega (arith, same-self j, ap (λ v. same v j) x))
           | inr z ↦ inr (omega arith)
         ]
-        | inr y ↦ wider (node_at ns k).parent.number s.parent rest (Seq j e inner rest) (omega arith) (parent-in ns k s j (p + e) rest h.3 y)
+        | inr y ↦ wider (node_at ns k).parent.number s.parent rest (Seq j e inner rest) (omega arith)
+            (parent-in ns k s j (p + e) rest h.3 y)
       ]
     ]
 
@@ -180,15 +183,19 @@ module _ (ns ms : List Node) (c k : ℕ) (w : IsLiftOf ns ms c k) where
                     let same_at = beside j x (λ v. omega (arith, once v)) lc lk in
                     let within = f.2 t no_slot s.start (λ v. omega (arith, once v)) (omega arith) (λ q. nj (sym q)) lk h.2 in
                     let same_rest : u ≡ m = g.0 (omega (arith, once c, lc)) in
-                    let stays = stays_outside s j (p + e) m (omega (arith, once c, lc)) (omega (arith, once k, lk)) h.3 in
-                    ((rw (same_at, g.1) h.0, rw same_at h.1, within.0, rw same_rest stays), λ v. omega (arith, within.1 v, ap (tally v) same_rest))
+                    let stays = stays_outside s j (p + e) m (omega (arith, once c, lc)) (omega (arith, once k, lk)) h.3 in (
+                      (rw (same_at, g.1) h.0, rw same_at h.1, within.0, rw same_rest stays),
+                      λ v. omega (arith, within.1 v, ap (tally v) same_rest),
+                    )
                 | inr lk ↦
                     let lc = container_in s j (p + e) m np h.3 lk in
                     let same_at = beside j m (λ v. omega (arith, once v)) lc lk in
                     let after = g.2 s j (p + e) (λ v. omega (arith, once v)) (omega arith) np lk h.3 in
                     let same_inner : y ≡ x = f.0 (omega (arith, once c, lc)) in
-                    let stays = stays_outside t no_slot s.start x (omega (arith, once c, lc)) (omega (arith, once k, lk)) h.2 in
-                    ((rw (same_at, g.1) h.0, rw same_at h.1, rw same_inner stays, after.0), λ v. omega (arith, after.1 v, ap (tally v) same_inner))
+                    let stays = stays_outside t no_slot s.start x (omega (arith, once c, lc)) (omega (arith, once k, lk)) h.2 in (
+                      (rw (same_at, g.1) h.0, rw same_at h.1, rw same_inner stays, after.0),
+                      λ v. omega (arith, after.1 v, ap (tally v) same_inner),
+                    )
               ],
         );
       }) (λ a. seq_here c (λ m. IsLift a m (lifting a m)) (λ e inner rest. (

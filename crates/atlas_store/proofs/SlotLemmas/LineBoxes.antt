@@ -78,7 +78,8 @@ module _ (ns : List Node) (o : ℕ → Bool) (closed : o no_slot ≡ false) (hig
   line-beyond c low s p n h l x =
       let f = suffix-at ns low s no_slot p n h l in
       let y = beyond-line c f.at f.before f.start f.members f.standing (rw f.begins x) in
-      let low_is : (node_at ns low).parent.number ≡ f.at.parent = rw f.begins at (parent-first f.at f.before f.start f.members f.standing (rw f.begins f.here)) in
+      let low_is : (node_at ns low).parent.number ≡ f.at.parent = rw f.begins at
+      (parent-first f.at f.before f.start f.members f.standing (rw f.begins f.here)) in
       let a : (node_at ns low).area ≡ rectangle_of (member_box f.at f.start y.extent) = rw f.begins at y.begins in
       (rw a y.beyond.along, y.beyond.parent ∙ sym low_is)
     where
@@ -153,12 +154,14 @@ module _ (ns : List Node) (k : ℕ) where
   between-direct s b p (Free i d rest) h z e l =
       elim (cases_eq k i) [
         | inl q ↦ between-here s p d i _ q h.1 (omega arith)
-        | inr ne ↦ between-later s p d _ _ (between-direct s i (p + d) rest h.2 (omega arith) e (omega (arith, same-ne k i ne))) (omega arith)
+        | inr ne ↦ between-later s p d _ _ (between-direct s i (p + d) rest h.2 (omega arith) e (omega (arith, same-ne k i ne)))
+            (omega arith)
       ]
   between-direct s b p (Alloc i g d rest) h z e l =
       elim (cases_eq k i) [
         | inl q ↦ between-here s p d i _ q h.1 (omega arith)
-        | inr ne ↦ between-later s p d _ _ (between-direct s i (p + d) rest h.3 (omega arith) e (omega (arith, same-ne k i ne))) (omega arith)
+        | inr ne ↦ between-later s p d _ _ (between-direct s i (p + d) rest h.3 (omega arith) e (omega (arith, same-ne k i ne)))
+            (omega arith)
       ]
   between-direct s b p (Seq i d inner rest) h z e l =
       elim (cases_eq k i) [
@@ -199,7 +202,8 @@ module _ (ns : List Node) (k : ℕ) where
             let sides = inside-sides s i p d x.start x.extent x.after (omega (arith, x.before, cut.1)) in
             rw (q, x.box, h.1) sides
         | inl (a, inr x) ↦
-            let other : (node_at ns k).parent.number ≡ i → ⊥ = λ q. absurd (omega (arith, once i, same-self i, ap (λ m. tally m inner) q)) in
+            let other : (node_at ns k).parent.number ≡ i → ⊥ = λ q. absurd (omega (arith, once i, same-self i, ap (λ m. tally m inner) q))
+            in
             inside-parent (inside s i p d) no_slot s.start inner h.2 a other (λ y. omega (arith, once y)) cut.2
         | inr (a, x) ↦ inside-parent s i (p + d) rest h.3 a ne (λ y. omega (arith, once y)) cut.3
       ]
@@ -221,24 +225,35 @@ module _ (ns : List Node) (o : ℕ → Bool) (c : ℕ) (low k l : ℕ) (line : O
   open-each s b p (Free i d rest) h ne once none x y =
       let a : low ≡ i → ⊥ = λ q. ne (sym parent ∙ rw q h.0.parent) in
       let b : k ≡ i → ⊥ = λ q. ne (sym is ∙ rw q h.0.parent) in
-      open-each s i (p + d) rest h.2 ne (λ v. omega (arith, once v)) (omega arith) (omega (arith, same-ne low i a)) (omega (arith, same-ne k i b))
+      open-each s i (p + d) rest h.2 ne (λ v. omega (arith, once v)) (omega arith) (omega (arith, same-ne low i a))
+      (omega (arith, same-ne k i b))
   open-each s b p (Alloc i g d rest) h ne once none x y =
       let a : low ≡ i → ⊥ = λ q. ne (sym parent ∙ rw q h.0.parent) in
       let b : k ≡ i → ⊥ = λ q. ne (sym is ∙ rw q h.0.parent) in
-      open-each s i (p + d) rest h.3 ne (λ v. omega (arith, once v)) (omega arith) (omega (arith, same-ne low i a)) (omega (arith, same-ne k i b))
+      open-each s i (p + d) rest h.3 ne (λ v. omega (arith, once v)) (omega arith) (omega (arith, same-ne low i a))
+      (omega (arith, same-ne k i b))
   open-each s b p (Seq i d inner rest) h ne once none x y =
       let u = rw parent at (below-cases ns low s b p i d inner rest h x (λ q. ne (sym parent ∙ q))) in
       let v = rw is at (below-cases ns k s b p i d inner rest h y (λ q. ne (sym is ∙ q))) in
       elim u [
         | inl (a, m) ↦ elim v [
           | inl (b, _) ↦ elim (cases_eq c i) [
-            | inl q ↦ open-here (inside s i p d) s.start inner h.2 (sym q) (omega arith) (omega (arith, once c, ap (λ w. same c w) q, same-self c)) a b
+            | inl q ↦ open-here (inside s i p d) s.start inner h.2 (sym q) (omega arith)
+                (omega (arith, once c, ap (λ w. same c w) q, same-self c)) a b
             | inr other ↦ open-each (inside s i p d) no_slot s.start inner h.2 other (λ w. omega (arith, once w)) (omega arith) a b
           ]
-          | inr (b, z) ↦ absurd (elim m [ inl q ↦ omega (arith, once c, ap (λ w. same c w) q, same-self c, z) | inr w ↦ omega (arith, once c, z, w) ])
+          | inr (b, z) ↦ absurd (elim m [
+            | inl q ↦ omega (arith, once c, ap (λ w. same c w) q, same-self c, z)
+            | inr w ↦ omega
+                (arith, once c, z, w)
+          ])
         ]
         | inr (a, z) ↦ elim v [
-          | inl (b, m) ↦ absurd (elim m [ inl q ↦ omega (arith, once c, ap (λ w. same c w) q, same-self c, z) | inr w ↦ omega (arith, once c, z, w) ])
+          | inl (b, m) ↦ absurd (elim m [
+            | inl q ↦ omega (arith, once c, ap (λ w. same c w) q, same-self c, z)
+            | inr w ↦ omega
+                (arith, once c, z, w)
+          ])
           | inr (b, _) ↦ open-each s i (p + d) rest h.3 ne (λ w. omega (arith, once w)) (omega arith) a b
         ]
       ]

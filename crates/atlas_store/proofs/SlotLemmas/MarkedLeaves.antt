@@ -9,7 +9,8 @@ use Rattle.atlas_store.specs.Slots.Numbered.{Numbered, weigh, tally, numbers, fi
 use Rattle.atlas_store.specs.Slots.Standing.{Sequence, Stands}
 use Rattle.atlas_store.proofs.SlotLemmas.Frames.{IsWritten, Standing-same, same-self, used-le, ne-from_count}
 use Rattle.atlas_store.proofs.SlotLemmas.Weights.{places-le, alloc_place}
-use Rattle.atlas_store.proofs.SlotLemmas.Edits.{IsEdit, Standing-edited, marking, alloc_here, first-edited, edited-absent, weigh-same, other-slot}
+use Rattle.atlas_store.proofs.SlotLemmas.Edits.{IsEdit, Standing-edited, marking, alloc_here, first-edited, edited-absent, weigh-same}
+use Rattle.atlas_store.proofs.SlotLemmas.Edits.{other-slot}
 
 pub first-marked : (i : ℕ) (n : Numbered) → first_slot (marked i n) ≡ first_slot n
 first-marked i = first-edited (is_alloc_at i) marking (grind arith) 0
@@ -21,9 +22,11 @@ pub numbers-marked : (i : ℕ) (n : Numbered) → numbers (marked i n) ≡ numbe
 numbers-marked i n = weigh-marked (λ _. 1) i n
 
 pub marked-absent : (i : ℕ) (n : Numbered) → tally i n ≡ 0 → marked i n ≡ n
-marked-absent i n z = edited-absent (is_alloc_at i) marking refl 0 n (omega (arith, places-le (is_alloc_at i) i (alloc_here i (λ m. first_slot m ≡ i) (λ g e rest. refl)) n))
+marked-absent i n z = edited-absent (is_alloc_at i) marking refl 0 n (omega
+    (arith, places-le (is_alloc_at i) i (alloc_here i (λ m. first_slot m ≡ i) (λ g e rest. refl)) n))
 
-module _ (ns ms : List Node) (i : ℕ) (w : IsWritten ns ms i (record (node_at ns i) { kind = kind.Free })) (was : (node_at ns i).kind ≡ kind.Alloc) where
+module _ (ns ms : List Node) (i : ℕ) (w : IsWritten ns ms i (record (node_at ns i) { kind = kind.Free }))
+    (was : (node_at ns i).kind ≡ kind.Alloc) where
   freed : (n : Numbered) → ((x : ℕ) → tally x n ≤ 1) → IsEdit ns ms (is_alloc_at i) marking n
   freed n once = grind (arith, alloc_here i, marking, Standing-same ns ms, ne-from_count i, same-self i, other-slot, places-le)
 
@@ -34,6 +37,7 @@ module _ (ns ms : List Node) (i : ℕ) (w : IsWritten ns ms i (record (node_at n
   Stands-marked s n h =
       let once : (x : ℕ) → tally x n ≤ 1 = λ k. omega (arith, h.numbered k, used-le (node_at ns k).kind) in
       record {
-        standing = Standing-edited ns ms (is_alloc_at i) marking n (freed n once) s no_slot 0 n (λ x. omega arith) (alloc_place ns i s n was h) h.standing;
+        standing = Standing-edited ns ms (is_alloc_at i) marking n (freed n once) s no_slot 0 n (λ x. omega arith)
+            (alloc_place ns i s n was h) h.standing;
         numbered = λ k. weigh-marked (same k) i n ∙ h.numbered k ∙ used_same k;
       }

@@ -12,14 +12,15 @@ use Rattle.atlas_model.specs.Boxes.{other}
 use Rattle.atlas_model.specs.Pixels.{sides_of, size_of}
 use Rattle.atlas_search.specs.Rectangles.{beyond_in, flipped}
 use Rattle.atlas_model.specs.Trees.{total}
-use Rattle.atlas_store.specs.Slots.{nodes, node_at, use_count, axis_of, KeepsUse}
+use Rattle.atlas_store.specs.Slots.{nodes, node_at, use_count, axis_of, KeepsUse, node_of}
 use Rattle.atlas_search.specs.Numbers.{no_slot, same}
 use Rattle.atlas_store.specs.Slots.Numbered.{Numbered, erase, tally, first_slot, End, Free, Alloc, Seq}
 use Rattle.atlas_store.specs.Slots.Standing.{Sequence, Standing, Stands, IsLinkedIn, inside}
 use Rattle.atlas_store.specs.Slots.Growing.{Reaches, IsWider, held_by, nested, top_along}
 use Rattle.atlas_store.specs.Slots.SlotCalls.{BeginsAt, CanNestTop}
 use Rattle.atlas_store.proofs.WalkLemmas.StoredAtlas.{nonempty-total}
-use Rattle.atlas_store.proofs.SlotLemmas.Frames.{Standing-same, IsWritten, IsWritten-by, same-self, same-ne, keeps-same, used-le, ne-from_same, ne-from_count}
+use Rattle.atlas_store.proofs.SlotLemmas.Frames.{Standing-same, IsWritten, IsWritten-by, same-self, same-ne, keeps-same, used-le}
+use Rattle.atlas_store.proofs.SlotLemmas.Frames.{ne-from_same, ne-from_count}
 use Rattle.atlas_store.proofs.SlotLemmas.JoinWrites.{none-unused}
 use Rattle.atlas_model.proofs.TreeLemmas.TreeBasics.{other_twice}
 use Rattle.atlas_store.proofs.SlotLemmas.PlannedLeaves.{axis_of-flipped}
@@ -59,7 +60,7 @@ pub hanging-slot : (slots : List Slot) (c at : ℕ) (s : Sequence) (n : Numbered
     → IsHanging (nodes slots) c at s n → at < length slots
 hanging-slot slots c at s n ne g =
     let inside = hanging-inside (nodes slots) c at s n ne g in
-    omega (arith, length-map slots (λ (s : Slot). s.node))
+    omega (arith, length-map slots node_of)
 
 hanging-followers : (ns : List Node) (c at : ℕ) (s : Sequence) (n : Numbered) → (g : IsHanging ns c at s n)
     → followers (length ns) ns at ≡ outermost g.rest
@@ -139,13 +140,16 @@ module _ (ns ms : List Node) (at : ℕ) (c : Link) (w : IsHung ns ms at c) where
       from b p (Alloc i a d rest) h e once none few f =
           goes_on s i (p + d) (Alloc i a d rest) rest n e (λ k. omega arith) once none few (omega arith) h.0.next h.3 (λ xs keeps t.
           let x = hung_at xs i e (keeps i (omega (arith, once i, same-self i))) in
-          f xs (before_stays xs i (Alloc i a d rest) rest e (λ k. omega arith) keeps) (placed_hung xs s b _ i _ x h.0, rw x h.1, rw x h.2, t))
+          f xs (before_stays xs i (Alloc i a d rest) rest e (λ k. omega arith) keeps)
+          (placed_hung xs s b _ i _ x h.0, rw x h.1, rw x h.2, t))
       from b p (Seq i d inner rest) h e once none few f =
           goes_on s i (p + d) (Seq i d inner rest) rest n e (λ k. omega arith) once none few (omega arith) h.0.next h.3 (λ xs keeps t.
           let x = hung_at xs i e (keeps i (omega (arith, once i, same-self i))) in
           let z : tally i inner ≡ 0 = omega (arith, once i, same-self i) in
-          let within : (k : ℕ) → 0 < tally k inner → node_at xs k ≡ node_at ns k = (λ k l. keeps k (omega (arith, once k)) ∙ stays i inner e z k l) in
-          f xs (before_stays xs i (Seq i d inner rest) rest e (λ k. omega arith) keeps) (placed_hung xs s b _ i _ x h.0, rw x h.1, Standing-same ns xs (inside s i p d) no_slot s.start inner within h.2, t))
+          let within : (k : ℕ) → 0 < tally k inner → node_at xs k ≡ node_at ns k =
+          (λ k l. keeps k (omega (arith, once k)) ∙ stays i inner e z k l) in
+          f xs (before_stays xs i (Seq i d inner rest) rest e (λ k. omega arith) keeps)
+          (placed_hung xs s b _ i _ x h.0, rw x h.1, Standing-same ns xs (inside s i p d) no_slot s.start inner within h.2, t))
 
   -- Fewer members follow.
   pub hanging-falls : (s : Sequence) (n : Numbered) → (at ≡ no_slot → ⊥) → IsHanging ns c.number at s n

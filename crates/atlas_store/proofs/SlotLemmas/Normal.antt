@@ -6,7 +6,8 @@ use Rattle.atlas_store.specs.Slots.{node_at}
 use Rattle.atlas_search.specs.Numbers.{no_slot, same}
 use Rattle.atlas_model.specs.Trees as tree
 use Rattle.atlas_model.specs.Changes.{nf, mark, only}
-use Rattle.atlas_store.specs.Slots.Numbered.{Numbered, tally, is_free_at, is_seq_at, marked, joined, lifted, erase, id_of, numbers, End, Free, Alloc, Seq}
+use Rattle.atlas_store.specs.Slots.Numbered.{Numbered, tally, is_free_at, is_seq_at, marked, joined, lifted, erase, id_of, numbers, End}
+use Rattle.atlas_store.specs.Slots.Numbered.{Free, Alloc, Seq}
 use Rattle.atlas_store.specs.Slots.Standing.{Sequence, Standing, inside}
 use Rattle.atlas_store.proofs.SlotLemmas.Frames.{same-self}
 use Rattle.atlas_store.proofs.SlotLemmas.MarkedLeaves.{marked-absent}
@@ -32,16 +33,22 @@ erase-marked ns i s b p (Free j e rest) li below once h = grind (arith, erase-ma
 erase-marked ns i s b p (Alloc j g e rest) li below once h =
     let id = id_of i (node_at ns i).generation in
     let x = id_of j g in
-    let m : erase (marked i rest) ≡ mark (only id) (erase rest) = erase-marked ns i s j (p + e) rest li (λ k l. below k (omega arith)) (λ k. omega (arith, once k)) h.3 in
+    let m : erase (marked i rest) ≡ mark (only id) (erase rest) = erase-marked ns i s j (p + e) rest li (λ k l. below k (omega arith))
+    (λ k. omega (arith, once k)) h.3 in
     let lj : j < 16777216 = below j (omega (arith, same-self j)) in
     elim (cases_eq i j) [
       | inl q ↦
           let at_i : (node_at ns i).generation ≡ g = rw q h.2 in
           let same_id : x ≡ id = omega arith in
-          ap erase (cond-true (eqb i j) (Free j e rest) (Alloc j g e (marked i rest)) (eq-eqb i j q)) ∙ ap (tree.Free e) (sym (ap erase (marked-absent i rest (omega (arith, once i, same-self i, ap (same i) q)))) ∙ m) ∙ sym (cond-true (eqb x id) (tree.Free e (mark (only id) (erase rest))) (tree.Alloc x e (mark (only id) (erase rest))) (eq-eqb x id same_id))
+          ap erase (cond-true (eqb i j) (Free j e rest) (Alloc j g e (marked i rest)) (eq-eqb i j q)) ∙
+          ap (tree.Free e) (sym (ap erase (marked-absent i rest (omega (arith, once i, same-self i, ap (same i) q)))) ∙ m) ∙
+          sym (cond-true (eqb x id) (tree.Free e (mark (only id) (erase rest))) (tree.Alloc x e (mark (only id) (erase rest)))
+          (eq-eqb x id same_id))
       | inr ne ↦
           let other_id : x ≡ id → ⊥ = (λ q. ne (omega arith)) in
-          ap erase (cond-false (eqb i j) (Free j e rest) (Alloc j g e (marked i rest)) (ne_eqb i j ne)) ∙ ap (tree.Alloc x e) m ∙ sym (cond-false (eqb x id) (tree.Free e (mark (only id) (erase rest))) (tree.Alloc x e (mark (only id) (erase rest))) (ne_eqb x id other_id))
+          ap erase (cond-false (eqb i j) (Free j e rest) (Alloc j g e (marked i rest)) (ne_eqb i j ne)) ∙ ap (tree.Alloc x e) m ∙
+          sym (cond-false (eqb x id) (tree.Free e (mark (only id) (erase rest))) (tree.Alloc x e (mark (only id) (erase rest)))
+          (ne_eqb x id other_id))
     ]
 erase-marked ns i s b p (Seq j e inner rest) li below once h =
     grind (arith, erase-marked ns i (inside s j p e) no_slot s.start inner li, erase-marked ns i s j (p + e) rest li)

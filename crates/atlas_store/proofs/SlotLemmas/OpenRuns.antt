@@ -280,7 +280,8 @@ runs-free o set box s p (Seq i e inner rest) f =
           let is = seq-kept o set i e inner rest f t in
           let inmost = (λ (q : ℕ). (runs-free o set box (inside s i q e) s.start inner f.1).0) in
           let deep = (λ (q : ℕ) (x : IsRunIn o box false (inside s i q e) s.start inner). within s q e box i m k (inmost q x)) in
-          let past = (λ (q : ℕ) (x : IsRunIn o box (o i) s (q + e) rest). after_seq s q e box m k ((more (q + e)).0 (turn false t (q + e) x))) in (
+          let past = (λ (q : ℕ) (x : IsRunIn o box (o i) s (q + e) rest). after_seq s q e box m k
+          ((more (q + e)).0 (turn false t (q + e) x))) in (
             (λ h. carried s p box _ (tree.Seq e m k) is (elim h [
               | inl x ↦ absurd (true≢false (sym x.1 ∙ t))
               | inr (inl x) ↦ deep p x.1

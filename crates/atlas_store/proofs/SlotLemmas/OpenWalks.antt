@@ -112,7 +112,8 @@ module _ (ns : List Node) (short : length ns ≤ 16777216) (tree : IsTree ns) (i
       let z : AreLeaders ns no_slot 0 = record { all = λ bound _. none-leads ns bound } in
       let x = leaders-in ns i tree.0 no_slot 0 0 tree.1 tree.2.standing no_tally z here in
       let few : x.count ≤ length ns = omega (arith, x.few, numbers-few ns tree.0 tree.1 tree.2) in
-      let y : leaders (suc (length ns)) ns i ≡ 1 + leaders (length ns) ns (node_at ns i).previous.number = rw (ne_eqb i no_slot some) refl in
+      let y : leaders (suc (length ns)) ns i ≡ 1 + leaders (length ns) ns (node_at ns i).previous.number =
+      rw (ne_eqb i no_slot some) refl in
       omega (arith, y, x.leads.all (length ns) few, x.leads.all (suc (length ns)) (omega arith))
 
   pub next-falls : followers (length ns) ns (node_at ns i).next.number < followers (length ns) ns i
@@ -123,7 +124,8 @@ module _ (ns : List Node) (short : length ns ≤ 16777216) (tree : IsTree ns) (i
       let inside = λ (k : ℕ) (l : 0 < tally k f.members). used-inside ns k (use_of k (omega (arith, f.within k, l))) in
       let all = tallies-numbers (length ns) f.members inside in
       let few : outermost f.members ≤ length ns = omega (arith, outermost-numbers f.members, most, all) in
-      let y : followers (suc (length ns)) ns i ≡ 1 + followers (length ns) ns (node_at ns i).next.number = rw (ne_eqb i no_slot some) refl in
+      let y : followers (suc (length ns)) ns i ≡ 1 + followers (length ns) ns (node_at ns i).next.number =
+      rw (ne_eqb i no_slot some) refl in
       let l = (λ (bound : ℕ) (l : outermost f.members ≤ bound).
       subst (λ k. followers bound ns k ≡ outermost f.members) f.begins
       (followers-outermost bound ns f.at f.before f.start f.members f.standing no_tally l)) in

@@ -1,5 +1,6 @@
 -- What the writes of `place_leaf` make.
-use Rattle.std.proofs.Common.{ℕ, ◌+◌, ◌<◌, ◌≤◌, ◌≡◌, ◌≢◌, List, refl, sym, ap, ◌∙◌, inl, inr, arith, length, subst, get_or-set_same, get_or-set_other, length-set}
+use Rattle.std.proofs.Common.{ℕ, ◌+◌, ◌<◌, ◌≤◌, ◌≡◌, ◌≢◌, List, refl, sym, ap, ◌∙◌, inl, inr, arith, length, subst, get_or-set_same}
+use Rattle.std.proofs.Common.{get_or-set_other, length-set}
 use Rattle.std.proofs.lemmas.List.{get_or_past, length-map}
 use Rattle.atlas_store.specs.declared.slots.Node.{Node}
 use Rattle.atlas_search.specs.declared.link.Link.{Link}
@@ -9,7 +10,7 @@ use Rattle.atlas_store.specs.declared.slots.NodeKind.TheVariants as kind
 use Rattle.atlas_store.specs.declared.slots.placing.Parts.{Parts}
 use Rattle.atlas_store.specs.declared.slots.placing.Plan.{Plan}
 use Rattle.atlas_store.specs.declared.slots.placing.Plan.TheVariants as plan
-use Rattle.atlas_store.specs.Slots.{nodes, node_at, blank_node}
+use Rattle.atlas_store.specs.Slots.{nodes, node_at, blank_node, node_of}
 use Rattle.atlas_search.specs.Numbers.{no_slot, occurs, same}
 use Rattle.atlas_store.specs.Slots.Numbered.{Numbered, tally, first_slot, End, Seq}
 use Rattle.atlas_store.specs.Slots.Standing.{Sequence, Standing, IsTree, IsSlot, with_kind, with_previous}
@@ -44,7 +45,16 @@ is-after ns i short t fi =
     let h = t.2 in
     let here : 0 < tally i t.1 = rw (h.numbered i, fi) (omega arith) in
     let f = suffix-at ns i t.0 no_slot 0 t.1 h.standing here in
-    grind (arith, h.numbered, used-le, f.within, next-in ns i t.0 no_slot 0 t.1 h.standing here, used-inside, not-none ns i (none-unused ns short) fi, after_other ns i (node_at ns i).next.number f.at f.before f.start f.members)
+    grind (
+      arith,
+      h.numbered,
+      used-le,
+      f.within,
+      next-in ns i t.0 no_slot 0 t.1 h.standing here,
+      used-inside,
+      not-none ns i (none-unused ns short) fi,
+      after_other ns i (node_at ns i).next.number f.at f.before f.start f.members,
+    )
 
 -- What comes at a, if anything, follows `link`.
 pub record IsFollowing (ns ms : List Node) (a : ℕ) (link : Link) : Type 0 where
@@ -77,7 +87,7 @@ pub placed-inside : (slots : List Slot) (at : ℕ) (p q : Plan) (t : Parts) (k m
     → p ≡ q
     → 0 < occurs k (taken_by q t) → m ≡ length slots → k < m
 placed-inside slots at p q t k m c e l em =
-    omega (arith, (can-place (nodes slots) at p q t e c).inside k l, length-map slots (λ (s : Slot). s.node))
+    omega (arith, (can-place (nodes slots) at p q t e c).inside k l, length-map slots node_of)
 
 pub placed-once : (ns : List Node) (at : ℕ) (p q : Plan) (t : Parts) (k : ℕ) → CanPlace ns at p t → p ≡ q
     → occurs k (taken_by q t) ≤ 1
@@ -87,7 +97,7 @@ pub after-slot : (slots : List Slot) (at : ℕ) (p : Plan) (t : Parts) (leaf : N
     → IsTree (nodes slots)
     → CanPlace (nodes slots) at p t → leaf ≡ node_at (nodes slots) at → m ≡ length slots → IsSlot m leaf.next.number
 after-slot slots at p t leaf m short tree c el em =
-    let l : length (nodes slots) ≡ length slots = length-map slots (λ (s : Slot). s.node) in
+    let l : length (nodes slots) ≡ length slots = length-map slots node_of in
     let f = is-after (nodes slots) at (omega arith) tree c.free in
     rw el (elim f.is_slot [ inl z ↦ inl z | inr y ↦ inr (omega (arith, y)) ])
 
@@ -119,7 +129,12 @@ pub whole-by : (ns ms : List Node) (at : Link) (t : Parts) → length ns < no_sl
     → ms ≡ with_kind ns at.number kind.Alloc → IsCarriedOut ns ms at plan.Whole t
 whole-by ns ms at t short tree can e =
     let f = after ns at plan.Whole t short tree can in
-    grind (arith, f, kind-there ns ms at.number kind.Alloc (leaf_inside ns at plan.Whole t short tree can) e, kind-others ns ms at.number kind.Alloc e)
+    grind (
+      arith,
+      f,
+      kind-there ns ms at.number kind.Alloc (leaf_inside ns at plan.Whole t short tree can) e,
+      kind-others ns ms at.number kind.Alloc e,
+    )
 
 pub strip_along-by : (ns m1 ms : List Node) (at : Link) (t : Parts) (p : ℕ) → length ns < no_slot → IsTree ns
     → CanPlace ns at.number (plan.StripAlong p) t → length m1 ≡ length ns

@@ -177,7 +177,17 @@ module _ (ns ms : List Node) (at : Link) where
   at-leaf (plan.StripAlong p) t w can s b q e rest l r =
       grind (arith, extent-is, parts-in, regroup q e p, follows ns ms at (plan.StripAlong p) t w s (q + e) rest r)
   at-leaf (plan.CornerAlong p x) t w can s b q e rest l r =
-      grind (arith, extent-is, across-is, parts-in, inner-leaf, front-leaf, granted-in, regroup q e p, follows ns ms at (plan.CornerAlong p x) t w s (q + e) rest r)
+      grind (
+        arith,
+        extent-is,
+        across-is,
+        parts-in,
+        inner-leaf,
+        front-leaf,
+        granted-in,
+        regroup q e p,
+        follows ns ms at (plan.CornerAlong p x) t w s (q + e) rest r,
+      )
   at-leaf (plan.StripAcross x) t w can s b q e rest l r =
       grind (arith, across-is, inner-leaf, granted-in, stays ns ms at (plan.StripAcross x) t w s (q + e) rest r)
   at-leaf (plan.CornerAcross p x) t w can s b q e rest l r =
@@ -257,7 +267,15 @@ module _ (ns ms : List Node) (at : Link) where
       grind (arith, cases_eq x t.leftover.number, cases_eq x t.granted.number, same-ne x, marked_first, marked_second)
   placed-part (plan.StripAcross q) t w x = grind (arith, cases_eq x, same-ne x, marked_first)
   placed-part (plan.CornerAcross p q) t w x =
-      grind (arith, cases_eq x t.leftover.number, cases_eq x t.granted.number, cases_eq x t.container.number, same-ne x, marked_first, marked_second)
+      grind (
+        arith,
+        cases_eq x t.leftover.number,
+        cases_eq x t.granted.number,
+        cases_eq x t.container.number,
+        same-ne x,
+        marked_first,
+        marked_second,
+      )
 
   abbrev IsUsedAs : Node → Type 0
   IsUsedAs n = (use_count n.kind ≡ 1) × (is_free n.kind ≡ false) × (n.generation ≡ (node_at ns at.number).generation)
@@ -314,7 +332,14 @@ module _ (ns ms : List Node) (at : Link) (p : Plan) (t : Parts) (w : IsCarriedOu
   -- Each slot keeps its generation.
   pub placed-generation : (x : ℕ) → (node_at ms x).generation ≡ (node_at ns x).generation
   placed-generation x =
-      grind (arith, cases_eq x at.number, cases_lt 0 (occurs x (taken_by p t)), placed-leaf ns ms at p t w, placed-part ns ms at p t w x, placed-others x)
+      grind (
+        arith,
+        cases_eq x at.number,
+        cases_lt 0 (occurs x (taken_by p t)),
+        placed-leaf ns ms at p t w,
+        placed-part ns ms at p t w x,
+        placed-others x,
+      )
 
   rest-in : (n : Numbered) → ((x : ℕ) → tally x n ≤ 1) → tally no_slot n ≡ 0
       → ((x : ℕ) → 0 < occurs x (taken_by p t) → tally x n ≡ 0)
@@ -342,7 +367,14 @@ module _ (ns ms : List Node) (at : Link) (p : Plan) (t : Parts) (w : IsCarriedOu
         here = λ s b q. free_here at.number _ (λ e rest h less.
             at-leaf ns ms at p t w can s b q e rest (record { link = h.0; area = h.1 })
             (rest-in n once none new s b q e rest less h));
-        beside = λ s b q v h one. grind (arith, free-in at.number v one, next-in ns at.number s b q v h, other-slot, ne-from_count no_slot, untaken-member n new);
+        beside = λ s b q v h one. grind (
+          arith,
+          free-in at.number v one,
+          next-in ns at.number s b q v h,
+          other-slot,
+          ne-from_count no_slot,
+          untaken-member n new,
+        );
       }
     where
       untaken-member : (n : Numbered) → ((x : ℕ) → 0 < occurs x (taken_by p t) → tally x n ≡ 0) → (x : ℕ)

@@ -87,7 +87,8 @@ Starts-head ns s q n h only =
         | inl e ↦ subst (Starts ns p) (sym e) (ap (λ (x : Node). x.kind) (get_or_past ns p blank_node g))
         | inr l ↦
             let hd = first-head ns s q n h l in
-            let fails = fails_before_first (begins_in c) ns (first_slot n) blank_node (omega (arith, used-inside ns (first_slot n) hd.is_used)) in
+            let fails = fails_before_first (begins_in c) ns (first_slot n) blank_node
+            (omega (arith, used-inside ns (first_slot n) hd.is_used)) in
             absurd (true≢false (sym (true-IsHead c (node_at ns (first_slot n)) hd) ∙ fails))
       ]
     ]
@@ -109,30 +110,50 @@ read-is zero ns s b q n i u h f closed z once none st = absurd (omega arith)
 read-is (suc fuel) ns s b q End i u h f closed z once none st = rw st refl
 read-is (suc fuel) ns s b q (Free j e rest) i u h f closed z once none st =
     let next : Starts ns (node_at ns j).next.number rest = rw h.0.next (Starts-first ns rest u) in
-    let r : read fuel ns (node_at ns j).next.number ≡ rest = read-is fuel ns s j (q + e) rest _ u h.2 (omega arith) (closed_rest ns s j (Free j e rest) rest h.0.parent (omega arith) (λ k. refl) closed) (omega arith) (λ k. omega (arith, once k)) (omega arith) next in
+    let r : read fuel ns (node_at ns j).next.number ≡ rest = read-is fuel ns s j (q + e) rest _ u h.2 (omega arith)
+    (closed_rest ns s j (Free j e rest) rest h.0.parent (omega arith) (λ k. refl) closed) (omega arith) (λ k. omega (arith, once k))
+    (omega arith) next in
     let x : extent_of (node_at ns j) ≡ e = extent-of_placed ns j s q e h.0.axis h.1 in
     rw (st, h.0.kind) (ap (λ v. Free j v (read fuel ns (node_at ns j).next.number)) x ∙ ap (Free j e) r)
 read-is (suc fuel) ns s b q (Alloc j g e rest) i u h f closed z once none st =
     let next : Starts ns (node_at ns j).next.number rest = rw h.0.next (Starts-first ns rest u) in
-    let r : read fuel ns (node_at ns j).next.number ≡ rest = read-is fuel ns s j (q + e) rest _ u h.3 (omega arith) (closed_rest ns s j (Alloc j g e rest) rest h.0.parent (omega arith) (λ k. refl) closed) (omega arith) (λ k. omega (arith, once k)) (omega arith) next in
+    let r : read fuel ns (node_at ns j).next.number ≡ rest = read-is fuel ns s j (q + e) rest _ u h.3 (omega arith)
+    (closed_rest ns s j (Alloc j g e rest) rest h.0.parent (omega arith) (λ k. refl) closed) (omega arith) (λ k. omega (arith, once k))
+    (omega arith) next in
     let x : extent_of (node_at ns j) ≡ e = extent-of_placed ns j s q e h.0.axis h.1 in
-    rw (st, h.0.kind) (ap (λ w. Alloc j w (extent_of (node_at ns j)) (read fuel ns (node_at ns j).next.number)) h.2 ∙ ap (λ v. Alloc j g v (read fuel ns (node_at ns j).next.number)) x ∙ ap (Alloc j g e) r)
+    rw (st, h.0.kind) (ap (λ w. Alloc j w (extent_of (node_at ns j)) (read fuel ns (node_at ns j).next.number)) h.2 ∙
+    ap (λ v. Alloc j g v (read fuel ns (node_at ns j).next.number)) x ∙ ap (Alloc j g e) r)
 read-is (suc fuel) ns s b q (Seq j e inner rest) i u h f closed z once none st =
     let t = inside s j q e in
     let self = same-self j in
     let nj : same s.parent j ≡ 0 = omega arith in
     let zj : tally j inner + tally j rest ≡ 0 = omega (arith, once j) in
-    let at_j : (k : ℕ) → 0 < use_count (node_at ns k).kind → k ≡ j → 0 < tally (node_at ns k).parent.number inner + tally (node_at ns k).parent.number rest → ⊥ = (λ k uk x l. absurd (omega (arith, z, l, ap (λ v. tally (node_at ns v).parent.number inner) x, ap (λ v. tally (node_at ns v).parent.number rest) x, ap (λ v. tally v inner) h.0.parent, ap (λ v. tally v rest) h.0.parent))) in
-    let which : (k : ℕ) → 0 < use_count (node_at ns k).kind → 0 < tally (node_at ns k).parent.number inner + tally (node_at ns k).parent.number rest → (0 < tally k inner) ⊎ (0 < tally k rest) = (λ k uk l. elim (cases_eq k j) [
+    let at_j : (k : ℕ) → 0 < use_count (node_at ns k).kind → k ≡ j → 0 < tally (node_at ns k).parent.number inner + tally
+    (node_at ns k).parent.number rest → ⊥ = (λ k uk x l. absurd (omega (
+      arith,
+      z,
+      l,
+      ap (λ v. tally (node_at ns v).parent.number inner) x,
+      ap (λ v. tally (node_at ns v).parent.number rest) x,
+      ap (λ v. tally v inner) h.0.parent,
+      ap (λ v. tally v rest) h.0.parent,
+    ))) in
+    let which : (k : ℕ) → 0 < use_count (node_at ns k).kind → 0 < tally (node_at ns k).parent.number inner + tally
+    (node_at ns k).parent.number rest → (0 < tally k inner) ⊎ (0 < tally k rest) = (λ k uk l. elim (cases_eq k j) [
       | inl x ↦ absurd (at_j k uk x l)
       | inr ne ↦ let y = closed k uk (omega arith) in split_pos (tally k inner) (tally k rest) (omega (arith, same-ne k j ne))
     ]) in
     let closed_in : IsClosed ns inner = (λ k u l. elim (which k u (omega arith)) [
       | inl y ↦ y
-      | inr y ↦ absurd (elim (parent-in ns k s j (q + e) rest h.3 y) [ inl x ↦ omega (arith, z, l, ap (λ v. tally v inner) x) | inr v ↦ omega (arith, l, v, once (node_at ns k).parent.number) ])
+      | inr y ↦ absurd (elim (parent-in ns k s j (q + e) rest h.3 y) [
+        | inl x ↦ omega (arith, z, l, ap (λ v. tally v inner) x)
+        | inr v ↦
+            omega (arith, l, v, once (node_at ns k).parent.number)
+      ])
     ]) in
     let closed_after : IsClosed ns rest = (λ k u l. elim (which k u (omega arith)) [
-      | inl y ↦ absurd (elim (parent-in ns k t no_slot s.start inner h.2 y) [ inl x ↦ omega (arith, zj, l, ap (λ v. tally v rest) x) | inr v ↦ omega (arith, l, v, once (node_at ns k).parent.number) ])
+      | inl y ↦ absurd (elim (parent-in ns k t no_slot s.start inner h.2 y)
+          [ inl x ↦ omega (arith, zj, l, ap (λ v. tally v rest) x) | inr v ↦ omega (arith, l, v, once (node_at ns k).parent.number) ])
       | inr y ↦ y
     ]) in
     let only : (k : ℕ) → IsHead j (node_at ns k) → k ≡ first_slot inner × (0 < tally k inner) = (λ k hd.
@@ -141,14 +162,21 @@ read-is (suc fuel) ns s b q (Seq j e inner rest) i u h f closed z once none st =
       | inl x ↦ absurd (ne-from_same s.parent j nj (sym hd.parent ∙ ap (λ v. (node_at ns v).parent.number) x ∙ h.0.parent))
       | inr ne ↦ elim (split_pos (tally k inner) (tally k rest) (omega (arith, same-ne k j ne))) [
         | inl a ↦ (head-first ns j k t no_slot s.start inner hd (omega arith) (omega arith) a h.2, a)
-        | inr c ↦ absurd (elim (parent-in ns k s j (q + e) rest h.3 c) [ inl x ↦ ne-from_same s.parent j nj (sym hd.parent ∙ x) | inr v ↦ absurd (omega (arith, ap (λ v. tally v rest) hd.parent, zj)) ])
+        | inr c ↦ absurd (elim (parent-in ns k s j (q + e) rest h.3 c) [
+          | inl x ↦ ne-from_same s.parent j nj (sym hd.parent ∙ x)
+          | inr v ↦
+              absurd (omega (arith, ap (λ v. tally v rest) hd.parent, zj))
+        ])
       ]
     ]) in
     let next : Starts ns (node_at ns j).next.number rest = rw h.0.next (Starts-first ns rest u) in
-    let r : read fuel ns (node_at ns j).next.number ≡ rest = read-is fuel ns s j (q + e) rest _ u h.3 (omega arith) closed_after (omega arith) (λ k. omega (arith, once k)) (omega arith) next in
-    let m : read fuel ns (first_member_of ns j) ≡ inner = read-is fuel ns t no_slot s.start inner _ u h.2 (omega arith) closed_in (omega arith) (λ k. omega (arith, once k)) (omega arith) (Starts-head ns t s.start inner h.2 only) in
+    let r : read fuel ns (node_at ns j).next.number ≡ rest = read-is fuel ns s j (q + e) rest _ u h.3 (omega arith) closed_after
+    (omega arith) (λ k. omega (arith, once k)) (omega arith) next in
+    let m : read fuel ns (first_member_of ns j) ≡ inner = read-is fuel ns t no_slot s.start inner _ u h.2 (omega arith) closed_in
+    (omega arith) (λ k. omega (arith, once k)) (omega arith) (Starts-head ns t s.start inner h.2 only) in
     let x : extent_of (node_at ns j) ≡ e = extent-of_placed ns j s q e h.0.axis h.1 in
-    rw (st, h.0.kind) (ap (λ v. Seq j v (read fuel ns (first_member_of ns j)) (read fuel ns (node_at ns j).next.number)) x ∙ ap (λ v. Seq j e v (read fuel ns (node_at ns j).next.number)) m ∙ ap (Seq j e inner) r)
+    rw (st, h.0.kind) (ap (λ v. Seq j v (read fuel ns (first_member_of ns j)) (read fuel ns (node_at ns j).next.number)) x ∙
+    ap (λ v. Seq j e v (read fuel ns (node_at ns j).next.number)) m ∙ ap (Seq j e inner) r)
 
 -- What a count of the slots below m adds up to.
 abbrev pub sums : (ℕ → ℕ) → ℕ → ℕ
@@ -167,7 +195,13 @@ pub sums-same : (j m : ℕ) → j < m → sums (λ i. same i j) m ≡ 1
 sums-same j zero l = absurd (omega arith)
 sums-same j (suc m) l =
     elim (cases_eq m j) [
-      | inl e ↦ omega (arith, same-self j, ap (λ v. same v j) e, sums-none (λ i. same i j) m (λ i b. same-ne i j (λ q. absurd (omega arith))))
+      | inl e ↦ omega (
+        arith,
+        same-self j,
+        ap (λ v. same v j) e,
+        sums-none (λ i. same i j) m
+            (λ i b. same-ne i j (λ q. absurd (omega arith))),
+      )
       | inr ne ↦ omega (arith, same-ne m j ne, sums-same j m (omega arith))
     ]
 
@@ -268,4 +302,10 @@ tallies-less (suc m) j n less is = omega (arith, is m, tallies-less m j n less i
 pub numbers-less : (m j : ℕ) (n less : Numbered) → j < m → ((x : ℕ) → 0 < tally x n → x < m)
     → ((x : ℕ) → tally x less + same x j ≡ tally x n) → numbers less + 1 ≡ numbers n
 numbers-less m j n less l below is =
-    omega (arith, tallies-numbers m n below, tallies-numbers m less (λ x c. below x (omega (arith, is x))), tallies-less m j n less is, sums-same j m l)
+    omega (
+      arith,
+      tallies-numbers m n below,
+      tallies-numbers m less (λ x c. below x (omega (arith, is x))),
+      tallies-less m j n less is,
+      sums-same j m l,
+    )

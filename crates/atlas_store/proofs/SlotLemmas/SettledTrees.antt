@@ -6,7 +6,8 @@ use Rattle.atlas_store.specs.Slots.{node_at, use_count}
 use Rattle.atlas_search.specs.Numbers.{no_slot, same}
 use Rattle.atlas_model.specs.Trees as tree
 use Rattle.atlas_model.specs.Trees.{IsNormal}
-use Rattle.atlas_store.specs.Slots.Numbered.{Numbered, tally, first_slot, numbers, erase, marked, joined, lifted, is_free_at, is_alloc_at, is_seq_at, End, Free, Alloc, Seq}
+use Rattle.atlas_store.specs.Slots.Numbered.{Numbered, tally, first_slot, numbers, erase, marked, joined, lifted, is_free_at, is_alloc_at}
+use Rattle.atlas_store.specs.Slots.Numbered.{is_seq_at, End, Free, Alloc, Seq}
 use Rattle.atlas_store.specs.Slots.Standing.{Sequence, Standing, Stands, IsWhole, IsSlot}
 use Rattle.atlas_store.proofs.SlotLemmas.ReadTrees.{numbers-less}
 use Rattle.atlas_store.proofs.SlotLemmas.JoinWrites.{used-inside, none-unused, not-none}
@@ -48,7 +49,8 @@ full-marked i n = (edited-keeps (is_alloc_at i) marking IsFuller (full-kept _) (
 -- What a slot says of the slot before it.
 abbrev pub IsBackLinked : List Node → ℕ → ℕ → Numbered → Type 0
 IsBackLinked ns b k n =
-    ((k ≡ first_slot n) × ((node_at ns k).previous.number ≡ b)) ⊎ (((node_at ns k).previous.number ≡ no_slot) ⊎ ((0 < tally (node_at ns k).previous.number n) × ((node_at ns (node_at ns k).previous.number).next.number ≡ k)))
+    ((k ≡ first_slot n) × ((node_at ns k).previous.number ≡ b)) ⊎ (((node_at ns k).previous.number ≡ no_slot) ⊎
+    ((0 < tally (node_at ns k).previous.number n) × ((node_at ns (node_at ns k).previous.number).next.number ≡ k)))
 
 before_wider : (ns : List Node) (b j k : ℕ) (m n : Numbered) → (node_at ns j).next.number ≡ first_slot m → 0 < tally j n
     → ((x : ℕ) → tally x m ≤ tally x n) → IsBackLinked ns j k m → IsBackLinked ns b k n
@@ -69,7 +71,16 @@ before-in ns k s b p (Free j e rest) h l =
 before-in ns k s b p (Alloc j g e rest) h l =
     grind (arith, before_wider, same-self, before-in ns k s j (p + e) rest h.3, same-ne)
 before-in ns k s b p (Seq j e inner rest) h l =
-    search (rules, split_pos, same-ne, same-self, inner_wider, before_wider, before-in ns k _ _ _ inner h.2, before-in ns k s j (p + e) rest h.3)
+    search (
+      rules,
+      split_pos,
+      same-ne,
+      same-self,
+      inner_wider,
+      before_wider,
+      before-in ns k _ _ _ inner h.2,
+      before-in ns k s j (p + e) rest h.3,
+    )
 
 -- The slot before is a slot or none, and a free one leads here.
 pub previous-slot : (ns : List Node) (k m : ℕ) (x : ℕ) → length ns < no_slot → IsWhole ns
@@ -86,7 +97,11 @@ pub next-slot : (ns : List Node) (k m x : ℕ) → IsWhole ns → (node_at ns k)
 next-slot ns k m x t f ex em =
     let h = t.3 in
     let here : 0 < tally k t.1 = rw (h.numbered k, f) (omega arith) in
-    rw (ex, em) (elim (next-in ns k t.0 no_slot 0 t.1 h.standing here) [ inl y ↦ inl y | inr y ↦ inr (used-inside ns _ (rw (← h.numbered (node_at ns k).next.number) y)) ])
+    rw (ex, em) (elim (next-in ns k t.0 no_slot 0 t.1 h.standing here) [
+      | inl y ↦ inl y
+      | inr y ↦ inr
+          (used-inside ns _ (rw (← h.numbered (node_at ns k).next.number) y))
+    ])
 
 -- Where neither neighbour is free and the leaf isn't alone in a container, the tree is normal.
 pub settled : (ns : List Node) (k : ℕ) (s : Sequence) (n : Numbered) → length ns < no_slot → IsSettlingTree ns s n k

@@ -3,7 +3,8 @@ use Rattle.std.proofs.Common.{ℕ, ◌+◌, ◌*◌, ◌≤◌, ◌≡◌, ◌==
 use Rattle.std.proofs.lemmas.Bool.{eqb-true}
 use Rattle.atlas_store.specs.declared.slots.Node.{Node}
 use Rattle.atlas_store.specs.declared.slots.NodeKind.TheVariants as kind
-use Rattle.atlas_model.specs.Boxes.{Axis, Position, Sides, Box, other, side, sized, moved, box_at, box_sides, same_box, origin, Fits, IsPositive}
+use Rattle.atlas_model.specs.Boxes.{Axis, Position, Sides, Box, other, side, sized, moved, box_at, box_sides, same_box, origin, Fits}
+use Rattle.atlas_model.specs.Boxes.{IsPositive}
 use Rattle.atlas_model.specs.Pixels.{box_of, rectangle_of}
 use Rattle.atlas_model.specs.Cuts.{cut}
 use Rattle.atlas_model.specs.Trees.{Tree, IsWellFormed, free_boxes}
@@ -21,15 +22,18 @@ use Rattle.atlas_store.proofs.SlotLemmas.Spots.{moved-spot, spot-other, spot-ori
 abbrev pub IsStoredAs : (i : ℕ) (f : Box) (a : Axis) → Axis → Position → (across : ℕ) → Numbered → Type 0
 IsStoredAs i f a axis o across End = Unit {0}
 IsStoredAs i f a axis o across (Free j e rest) =
-    (((i == j) ≡ true → same_box (box_at o (sized axis e across)) f ≡ true) × ((i == j) ≡ true → axis ≡ a)) × IsStoredAs i f a axis (moved axis o e) across rest
+    (((i == j) ≡ true → same_box (box_at o (sized axis e across)) f ≡ true) × ((i == j) ≡ true → axis ≡ a)) ×
+    IsStoredAs i f a axis (moved axis o e) across rest
 IsStoredAs i f a axis o across (Alloc j g e rest) = IsStoredAs i f a axis (moved axis o e) across rest
-IsStoredAs i f a axis o across (Seq j e inner rest) = IsStoredAs i f a (other axis) o e inner × IsStoredAs i f a axis (moved axis o e) across rest
+IsStoredAs i f a axis o across (Seq j e inner rest) = IsStoredAs i f a (other axis) o e inner ×
+    IsStoredAs i f a axis (moved axis o e) across rest
 
 -- The same, and no other free leaf has the box f.
 abbrev pub IsAim : (i : ℕ) (f : Box) (a : Axis) → Axis → Position → (across : ℕ) → Numbered → Type 0
 IsAim i f a axis o across End = Unit {0}
 IsAim i f a axis o across (Free j e rest) =
-    (((i == j) ≡ same_box (box_at o (sized axis e across)) f) × ((i == j) ≡ true → axis ≡ a)) × IsAim i f a axis (moved axis o e) across rest
+    (((i == j) ≡ same_box (box_at o (sized axis e across)) f) × ((i == j) ≡ true → axis ≡ a)) ×
+    IsAim i f a axis (moved axis o e) across rest
 IsAim i f a axis o across (Alloc j g e rest) = IsAim i f a axis (moved axis o e) across rest
 IsAim i f a axis o across (Seq j e inner rest) = IsAim i f a (other axis) o e inner × IsAim i f a axis (moved axis o e) across rest
 
@@ -54,7 +58,13 @@ module _ (ns : List Node) (i : ℕ) where
       grind (arith, stored_box, eqb-true, stored_axis, moved-spot, stored-Standing s j (p + e) rest h.2)
   stored-Standing s b p (Alloc j g e rest) h = grind (arith, moved-spot, stored-Standing s j (p + e) rest h.3)
   stored-Standing s b p (Seq j e inner rest) h =
-      grind (arith, spot-other, stored-Standing (inside s j p e) no_slot s.start inner h.2, moved-spot, stored-Standing s j (p + e) rest h.3)
+      grind (
+        arith,
+        spot-other,
+        stored-Standing (inside s j p e) no_slot s.start inner h.2,
+        moved-spot,
+        stored-Standing s j (p + e) rest h.3,
+      )
 
 -- By counts: no other free leaf has the box.
 
@@ -82,21 +92,33 @@ module _ (i : ℕ) (f : Box) (a : Axis) where
       grind (arith, one_if, less, free_tally, hits, free_among, few_slots axis (moved axis o e) across rest h.1, hits-free)
   few_slots axis o across (Alloc j g e rest) h = few_slots axis (moved axis o e) across rest h
   few_slots axis o across (Seq j e inner rest) h =
-      search (rules, free_tally, hits, free_among, few_slots (other axis) o e inner h.0, few_slots axis (moved axis o e) across rest h.1, hits-seq)
+      search (
+        rules,
+        free_tally,
+        hits,
+        free_among,
+        few_slots (other axis) o e inner h.0,
+        few_slots axis (moved axis o e) across rest h.1,
+        hits-seq,
+      )
 
   pub aim-stored : (axis : Axis) (o : Position) (across : ℕ) (n : Numbered) → IsStoredAs i f a axis o across n
       → hits f (free_among axis o across (erase n)) ≤ free_tally i n → IsAim i f a axis o across n
   aim-stored axis o across End h le = tt
   aim-stored axis o across (Free j e rest) h le =
       let here : one_if (i == j) ≤ one_if (same_box (box_at o (sized axis e across)) f) = less _ _ h.0.0 in
-      let after : free_tally i rest ≤ hits f (free_among axis (moved axis o e) across (erase rest)) = few_slots axis (moved axis o e) across rest h.1 in
-      let split : one_if (same_box (box_at o (sized axis e across)) f) + hits f (free_among axis (moved axis o e) across (erase rest)) ≤ one_if (i == j) + free_tally i rest = rw (hits-free f axis o across e (erase rest)) at le in
+      let after : free_tally i rest ≤ hits f (free_among axis (moved axis o e) across (erase rest)) =
+      few_slots axis (moved axis o e) across rest h.1 in
+      let split : one_if (same_box (box_at o (sized axis e across)) f) + hits f (free_among axis (moved axis o e) across (erase rest)) ≤
+      one_if (i == j) + free_tally i rest = rw (hits-free f axis o across e (erase rest)) at le in
       ((same_bools _ _ (omega arith), h.0.1), aim-stored axis (moved axis o e) across rest h.1 (omega arith))
   aim-stored axis o across (Alloc j g e rest) h le = aim-stored axis (moved axis o e) across rest h le
   aim-stored axis o across (Seq j e inner rest) h le =
       let first : free_tally i inner ≤ hits f (free_among (other axis) o e (erase inner)) = few_slots (other axis) o e inner h.0 in
-      let after : free_tally i rest ≤ hits f (free_among axis (moved axis o e) across (erase rest)) = few_slots axis (moved axis o e) across rest h.1 in
-      let split : hits f (free_among (other axis) o e (erase inner)) + hits f (free_among axis (moved axis o e) across (erase rest)) ≤ free_tally i inner + free_tally i rest = rw (hits-seq f axis o across e (erase inner) (erase rest)) at le in
+      let after : free_tally i rest ≤ hits f (free_among axis (moved axis o e) across (erase rest)) =
+      few_slots axis (moved axis o e) across rest h.1 in
+      let split : hits f (free_among (other axis) o e (erase inner)) + hits f (free_among axis (moved axis o e) across (erase rest)) ≤
+      free_tally i inner + free_tally i rest = rw (hits-seq f axis o across e (erase inner) (erase rest)) at le in
       (aim-stored (other axis) o e inner h.0 (omega arith), aim-stored axis (moved axis o e) across rest h.1 (omega arith))
 
   -- How many members a request adds.
@@ -107,7 +129,8 @@ module _ (i : ℕ) (f : Box) (a : Axis) where
       grind (arith, needed-aim r axis (moved axis o e) across rest h.1, free_tally, one_more, none_more)
   needed-aim r axis o across (Alloc j g e rest) h = needed-aim r axis (moved axis o e) across rest h
   needed-aim r axis o across (Seq j e inner rest) h =
-      ap₂ (λ x y. x + y) (needed-aim r (other axis) o e inner h.0) (needed-aim r axis (moved axis o e) across rest h.1) ∙ both (need (cut (box_sides f) r) a) (free_tally i inner) (free_tally i rest)
+      ap₂ (λ x y. x + y) (needed-aim r (other axis) o e inner h.0) (needed-aim r axis (moved axis o e) across rest h.1) ∙
+      both (need (cut (box_sides f) r) a) (free_tally i inner) (free_tally i rest)
 
 -- The tree that stands, as contracts see it.
 abbrev pub tree_in : Sequence → Numbered → Tree
@@ -134,18 +157,21 @@ aim-choice size ns s n i r h fit =
     let stored : IsStoredAs i f a s.axis (spot s.axis 0 s.start) s.width n = stored-Standing ns i s no_slot 0 n h.stands.standing in
     let at : spot s.axis 0 s.start ≡ origin = ap (spot s.axis 0) h.start ∙ spot-origin s.axis in
     let moved_there : IsStoredAs i f a s.axis origin s.width n = subst (λ o. IsStoredAs i f a s.axis o s.width n) at stored in
-    let whole : IsStoredAs i f a s.axis origin (side (other s.axis) size) n = subst (λ w. IsStoredAs i f a s.axis origin w n) h.across moved_there in
+    let whole : IsStoredAs i f a s.axis origin (side (other s.axis) size) n = subst (λ w. IsStoredAs i f a s.axis origin w n) h.across
+    moved_there in
     let once : hits f (free_boxes size (tree_in s n)) ≤ 1 = hits_once size (tree_in s n) f r h.well fit.0 fit.1 in
     aim-stored i f a s.axis origin (side (other s.axis) size) n whole (rw (free_once ns i s n h.free h.stands) once)
 
 -- How many members a request adds to the tree.
 pub place_need-choice : (size : Sides) (ns : List Node) (s : Sequence) (n : Numbered) (i : ℕ) (r : Sides)
     → IsChoice size ns s n i → IsFittingSlot ns i r
-    → place_need size (box_of (node_at ns i).area) r (tree_in s n) ≡ need (cut (box_sides (box_of (node_at ns i).area)) r) (axis_of (node_at ns i).axis)
+    → place_need size (box_of (node_at ns i).area) r (tree_in s n) ≡ need (cut (box_sides (box_of (node_at ns i).area)) r)
+    (axis_of (node_at ns i).axis)
 place_need-choice size ns s n i r h fit =
     let f = box_of (node_at ns i).area in
     let a = axis_of (node_at ns i).axis in
-    needed-aim i f a r s.axis origin (side (other s.axis) size) n (aim-choice size ns s n i r h fit) ∙ once (free_tally i n) (need (cut (box_sides f) r) a) (free_once ns i s n h.free h.stands)
+    needed-aim i f a r s.axis origin (side (other s.axis) size) n (aim-choice size ns s n i r h fit) ∙
+    once (free_tally i n) (need (cut (box_sides f) r) a) (free_once ns i s n h.free h.stands)
   where
     once : (m k : ℕ) → m ≡ 1 → m * k ≡ k
     once m k e = rw e (omega arith)

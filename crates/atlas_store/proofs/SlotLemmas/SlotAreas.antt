@@ -7,7 +7,7 @@ use Rattle.atlas_store.specs.declared.slots.NodeKind.TheVariants as kind
 use Rattle.atlas_model.specs.declared.geometry.Rectangle.{Rectangle}
 use Rattle.atlas_model.specs.Boxes.{Box}
 use Rattle.atlas_model.specs.Pixels.{rectangle_of}
-use Rattle.atlas_store.specs.Slots.{nodes, node_at, use_count}
+use Rattle.atlas_store.specs.Slots.{nodes, node_at, use_count, node_of}
 use Rattle.atlas_search.specs.Numbers.{no_slot}
 use Rattle.atlas_store.specs.Slots.Numbered.{Numbered, tally, first_slot, End}
 use Rattle.atlas_store.specs.Slots.Standing.{Sequence, Standing, Stands, IsTree}
@@ -39,4 +39,4 @@ read-exact ns i n e t f = rw e (free-exact ns i t f)
 -- A free slot is one of the slots.
 pub free-inside : (slots : List Slot) (i : ℕ) → (node_at (nodes slots) i).kind ≡ kind.Free → i < length slots
 free-inside slots i free =
-    omega (arith, used-inside (nodes slots) i (rw free (omega arith)), length-map slots (λ (s : Slot). s.node))
+    omega (arith, used-inside (nodes slots) i (rw free (omega arith)), length-map slots node_of)

@@ -53,7 +53,15 @@ module _ (ns : List Node) where
   slot_id s before p (Alloc j g e rest) id i h f =
       search (rules, Contains-first, Contains-later, slot_id s j (p + e) rest id i h.3, same-ne)
   slot_id s before p (Seq j e inner rest) id i h f =
-      search (rules, split_pos, Contains-append_left, Contains-append_right, slot_id _ _ _ inner id i h.2, slot_id s j (p + e) rest id i h.3, same-ne)
+      search (
+        rules,
+        split_pos,
+        Contains-append_left,
+        Contains-append_right,
+        slot_id _ _ _ inner id i h.2,
+        slot_id s j (p + e) rest id i h.3,
+        same-ne,
+      )
 
   -- A slot that isn't allocated is that of no allocated member.
   pub alloc_tally-none : (s : Sequence) (before p i : ℕ) (n : Numbered) → ((node_at ns i).kind ≡ kind.Alloc → ⊥)
@@ -80,7 +88,8 @@ slot_count-tally id (Free j e rest) l = slot_count-tally id rest (λ x h. l x (o
 slot_count-tally id (Alloc j g e rest) l =
     let small : j < 2 ^ 24 = l j (omega (arith, same-self j)) in
     sum_by-cons (λ k. one_if (k % 2 ^ 24 == id % 2 ^ 24)) (id_of j g) (ids (erase rest))
-    ∙ ap₂ (λ x y. x + y) (one_if-same (id % 2 ^ 24) j (id_of j g % 2 ^ 24) (id_of-slot j g small)) (slot_count-tally id rest (λ x h. l x (omega arith)))
+    ∙ ap₂ (λ x y. x + y) (one_if-same (id % 2 ^ 24) j (id_of j g % 2 ^ 24) (id_of-slot j g small))
+    (slot_count-tally id rest (λ x h. l x (omega arith)))
 slot_count-tally id (Seq j e inner rest) l =
     grind (arith, sum_by-append, one_if, slot_count-tally id inner, slot_count-tally id rest)
 

@@ -64,4 +64,5 @@ area-span ns i s before p (Seq j e inner rest) h cut along across wide l =
 pub Holds-span : (v : Shelf) (h : Holding) (i : ℕ) → Holds v h → 0 < use_count (node_at (nodes v.slots) i).kind
     → IsSpan (node_at (nodes v.slots) i).area
 Holds-span v h i w l =
-    area-span (nodes v.slots) i h.sequence no_slot 0 h.tree w.stands.standing w.cut (omega (arith, w.along)) w.across w.wide (rw (w.stands.numbered i) l)
+    area-span (nodes v.slots) i h.sequence no_slot 0 h.tree w.stands.standing w.cut (omega (arith, w.along)) w.across w.wide
+    (rw (w.stands.numbered i) l)

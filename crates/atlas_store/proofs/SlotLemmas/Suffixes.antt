@@ -20,7 +20,17 @@ pub record Suffix (ns : List Node) (i : ℕ) (n : Numbered) : Type 0 where
 abbrev pub suffix-wider : (ns : List Node) (i : ℕ) (m n : Numbered) → ((k : ℕ) → tally k m ≤ tally k n) → Suffix ns i m
     → Suffix ns i n
 suffix-wider ns i m n l f =
-    record { at = f.at; before = f.before; start = f.start; members = f.members; standing = f.standing; begins = f.begins; within = λ k. omega (arith, f.within k, l k); here = f.here }
+    record {
+      at = f.at;
+      before = f.before;
+      start = f.start;
+      members = f.members;
+      standing = f.standing;
+      begins = f.begins;
+      within =
+          λ k. omega (arith, f.within k, l k);
+      here = f.here;
+    }
 
 -- Each member begins a suffix of its sequence.
 pub suffix-at : (ns : List Node) (i : ℕ) (s : Sequence) (before p : ℕ) (n : Numbered) → Standing ns s before p n
@@ -28,19 +38,52 @@ pub suffix-at : (ns : List Node) (i : ℕ) (s : Sequence) (before p : ℕ) (n : 
 suffix-at ns i s before p End h l = absurd (omega arith)
 suffix-at ns i s before p (Free j e rest) h l =
     elim (cases_eq i j) [
-      | inl q ↦ record { at = s; before = before; start = p; members = Free j e rest; standing = h; begins = sym q; within = λ k. omega arith; here = l }
-      | inr ne ↦ suffix-wider ns i rest (Free j e rest) (λ k. omega arith) (suffix-at ns i s j (p + e) rest h.2 (omega (arith, same-ne i j ne)))
+      | inl q ↦ record {
+        at = s;
+        before = before;
+        start = p;
+        members = Free j e rest;
+        standing = h;
+        begins = sym q;
+        within =
+            λ k. omega arith;
+        here = l;
+      }
+      | inr ne ↦ suffix-wider ns i rest (Free j e rest) (λ k. omega arith)
+          (suffix-at ns i s j (p + e) rest h.2 (omega (arith, same-ne i j ne)))
     ]
 suffix-at ns i s before p (Alloc j g e rest) h l =
     elim (cases_eq i j) [
-      | inl q ↦ record { at = s; before = before; start = p; members = Alloc j g e rest; standing = h; begins = sym q; within = λ k. omega arith; here = l }
-      | inr ne ↦ suffix-wider ns i rest (Alloc j g e rest) (λ k. omega arith) (suffix-at ns i s j (p + e) rest h.3 (omega (arith, same-ne i j ne)))
+      | inl q ↦ record {
+        at = s;
+        before = before;
+        start = p;
+        members = Alloc j g e rest;
+        standing = h;
+        begins = sym q;
+        within =
+            λ k. omega arith;
+        here = l;
+      }
+      | inr ne ↦ suffix-wider ns i rest (Alloc j g e rest) (λ k. omega arith)
+          (suffix-at ns i s j (p + e) rest h.3 (omega (arith, same-ne i j ne)))
     ]
 suffix-at ns i s before p (Seq j e inner rest) h l =
     elim (cases_eq i j) [
-      | inl q ↦ record { at = s; before = before; start = p; members = Seq j e inner rest; standing = h; begins = sym q; within = λ k. omega arith; here = l }
+      | inl q ↦ record {
+        at = s;
+        before = before;
+        start = p;
+        members = Seq j e inner rest;
+        standing = h;
+        begins = sym q;
+        within =
+            λ k. omega arith;
+        here = l;
+      }
       | inr ne ↦ elim (split_pos (tally i inner) (tally i rest) (omega (arith, same-ne i j ne))) [
-        | inl a ↦ suffix-wider ns i inner (Seq j e inner rest) (λ k. omega arith) (suffix-at ns i (inside s j p e) no_slot s.start inner h.2 a)
+        | inl a ↦ suffix-wider ns i inner (Seq j e inner rest) (λ k. omega arith)
+            (suffix-at ns i (inside s j p e) no_slot s.start inner h.2 a)
         | inr b ↦ suffix-wider ns i rest (Seq j e inner rest) (λ k. omega arith) (suffix-at ns i s j (p + e) rest h.3 b)
       ]
     ]

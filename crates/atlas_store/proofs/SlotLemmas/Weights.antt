@@ -80,7 +80,12 @@ module _ (ns : List Node) (i : ℕ) (is : Numbered → Bool)
   places-Standing s b p (Free j e rest) h = omega (arith, free j e rest h.0.kind, places-Standing s j (p + e) rest h.2)
   places-Standing s b p (Alloc j g e rest) h = omega (arith, alloc j g e rest h.0.kind, places-Standing s j (p + e) rest h.3)
   places-Standing s b p (Seq j e inner rest) h =
-      omega (arith, seq j e inner rest h.0.kind, places-Standing (inside s j p e) no_slot s.start inner h.2, places-Standing s j (p + e) rest h.3)
+      omega (
+        arith,
+        seq j e inner rest h.0.kind,
+        places-Standing (inside s j p e) no_slot s.start inner h.2,
+        places-Standing s j (p + e) rest h.3,
+      )
 
 module _ (ns : List Node) (i : ℕ) where
   -- Another slot, since its kind is another.

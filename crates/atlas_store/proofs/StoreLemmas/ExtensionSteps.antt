@@ -21,7 +21,8 @@ use Rattle.atlas_store.specs.Store.Holdings.{shelf_of, HasSlotsFor, IsDetachedLe
 use Rattle.atlas_store.specs.Store.StoreCalls.{AreSlotsTaken}
 use Rattle.atlas_store.specs.Store.TopCalls.{IsExtendable, IsNestable}
 use Rattle.atlas_store.specs.declared.store.Store.{Store}
-use Rattle.atlas_store.specs.Slots.Growing.{IsEnd, IsLone, Reaches, last_slot, top_along, stretched, appended, nested, after_stretch, after_whole, after_append, after_nest, whole_sequence}
+use Rattle.atlas_store.specs.Slots.Growing.{IsEnd, IsLone, Reaches, last_slot, top_along, stretched, appended, nested, after_stretch}
+use Rattle.atlas_store.specs.Slots.Growing.{after_whole, after_append, after_nest, whole_sequence}
 use Rattle.atlas_store.proofs.SlotLemmas.Frames.{same-self, same-ne}
 use Rattle.atlas_store.proofs.StoreLemmas.FiledSlots.{with_mark-same, with_mark-other}
 use Rattle.atlas_store.proofs.StoreLemmas.TakenSlots.{AreFiled-moved, StaysOrIsOut}
@@ -51,9 +52,11 @@ held_anew : (claimed : ℕ → ℕ) (v : Shelf) (new : List Slot) (h : Holding) 
     → Stands (nodes new) s n → IsInBounds s n
     → Holds (record v { slots = new }) (record h { sequence = s; tree = n; detached = detached })
 held_anew claimed v new h s n detached long holds used top stands bounds =
-    let moved = AreFiled-moved (options_of v.options) (nodes v.slots) (nodes new) (rings v.slots) v.heads v.unused (places_of claimed h) (λ i. 0) detached
+    let moved = AreFiled-moved (options_of v.options) (nodes v.slots) (nodes new) (rings v.slots) v.heads v.unused (places_of claimed h)
+    (λ i. 0) detached
     used.moved (λ i l. omega (arith, used.counted i)) holds.filed in
-    let filed : AreFiled (options_of v.options) (nodes new) (rings new) v.heads v.unused (places_of (λ i. 0) (record h { sequence = s; tree = n; detached = detached })) = rw used.same_rings moved in
+    let filed : AreFiled (options_of v.options) (nodes new) (rings new) v.heads v.unused
+    (places_of (λ i. 0) (record h { sequence = s; tree = n; detached = detached })) = rw used.same_rings moved in
     grind arith
 
 -- Each side of a size is what an `i32` holds.
@@ -96,7 +99,8 @@ pub whole-holds : (v : Shelf) (old mid new : List Slot) (at : ℕ) (size : Size)
 whole-holds v old mid new at size a fit positive w h leaf lone =
     let own = over-shelf (λ x y. IsLeafStretched x y at size) _ _ _ _ a w in
     let one : Stands (nodes v.slots) h.sequence (Free at lone.extent End) = rw (← lone.tree) leaf.holds.stands in
-    let bounds : IsInBounds (whole_sequence (sides_of size) h.sequence) (Free at (side h.sequence.axis (sides_of size)) End) = grind arith in
+    let bounds : IsInBounds (whole_sequence (sides_of size) h.sequence) (Free at (side h.sequence.axis (sides_of size)) End) =
+    grind arith in
     held_anew (λ i. 0) v new h (whole_sequence (sides_of size) h.sequence) (Free at (side h.sequence.axis (sides_of size)) End) h.detached
     (long-over v.slots old mid new a) leaf.holds (used-leaf v.slots new at size h.detached own leaf.kind leaf.detached) leaf.holds.top
     (own.whole h.sequence lone.extent one lone.start) bounds

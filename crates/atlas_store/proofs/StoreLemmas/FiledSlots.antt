@@ -14,7 +14,7 @@ use Rattle.atlas_search.specs.declared.bands.Place.{Place}
 use Rattle.atlas_model.specs.Boxes.{box_sides}
 use Rattle.atlas_model.specs.Pixels.{sides_of, box_of}
 use Rattle.atlas_model.specs.Choice.{Options}
-use Rattle.atlas_store.specs.Slots.{nodes, rings, node_at, ring_at, use_count}
+use Rattle.atlas_store.specs.Slots.{nodes, rings, node_at, ring_at, use_count, ring_of}
 use Rattle.atlas_search.specs.Numbers.{no_slot, same, occurs, without, lists_with}
 use Rattle.atlas_store.specs.Slots.Lists.{IsLinked, IsFiled, AreFiled, Places, filed, node_sides, is_free}
 use Rattle.atlas_search.specs.Bands.{list_of, number_of}
@@ -90,13 +90,22 @@ pub record AreFreeOnce (ns : List Node) (xs : List ℕ) : Type 0 where
   pub once : (k : ℕ) → occurs k xs ≤ 1
   pub free : (k : ℕ) → 0 < occurs k xs → (node_at ns k).kind ≡ kind.Free
 
-module _ (o : Options) (ns : List Node) (rs : List Ring) (heads : List Link) (unused : Link) (p : Places) (f : AreFiled o ns rs heads unused p) where
+module _ (o : Options) (ns : List Node) (rs : List Ring) (heads : List Link) (unused : Link) (p : Places)
+    (f : AreFiled o ns rs heads unused p) where
   -- A slot that stands in a list belongs there.
   pub listed-list : (k i : ℕ) → k < 2704 → 0 < occurs i (p.free_lists k) → k ≡ list_for o (node_at ns i)
-  listed-list k i l h = filed-list o k (node_at ns i) (omega (arith, (f.free k l).each i, unless-le (p.detached i) (filed o k (node_at ns i))))
+  listed-list k i l h = filed-list o k (node_at ns i) (omega (
+    arith,
+    (f.free k l).each i,
+    unless-le (p.detached i) (filed o k (node_at ns i)),
+  ))
 
   pub listed-kind : (k i : ℕ) → k < 2704 → 0 < occurs i (p.free_lists k) → (node_at ns i).kind ≡ kind.Free
-  listed-kind k i l h = filed-kind o k (node_at ns i) (omega (arith, (f.free k l).each i, unless-le (p.detached i) (filed o k (node_at ns i))))
+  listed-kind k i l h = filed-kind o k (node_at ns i) (omega (
+    arith,
+    (f.free k l).each i,
+    unless-le (p.detached i) (filed o k (node_at ns i)),
+  ))
 
   -- A slot stands in no list but its own.
   pub elsewhere : (k i : ℕ) → k < 2704 → (k ≡ list_for o (node_at ns i) → ⊥) → occurs i (p.free_lists k) ≡ 0
@@ -108,7 +117,13 @@ module _ (o : Options) (ns : List Node) (rs : List Ring) (heads : List Link) (un
 
   pub listed-own : (k : ℕ) → k < 2704 → AreFreeOnce ns (p.free_lists k)
   listed-own k l = record {
-    once = λ i. omega (arith, (f.free k l).each i, unless-le (p.detached i) (filed o k (node_at ns i)), filed-use o k (node_at ns i), use-most (node_at ns i).kind);
+    once = λ i. omega (
+      arith,
+      (f.free k l).each i,
+      unless-le (p.detached i) (filed o k (node_at ns i)),
+      filed-use o k (node_at ns i),
+      use-most (node_at ns i).kind,
+    );
     free = λ i h. listed-kind k i l h;
   }
 
@@ -129,7 +144,12 @@ module _ (o : Options) (ns : List Node) (rs : List Ring) (heads : List Link) (un
 
   -- An unused slot stands in no list.
   pub unused-nowhere : (k i : ℕ) → k < 2704 → use_count (node_at ns i).kind ≡ 0 → occurs i (p.free_lists k) ≡ 0
-  unused-nowhere k i l e = omega (arith, (f.free k l).each i, unless-le (p.detached i) (filed o k (node_at ns i)), filed-use o k (node_at ns i))
+  unused-nowhere k i l e = omega (
+    arith,
+    (f.free k l).each i,
+    unless-le (p.detached i) (filed o k (node_at ns i)),
+    filed-use o k (node_at ns i),
+  )
 
   -- What is in the unused list is not used.
   pub unused_list-use : (i : ℕ) → 0 < occurs i p.unused_list → (use_count (node_at ns i).kind ≡ 0) × (p.claimed i ≡ 0)
@@ -137,7 +157,8 @@ module _ (o : Options) (ns : List Node) (rs : List Ring) (heads : List Link) (un
 
   -- A used slot is not in the unused list.
   pub used-not-unused_list : (i : ℕ) → 0 < use_count (node_at ns i).kind → occurs i p.unused_list ≡ 0
-  used-not-unused_list i u = elim (cases_lt 0 (occurs i p.unused_list)) [ inl h ↦ (let e = unused_list-use i h in absurd (omega (arith, e.0))) | inr z ↦ omega arith ]
+  used-not-unused_list i u = elim (cases_lt 0 (occurs i p.unused_list))
+      [ inl h ↦ (let e = unused_list-use i h in absurd (omega (arith, e.0))) | inr z ↦ omega arith ]
 
 -- A list stays as it was: its slots keep their rings.
 pub IsFiled-kept : (o : Options) (ns : List Node) (rs ts : List Ring) (heads heads' : List Link) (k : ℕ)
@@ -164,7 +185,9 @@ pub record IsPutIn (ns : List Node) (rs ts : List Ring) (m : ℕ) (new : Link) (
   pub links : IsLinked ns ts m new (i ∷ xs)
   pub others : (k : ℕ) → (k ≡ i → ⊥) → occurs k xs ≡ 0 → ring_at ts k ≡ ring_at rs k
 
-module _ (o : Options) (ns : List Node) (rs ts : List Ring) (heads heads' : List Link) (unused : Link) (p : Places) (f : AreFiled o ns rs heads unused p) (i m : ℕ) (em : m ≡ list_for o (node_at ns i)) (is_free : (node_at ns i).kind ≡ kind.Free) (same_lists : (k : ℕ) → k ≢ m → head_of heads' k ≡ head_of heads k) where
+module _ (o : Options) (ns : List Node) (rs ts : List Ring) (heads heads' : List Link) (unused : Link) (p : Places)
+    (f : AreFiled o ns rs heads unused p) (i m : ℕ) (em : m ≡ list_for o (node_at ns i)) (is_free : (node_at ns i).kind ≡ kind.Free)
+    (same_lists : (k : ℕ) → k ≢ m → head_of heads' k ≡ head_of heads k) where
   below : m < 2704
   below = rw em (list_of-most o (node_sides (node_at ns i)))
 
@@ -175,7 +198,8 @@ module _ (o : Options) (ns : List Node) (rs ts : List Ring) (heads heads' : List
   used_free j h = unused-nowhere o ns rs heads unused p f m j below (unused_list-use o ns rs heads unused p f j h).0
 
   marks : (k : ℕ) (mark : Bool) → (k ≡ m → ⊥) → (j : ℕ)
-      → unless_detached (with_mark p.detached i mark j) (filed o k (node_at ns j)) ≡ unless_detached (p.detached j) (filed o k (node_at ns j))
+      → unless_detached (with_mark p.detached i mark j) (filed o k (node_at ns j)) ≡ unless_detached (p.detached j)
+      (filed o k (node_at ns j))
   marks k mark ne j = grind (arith, filed-other, unless-le, with_mark-other)
 
   pub AreFiled-unlisted : p.detached i ≡ false → IsTakenOut ns rs ts m (head_of heads' m) i (p.free_lists m)
@@ -191,7 +215,10 @@ module _ (o : Options) (ns : List Node) (rs ts : List Ring) (heads heads' : List
       record {
         free = λ k l. elim (cases_eq k m) [
           | inl e ↦ rw e changed
-          | inr ne ↦ IsFiled-kept o ns rs ts heads heads' k (p.free_lists k) (without i (p.free_lists k)) p.detached (with_mark p.detached i true) (same_lists k ne) (without-none i (p.free_lists k) (elsewhere o ns rs heads unused p f k i l (λ q. ne (q ∙ sym em)))) (omega (arith, w.same_length)) (λ j h. same_at j (apart o ns rs heads unused p f k m j l below ne h)) (marks k true ne) (f.free k l)
+          | inr ne ↦ IsFiled-kept o ns rs ts heads heads' k (p.free_lists k) (without i (p.free_lists k)) p.detached
+              (with_mark p.detached i true) (same_lists k ne) (without-none i (p.free_lists k)
+              (elsewhere o ns rs heads unused p f k i l (λ q. ne (q ∙ sym em)))) (omega (arith, w.same_length))
+              (λ j h. same_at j (apart o ns rs heads unused p f k m j l below ne h)) (marks k true ne) (f.free k l)
         ];
         line = Line-kept rs ts p.unused_list (omega (arith, w.same_length)) (λ j h. same_at j (used_free j h)) f.line;
         begins = f.begins;
@@ -208,7 +235,9 @@ module _ (o : Options) (ns : List Node) (rs ts : List Ring) (heads heads' : List
         links = w.links;
         each = λ j. elim (cases_eq j i) [
           | inl e ↦
-              let z : unless_detached (with_mark p.detached i false j) (filed o m (node_at ns j)) ≡ 1 = unless-not (with_mark p.detached i false j) (filed o m (node_at ns j)) (rw e (with_mark-same p.detached i false)) ∙ rw (e, em) (filed-free o (node_at ns i) is_free) in
+              let z : unless_detached (with_mark p.detached i false j) (filed o m (node_at ns j)) ≡ 1 =
+              unless-not (with_mark p.detached i false j) (filed o m (node_at ns j)) (rw e (with_mark-same p.detached i false)) ∙
+              rw (e, em) (filed-free o (node_at ns i) is_free) in
               let u : occurs j (p.free_lists m) ≡ 0 = rw e none in
               let s : same j i ≡ 1 = rw e (same-self i) in
               (let v : occurs j (i ∷ p.free_lists m) ≡ 1 = omega arith in v) ∙ sym z
@@ -221,9 +250,15 @@ module _ (o : Options) (ns : List Node) (rs ts : List Ring) (heads heads' : List
       record {
         free = λ k l. elim (cases_eq k m) [
           | inl e ↦ rw (e, cond-true (eqb m m) (i ∷ p.free_lists m) (p.free_lists m) (eq-eqb m m refl)) changed
-          | inr ne ↦ IsFiled-kept o ns rs ts heads heads' k (p.free_lists k) (lists_with p.free_lists m i k) p.detached (with_mark p.detached i false) (same_lists k ne) (cond-false (eqb k m) (i ∷ p.free_lists k) (p.free_lists k) (ne_eqb k m ne)) (omega (arith, w.same_length)) (λ j h. same_at j (λ q. absurd (ne-from_occurs i j (p.free_lists k) (detached-nowhere o ns rs heads unused p f k i l kept) h q)) (apart o ns rs heads unused p f k m j l below ne h)) (marks k false ne) (f.free k l)
+          | inr ne ↦ IsFiled-kept o ns rs ts heads heads' k (p.free_lists k) (lists_with p.free_lists m i k) p.detached
+              (with_mark p.detached i false) (same_lists k ne) (cond-false (eqb k m) (i ∷ p.free_lists k) (p.free_lists k) (ne_eqb k m ne))
+              (omega (arith, w.same_length)) (λ j h. same_at j (λ q. absurd
+              (ne-from_occurs i j (p.free_lists k) (detached-nowhere o ns rs heads unused p f k i l kept) h q))
+              (apart o ns rs heads unused p f k m j l below ne h)) (marks k false ne) (f.free k l)
         ];
-        line = Line-kept rs ts p.unused_list (omega (arith, w.same_length)) (λ j h. same_at j (λ q. absurd (ne-from_occurs i j p.unused_list (used-not-unused_list o ns rs heads unused p f i in_use) h q)) (used_free j h)) f.line;
+        line = Line-kept rs ts p.unused_list (omega (arith, w.same_length))
+            (λ j h. same_at j (λ q. absurd (ne-from_occurs i j p.unused_list (used-not-unused_list o ns rs heads unused p f i in_use) h q))
+            (used_free j h)) f.line;
         begins = f.begins;
         each = λ j l. f.each j (omega (arith, w.same_length));
       }
@@ -240,10 +275,11 @@ is-used ns rs heads k j xs short h l =
     ap not (ne_eqb _ _ (linked-some ns rs k (head_of heads k) xs short h j l))
 
 -- What a call needs of it.
-module _ {o : Options} {slots : List Slot} {heads : List Link} {i : ℕ} (k : IsFiledSlot o slots heads i) (free : (node_at (nodes slots) i).kind ≡ kind.Free)
+module _ {o : Options} {slots : List Slot} {heads : List Link} {i : ℕ} (k : IsFiledSlot o slots heads i)
+    (free : (node_at (nodes slots) i).kind ≡ kind.Free)
     (short : length slots < 2147483648) where
   same_count : length (rings slots) ≡ length slots
-  same_count = length-map slots (λ (s : Slot). s.ring)
+  same_count = length-map slots ring_of
 
   pub few-rings : length (rings slots) < 2147483648
   few-rings = omega (arith, same_count)

@@ -16,7 +16,7 @@ use Rattle.atlas_store.specs.Slots.Picks.{slot_item, item_of, IsFreeSlot, IsSear
 use Rattle.atlas_store.specs.Slots.{nodes, rings, node_at, ring_at}
 use Rattle.atlas_search.specs.Tables.{head_of}
 use Rattle.atlas_search.specs.declared.link.Link.{Link}
-use Rattle.atlas_search.specs.Heaps.{IsListed}
+use Rattle.atlas_search.specs.Forks.{IsListed}
 use Rattle.atlas_store.proofs.SlotLemmas.Entries.{entries-of}
 use Rattle.atlas_store.proofs.StoreLemmas.FiledSlots.{listed-own, listed-list, listed-kind, listed-one, free_kind}
 

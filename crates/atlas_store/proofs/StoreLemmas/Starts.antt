@@ -13,7 +13,7 @@ use Rattle.atlas_store.specs.Slots.Standing.{Stands, member_box}
 use Rattle.atlas_search.specs.Tables.{is_used_at}
 use Rattle.atlas_store.specs.Slots.Reading.{tree_of}
 use Rattle.atlas_store.specs.Slots.Lists.{AreFiled}
-use Rattle.atlas_store.specs.Slots.{nodes, node_at, rings}
+use Rattle.atlas_store.specs.Slots.{nodes, node_at, rings, node_of, ring_of}
 use Rattle.atlas_store.specs.Stored.{Shelf, Stored, Holds, IsAtlas, places_of, state_of}
 use Rattle.atlas_store.specs.Store.Holdings.{IsDetachedLeaf}
 use Rattle.atlas_store.specs.Store.Starts.{one_free_slot, detached_holding, start_holding}
@@ -34,7 +34,7 @@ pub record IsStart (v : Shelf) (size : Size) : Type 0 where
 
 -- The rectangle of the whole atlas.
 whole_area : (size : Size) → IsPositive (sides_of size)
-    → (one_free_slot size).node.area ≡ rectangle_of (member_box (detached_holding (sides_of size)).sequence 0 (sides_of size).height)
+    → (one_free_slot size).area ≡ rectangle_of (member_box (detached_holding (sides_of size)).sequence 0 (sides_of size).height)
 whole_area size h = grind (arith, side_is)
 
 whole_stands : (size : Size) → IsPositive (sides_of size)
@@ -45,8 +45,10 @@ whole_holds : (v : Shelf) (size : Size) → IsStart v size → IsPositive (sides
     → (sides_of size).height < 2 ^ 31
     → Holds v (detached_holding (sides_of size))
 whole_holds v size s h wide high =
-    let one = AreFiled-one (options_of v.options) (one_free_slot size).node (one_free_slot size).ring v.heads v.unused refl s.lists s.unused in
-    let filed : AreFiled (options_of v.options) (nodes v.slots) (rings v.slots) v.heads v.unused (places_of (λ i. 0) (detached_holding (sides_of size))) = rw s.slots one in
+    let one = AreFiled-one (options_of v.options) (node_of (one_free_slot size)) (ring_of (one_free_slot size)) v.heads v.unused refl
+    s.lists s.unused in
+    let filed : AreFiled (options_of v.options) (nodes v.slots) (rings v.slots) v.heads v.unused
+    (places_of (λ i. 0) (detached_holding (sides_of size))) = rw s.slots one in
     grind (arith, whole_stands, recent-none v.recent (λ k. []) s.recent)
 
 -- The one slot is a detached leaf.
@@ -65,7 +67,8 @@ module _ (v : Stored) (free_lists : ℕ → List ℕ)
     (positive : IsPositive (sides_of v.size)) (one : length v.shelf.slots ≡ 1) where
   whole_tree : tree_of (nodes v.shelf.slots) ≡ fresh (sides_of v.size)
   whole_tree =
-      tree_of-Stands (nodes v.shelf.slots) (start_holding free_lists (sides_of v.size)).sequence (start_holding free_lists (sides_of v.size)).tree
+      tree_of-Stands (nodes v.shelf.slots) (start_holding free_lists (sides_of v.size)).sequence
+      (start_holding free_lists (sides_of v.size)).tree
       (nodes-below v.shelf.slots (omega (arith, one))) refl holds.stands (omega (arith, same-self 0))
 
   pub whole_state : state_of

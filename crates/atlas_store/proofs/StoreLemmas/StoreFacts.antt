@@ -1,5 +1,6 @@
 -- What a call on slots tells of the store whose slots they are.
-use Rattle.std.proofs.Common.{ℕ, ◌+◌, ◌≤◌, ◌≡◌, List, [], ◌∷◌, ◌++◌, sym, ap, ◌∙◌, arith, length, length-set, set, subst, vec_capacity, vec_len}
+use Rattle.std.proofs.Common.{ℕ, ◌+◌, ◌≤◌, ◌≡◌, List, [], ◌∷◌, ◌++◌, sym, ap, ◌∙◌, arith, length, length-set, set, subst, vec_capacity}
+use Rattle.std.proofs.Common.{vec_len}
 use Rattle.std.proofs.lemmas.List.{length_push, with_items_is}
 use Rattle.std.specs.Vec.{with_items}
 use Rattle.atlas_store.specs.declared.store.Store.{Store}

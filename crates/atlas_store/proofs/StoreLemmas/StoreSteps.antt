@@ -1,5 +1,6 @@
 -- The calls of the store keep what it holds: from what the calls on nodes and on lists ensure.
-use Rattle.std.proofs.Common.{ℕ, ◌+◌, ◌<◌, ◌≤◌, ◌≡◌, ◌≢◌, List, [], ◌∷◌, refl, sym, ap, ◌∙◌, ◌++◌, arith, length, set, length-set, Bool, true, false, ◌⊎◌, inl, inr, subst}
+use Rattle.std.proofs.Common.{ℕ, ◌+◌, ◌<◌, ◌≤◌, ◌≡◌, ◌≢◌, List, [], ◌∷◌, refl, sym, ap, ◌∙◌, ◌++◌, arith, length, set, length-set, Bool}
+use Rattle.std.proofs.Common.{true, false, ◌⊎◌, inl, inr, subst}
 use Rattle.std.proofs.lemmas.Bool.{cases_eq, cases_lt}
 use Rattle.atlas_store.specs.declared.slots.Slot.{Slot}
 use Rattle.atlas_search.specs.declared.link.Link.{Link}
@@ -27,7 +28,8 @@ use Rattle.atlas_store.specs.Store.Holdings.{node_in, IsDetachedLeaf, after_take
 use Rattle.atlas_store.proofs.StoreLemmas.FiledSlots.{with_mark-same, with_mark-other, with_count-same, with_count-other}
 use Rattle.atlas_store.proofs.StoreLemmas.TakenSlots.{AreFiled-moved, AreFiled-nodes, StaysOrIsOut}
 use Rattle.atlas_store.proofs.SlotLemmas.Recuts.{IsRecut, recut-marked, recut-joined, recut-lifted, recut-planned}
-use Rattle.atlas_store.proofs.SlotLemmas.PlannedLeaves.{Stands-placed, placed-leaf, placed-others, placed-part, untaken-unmarked, used_after}
+use Rattle.atlas_store.proofs.SlotLemmas.PlannedLeaves.{Stands-placed, placed-leaf, placed-others, placed-part, untaken-unmarked}
+use Rattle.atlas_store.proofs.SlotLemmas.PlannedLeaves.{used_after}
 use Rattle.atlas_store.proofs.SlotLemmas.JoinWrites.{none-unused}
 use Rattle.atlas_store.specs.Slots.Picks.{AreExact}
 use Rattle.atlas_store.proofs.SlotLemmas.SlotBoxes.{slot-exact}
@@ -40,7 +42,8 @@ pub held_again : (claimed claimed' : ℕ → ℕ) (v : Shelf) (new : List Slot) 
     → AreFiled (options_of v.options) (nodes new) (rings new) v.heads unused
     (record { unused_list = unused_list; free_lists = h.free_lists; claimed = claimed'; detached = detached })
     → IsRecut h.sequence.width h.tree tree
-    → HoldsWith claimed' (record v { slots = new; unused = unused }) (record h { tree = tree; unused_list = unused_list; detached = detached })
+    → HoldsWith claimed' (record v { slots = new; unused = unused }) (record h
+    { tree = tree; unused_list = unused_list; detached = detached })
 held_again claimed claimed' v new unused h tree unused_list detached short holds stands filed recut = grind arith
 
 -- A slot that keeps its use stays as it was for the lists.
@@ -67,7 +70,8 @@ filed-one o ns ms rs ts heads unused p i mark same here used others filed =
       | inl e ↦
           subst (λ k. StaysOrIsOut (node_at ns k) (node_at ms k) (p.detached k) (with_mark p.detached i mark k)) (sym e)
           (subst (StaysOrIsOut (node_at ns i) (node_at ms i) (p.detached i)) (sym (with_mark-same p.detached i mark)) here)
-      | inr ne ↦ moved-kept (node_at ns j) (node_at ms j) (p.detached j) (with_mark p.detached i mark j) (others j ne) (with_mark-other p.detached i mark j ne)
+      | inr ne ↦ moved-kept (node_at ns j) (node_at ms j) (p.detached j) (with_mark p.detached i mark j) (others j ne)
+          (with_mark-other p.detached i mark j ne)
     ]
 
     counts : (j : ℕ) → j < length rs → p.claimed j + use_count (node_at ms j).kind ≡ p.claimed j + use_count (node_at ns j).kind
@@ -100,7 +104,8 @@ filed-before claimed v old h e holds = grind arith
 
 pub stands-before : (claimed : ℕ → ℕ) (v : Shelf) (old : List Slot) (h : Holding) → old ≡ v.slots
     → HoldsWith claimed v h → Stands (nodes old) h.sequence h.tree
-stands-before claimed v old h e holds = let Q : List Slot → Type 0 = λ slots. Stands (nodes slots) h.sequence h.tree in subst Q (sym e) holds.stands
+stands-before claimed v old h e holds = let Q : List Slot → Type 0 = λ slots. Stands (nodes slots) h.sequence h.tree in
+    subst Q (sym e) holds.stands
 
 -- A granted leaf becomes free.
 pub marked-holds : (v : Shelf) (new : List Slot) (at : ℕ) → length new ≡ length v.slots → IsLeafFreed v.slots new at
@@ -109,9 +114,11 @@ marked-holds v new at long w was h holds =
     let here : StaysOrIsOut (node_in v at) (node_at (nodes new) at) (h.detached at) true = inr (inr (ap is_free was), inl refl) in
     let used : use_count (node_at (nodes new) at).kind ≡ use_count (node_in v at).kind =
     ap (λ (n : Node). use_count n.kind) w.leaf ∙ sym (ap use_count was) in
-    let filed = filed-one (options_of v.options) (nodes v.slots) (nodes new) (rings v.slots) (rings new) v.heads v.unused (places_of (λ i. 0) h) at true
+    let filed = filed-one (options_of v.options) (nodes v.slots) (nodes new) (rings v.slots) (rings new) v.heads v.unused
+    (places_of (λ i. 0) h) at true
     w.same_rings here used w.others holds.filed in
-    held_again (λ i. 0) (λ i. 0) v new v.unused h (marked at h.tree) h.unused_list (with_mark h.detached at true) (omega (arith, long, holds.short))
+    held_again (λ i. 0) (λ i. 0) v new v.unused h (marked at h.tree) h.unused_list (with_mark h.detached at true)
+    (omega (arith, long, holds.short))
     holds (w.tree h.sequence h.tree holds.stands) filed (recut-marked at h.sequence.width h.tree)
 
 -- Two slots change: i stays in use, and j is claimed or was.
@@ -131,7 +138,8 @@ pub filed-two : (o : Options) (ns ms : List Node) (rs ts : List Ring) (heads : L
     → AreFiled o ns rs heads unused p
     → AreFiled o ms ts heads unused (record p { claimed = claimed'; detached = detached' })
 filed-two o ns ms rs ts heads unused p claimed' detached' i j same c filed =
-    let moved : (k : ℕ) → StaysOrIsOut (node_at ns k) (node_at ms k) (p.detached k) (detached' k) = λ k. grind (arith, cases_eq k i, cases_eq k j, moved-kept) in
+    let moved : (k : ℕ) → StaysOrIsOut (node_at ns k) (node_at ms k) (p.detached k) (detached' k) =
+    λ k. grind (arith, cases_eq k i, cases_eq k j, moved-kept) in
     let counts : (k : ℕ) → k < length rs → claimed' k + use_count (node_at ms k).kind ≡ p.claimed k + use_count (node_at ns k).kind =
     λ k _. grind (arith, cases_eq k i, cases_eq k j, use-kept) in
     subst (λ r. AreFiled o ms r heads unused (record p { claimed = claimed'; detached = detached' })) (sym same)
@@ -158,7 +166,8 @@ pub listed-holds : (v : Shelf) (old mid new : List Slot) (heads : List Link) (re
     (free_lists : ℕ → List ℕ) (detached : ℕ → Bool)
     → AreSlots v.slots old mid new → nodes mid ≡ nodes old
     → (AreFiled (options_of v.options) (nodes old) (rings old) v.heads v.unused (places_of (λ i. 0) h)
-    → AreFiled (options_of v.options) (nodes mid) (rings mid) heads v.unused (record (places_of (λ i. 0) h) { free_lists = free_lists; detached = detached }))
+    → AreFiled (options_of v.options) (nodes mid) (rings mid) heads v.unused
+    (record (places_of (λ i. 0) h) { free_lists = free_lists; detached = detached }))
     → IsRecent recent free_lists → Holds v h
     → Holds (record v { slots = new; heads = heads; recent = recent }) (record h { free_lists = free_lists; detached = detached })
 listed-holds v old mid new heads recent h free_lists detached a same filed is_recent holds =
@@ -237,9 +246,14 @@ lifted-holds v mid new unused i c long w back h leaf =
     let free : (node_at (nodes mid) i).kind ≡ kind.Free = ap (λ n. n.kind) w.leaf in
     let apart : i ≢ c =
     (λ e. let z : kind.Container ≡ kind.Free = sym w.container ∙ ap (λ x. (node_in v x).kind) e ∙ leaf.kind in cc) in
-    given-holds v mid new unused i c h (lifted i h.tree) (with_mark (with_mark h.detached i true) c false) long w.same_rings back leaf.holds (record {
+    given-holds v mid new unused i c h (lifted i h.tree) (with_mark (with_mark h.detached i true) c false) long w.same_rings back leaf.holds
+    (record {
       apart = apart;
-      first = inr (inr (ap is_free w.container), inl (with_mark-other (with_mark h.detached i true) c false i apart ∙ with_mark-same h.detached i true));
+      first = inr (
+        inr (ap is_free w.container),
+        inl (with_mark-other (with_mark h.detached i true) c false i apart ∙
+            with_mark-same h.detached i true),
+      );
       second = inr (inl leaf.detached, inr (ap is_free gone));
       used = ap use_count free ∙ sym (ap use_count w.container);
       counted = omega (arith, with_count-same (λ k. 0) c 1, ap use_count gone, ap use_count leaf.kind);
@@ -312,7 +326,8 @@ module _ (v : Shelf) (new : List Slot) (at : Link) (p : Plan) (t : Parts) (long 
       | inl l ↦ inr (inr (ap is_free (can.unused i l)), (placed-part ns ms at p t placed i l).1)
       | inr z ↦
           let none : occurs i (taken_by p t) ≡ 0 = omega (arith, z) in
-          moved-kept (node_at ns i) (node_at ms i) (h.detached i) (marks_of (left_by p t) i) (placed-others ns ms at p t placed can i ne none)
+          moved-kept (node_at ns i) (node_at ms i) (h.detached i) (marks_of (left_by p t) i)
+          (placed-others ns ms at p t placed can i ne none)
           (untaken-unmarked p t i none ∙ sym (only i (omega (arith, same-ne i at.number ne))))
     ]
   ]

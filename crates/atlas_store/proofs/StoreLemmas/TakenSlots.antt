@@ -1,5 +1,6 @@
 -- Slots are taken and given back, and the nodes change under the lists.
-use Rattle.std.proofs.Common.{ℕ, ◌+◌, ◌<◌, ◌≡◌, List, [], ◌∷◌, ◌++◌, refl, sym, ap, ◌∙◌, ◌⊎◌, inl, inr, arith, length, set, get_or-set_same, get_or-set_other, length-set, subst, Bool, true, false}
+use Rattle.std.proofs.Common.{ℕ, ◌+◌, ◌<◌, ◌≡◌, List, [], ◌∷◌, ◌++◌, refl, sym, ap, ◌∙◌, ◌⊎◌, inl, inr, arith, length, set, get_or-set_same}
+use Rattle.std.proofs.Common.{get_or-set_other, length-set, subst, Bool, true, false}
 use Rattle.std.proofs.lemmas.Bool.{cases_eq, cond-false, and_left, ne_eqb}
 use Rattle.std.proofs.lemmas.List.{get_or_past, length-map, get_or_append_left, get_or_push, length_push, map-append}
 use Rattle.atlas_store.specs.declared.slots.Slot.{Slot}
@@ -9,7 +10,7 @@ use Rattle.atlas_store.specs.declared.slots.Ring.{Ring}
 use Rattle.atlas_store.specs.declared.slots.NodeKind.{NodeKind}
 use Rattle.atlas_store.specs.declared.slots.NodeKind.TheVariants as kind
 use Rattle.atlas_model.specs.Choice.{Options}
-use Rattle.atlas_store.specs.Slots.{nodes, rings, node_at, ring_at, use_count, blank_node, blank_ring, blank_slot}
+use Rattle.atlas_store.specs.Slots.{nodes, rings, node_at, ring_at, use_count, blank_node, blank_ring, blank_slot, node_of, ring_of}
 use Rattle.atlas_search.specs.Numbers.{no_slot, occurs, front}
 use Rattle.atlas_store.specs.Slots.Lists.{AreFiled, Places, Line, filed, is_free}
 use Rattle.atlas_search.specs.Tables.{head_of, is_used_at}
@@ -17,7 +18,8 @@ use Rattle.atlas_store.specs.Slots.Links.{with_claimed, with_count, with_mark, t
 use Rattle.atlas_search.proofs.Occurrences.{same-self, same-ne, ne-from_occurs}
 use Rattle.atlas_store.proofs.StoreLemmas.LinkedLists.{IsLinked-kept, linked-none}
 use Rattle.atlas_store.proofs.StoreLemmas.Lines.{Line-kept, Line-inside, Line-given}
-use Rattle.atlas_store.proofs.StoreLemmas.FiledSlots.{unless-le, filed-use, with_mark-same, unless_detached, unless-detached, unused_list-use, unused-nowhere, with_count-same, with_count-other, past-unused}
+use Rattle.atlas_store.proofs.StoreLemmas.FiledSlots.{unless-le, filed-use, with_mark-same, unless_detached, unless-detached}
+use Rattle.atlas_store.proofs.StoreLemmas.FiledSlots.{unused_list-use, unused-nowhere, with_count-same, with_count-other, past-unused}
 
 -- The lists stay in order where the nodes change: each slot is filed as before, is used or claimed as before, and keeps
 -- its rectangle if it stands in a list.
@@ -33,7 +35,8 @@ AreFiled-nodes o ns ms rs heads unused p claimed' detached' files counts areas f
       free = λ k l.
           let mine = f.free k l in
           record {
-            links = IsLinked-kept ns ms rs rs k (head_of heads k) (p.free_lists k) (omega arith) (λ j _. refl) (λ j h. areas k j l h) mine.links;
+            links = IsLinked-kept ns ms rs rs k (head_of heads k) (p.free_lists k) (omega arith) (λ j _. refl) (λ j h. areas k j l h)
+                mine.links;
             each = λ i. mine.each i ∙ sym (files k i);
           };
       line = f.line;
@@ -85,7 +88,8 @@ pub node_at-grown : (ns : List Node) (i : ℕ) → node_at (ns ++ blank_node ∷
 node_at-grown ns i = grind (arith, get_or_append_left, get_or_push, get_or_past, length_push)
 
 -- One more unused slot, which is claimed.
-module _ (o : Options) (ns : List Node) (rs : List Ring) (heads : List Link) (unused : Link) (p : Places) (f : AreFiled o ns rs heads unused p) where
+module _ (o : Options) (ns : List Node) (rs : List Ring) (heads : List Link) (unused : Link) (p : Places)
+    (f : AreFiled o ns rs heads unused p) where
   ring_at-grown : (i : ℕ) → ring_at (rs ++ blank_ring ∷ []) i ≡ ring_at rs i
   ring_at-grown i = grind (arith, get_or_append_left, get_or_push, get_or_past, length_push)
 
@@ -94,9 +98,16 @@ module _ (o : Options) (ns : List Node) (rs : List Ring) (heads : List Link) (un
   AreFiled-grown el =
       let longer = length_push rs blank_ring in
       let ms = ns ++ blank_node ∷ [] in
-      let moved = AreFiled-nodes o ns ms rs heads unused p p.claimed p.detached (λ k i. ap (λ n. unless_detached (p.detached i) (filed o k n)) (node_at-grown ns i)) (λ i l. ap (λ (n : Node). p.claimed i + use_count n.kind) (node_at-grown ns i)) (λ k i l h. ap (λ (n : Node). n.area) (node_at-grown ns i)) f in
+      let moved = AreFiled-nodes o ns ms rs heads unused p p.claimed p.detached
+      (λ k i. ap (λ n. unless_detached (p.detached i) (filed o k n)) (node_at-grown ns i))
+      (λ i l. ap (λ (n : Node). p.claimed i + use_count n.kind) (node_at-grown ns i))
+      (λ k i l h. ap (λ (n : Node). n.area) (node_at-grown ns i)) f in
       record {
-        free = λ k l. let mine = moved.free k l in record { links = IsLinked-kept ms ms rs (rs ++ blank_ring ∷ []) k (head_of heads k) (p.free_lists k) (omega arith) (λ j h. ring_at-grown j) (λ j _. refl) mine.links; each = mine.each };
+        free = λ k l. let mine = moved.free k l in record {
+          links = IsLinked-kept ms ms rs (rs ++ blank_ring ∷ []) k (head_of heads k)
+              (p.free_lists k) (omega arith) (λ j h. ring_at-grown j) (λ j _. refl) mine.links;
+          each = mine.each;
+        };
         line = Line-kept rs (rs ++ blank_ring ∷ []) p.unused_list (omega arith) (λ j h. ring_at-grown j) f.line;
         begins = f.begins;
         each = grind (arith, node_at-grown, past-unused, with_count-same, Line-inside, with_count-other);
@@ -117,7 +128,12 @@ module _ (o : Options) (ns : List Node) (rs : List Ring) (heads : List Link) (un
       let same_at : (j : ℕ) → (j ≡ i → ⊥) → ring_at ts j ≡ ring_at rs j = (λ j ne. rw et (get_or-set_other rs i j ring blank_ring ne)) in
       let none : occurs i p.unused_list ≡ 0 = omega arith in
       record {
-        free = λ k l. let mine = f.free k l in record { links = IsLinked-kept ns ns rs ts k (head_of heads k) (p.free_lists k) (omega arith) (λ j h. same_at j (ne-from_occurs i j (p.free_lists k) (unused-nowhere o ns rs heads unused p f k i l unused_now) h)) (λ j _. refl) mine.links; each = mine.each };
+        free = λ k l. let mine = f.free k l in record {
+          links = IsLinked-kept ns ns rs ts k (head_of heads k) (p.free_lists k) (omega arith)
+              (λ j h. same_at j (ne-from_occurs i j (p.free_lists k) (unused-nowhere o ns rs heads unused p f k i l unused_now) h))
+              (λ j _. refl) mine.links;
+          each = mine.each;
+        };
         line = Line-given rs ts i ring li et p.unused_list f.line (ap (λ (l : Link). l.number) er ∙ f.begins) none;
         begins = en;
         each = grind (arith, with_count-same, same-self, with_count-other, same-ne);
@@ -139,12 +155,13 @@ taken-fresh o old new slot heads unused at short none ea en es p f =
     let ln : length (nodes old) ≡ length old = length-map old _ in
     let lr : length (rings old) ≡ length old = length-map old _ in
     let last : new ≡ old ++ blank_slot ∷ [] = en ∙ ap (λ s. old ++ s ∷ []) es in
-    let ns : nodes new ≡ nodes old ++ blank_node ∷ [] = ap nodes last ∙ map-append (λ (s : Slot). s.node) old (blank_slot ∷ []) in
-    let rs : rings new ≡ rings old ++ blank_ring ∷ [] = ap rings last ∙ map-append (λ (s : Slot). s.ring) old (blank_slot ∷ []) in
+    let ns : nodes new ≡ nodes old ++ blank_node ∷ [] = ap nodes last ∙ map-append node_of old (blank_slot ∷ []) in
+    let rs : rings new ≡ rings old ++ blank_ring ∷ [] = ap rings last ∙ map-append ring_of old (blank_slot ∷ []) in
     let empty : p.unused_list ≡ [] = nil-from_inside (rings old) p.unused_list (omega arith) f.line (sym f.begins ∙ none) in
     let same_rest : tail_of p.unused_list ≡ p.unused_list = ap tail_of empty ∙ sym empty in
     let grown = AreFiled-grown o (nodes old) (rings old) heads unused p f (ln ∙ sym lr) in
-    let P : List Node → List Ring → List ℕ → ℕ → Type 0 = λ ms ts ys n. AreFiled o ms ts heads unused (record p { unused_list = ys; claimed = with_count p.claimed n 1 }) in
+    let P : List Node → List Ring → List ℕ → ℕ → Type 0 = λ ms ts ys n. AreFiled o ms ts heads unused
+    (record p { unused_list = ys; claimed = with_count p.claimed n 1 }) in
     let at_node : (i : ℕ) → node_at (nodes new) i ≡ node_at (nodes old) i = (λ i. rw ns (node_at-grown (nodes old) i)) in
     let blank : node_at (nodes old) at ≡ blank_node = get_or_past (nodes old) at blank_node (omega arith) in
     record {
@@ -163,7 +180,7 @@ taken-again : (o : Options) (old new : List Slot) (heads : List Link) (unused ne
 taken-again o old new heads unused next some en_next en er p f =
     record {
       filed = filed;
-      inside = omega (arith, inside, ap length er, length-map new (λ (s : Slot). s.ring));
+      inside = omega (arith, inside, ap length er, length-map new ring_of);
       was_unused = unused_kind _ spare.0;
       is_unused = (stays unused.number).0 ∙ unused_kind _ spare.0;
       apart = λ k l h e. omega (arith, h, spare.1, ap p.claimed e);
@@ -191,22 +208,26 @@ taken-again o old new heads unused next some en_next en er p f =
     now : node_at (nodes new) unused.number ≡ renewed (node_at (nodes old) unused.number)
     now = ap (λ ms. node_at ms unused.number) en
         ∙ get_or-set_same (nodes old) unused.number (renewed (node_at (nodes old) unused.number)) blank_node
-        (omega (arith, inside, length-map old (λ (s : Slot). s.ring), length-map old (λ (s : Slot). s.node)))
+        (omega (arith, inside, length-map old ring_of, length-map old node_of))
 
-    stays : (i : ℕ) → ((node_at (nodes new) i).kind ≡ (node_at (nodes old) i).kind) × ((node_at (nodes new) i).area ≡ (node_at (nodes old) i).area) × (p.detached i ≡ p.detached i)
+    stays : (i : ℕ) → ((node_at (nodes new) i).kind ≡ (node_at (nodes old) i).kind) ×
+        ((node_at (nodes new) i).area ≡ (node_at (nodes old) i).area) × (p.detached i ≡ p.detached i)
     stays i = elim (cases_eq i unused.number) [
       | inl e ↦
-          subst (λ k. ((node_at (nodes new) k).kind ≡ (node_at (nodes old) k).kind) × ((node_at (nodes new) k).area ≡ (node_at (nodes old) k).area) × (p.detached k ≡ p.detached k)) (sym e)
+          subst (λ k. ((node_at (nodes new) k).kind ≡ (node_at (nodes old) k).kind) ×
+          ((node_at (nodes new) k).area ≡ (node_at (nodes old) k).area) × (p.detached k ≡ p.detached k)) (sym e)
           (ap (λ (n : Node). n.kind) now, ap (λ (n : Node). n.area) now, refl)
       | inr ne ↦ (
-          let other : node_at (nodes new) i ≡ node_at (nodes old) i = ap (λ ms. node_at ms i) en ∙ get_or-set_other (nodes old) unused.number i (renewed (node_at (nodes old) unused.number)) blank_node ne in
+          let other : node_at (nodes new) i ≡ node_at (nodes old) i = ap (λ ms. node_at ms i) en ∙
+          get_or-set_other (nodes old) unused.number i (renewed (node_at (nodes old) unused.number)) blank_node ne in
           (ap (λ (n : Node). n.kind) other, ap (λ (n : Node). n.area) other, refl))
     ]
 
     filed : AreFiled o (nodes new) (rings new) heads next (with_claimed p unused.number)
     filed =
         let taken = AreFiled-taken o (nodes old) (rings old) heads unused p f unused.number begun.0 next first en_next in
-        let moved = AreFiled-moved o (nodes old) (nodes new) (rings old) heads next _ _ p.detached (λ i. inl (stays i)) (λ i l. ap (λ k. with_count p.claimed unused.number 1 i + use_count k) (stays i).0) taken in
+        let moved = AreFiled-moved o (nodes old) (nodes new) (rings old) heads next _ _ p.detached (λ i. inl (stays i))
+        (λ i l. ap (λ k. with_count p.claimed unused.number 1 i + use_count k) (stays i).0) taken in
         rw (er, ap tail_of first) moved
 
 -- The same where the slots are seen through another name.
@@ -225,7 +246,7 @@ pub takes-fresh : (old new : List Slot) (slot : Slot) (unused at : Link) → len
 takes-fresh old new slot unused at short none ea en es =
     let last : new ≡ old ++ blank_slot ∷ [] = en ∙ ap (λ s. old ++ s ∷ []) es in
     let ns : nodes new ≡ nodes old ++ blank_node ∷ [] =
-    ap nodes last ∙ map-append (λ (s : Slot). s.node) old (blank_slot ∷ []) in
+    ap nodes last ∙ map-append node_of old (blank_slot ∷ []) in
     let same : (k : ℕ) → node_at (nodes new) k ≡ node_at (nodes old) k = λ k. rw ns (node_at-grown (nodes old) k) in
     record {
       taken = λ o heads. taken-fresh o old new slot heads unused at.number short none ea en es;
@@ -260,7 +281,7 @@ pub given-by : (o : Options) (old new : List Slot) (heads : List Link) (unused a
     → (p : Places) → AreFiled o (nodes old) (rings old) heads unused p → 0 < p.claimed at.number
     → AreFiled o (nodes new) (rings new) heads at (given_back p at.number)
 given-by o old new heads unused at ring li er en es p f h =
-    let inside : at.number < length (rings old) = rw (length-map old (λ (s : Slot). s.ring)) li in
+    let inside : at.number < length (rings old) = rw (length-map old ring_of) li in
     rw en (AreFiled-given o (nodes old) (rings old) heads unused p f (rings new) at.number ring at inside h er es refl)
 
 -- Slot 0 is detached, and nothing else stands anywhere.

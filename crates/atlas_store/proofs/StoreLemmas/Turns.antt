@@ -14,7 +14,8 @@ use Rattle.atlas_store.specs.Slots.Numbered.{erase, numbers, tally, marked, lift
 use Rattle.atlas_store.specs.Slots.Parts.{joined_node}
 use Rattle.atlas_store.specs.Slots.Standing.{IsSlot, IsWhole, IsTree}
 use Rattle.atlas_store.specs.Stored.{Shelf, Holding, Holds, IsDetachedOnly}
-use Rattle.atlas_store.specs.Store.Holdings.{IsDetachedLeaf, KeepsRoom, node_in, with_detached, with_free_lists, after_mark, after_join, after_lift}
+use Rattle.atlas_store.specs.Store.Holdings.{IsDetachedLeaf, KeepsRoom, node_in, with_detached, with_free_lists, after_mark, after_join}
+use Rattle.atlas_store.specs.Store.Holdings.{after_lift}
 use Rattle.atlas_store.specs.Store.Freeing.{IsSettlingAt, IsTurned, IsApartNext, IsApart, IsFreeable, IsFreed}
 use Rattle.atlas_store.proofs.StoreLemmas.FiledSlots.{with_mark-same, with_mark-other}
 use Rattle.atlas_search.proofs.Occurrences.{same-self, same-ne, ne-from_same}
@@ -26,7 +27,8 @@ use Rattle.atlas_store.proofs.SlotLemmas.CalmTrees.{calm-Stands, full-from_norma
 use Rattle.atlas_model.proofs.TreeLemmas.TreeNormal.{nf-normal}
 use Rattle.atlas_store.proofs.SlotLemmas.Normal.{nf-joined, nf-lifted}
 use Rattle.atlas_store.proofs.SlotLemmas.ReadTrees.{numbers-less, numbers-few}
-use Rattle.atlas_store.proofs.SlotLemmas.SettledTrees.{IsSettlingTree, full-joined, full-lifted, full-marked, settled, next-slot, previous-slot, previous-leads}
+use Rattle.atlas_store.proofs.SlotLemmas.SettledTrees.{IsSettlingTree, full-joined, full-lifted, full-marked, settled, next-slot}
+use Rattle.atlas_store.proofs.SlotLemmas.SettledTrees.{previous-slot, previous-leads}
 
 pub few-slots : (v : Shelf) (h : Holding) → Holds v h → length (nodes v.slots) ≤ 16777216
 few-slots v h w = simp length-map w.short
@@ -118,10 +120,18 @@ fewer-given v u h less j w k same_length given =
     let ru : length (rings u.slots) ≡ length u.slots = simp length-map in
     let unused_list : (x : ℕ) → occurs x less.unused_list ≡ same x j + occurs x h.unused_list = λ x. ap (occurs x) given in
     let tallies : (x : ℕ) → tally x less.tree + same x j ≡ tally x h.tree = λ x. elim (cases_lt x (length v.slots)) [
-      | inl l ↦ omega (arith, w.filed.each x (omega arith), k.filed.each x (omega arith), w.stands.numbered x, k.stands.numbered x, unused_list x)
+      | inl l ↦ omega (
+        arith,
+        w.filed.each x (omega arith),
+        k.filed.each x (omega arith),
+        w.stands.numbered x,
+        k.stands.numbered x,
+        unused_list x,
+      )
       | inr g ↦ omega (arith, beyond v h x w g, beyond u less x k (omega arith), same-ne x j (λ q. absurd (omega arith)))
     ] in
-    numbers-less (length (nodes v.slots)) j h.tree less.tree (omega arith) (λ x c. used-inside (nodes v.slots) x (rw (← w.stands.numbered x) c)) tallies
+    numbers-less (length (nodes v.slots)) j h.tree less.tree (omega arith)
+    (λ x c. used-inside (nodes v.slots) x (rw (← w.stands.numbered x) c)) tallies
   where
     beyond : (v : Shelf) (h : Holding) (x : ℕ) → Holds v h → length v.slots ≤ x → tally x h.tree ≡ 0
     beyond v h x w g =
@@ -142,7 +152,12 @@ settling-joined v u i j at h w was same_length calm leaf =
     let k : Holds u (after_join i j h) = subst (λ x. Holds u (after_join i x h)) w.next was in (
       after_join i j h,
       record {
-        leaf = record { holds = k; kind = ap (λ (n : Node). n.kind) leaf ∙ w.free; detached = with_mark-other h.detached j false i (λ q. w.apart (sym q)) ∙ w.detached };
+        leaf = record {
+          holds = k;
+          kind = ap (λ (n : Node). n.kind) leaf ∙ w.free;
+          detached =
+              with_mark-other h.detached j false i (λ q. w.apart (sym q)) ∙ w.detached;
+        };
         only = grind (arith, with_mark-same, with_mark-other, w.only, same-ne);
         calm = calm;
         full = full-joined i h.tree w.full;
@@ -179,7 +194,8 @@ apart-previous_joined v u i j h w next leaf frees =
       previous = λ f.
           let q = (node_in v i).previous.number in
           let free : (node_in v q).kind ≡ kind.Free = frees _ (rw (← ep) f) in
-          let leads : (node_in v q).next.number ≡ i = previous-leads (nodes v.slots) i (omega (arith, few-slots v h w.holds)) (whole-of v h w.holds) w.free free in
+          let leads : (node_in v q).next.number ≡ i = previous-leads (nodes v.slots) i (omega (arith, few-slots v h w.holds))
+          (whole-of v h w.holds) w.free free in
           grind (arith, w.calm.apart);
     }
 
@@ -203,7 +219,12 @@ settling-lifted v u c at h w k same_length calm free =
     let outer = with_detached c true (record h { tree = lifted c h.tree }) in (
       after_lift c at h,
       record {
-        leaf = record { holds = k; kind = free; detached = with_mark-other outer.detached at false c ne ∙ with_mark-same h.detached c true };
+        leaf = record {
+          holds = k;
+          kind = free;
+          detached = with_mark-other outer.detached at false c ne ∙
+              with_mark-same h.detached c true;
+        };
         only = grind (arith, with_mark-same, same-self, with_mark-other, same-ne);
         calm = calm;
         full = full-lifted c h.tree w.full;

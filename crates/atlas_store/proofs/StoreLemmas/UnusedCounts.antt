@@ -28,6 +28,14 @@ unused_list-count v h holds =
     let nl : length ns ≡ length v.slots = simp length-map in
     let rl : length (rings v.slots) ≡ length v.slots = simp length-map in
     let all : sums (λ i. occurs i h.unused_list + tally i h.tree) m ≡ m =
-    sums-all (λ i. occurs i h.unused_list + tally i h.tree) (length v.slots) (λ i l. omega (arith, holds.filed.each i (omega arith), holds.stands.numbered i)) in
-    let below : (k : ℕ) → 0 < tally k h.tree → k < length v.slots = (λ k l. let inside : k < length (nodes v.slots) = used-inside (nodes v.slots) k (rw (← holds.stands.numbered k) l) in omega arith) in
-    omega (arith, all, sums-add (λ i. occurs i h.unused_list) (λ i. tally i h.tree) m, sums-occurs (rings v.slots) m h.unused_list (omega arith) holds.filed.line, tallies-numbers m h.tree below)
+    sums-all (λ i. occurs i h.unused_list + tally i h.tree) (length v.slots)
+    (λ i l. omega (arith, holds.filed.each i (omega arith), holds.stands.numbered i)) in
+    let below : (k : ℕ) → 0 < tally k h.tree → k < length v.slots = (λ k l. let inside : k < length (nodes v.slots) =
+    used-inside (nodes v.slots) k (rw (← holds.stands.numbered k) l) in omega arith) in
+    omega (
+      arith,
+      all,
+      sums-add (λ i. occurs i h.unused_list) (λ i. tally i h.tree) m,
+      sums-occurs (rings v.slots) m h.unused_list (omega arith) holds.filed.line,
+      tallies-numbers m h.tree below,
+    )

@@ -7,7 +7,7 @@ use Rattle.std.proofs.lemmas.List.Elements.{All-nil, All-cons, All-head, All-res
 use Rattle.std.specs.Iterator.{Yields, CallableAtEachTurn}
 use Rattle.atlas_model.specs.Boxes.{Box}
 use Rattle.atlas_model.specs.Pixels.{box_of, rectangle_of}
-use Rattle.atlas_store.specs.Slots.{nodes, node_at, use_count}
+use Rattle.atlas_store.specs.Slots.{nodes, node_at, use_count, node_of}
 use Rattle.atlas_store.specs.Slots.Areas.{live_areas}
 use Rattle.atlas_store.specs.Slots.Lists.{is_free}
 use Rattle.atlas_store.specs.Slots.Numbered.{id_of}
@@ -93,7 +93,7 @@ module _ (v : Stored) (a : IsAtlas v) (turns : ℕ) where
       let id = id_of i (node_at ns i).generation in
       let used : 0 < use_count (node_at ns i).kind = subst (λ k. 0 < use_count k) (sym (is_alloc-true _ is)) (omega arith) in
       let inside : i < length ns = used-inside ns i used in
-      let small : i < 2 ^ 24 = omega (arith, inside, a.holds.short, length-map v.shelf.slots (λ (s : Slot). s.node)) in
+      let small : i < 2 ^ 24 = omega (arith, inside, a.holds.short, length-map v.shelf.slots node_of) in
       let named = named-true ns i id small is refl in
       let area : option_map rectangle_of _ ≡ Some (node_at ns i).area =
       named-IsAtlas v a id
@@ -113,8 +113,10 @@ module _ (v : Stored) (a : IsAtlas v) (turns : ℕ) where
   pub shown-IsAtlas : (slots : List Slot) → slots ≡ v.shelf.slots
       → All (IsShownGrant (state_of (record { stored = v; turns = turns; capacity = 0 }))) (allocated_from 0 (nodes slots))
   shown-IsAtlas slots same =
-      subst (λ l. All (IsShownGrant (state_of (record { stored = v; turns = turns; capacity = 0 }))) (allocated_from 0 (nodes l))) (sym same)
-      (each-allocated (IsShownGrant (state_of (record { stored = v; turns = turns; capacity = 0 }))) (nodes v.shelf.slots) 0 (nodes v.shelf.slots) (λ j. ap (λ i. node_at (nodes v.shelf.slots) i) (let e : 0 + j ≡ j = omega arith in e)) shown-slot)
+      subst (λ l. All (IsShownGrant (state_of (record { stored = v; turns = turns; capacity = 0 }))) (allocated_from 0 (nodes l)))
+      (sym same)
+      (each-allocated (IsShownGrant (state_of (record { stored = v; turns = turns; capacity = 0 }))) (nodes v.shelf.slots) 0
+      (nodes v.shelf.slots) (λ j. ap (λ i. node_at (nodes v.shelf.slots) i) (let e : 0 + j ≡ j = omega arith in e)) shown-slot)
 
   shown-area : (i : ℕ) → is_free (node_at (nodes v.shelf.slots) i).kind ≡ true
       → IsShownArea (node_at (nodes v.shelf.slots) i).area
@@ -132,12 +134,14 @@ module _ (v : Stored) (a : IsAtlas v) (turns : ℕ) where
   pub shown_areas-IsAtlas : (slots : List Slot) → slots ≡ v.shelf.slots → All IsShownArea (free_areas (nodes slots))
   shown_areas-IsAtlas slots same =
       subst (λ l. All IsShownArea (free_areas (nodes l))) (sym same)
-      (each-free IsShownArea (nodes v.shelf.slots) 0 (nodes v.shelf.slots) (λ j. ap (λ i. node_at (nodes v.shelf.slots) i) (let e : 0 + j ≡ j = omega arith in e)) shown-area)
+      (each-free IsShownArea (nodes v.shelf.slots) 0 (nodes v.shelf.slots)
+      (λ j. ap (λ i. node_at (nodes v.shelf.slots) i) (let e : 0 + j ≡ j = omega arith in e)) shown-area)
 
   -- Each allocated slot too.
   pub shown_live-IsAtlas : (slots : List Slot) → slots ≡ v.shelf.slots → All IsShownArea (live_areas (nodes slots))
   shown_live-IsAtlas slots same =
       live_areas-shown IsShownArea 0 (nodes slots)
-      (All-weaker (IsShownGrant (state_of (record { stored = v; turns = turns; capacity = 0 }))) (λ (x : Allocation). IsShownArea x.rectangle)
+      (All-weaker (IsShownGrant (state_of (record { stored = v; turns = turns; capacity = 0 })))
+      (λ (x : Allocation). IsShownArea x.rectangle)
       (λ x w. record { exact = w.exact; measurable = w.measurable; nonempty = w.nonempty }) (allocated_from 0 (nodes slots))
       (shown-IsAtlas slots same))

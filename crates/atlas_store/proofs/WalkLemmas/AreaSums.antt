@@ -10,7 +10,7 @@ use Rattle.atlas_model.specs.Boxes.{Axis, Sides, area, other, side}
 use Rattle.atlas_model.specs.Boxes.Axis.{Horizontal, Vertical}
 use Rattle.atlas_model.specs.Pixels.{box_of, sides_of}
 use Rattle.atlas_model.specs.Replies.{grant_of}
-use Rattle.atlas_store.specs.Slots.{nodes}
+use Rattle.atlas_store.specs.Slots.{nodes, node_of}
 use Rattle.atlas_store.specs.Slots.Areas.{live_areas, area_sum}
 use Rattle.atlas_store.specs.Slots.Reading.{tree_of}
 use Rattle.atlas_model.specs.States.{live_in, free_in}
@@ -33,52 +33,54 @@ use Rattle.atlas_store.proofs.WalkLemmas.WalkSteps.{not_alloc, free-next, free-p
 -- One slot more.
 
 pub record IsMoreArea (L : List Node → List Rectangle) (xs : List Slot) (i : ℕ) (d : Slot) : Type 0 where
-  pub list : L (nodes (drop i xs)) ≡ (get_or xs i d).node.area ∷ L (nodes (drop (i + 1) xs))
+  pub list : L (nodes (drop i xs)) ≡ (node_of (get_or xs i d)).area ∷ L (nodes (drop (i + 1) xs))
 
 pub record IsPastArea (L : List Node → List Rectangle) (xs : List Slot) (i : ℕ) : Type 0 where
   pub list : L (nodes (drop i xs)) ≡ L (nodes (drop (i + 1) xs))
 
 module _ (xs : List Slot) (i : ℕ) (d : Slot) (low : i < length xs) where
-  pub free-more : (get_or xs i d).node.kind ≡ kind.Free → IsMoreArea free_areas xs i d
+  pub free-more : (node_of (get_or xs i d)).kind ≡ kind.Free → IsMoreArea free_areas xs i d
   free-more is = record { list = free-next xs i d low is }
 
-  pub free-past : (b : Bool) → b ≡ sameb the_type (get_or xs i d).node.kind kind.Free → b ≡ false
+  pub free-past : (b : Bool) → b ≡ sameb the_type (node_of (get_or xs i d)).kind kind.Free → b ≡ false
       → IsPastArea free_areas xs i
   free-past b test is = record { list = free-pass xs i d b low test is }
 
-  pub live-more : (get_or xs i d).node.kind ≡ kind.Alloc → IsMoreArea live_areas xs i d
+  pub live-more : (node_of (get_or xs i d)).kind ≡ kind.Alloc → IsMoreArea live_areas xs i d
   live-more is =
       record {
         list =
             at_drop_more (λ ys. live_areas (nodes ys)) xs i d low
-            ∙ ap (λ k. cond (is_alloc k) ((get_or xs i d).node.area ∷ live_areas (nodes (drop (i + 1) xs))) (live_areas (nodes (drop (i + 1) xs)))) is;
+            ∙ ap (λ k. cond (is_alloc k) ((node_of (get_or xs i d)).area ∷ live_areas (nodes (drop (i + 1) xs)))
+            (live_areas (nodes (drop (i + 1) xs)))) is;
       }
 
-  pub live-past : (b : Bool) → b ≡ sameb the_type (get_or xs i d).node.kind kind.Alloc → b ≡ false
+  pub live-past : (b : Bool) → b ≡ sameb the_type (node_of (get_or xs i d)).kind kind.Alloc → b ≡ false
       → IsPastArea live_areas xs i
   live-past b test is =
       record {
         list =
             at_drop_more (λ ys. live_areas (nodes ys)) xs i d low
-            ∙ ap (λ b. cond b ((get_or xs i d).node.area ∷ live_areas (nodes (drop (i + 1) xs))) (live_areas (nodes (drop (i + 1) xs)))) (not_alloc _ b test is);
+            ∙ ap (λ b. cond b ((node_of (get_or xs i d)).area ∷ live_areas (nodes (drop (i + 1) xs)))
+            (live_areas (nodes (drop (i + 1) xs)))) (not_alloc _ b test is);
       }
 
 module _ (L : List Node → List Rectangle) (xs : List Slot) (i : ℕ) (d : Slot) where
   module _ (more : IsMoreArea L xs i d) where
-    pub more-shown : All IsShownArea (L (nodes (drop i xs))) → IsShownArea (get_or xs i d).node.area
+    pub more-shown : All IsShownArea (L (nodes (drop i xs))) → IsShownArea (node_of (get_or xs i d)).area
     more-shown all = All-head IsShownArea _ _ (subst (All IsShownArea) more.list all)
 
     pub more-rest : All IsShownArea (L (nodes (drop i xs))) → All IsShownArea (L (nodes (drop (i + 1) xs)))
     more-rest all = All-rest IsShownArea _ _ _ more.list all
 
     pub more-sum : (sum next part all : ℕ) → sum + area_sum (L (nodes (drop i xs))) ≡ all
-        → part ≡ area (box_of (get_or xs i d).node.area) → next ≡ sum + part
+        → part ≡ area (box_of (node_of (get_or xs i d)).area) → next ≡ sum + part
         → next + area_sum (L (nodes (drop (i + 1) xs))) ≡ all
     more-sum sum next part all so_far this is =
         omega (
           arith,
           ap area_sum more.list,
-          sum_by-cons (λ (r : Rectangle). area (box_of r)) (get_or xs i d).node.area (L (nodes (drop (i + 1) xs))),
+          sum_by-cons (λ (r : Rectangle). area (box_of r)) (node_of (get_or xs i d)).area (L (nodes (drop (i + 1) xs))),
         )
 
 module _ (L : List Node → List Rectangle) (xs : List Slot) (i : ℕ) (past : IsPastArea L xs i) where
@@ -136,14 +138,19 @@ sides_small Vertical s h k = (k, h)
 
 -- Of an atlas.
 module _ (v : Stored) (a : IsAtlas v) (turns : ℕ) where
-  pub live_sum-IsAtlas : area_sum (live_areas (nodes v.shelf.slots)) ≡ sum_by (λ (g : Grant). area g.box) (live_in (state_of (record { stored = v; turns = turns; capacity = 0 })))
-  live_sum-IsAtlas = live_sum-list 0 (nodes v.shelf.slots) ∙ sum_by-counts grant_area (map grant_of (allocated_from 0 (nodes v.shelf.slots))) (live (sides_of v.size) (tree_of (nodes v.shelf.slots))) (live-IsAtlas v a)
+  pub live_sum-IsAtlas : area_sum (live_areas (nodes v.shelf.slots)) ≡ sum_by (λ (g : Grant). area g.box)
+      (live_in (state_of (record { stored = v; turns = turns; capacity = 0 })))
+  live_sum-IsAtlas = live_sum-list 0 (nodes v.shelf.slots) ∙ sum_by-counts grant_area
+      (map grant_of (allocated_from 0 (nodes v.shelf.slots))) (live (sides_of v.size) (tree_of (nodes v.shelf.slots))) (live-IsAtlas v a)
 
   pub free_sum-IsAtlas : area_sum
       (free_areas (nodes v.shelf.slots)) ≡ sum_by area (free_in (state_of (record { stored = v; turns = turns; capacity = 0 })))
-  free_sum-IsAtlas = sym (sum_by-map area box_of (free_areas (nodes v.shelf.slots))) ∙ sum_by-counts area (map box_of (free_areas (nodes v.shelf.slots))) (free_boxes (sides_of v.size) (tree_of (nodes v.shelf.slots))) (free-IsAtlas v a)
+  free_sum-IsAtlas = sym (sum_by-map area box_of (free_areas (nodes v.shelf.slots))) ∙
+      sum_by-counts area (map box_of (free_areas (nodes v.shelf.slots))) (free_boxes (sides_of v.size) (tree_of (nodes v.shelf.slots)))
+      (free-IsAtlas v a)
 
-  pub areas-IsAtlas : sum_by (λ (g : Grant). area g.box) (live_in (state_of (record { stored = v; turns = turns; capacity = 0 }))) + sum_by area (free_in (state_of (record { stored = v; turns = turns; capacity = 0 })))
+  pub areas-IsAtlas : sum_by (λ (g : Grant). area g.box) (live_in (state_of (record { stored = v; turns = turns; capacity = 0 }))) + sum_by
+      area (free_in (state_of (record { stored = v; turns = turns; capacity = 0 })))
       ≡ (sides_of v.size).width * (sides_of v.size).height
   areas-IsAtlas = search (rules, areas_of_boxes, sum_by-append, sum_by-map)
 

@@ -61,7 +61,8 @@ module _ (v : Stored) (a : IsAtlas v) (id : ℕ) where
   pub live-named : Contains (ids (tree_of (nodes v.shelf.slots)).members) id → is_named (nodes v.shelf.slots) id ≡ true
   live-named live =
       let ns = nodes v.shelf.slots in
-      let at = id_slot ns a.holding.sequence no_slot 0 a.holding.tree id a.holds.stands.standing (subst (λ m. Contains (ids m) id) (members-IsAtlas v a) live) in
+      let at = id_slot ns a.holding.sequence no_slot 0 a.holding.tree id a.holds.stands.standing
+      (subst (λ m. Contains (ids m) id) (members-IsAtlas v a) live) in
       let used : 0 < use_count (node_at ns at.0).kind = subst (λ k. 0 < use_count k) (sym at.1.kind) (omega arith) in
       let inside : at.0 < length ns = used-inside ns at.0 used in
       let short = nodes-short v.shelf.slots a.holds.short in
@@ -92,9 +93,11 @@ module _ (v : Stored) (a : IsAtlas v) (id : ℕ) where
     tree-freed =
         let is = named-parts (nodes v.shelf.slots) id (live-named live) in
         let below : length (nodes u.slots) < no_slot = nodes-below u.slots freed.holds.short in
-        let none : tally no_slot a.holding.tree ≡ 0 = a.holds.stands.numbered no_slot ∙ ap use_count (none-unused (nodes v.shelf.slots) (nodes-below v.shelf.slots a.holds.short)) in
+        let none : tally no_slot a.holding.tree ≡ 0 = a.holds.stands.numbered no_slot ∙
+        ap use_count (none-unused (nodes v.shelf.slots) (nodes-below v.shelf.slots a.holds.short)) in
         let some = nonempty-IsAtlas v a in
-        let first : first_slot h.tree ≡ no_slot → ⊥ = λ q. absurd (omega (arith, some, none, ap (λ k. tally k a.holding.tree) (sym freed.first ∙ q))) in
+        let first : first_slot h.tree ≡ no_slot → ⊥ = λ q. absurd (omega
+        (arith, some, none, ap (λ k. tally k a.holding.tree) (sym freed.first ∙ q))) in
         let with_members : tree.Members → Tree = λ m. record { axis = a.holding.sequence.axis; members = m } in
         tree_of-Stands (nodes u.slots) h.sequence h.tree below freed.holds.top freed.holds.stands (nonempty-first h.tree first)
         ∙ ap (λ s. record { axis = s.axis; members = erase h.tree }) freed.sequence
@@ -102,10 +105,20 @@ module _ (v : Stored) (a : IsAtlas v) (id : ℕ) where
         ∙ sym (ap (release (only id)) (tree_of-IsAtlas v a))
 
     pub state-IsFreed : (m turns before : ℕ)
-        → state_of (record { stored = record { shelf = u; first = v.first; used = m; size = v.size; limit = v.limit }; turns = turns; capacity = 0 })
+        → state_of (record {
+          stored = record { shelf = u; first = v.first; used = m; size = v.size; limit = v.limit };
+          turns = turns;
+          capacity = 0;
+        })
         ≡ after_freeing (state_of (record { stored = v; turns = before; capacity = 0 })) (only id)
     state-IsFreed m turns before =
-        state-freed (state_of (record { stored = record { shelf = u; first = v.first; used = m; size = v.size; limit = v.limit }; turns = turns; capacity = 0 })) (state_of (record { stored = v; turns = before; capacity = 0 })) (only id) tree-freed refl (ap options_of same_options) refl same_length a.sound
+        state-freed (state_of (record {
+          stored = record { shelf = u; first = v.first; used = m; size = v.size; limit = v.limit };
+          turns =
+              turns;
+          capacity = 0;
+        })) (state_of (record { stored = v; turns = before; capacity = 0 })) (only id) tree-freed refl
+        (ap options_of same_options) refl same_length a.sound
 
     pub given-few : n ≤ v.used
     given-few = omega (arith, freed.given, a.used)
@@ -120,14 +133,20 @@ module _ (v : Stored) (a : IsAtlas v) (id : ℕ) where
       across = rw freed.sequence a.across;
       first = a.first ∙ sym freed.first;
       used = omega (arith, freed.given, a.used);
-      sound = subst IsSound (sym (state-IsFreed (v.used - n) 0 0)) (freeing_sound (state_of (record { stored = v; turns = 0; capacity = 0 })) (only id) a.sound);
+      sound = subst IsSound (sym (state-IsFreed (v.used - n) 0 0)) (freeing_sound
+          (state_of (record { stored = v; turns = 0; capacity = 0 })) (only id) a.sound);
       exact = a.exact;
       limited = a.limited;
     }
 
     -- As many members fewer as slots were given back.
     pub used-IsFreed : (m turns before : ℕ)
-        → used_in (state_of (record { stored = record { shelf = u; first = v.first; used = m; size = v.size; limit = v.limit }; turns = turns; capacity = 0 })) + n
+        → used_in (state_of (record {
+          stored = record { shelf = u; first = v.first; used = m; size = v.size; limit = v.limit };
+          turns =
+              turns;
+          capacity = 0;
+        })) + n
         ≡ used_in (state_of (record { stored = v; turns = before; capacity = 0 }))
     used-IsFreed m turns before = grind (arith, tree-freed, named-parts, live-named, members-IsAtlas, numbers-erase)
 
@@ -136,10 +155,18 @@ pub record FreesBox (v : Stored) (u : Shelf) (id n : ℕ) : Type 0 where
   pub few : n ≤ v.used
   pub atlas : IsAtlas (record { shelf = u; first = v.first; used = v.used - n; size = v.size; limit = v.limit })
   pub state : (m turns before : ℕ)
-      → state_of (record { stored = record { shelf = u; first = v.first; used = m; size = v.size; limit = v.limit }; turns = turns; capacity = 0 })
+      → state_of (record {
+        stored = record { shelf = u; first = v.first; used = m; size = v.size; limit = v.limit };
+        turns = turns;
+        capacity = 0;
+      })
       ≡ after_freeing (state_of (record { stored = v; turns = before; capacity = 0 })) (only id)
   pub used : (m turns before : ℕ)
-      → used_in (state_of (record { stored = record { shelf = u; first = v.first; used = m; size = v.size; limit = v.limit }; turns = turns; capacity = 0 })) + n
+      → used_in (state_of (record {
+        stored = record { shelf = u; first = v.first; used = m; size = v.size; limit = v.limit };
+        turns = turns;
+        capacity = 0;
+      })) + n
       ≡ used_in (state_of (record { stored = v; turns = before; capacity = 0 }))
 
 pub frees-box : (v : Stored) (a : IsAtlas v) (u : Shelf) (id at n : ℕ)

@@ -7,7 +7,7 @@ use Rattle.std.proofs.lemmas.List.{set-set, set-get_or}
 use Rattle.atlas_store.specs.Batches.{AreNamedOnce, hidden, AreHidable}
 use Rattle.atlas_model.specs.Changes.{only}
 use Rattle.atlas_model.specs.Laws.TreeLaws.{is_among}
-use Rattle.atlas_store.specs.Slots.{nodes, rings, node_at, blank_node, use_count}
+use Rattle.atlas_store.specs.Slots.{nodes, rings, node_at, blank_node, use_count, node_of, ring_of}
 use Rattle.atlas_store.specs.Visits.{is_alloc, is_named}
 use Rattle.atlas_store.specs.Slots.Standing.{with_kind}
 use Rattle.atlas_store.specs.declared.slots.Node.{Node}
@@ -43,7 +43,8 @@ pub hidden-more : (ns now new : List Node) (ids : List ℕ) (k id at : ℕ) → 
     → now ≡ hidden ns (take k ids) → new ≡ with_kind now at kind.Unused → new ≡ hidden ns (take (k + 1) ids)
 hidden-more ns now new ids k id at l is slot e w =
     let here : take (k + 1) ids ≡ take k ids ++ id ∷ [] = take_more ids k id l ∙ ap (λ v. take k ids ++ v ∷ []) (sym is) in
-    w ∙ ap (λ v. with_kind now v kind.Unused) slot ∙ ap (λ v. with_kind v (id % 2 ^ 24) kind.Unused) e ∙ sym (ap (hidden ns) here ∙ hidden-append ns (take k ids) (id ∷ []))
+    w ∙ ap (λ v. with_kind now v kind.Unused) slot ∙ ap (λ v. with_kind v (id % 2 ^ 24) kind.Unused) e ∙
+    sym (ap (hidden ns) here ∙ hidden-append ns (take k ids) (id ∷ []))
 
 pub hidable-more : (ns now : List Node) (ids : List ℕ) (k id : ℕ) → k < length ids → id ≡ get_or ids k id
     → now ≡ hidden ns (take k ids) → AreHidable ns (take k ids)
@@ -57,7 +58,8 @@ pub named-next : (ns : List Node) (ids : List ℕ) (k id : ℕ) → k < length i
     → is_named (hidden ns (take k ids)) id ≡ true
 named-next ns ids k id l is h =
     let here : take (k + 1) ids ≡ take k ids ++ id ∷ [] = take_more ids k id l ∙ ap (λ v. take k ids ++ v ∷ []) (sym is) in
-    let front : AreHidable ns (take (k + 1) ids) = hidable-front ns (take (k + 1) ids) (drop (k + 1) ids) (subst (AreHidable ns) (sym (take-append-drop (k + 1) ids)) h) in
+    let front : AreHidable ns (take (k + 1) ids) = hidable-front ns (take (k + 1) ids) (drop (k + 1) ids)
+    (subst (AreHidable ns) (sym (take-append-drop (k + 1) ids)) h) in
     (hidable-back ns (take k ids) (id ∷ []) (subst (AreHidable ns) here front)).0
 
 pub not-hidable : (ns now : List Node) (ids : List ℕ) (k id : ℕ) → k < length ids → id ≡ get_or ids k id
@@ -70,7 +72,8 @@ with_kind-back : (ns : List Node) (i : ℕ) → (node_at ns i).kind ≡ kind.All
     → with_kind (with_kind ns i kind.Unused) i kind.Alloc ≡ ns
 with_kind-back ns i was =
     let inside : i < length ns = used-inside ns i (subst (λ k. 0 < use_count k) (sym was) (omega arith)) in
-    let there : node_at (with_kind ns i kind.Unused) i ≡ record (node_at ns i) { kind = kind.Unused } = get_or-set_same ns i _ blank_node inside in
+    let there : node_at (with_kind ns i kind.Unused) i ≡ record (node_at ns i) { kind = kind.Unused } =
+    get_or-set_same ns i _ blank_node inside in
     let same : record (node_at ns i) { kind = kind.Alloc } ≡ node_at ns i = ap (λ k. record (node_at ns i) { kind = k }) (sym was) in
     ap (λ n. set (with_kind ns i kind.Unused) i (record n { kind = kind.Alloc })) there
     ∙ ap (λ n. set (with_kind ns i kind.Unused) i n) same
@@ -82,7 +85,8 @@ pub shown-inside : (ns now : List Node) (ids : List ℕ) (k id at m : ℕ) → k
     → now ≡ hidden ns (take (k + 1) ids) → AreHidable ns ids → m ≡ length now → at < m
 shown-inside ns now ids k id at m l is slot e h em =
     let was = named-parts (hidden ns (take k ids)) id (named-next ns ids k id l is h) in
-    let used : 0 < use_count (node_at (hidden ns (take k ids)) (id % 2 ^ 24)).kind = subst (λ v. 0 < use_count v) (sym was.kind) (omega arith) in
+    let used : 0 < use_count (node_at (hidden ns (take k ids)) (id % 2 ^ 24)).kind =
+    subst (λ v. 0 < use_count v) (sym was.kind) (omega arith) in
     let inside : id % 2 ^ 24 < length (hidden ns (take k ids)) = used-inside (hidden ns (take k ids)) (id % 2 ^ 24) used in
     omega (arith, inside, slot, em, ap length e, length-hidden ns (take k ids), length-hidden ns (take (k + 1) ids))
 
@@ -93,8 +97,10 @@ pub shown-more : (ns now new : List Node) (ids : List ℕ) (k id at : ℕ) → k
 shown-more ns now new ids k id at l is slot e h w =
     let here : take (k + 1) ids ≡ take k ids ++ id ∷ [] = take_more ids k id l ∙ ap (λ v. take k ids ++ v ∷ []) (sym is) in
     let was = named-parts (hidden ns (take k ids)) id (named-next ns ids k id l is h) in
-    let last : now ≡ with_kind (hidden ns (take k ids)) (id % 2 ^ 24) kind.Unused = e ∙ ap (hidden ns) here ∙ hidden-append ns (take k ids) (id ∷ []) in
-    w ∙ ap (λ v. with_kind now v kind.Alloc) slot ∙ ap (λ v. with_kind v (id % 2 ^ 24) kind.Alloc) last ∙ with_kind-back (hidden ns (take k ids)) (id % 2 ^ 24) was.kind
+    let last : now ≡ with_kind (hidden ns (take k ids)) (id % 2 ^ 24) kind.Unused = e ∙ ap (hidden ns) here ∙
+    hidden-append ns (take k ids) (id ∷ []) in
+    w ∙ ap (λ v. with_kind now v kind.Alloc) slot ∙ ap (λ v. with_kind v (id % 2 ^ 24) kind.Alloc) last ∙
+    with_kind-back (hidden ns (take k ids)) (id % 2 ^ 24) was.kind
 
 or-false : (a b : Bool) → a ≡ false → b ≡ false → (a || b) ≡ false
 or-false a b ea eb = rw (ea, eb) refl
@@ -115,12 +121,22 @@ module _ (ns : List Node) (id : ℕ) where
   apart : (k : ℕ) → is_named (with_kind ns (id % 2 ^ 24) kind.Unused) k ≡ true → k % 2 ^ 24 ≡ id % 2 ^ 24 → ⊥
   apart k named e =
       let is = named-parts (with_kind ns (id % 2 ^ 24) kind.Unused) k named in
-      let used : 0 < use_count (node_at (with_kind ns (id % 2 ^ 24) kind.Unused) (k % 2 ^ 24)).kind = subst (λ v. 0 < use_count v) (sym is.kind) (omega arith) in
-      let within : k % 2 ^ 24 < length (with_kind ns (id % 2 ^ 24) kind.Unused) = used-inside (with_kind ns (id % 2 ^ 24) kind.Unused) (k % 2 ^ 24) used in
-      let inside : id % 2 ^ 24 < length ns = omega (arith, within, e, length-set ns (id % 2 ^ 24) (record (node_at ns (id % 2 ^ 24)) { kind = kind.Unused })) in
-      let there : node_at (with_kind ns (id % 2 ^ 24) kind.Unused) (id % 2 ^ 24) ≡ record (node_at ns (id % 2 ^ 24)) { kind = kind.Unused } =
+      let used : 0 < use_count (node_at (with_kind ns (id % 2 ^ 24) kind.Unused) (k % 2 ^ 24)).kind =
+      subst (λ v. 0 < use_count v) (sym is.kind) (omega arith) in
+      let within : k % 2 ^ 24 < length (with_kind ns (id % 2 ^ 24) kind.Unused) =
+      used-inside (with_kind ns (id % 2 ^ 24) kind.Unused) (k % 2 ^ 24) used in
+      let inside : id % 2 ^ 24 < length ns = omega (
+        arith,
+        within,
+        e,
+        length-set ns (id % 2 ^ 24)
+            (record (node_at ns (id % 2 ^ 24)) { kind = kind.Unused }),
+      ) in
+      let there : node_at (with_kind ns (id % 2 ^ 24) kind.Unused) (id % 2 ^ 24) ≡ record (node_at ns (id % 2 ^ 24))
+      { kind = kind.Unused } =
       get_or-set_same ns (id % 2 ^ 24) _ blank_node inside in
-      let alloc : (node_at (with_kind ns (id % 2 ^ 24) kind.Unused) (id % 2 ^ 24)).kind ≡ kind.Alloc = ap (λ v. (node_at (with_kind ns (id % 2 ^ 24) kind.Unused) v).kind) (sym e) ∙ is.kind in
+      let alloc : (node_at (with_kind ns (id % 2 ^ 24) kind.Unused) (id % 2 ^ 24)).kind ≡ kind.Alloc =
+      ap (λ v. (node_at (with_kind ns (id % 2 ^ 24) kind.Unused) v).kind) (sym e) ∙ is.kind in
       let unused : (node_at (with_kind ns (id % 2 ^ 24) kind.Unused) (id % 2 ^ 24)).kind ≡ kind.Unused = ap (λ (n : Node). n.kind) there in
       let both : kind.Unused ≡ kind.Alloc = sym unused ∙ alloc in
       cc
@@ -169,8 +185,20 @@ named-hidden ns ids count front last = grind (arith, hidable-named, take_all, na
 cons-same : (x y : Slot) (xs ys : List Slot) → x ≡ y → xs ≡ ys → x ∷ xs ≡ y ∷ ys
 cons-same x y xs ys e f = ap (λ v. v ∷ xs) e ∙ ap (λ v. y ∷ v) f
 
-slot-same : (x y : Slot) → x.node ≡ y.node → x.ring ≡ y.ring → x ≡ y
-slot-same x y a b = λ i. record { node = a i; ring = b i }
+slot-same : (x y : Slot) → node_of x ≡ node_of y → ring_of x ≡ ring_of y → x ≡ y
+slot-same x y a b = λ i. record {
+  parent = (a i).parent;
+  previous = (a i).previous;
+  next = (a i).next;
+  area = (a i).area;
+  up = (b i).up;
+  left = (b i).left;
+  right = (b i).right;
+  kind = (a i).kind;
+  axis = (a i).axis;
+  generation = (a i).generation;
+  is_fork = (b i).is_fork;
+}
 
 -- Slots are their parts.
 pub slots-same : (xs ys : List Slot) → nodes xs ≡ nodes ys → rings xs ≡ rings ys → xs ≡ ys

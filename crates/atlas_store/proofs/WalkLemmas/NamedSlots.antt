@@ -7,7 +7,7 @@ use Rattle.std.proofs.lemmas.List.{length-map}
 use Rattle.std.specs.List.{count_by}
 use Rattle.atlas_model.specs.Boxes.{Box, same_box}
 use Rattle.atlas_model.specs.Pixels.{box_of, rectangle_of, sides_of}
-use Rattle.atlas_store.specs.Slots.{nodes, node_at, use_count}
+use Rattle.atlas_store.specs.Slots.{nodes, node_at, use_count, node_of}
 use Rattle.atlas_store.specs.Slots.Numbered.{id_of}
 use Rattle.atlas_store.specs.Slots.Reading.{tree_of}
 use Rattle.atlas_store.specs.Stored.{Stored, IsAtlas}
@@ -58,8 +58,18 @@ slot_sum-some w i (n ∷ ns) h = by_weight (w i n) refl (slot_sum-some w (i + 1)
     by_weight zero e rest =
         let later = rest (omega arith) in
         let on : i + 1 + later.at ≡ i + suc later.at = omega arith in
-        record { at = suc later.at; inside = let l = later.inside in omega arith; weighs = subst (λ k. 1 ≤ w k (node_at ns later.at)) on later.weighs }
-    by_weight (suc x) e rest = record { at = 0; inside = omega arith; weighs = subst (λ k. 1 ≤ w k n) (let e : i ≡ i + 0 = omega arith in e) (omega arith) }
+        record {
+          at = suc later.at;
+          inside = let l = later.inside in omega arith;
+          weighs =
+              subst (λ k. 1 ≤ w k (node_at ns later.at)) on later.weighs;
+        }
+    by_weight (suc x) e rest = record {
+      at = 0;
+      inside = omega arith;
+      weighs = subst (λ k. 1 ≤ w k n) (let e : i ≡ i + 0 = omega arith in e)
+          (omega arith);
+    }
 
 -- The same for all slots.
 all-at : (w : ℕ → Node → ℕ) (j : ℕ) (ns : List Node) → j < length ns → w j (node_at ns j) ≤ slot_sum w 0 ns
@@ -98,7 +108,17 @@ named-true ns i id l is e = grind arith
 -- No slot is named by an id that counts nothing.
 named-false : (ns : List Node) (id : ℕ) → slot_sum (alloc_weight (has_grant_id id)) 0 ns ≡ 0 → is_named ns id ≡ false
 named-false ns id none =
-    grind (arith, and_parts, is_alloc-true, eqb-true, eq-eqb, used-inside ns, id_of-parts id, one_if, all-at (alloc_weight (has_grant_id id)) (id % 2 ^ 24) ns)
+    grind (
+      arith,
+      and_parts,
+      is_alloc-true,
+      eqb-true,
+      eq-eqb,
+      used-inside ns,
+      id_of-parts id,
+      one_if,
+      all-at (alloc_weight (has_grant_id id)) (id % 2 ^ 24) ns,
+    )
 
 -- A live id has a rectangle.
 pub not_missed : (o : Option Box) → IsSome o → option_map rectangle_of o ≡ None → ⊥
@@ -106,9 +126,9 @@ not_missed o some e = grind arith
 
 -- The node that a slot shows.
 node_at-slot : (slots : List Slot) (i : ℕ) (s : Slot) → i < length slots → s ≡ get_or slots i s
-    → node_at (nodes slots) i ≡ s.node
+    → node_at (nodes slots) i ≡ node_of s
 node_at-slot [] i s l e = absurd (omega arith)
-node_at-slot (x ∷ xs) zero s l e = ap (λ (k : Slot). k.node) (sym e)
+node_at-slot (x ∷ xs) zero s l e = ap node_of (sym e)
 node_at-slot (x ∷ xs) (suc i) s l e = node_at-slot xs i s (omega arith) e
 
 module _ (v : Stored) (a : IsAtlas v) (id : ℕ) where
@@ -127,29 +147,34 @@ module _ (v : Stored) (a : IsAtlas v) (id : ℕ) where
       let both = find-some (has_grant_id id) (has_both id x.box) _ x e (λ h. and_from _ _ h (same_box-itself x.box)) in
       let there = all-some (alloc_weight (has_both id x.box)) ns (subst (λ k. 1 ≤ k) (counted (has_both id x.box)) both.1) in
       let i = there.0 in
-      let parts = weighs-parts (is_alloc (node_at ns i).kind) (has_both id x.box (grant (id_of i (node_at ns i).generation) (box_of (node_at ns i).area))) there.2 in
+      let parts = weighs-parts (is_alloc (node_at ns i).kind) (has_both id x.box
+      (grant (id_of i (node_at ns i).generation) (box_of (node_at ns i).area))) there.2 in
       let passes = and_parts (id_of i (node_at ns i).generation == id) (same_box (box_of (node_at ns i).area) x.box) parts.1 in
-      let small : i < 2 ^ 24 = omega (arith, there.1, a.holds.short, length-map v.shelf.slots (λ (s : Slot). s.node)) in
+      let small : i < 2 ^ 24 = omega (arith, there.1, a.holds.short, length-map v.shelf.slots node_of) in
       let named = named-true ns i id small parts.0 (eqb-true _ _ passes.0) in
       let used : 0 < use_count (node_at ns i).kind = subst (λ k. 0 < use_count k) (sym (is_alloc-true _ parts.0)) (omega arith) in
-      let exact : (node_at ns i).area ≡ rectangle_of (box_of (node_at ns i).area) = Stands-exact ns i a.holding.sequence a.holding.tree a.holds.stands used in
+      let exact : (node_at ns i).area ≡ rectangle_of (box_of (node_at ns i).area) =
+      Stands-exact ns i a.holding.sequence a.holding.tree a.holds.stands used in
       let area : (node_at ns i).area ≡ rectangle_of x.box = exact ∙ ap rectangle_of (same_box-true _ _ passes.1) in
       let here : (node_at ns (id % 2 ^ 24)).area ≡ rectangle_of x.box = ap (λ k. (node_at ns k).area) named.1 ∙ area in
       sym (ap (λ b. cond b (Some (node_at ns (id % 2 ^ 24)).area) None) named.0 ∙ ap (λ (r : Rectangle). Some r) here)
 
   -- The rectangle of an id is that of the slot that it names.
-  pub named-IsAtlas : option_map rectangle_of (option_map (λ (g : Grant). g.box) (find (λ g. g.id == id) (live (sides_of v.size) (tree_of (nodes v.shelf.slots)))))
+  pub named-IsAtlas : option_map rectangle_of (option_map (λ (g : Grant). g.box)
+      (find (λ g. g.id == id) (live (sides_of v.size) (tree_of (nodes v.shelf.slots)))))
       ≡ named_area (nodes v.shelf.slots) id
   named-IsAtlas = by_found (find (has_grant_id id) (live (sides_of v.size) (tree_of (nodes v.shelf.slots)))) refl
 
   pub named-found : (slots : List Slot) (at : ℕ) (s : Slot) → slots ≡ v.shelf.slots → is_named (nodes slots) id ≡ true
       → at ≡ id % 2 ^ 24 → at < length slots
       → s ≡ get_or v.shelf.slots at s
-      → option_map rectangle_of (option_map (λ (g : Grant). g.box) (find (λ g. g.id == id) (live (sides_of v.size) (tree_of (nodes v.shelf.slots)))))
-      ≡ Some s.node.area
+      → option_map rectangle_of (option_map (λ (g : Grant). g.box) (find (λ g. g.id == id)
+      (live (sides_of v.size) (tree_of (nodes v.shelf.slots)))))
+      ≡ Some s.area
   named-found slots at s same named is inside read = grind (arith, node_at-slot, at, inside, named-IsAtlas)
 
   pub named-missed : (slots : List Slot) → slots ≡ v.shelf.slots → is_named (nodes slots) id ≡ false
-      → option_map rectangle_of (option_map (λ (g : Grant). g.box) (find (λ g. g.id == id) (live (sides_of v.size) (tree_of (nodes v.shelf.slots)))))
+      → option_map rectangle_of (option_map (λ (g : Grant). g.box) (find (λ g. g.id == id)
+      (live (sides_of v.size) (tree_of (nodes v.shelf.slots)))))
       ≡ None
   named-missed slots same missed = grind (arith, named-IsAtlas)

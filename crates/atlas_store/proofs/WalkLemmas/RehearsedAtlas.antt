@@ -73,7 +73,8 @@ module _ (v : Stored) (a : IsAtlas v) where
       in-shown turns capacity marks (λ k. false) e (record {
         top = a.holds.top;
         stands = a.holds.stands;
-        shown = shows-none (nodes v.shelf.slots) marks a.holding.sequence no_slot 0 a.holding.tree (all-unmarked marks h) a.holds.stands.standing normal;
+        shown = shows-none (nodes v.shelf.slots) marks a.holding.sequence no_slot 0 a.holding.tree (all-unmarked marks h)
+            a.holds.stands.standing normal;
       })
 
   -- A run of open members is a free box of the atlas that is left.
@@ -100,5 +101,6 @@ module _ (v : Stored) (a : IsAtlas v) where
         → IfSome (live_box (state_of (value turns capacity)) id) P
     named-box turns capacity P h =
         let ns = nodes v.shelf.slots in
-        let area : named_area ns id ≡ Some (node_at ns (slot_of id)).area = ap (λ b. cond b (Some (node_at ns (slot_of id)).area) None) (live-named v a id live) in
+        let area : named_area ns id ≡ Some (node_at ns (slot_of id)).area = ap (λ b. cond b (Some (node_at ns (slot_of id)).area) None)
+        (live-named v a id live) in
         if_box P (live_box (state_of (value turns capacity)) id) (node_at ns (slot_of id)).area (named-IsAtlas v a id ∙ area) (rw is at h)

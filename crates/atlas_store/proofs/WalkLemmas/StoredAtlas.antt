@@ -6,7 +6,7 @@ use Rattle.atlas_model.specs.Boxes.{Axis, Box, side, origin}
 use Rattle.atlas_model.specs.Boxes.Axis.{Horizontal, Vertical}
 use Rattle.atlas_model.specs.Pixels.{box_of, sides_of}
 use Rattle.atlas_model.specs.Replies.{grant_of}
-use Rattle.atlas_store.specs.Slots.{nodes, node_at}
+use Rattle.atlas_store.specs.Slots.{nodes, node_at, node_of}
 use Rattle.atlas_search.specs.Numbers.{no_slot}
 use Rattle.atlas_store.specs.Slots.Numbered.{Numbered, first_slot, erase}
 use Rattle.atlas_store.specs.Slots.Reading.{tree_of}
@@ -37,10 +37,10 @@ origin-spot Horizontal start e = let back : 0 ≡ start = sym e in λ i. record 
 origin-spot Vertical start e = let back : 0 ≡ start = sym e in λ i. record { x = back i; y = 0 }
 
 pub nodes-short : (slots : List Slot) → length slots ≤ 16777216 → length (nodes slots) ≤ 16777216
-nodes-short slots h = omega (arith, length-map slots (λ (s : Slot). s.node))
+nodes-short slots h = omega (arith, length-map slots node_of)
 
 pub nodes-below : (slots : List Slot) → length slots ≤ 16777216 → length (nodes slots) < no_slot
-nodes-below slots h = omega (arith, length-map slots (λ (s : Slot). s.node))
+nodes-below slots h = omega (arith, length-map slots node_of)
 
 -- A member that nothing follows is the last.
 lone : (ns : List Node) (s : Sequence) (n : Numbered) → length ns < no_slot → Stands ns s n → HasMember n
@@ -73,12 +73,14 @@ module _ (v : Stored) (a : IsAtlas v) where
 
   -- The live grants are those of the allocated slots.
   pub live-IsAtlas : (p : Grant → Bool)
-      → count_by p (map grant_of (allocated_from 0 (nodes v.shelf.slots))) ≡ count_by p (live (sides_of v.size) (tree_of (nodes v.shelf.slots)))
+      → count_by p (map grant_of (allocated_from 0 (nodes v.shelf.slots))) ≡ count_by p
+      (live (sides_of v.size) (tree_of (nodes v.shelf.slots)))
   live-IsAtlas p = grind (arith, tree_of-IsAtlas, live_among, origin-spot, live-Stands)
 
   -- The free boxes are those of the free slots.
   pub free-IsAtlas : (p : Box → Bool)
-      → count_by p (map box_of (free_areas (nodes v.shelf.slots))) ≡ count_by p (free_boxes (sides_of v.size) (tree_of (nodes v.shelf.slots)))
+      → count_by p (map box_of (free_areas (nodes v.shelf.slots))) ≡ count_by p
+      (free_boxes (sides_of v.size) (tree_of (nodes v.shelf.slots)))
   free-IsAtlas p = grind (arith, tree_of-IsAtlas, free_among, origin-spot, free-Stands)
 
   pub used-IsAtlas : v.used ≡ tree.node_count (tree_of (nodes v.shelf.slots)).members
@@ -103,9 +105,12 @@ module _ (v : Stored) (a : IsAtlas v) where
       let t = tree_of ns in
       let free : IsOneFree (sides_of v.size) t = (nothing_live (sides_of v.size) t a.sound.well_formed a.sound.normal none).0 in
       let one = one_leaf a.holding.tree (side t.axis (sides_of v.size)) (sym members-IsAtlas ∙ free) in
-      let at : Stands ns a.holding.sequence (Free one.0 (side t.axis (sides_of v.size)) End) = subst (Stands ns a.holding.sequence) one.1 a.holds.stands in
-      let first : v.first.number ≡ one.0 = a.first ∙ ap first_slot one.1 in
-      (subst (λ k. (node_at ns k).kind ≡ kind.Free) (sym first) at.standing.0.kind, subst (λ k. (node_at ns k).next.number ≡ no_slot) (sym first) at.standing.0.next)
+      let at : Stands ns a.holding.sequence (Free one.0 (side t.axis (sides_of v.size)) End) =
+      subst (Stands ns a.holding.sequence) one.1 a.holds.stands in
+      let first : v.first.number ≡ one.0 = a.first ∙ ap first_slot one.1 in (
+        subst (λ k. (node_at ns k).kind ≡ kind.Free) (sym first) at.standing.0.kind,
+        subst (λ k. (node_at ns k).next.number ≡ no_slot) (sym first) at.standing.0.next,
+      )
 
   -- Both, of a copy of the first slot.
   pub idle-read : (n : Node) → n ≡ node_at (nodes v.shelf.slots) v.first.number → n.kind ≡ kind.Free

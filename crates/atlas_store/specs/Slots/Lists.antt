@@ -11,7 +11,7 @@ use Rattle.atlas_search.specs.Bands.{list_of}
 use Rattle.atlas_search.specs.Tables.{head_of}
 use Rattle.atlas_store.specs.Slots.{node_at, ring_at, use_count}
 use Rattle.atlas_search.specs.Numbers.{front, no_slot, occurs}
-use Rattle.atlas_search.specs.Heaps.{IsListed}
+use Rattle.atlas_search.specs.Forks.{IsListed}
 use Rattle.atlas_store.specs.declared.slots.lists.Recent.{Recent}
 pub use Rattle.atlas_store.specs.Slots.Entries.{entries, is_free}
 

@@ -20,16 +20,17 @@ use Rattle.atlas_store.specs.Store.Holdings.{shelf_of, IsTakenOnce}
 abbrev pub one_free_slot : Size → Slot
 one_free_slot size =
     record {
-      node = record {
-        parent = record { number = no_slot };
-        previous = record { number = no_slot };
-        next = record { number = no_slot };
-        area = record { min = record { x = pos 0; y = pos 0 }; max = record { x = size.width; y = size.height } };
-        kind = kind.Free;
-        axis = orientation.Vertical;
-        generation = 0;
-      };
-      ring = record { up = record { number = no_slot }; left = record { number = no_slot }; right = record { number = no_slot } };
+      parent = record { number = no_slot };
+      previous = record { number = no_slot };
+      next = record { number = no_slot };
+      area = record { min = record { x = pos 0; y = pos 0 }; max = record { x = size.width; y = size.height } };
+      up = record { number = no_slot };
+      left = record { number = no_slot };
+      right = record { number = no_slot };
+      kind = kind.Free;
+      axis = orientation.Vertical;
+      generation = 0;
+      is_fork = false;
     }
 
 -- What one free slot holds, while it is detached.

@@ -1,5 +1,5 @@
 //! A slot as an entry of a list.
-use crate::slots::{Ring, Slot};
+use crate::slots::Slot;
 use atlas_model::Rectangle;
 use atlas_search::heap::Linked;
 use atlas_search::link::Link;
@@ -11,19 +11,23 @@ impl Entry for Slot {
     ghost item = { slot_item };
 
     fn rectangle(&self) -> Rectangle {
-        self.node.area
+        self.area
     }
 
     fn up(&self) -> Link {
-        self.ring.up
+        self.up
     }
 
     fn left(&self) -> Link {
-        self.ring.left
+        self.left
     }
 
     fn right(&self) -> Link {
-        self.ring.right
+        self.right
+    }
+
+    fn is_fork(&self) -> bool {
+        self.is_fork
     }
 }
 
@@ -33,6 +37,12 @@ impl Linked for Slot {
     ghost bare = { unlinked_slot };
 
     fn set_links(&mut self, up: Link, left: Link, right: Link) {
-        self.ring = Ring { up, left, right };
+        self.up = up;
+        self.left = left;
+        self.right = right;
+    }
+
+    fn set_fork(&mut self, is_fork: bool) {
+        self.is_fork = is_fork;
     }
 }

@@ -16,7 +16,7 @@ ghost use Rattle.atlas_store.specs.Slots.Links.{given_back, listed, lists_withou
 ghost use Rattle.atlas_model.specs.Trees.{most_slots};
 ghost use Rattle.atlas_store.specs.Slots.Picks.{AreExact};
 
-use crate::slots::{Node, NodeKind, Ring, Slot, read_node, read_ring, write_node};
+use crate::slots::{NodeKind, Slot, read_node, read_ring, write_node};
 use atlas_model::{Rectangle, point2};
 use atlas_search::bands::{BANDS, Scale};
 use atlas_search::cut::{Orientation, exact_size};
@@ -80,7 +80,7 @@ fn set_right(slots: &mut [Slot], at: Link, right: Link)
     ensures same_nodes { nodes slots.new ≡ nodes slots.old }
 {
     let slot = &mut slots[at.number as usize];
-    slot.ring.right = right;
+    slot.right = right;
 }
 
 /// Takes a free slot out of its list; it is detached from then on.
@@ -146,23 +146,20 @@ fn fresh_slot() -> Slot
     let none = Link { number: 0 };
     let corner = point2(0, 0);
     Slot {
-        node: Node {
-            parent: none,
-            previous: none,
-            next: none,
-            area: Rectangle {
-                min: corner,
-                max: corner,
-            },
-            kind: NodeKind::Unused,
-            axis: Orientation::Vertical,
-            generation: 0,
+        parent: none,
+        previous: none,
+        next: none,
+        area: Rectangle {
+            min: corner,
+            max: corner,
         },
-        ring: Ring {
-            up: none,
-            left: none,
-            right: none,
-        },
+        up: none,
+        left: none,
+        right: none,
+        kind: NodeKind::Unused,
+        axis: Orientation::Vertical,
+        generation: 0,
+        is_fork: false,
     }
 }
 

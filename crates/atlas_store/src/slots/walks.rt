@@ -38,8 +38,8 @@ pub fn named_slot(slots: &[Slot], id: AllocId) -> Option<usize>
     ensures none { IfNone result (is_named (nodes slots.now) id ≡ false) }
 {
     let at = slot_number(id) as usize;
-    let node = slots.get(at)?.node;
-    if node.kind == NodeKind::Alloc && u32::from(node.generation) == id.serialize() / MOST_SLOTS {
+    let slot = slots.get(at)?;
+    if slot.kind == NodeKind::Alloc && u32::from(slot.generation) == id.serialize() / MOST_SLOTS {
         Some(at)
     } else {
         None
@@ -53,8 +53,8 @@ pub fn visit_allocated<F: FnMut(AllocId, &Rectangle)>(slots: &[Slot], mut visit:
     ensures { (last : F) × FoldsTo (CalledAtGrant F.FnMut) visit (allocated_from 0 (nodes slots.now)) last }
 {
     for (number, slot) in slots.iter().enumerate() {
-        if slot.node.kind == NodeKind::Alloc {
-            visit(slot_id(number, slot.node.generation), &slot.node.area);
+        if slot.kind == NodeKind::Alloc {
+            visit(slot_id(number, slot.generation), &slot.area);
         }
     }
 }
@@ -65,8 +65,8 @@ pub fn visit_free<F: FnMut(&Rectangle)>(slots: &[Slot], mut visit: F)
     ensures { (last : F) × FoldsTo (λ p x q. CalledAt F.FnMut p x tt q) visit (free_areas (nodes slots.now)) last }
 {
     for slot in slots {
-        if slot.node.kind == NodeKind::Free {
-            visit(&slot.node.area);
+        if slot.kind == NodeKind::Free {
+            visit(&slot.area);
         }
     }
 }
@@ -82,10 +82,10 @@ pub fn gather_allocated<A: Allocator>(
 {
     let mut found = Vec::new(alloc);
     for (number, slot) in slots.iter().enumerate() {
-        if slot.node.kind == NodeKind::Alloc {
+        if slot.kind == NodeKind::Alloc {
             found.push(Allocation {
-                id: slot_id(number, slot.node.generation),
-                rectangle: slot.node.area,
+                id: slot_id(number, slot.generation),
+                rectangle: slot.area,
             })?;
         }
     }
@@ -99,8 +99,8 @@ pub fn gather_free<A: Allocator>(alloc: A, slots: &[Slot]) -> Result<Vec<Rectang
 {
     let mut found = Vec::new(alloc);
     for slot in slots {
-        if slot.node.kind == NodeKind::Free {
-            found.push(slot.node.area)?;
+        if slot.kind == NodeKind::Free {
+            found.push(slot.area)?;
         }
     }
     Ok(found)
@@ -122,8 +122,8 @@ pub fn free_sum(slots: &[Slot]) -> u64
 {
     let mut sum = 0;
     for slot in slots {
-        if slot.node.kind == NodeKind::Free {
-            sum += area_of(&slot.node.area);
+        if slot.kind == NodeKind::Free {
+            sum += area_of(&slot.area);
         }
     }
     sum
@@ -137,8 +137,8 @@ pub fn live_sum(slots: &[Slot]) -> u64
 {
     let mut sum = 0;
     for slot in slots {
-        if slot.node.kind == NodeKind::Alloc {
-            sum += area_of(&slot.node.area);
+        if slot.kind == NodeKind::Alloc {
+            sum += area_of(&slot.area);
         }
     }
     sum

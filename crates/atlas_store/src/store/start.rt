@@ -6,7 +6,7 @@ ghost use Rattle.atlas_model.specs.Pixels.{sides_of, options_of};
 ghost use Rattle.atlas_store.specs.Store.Starts.{IsBegun, IsStarted, one_free_slot};
 
 use crate::slots::lists::Recent;
-use crate::slots::{Node, NodeKind, Ring, Slot};
+use crate::slots::{NodeKind, Slot};
 use crate::store::Store;
 use crate::store::turns::Turns;
 use atlas_model::{AllocatorOptions, Rectangle, Size};
@@ -21,21 +21,19 @@ fn whole_slot(size: Size) -> Slot
     ensures { result ≡ one_free_slot size }
 {
     let none = Link::NONE;
-    let node = Node {
+    Slot {
         parent: none,
         previous: none,
         next: none,
         area: Rectangle::from(size),
-        kind: NodeKind::Free,
-        axis: Orientation::Vertical,
-        generation: 0,
-    };
-    let ring = Ring {
         up: none,
         left: none,
         right: none,
-    };
-    Slot { node, ring }
+        kind: NodeKind::Free,
+        axis: Orientation::Vertical,
+        generation: 0,
+        is_fork: false,
+    }
 }
 
 impl<A: Allocator> Store<A> {

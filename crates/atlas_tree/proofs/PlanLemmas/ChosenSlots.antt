@@ -13,7 +13,7 @@ use Rattle.atlas_model.specs.Boxes.{Sides, Box, origin, box_sides, Fits}
 use Rattle.atlas_model.specs.Pixels.{box_of, rectangle_of, options_of}
 use Rattle.atlas_model.specs.Choice.{IsPick}
 use Rattle.atlas_model.specs.Trees.{ungranted, leaves}
-use Rattle.atlas_store.specs.Slots.{nodes, node_at}
+use Rattle.atlas_store.specs.Slots.{nodes, node_at, node_of}
 use Rattle.atlas_store.specs.Slots.Numbered.{erase, id_of}
 use Rattle.atlas_store.specs.Slots.Picks.{AreFreeBoxes, IsFreeSlot, IsSearchable}
 use Rattle.atlas_store.specs.Stored.{Shelf, Holding, Holds, places_of}
@@ -34,7 +34,7 @@ module _ (v : Shelf) (h : Holding) (rest : IsAtRest v h) where
   module _ (r : Sides) (p : Found) (chosen : IsChosen v r p) where
     pub chosen-inside : p.at.number < length v.slots
     chosen-inside =
-        omega (arith, used-inside (nodes v.slots) p.at.number (rw chosen.free (omega arith)), length-map v.slots (λ (s : Slot). s.node))
+        omega (arith, used-inside (nodes v.slots) p.at.number (rw chosen.free (omega arith)), length-map v.slots node_of)
 
     pub chosen-exact : (node_in v p.at.number).area ≡ rectangle_of (box_of (node_in v p.at.number).area)
     chosen-exact = grind (arith, exact-free)
@@ -48,7 +48,8 @@ pub listed-chosen : {A : Type 0} {v : Store A} {r : Sides} {p : Found} {plan : P
     → (h : Holding) × Holds (shelf_of v) h × (h.detached p.at.number ≡ false)
 listed-chosen {A} {v} {r} {p} {plan} {h} w = (h, w.rest.holds, w.rest.listed p.at.number refl)
 
-module _ {A : Type 0} {v v' : Store A} {r : Sides} {p : Found} {plan : Plan} {h : Holding} (w : IsGrantable v r p plan h) (u : UnlistsLeaf v v' p.at.number) where
+module _ {A : Type 0} {v v' : Store A} {r : Sides} {p : Found} {plan : Plan} {h : Holding} (w : IsGrantable v r p plan h)
+    (u : UnlistsLeaf v v' p.at.number) where
   left : (free_lists : ℕ → List ℕ) × Holds (shelf_of v') (with_detached p.at.number true (with_free_lists free_lists h))
   left = u.kept h w.rest.holds (w.rest.listed p.at.number refl)
 

@@ -1,5 +1,6 @@
 -- The slots of an atlas that grows: what the store holds after each call.
-use Rattle.std.proofs.Common.{ℕ, ◌+◌, ◌-◌, ◌<◌, ◌≡◌, ◌↔◌, IsTrue, List, [], length, Bool, cond, true, false, not, refl, sym, ap, subst, arith}
+use Rattle.std.proofs.Common.{ℕ, ◌+◌, ◌-◌, ◌<◌, ◌≡◌, ◌↔◌, IsTrue, List, [], length, Bool, cond, true, false, not, refl, sym, ap, subst}
+use Rattle.std.proofs.Common.{arith}
 use Rattle.std.proofs.lemmas.Bool.{true≢false}
 use Rattle.std.proofs.lemmas.List.{length-map}
 use Rattle.atlas_store.specs.declared.store.Store.{Store}
@@ -14,11 +15,13 @@ use Rattle.atlas_store.specs.Slots.Links.{with_mark}
 use Rattle.atlas_store.specs.Slots.Numbered.{erase}
 use Rattle.atlas_store.specs.Slots.Standing.{IsSlot}
 use Rattle.atlas_store.specs.Stored.{Shelf, Holding, Holds}
-use Rattle.atlas_store.specs.Store.Holdings.{shelf_of, node_in, HasSlotsFor, IsDetachedLeaf, KeepsRoom, with_detached, with_free_lists, with_unused_list}
+use Rattle.atlas_store.specs.Store.Holdings.{shelf_of, node_in, HasSlotsFor, IsDetachedLeaf, KeepsRoom, with_detached, with_free_lists}
+use Rattle.atlas_store.specs.Store.Holdings.{with_unused_list}
 use Rattle.atlas_store.specs.Slots.Growing.{IsEnd, IsLone, last_slot, after_stretch, after_whole, after_append, after_nest}
 use Rattle.atlas_store.specs.Store.StoreCalls.{ListsLeaf, UnlistsLeaf}
 use Rattle.atlas_store.specs.Store.TopCalls.{IsAppended, IsEnlarged, IsExtendable, IsNested, IsStretched}
-use Rattle.atlas_tree.specs.Plans.Growths.{IsTreeOf, IsGrownHolding, IsLengthenable, IsLengthened, IsWidenable, IsWidened, strip_after, strip_need}
+use Rattle.atlas_tree.specs.Plans.Growths.{IsTreeOf, IsGrownHolding, IsLengthenable, IsLengthened, IsWidenable, IsWidened, strip_after}
+use Rattle.atlas_tree.specs.Plans.Growths.{strip_need}
 use Rattle.atlas_store.proofs.StoreLemmas.FiledSlots.{with_mark-same, with_mark-other}
 use Rattle.atlas_store.proofs.SlotLemmas.ReadTrees.{HasMember}
 use Rattle.atlas_store.proofs.WalkLemmas.StoredAtlas.{nonempty-total}

@@ -1,5 +1,6 @@
 -- The stages of a growth: along the top sequence, and then across it.
-use Rattle.std.proofs.Common.{ℕ, ◌+◌, ◌-◌, ◌<◌, ◌≡◌, ◌↔◌, IsTrue, [], length, Bool, cond, true, false, not, ◌&&◌, refl, sym, ap, subst, ◌∙◌, arith}
+use Rattle.std.proofs.Common.{ℕ, ◌+◌, ◌-◌, ◌<◌, ◌≡◌, ◌↔◌, IsTrue, [], length, Bool, cond, true, false, not, ◌&&◌, refl, sym, ap, subst, ◌∙◌}
+use Rattle.std.proofs.Common.{arith}
 use Rattle.std.specs.Bool.{Decides}
 use Rattle.std.specs.Ordering.{int_eq}
 use Rattle.std.proofs.lemmas.Bool.{not-true, not-false, true≢false}
@@ -18,12 +19,14 @@ use Rattle.atlas_store.specs.Slots.Numbered.{erase, first_slot}
 use Rattle.atlas_store.specs.Stored.{Shelf, Holding, Holds, IsDetachedOnly}
 use Rattle.atlas_store.specs.Store.Holdings.{shelf_of, node_in, HasSlotsFor}
 use Rattle.atlas_store.specs.Slots.Growing.{IsEnd, IsSpanning, IsWider, last_slot}
-use Rattle.atlas_tree.specs.Plans.Growths.{IsGrowthOf, IsGrowable, IsGrownHolding, IsLengthenable, IsLonger, IsNeedOf, IsWidenable, IsWidenedTo, middle_of, strip_need}
+use Rattle.atlas_tree.specs.Plans.Growths.{IsGrowthOf, IsGrowable, IsGrownHolding, IsLengthenable, IsLonger, IsNeedOf, IsWidenable}
+use Rattle.atlas_tree.specs.Plans.Growths.{IsWidenedTo, middle_of, strip_need}
 use Rattle.atlas_store.proofs.SlotLemmas.ReadTrees.{tree-by_parts}
 use Rattle.atlas_store.proofs.WalkLemmas.StoredAtlas.{nonempty-total}
 use Rattle.atlas_model.proofs.TreeLemmas.TreeBasics.{longer_side, other_twice}
 use Rattle.atlas_model.proofs.TreeLemmas.TreeGrowth.{grown-other}
-use Rattle.atlas_tree.proofs.PlanLemmas.GrownTrees.{if_longer, if_longer-more, if_longer-not, nodes-grown_by, lengthened_to-more, lengthened_to-same, total-lengthened_to, widened-more, widened-same}
+use Rattle.atlas_tree.proofs.PlanLemmas.GrownTrees.{if_longer, if_longer-more, if_longer-not, nodes-grown_by, lengthened_to-more}
+use Rattle.atlas_tree.proofs.PlanLemmas.GrownTrees.{lengthened_to-same, total-lengthened_to, widened-more, widened-same}
 use Rattle.atlas_tree.proofs.PlanLemmas.GrownSlots.{need-answer}
 
 -- The sizes that a growth goes through.
@@ -98,7 +101,8 @@ across_need old new axis = if_longer (side (other axis) old) (side (other axis) 
 pub need-is : (v : Shelf) (old new : Sides) (h : Holding) → Holds v h → 0 < total (erase h.tree)
     → is_one_free (erase h.tree) ≡ false
     → IsNeedOf old new h (along_need v (last_slot h.tree) old new h.sequence.axis + across_need old new h.sequence.axis)
-need-is v old new h holds some busy = nodes-grown_by (nodes v.slots) h.sequence h.tree holds.stands (nonempty-total h.tree some) old new h.sequence.axis busy
+need-is v old new h holds some busy = nodes-grown_by (nodes v.slots) h.sequence h.tree holds.stands (nonempty-total h.tree some) old new
+    h.sequence.axis busy
 
 module _ (v : Shelf) (old new : Sides) (h : Holding) (p : Growth) (w : IsGrowthOf old new h p) where
   pub strip-longer : (t : Bool) → (IsTrue t ↔ ((node_in v p.last.number).kind ≡ kind.Free))
@@ -145,7 +149,13 @@ module _ {A : Type 0} {v : Store A} {old new : Sides} {first n : ℕ} {p : Growt
     ends = w.growth.last longer
 
     need_longer : n ≡ across_need old new axis + strip_need (shelf_of v) p.last.number
-    need_longer = omega (arith, need_parts, if_longer-more (side axis old) (side axis new) (strip_need (shelf_of v) (last_slot h.tree)) longer, ap (strip_need (shelf_of v)) ends)
+    need_longer = omega (
+      arith,
+      need_parts,
+      if_longer-more (side axis old) (side axis new) (strip_need (shelf_of v) (last_slot h.tree))
+          longer,
+      ap (strip_need (shelf_of v)) ends,
+    )
 
     longer-end : IsEnd (sides_of p.middle) (side axis new - side axis old) p.last.number h
     longer-end = grind (arith, ends, middle-along, middle-across)
@@ -195,7 +205,8 @@ module _ {A : Type 0} {v : Store A} {old new : Sides} {first n : ℕ} {p : Growt
 
     grown_is : grown_members old new axis
         (erase h.tree) ≡ widened (side (other axis) old) (side (other axis) new) axis (erase h1.tree)
-    grown_is = grown-other old new axis (erase h.tree) w.busy ∙ ap (widened (side (other axis) old) (side (other axis) new) axis) (sym m.members)
+    grown_is = grown-other old new axis (erase h.tree) w.busy ∙ ap (widened (side (other axis) old) (side (other axis) new) axis)
+        (sym m.members)
 
     -- It is as wide as before.
     pub midway-grown : side (other axis) old ≡ side (other axis) new → IsGrownHolding (shelf_of u) old new first n h h1

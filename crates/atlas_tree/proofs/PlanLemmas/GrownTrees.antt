@@ -81,12 +81,14 @@ module _ (ns : List Node) (s : Sequence) (n : Numbered) (h : Stands ns s n) (som
     where
       longer : (last_kind ≡ kind.Free → ⊥) → node_count (lengthened d (erase n)) ≡ numbers n + 1
       longer busy =
-          ap node_count (sym (erase-appended 0 d ns s no_slot 0 n h.standing busy)) ∙ sym (numbers-erase (appended 0 d n)) ∙ weigh-appended (λ _. 1) 0 d n
+          ap node_count (sym (erase-appended 0 d ns s no_slot 0 n h.standing busy)) ∙ sym (numbers-erase (appended 0 d n)) ∙
+          weigh-appended (λ _. 1) 0 d n
 
       by_kind : (k : NodeKind) → last_kind ≡ k
           → node_count (lengthened d (erase n)) ≡ numbers n + strip_after (is_free k)
       by_kind kind.Free q =
-          ap node_count (sym (erase-stretched d ns s no_slot 0 n h.standing q (λ _. some))) ∙ sym (numbers-erase (stretched d n)) ∙ weigh-stretched (λ _. 1) d n ∙ omega arith
+          ap node_count (sym (erase-stretched d ns s no_slot 0 n h.standing q (λ _. some))) ∙ sym (numbers-erase (stretched d n)) ∙
+          weigh-stretched (λ _. 1) d n ∙ omega arith
       by_kind kind.Alloc q = longer (λ f. absurd (cc))
       by_kind kind.Container q = longer (λ f. absurd (cc))
       by_kind kind.Unused q = longer (λ f. absurd (cc))
@@ -102,7 +104,8 @@ module _ (ns : List Node) (s : Sequence) (n : Numbered) (h : Stands ns s n) (som
 
   -- A tree that isn't one free leaf takes a strip at its end, and two members more across.
   pub nodes-grown_by : (old new : Sides) (axis : Axis) → is_one_free (erase n) ≡ false
-      → numbers n + (if_longer (side axis old) (side axis new) (strip_after (is_free last_kind)) + if_longer (side (other axis) old) (side (other axis) new) 2)
+      → numbers n + (if_longer (side axis old) (side axis new) (strip_after (is_free last_kind)) + if_longer (side (other axis) old)
+      (side (other axis) new) 2)
       ≡ node_count (grown_members old new axis (erase n)).members
   nodes-grown_by old new axis busy =
       sym
@@ -115,7 +118,8 @@ module _ (ns : List Node) (s : Sequence) (n : Numbered) (h : Stands ns s n) (som
       nodes_wider u w m = by_test (ltb u w)
         where
           by_test : (x : Bool)
-              → node_count (cond {A = Tree} x (record { axis = other axis; members = tree.Seq u m (tree.Free (w - u) tree.End) }) (record { axis = axis; members = m })).members
+              → node_count (cond {A = Tree} x (record { axis = other axis; members = tree.Seq u m (tree.Free (w - u) tree.End) })
+              (record { axis = axis; members = m })).members
               ≡ node_count m + cond x 2 0
           by_test true = omega arith
           by_test false = omega arith

@@ -37,11 +37,20 @@ member-first : (ns : List Node) (s : Sequence) (b q i : ℕ) (m n : Numbered) �
     → IsFurther ns i s n (outermost m)
 member-first ns s b q i End n e ne h none few last = absurd (ne e)
 member-first ns s b q i (Free j d rest) n e ne h none few last =
-    rw e (record { start = q + d; rest = rest; standing = h.2; begins = h.0.next; none = omega arith; few = omega arith; last = last }, omega arith)
+    rw e (
+      record { start = q + d; rest = rest; standing = h.2; begins = h.0.next; none = omega arith; few = omega arith; last = last },
+      omega arith,
+    )
 member-first ns s b q i (Alloc j a d rest) n e ne h none few last =
-    rw e (record { start = q + d; rest = rest; standing = h.3; begins = h.0.next; none = omega arith; few = omega arith; last = last }, omega arith)
+    rw e (
+      record { start = q + d; rest = rest; standing = h.3; begins = h.0.next; none = omega arith; few = omega arith; last = last },
+      omega arith,
+    )
 member-first ns s b q i (Seq j d inner rest) n e ne h none few last =
-    rw e (record { start = q + d; rest = rest; standing = h.3; begins = h.0.next; none = omega arith; few = omega arith; last = last }, omega arith)
+    rw e (
+      record { start = q + d; rest = rest; standing = h.3; begins = h.0.next; none = omega arith; few = omega arith; last = last },
+      omega arith,
+    )
 
 -- At first the search is at the first member.
 pub members-begin : (v : Shelf) (size : Sides) (first : ℕ) (h : Holding) → IsTreeOf v size first h
@@ -51,7 +60,8 @@ members-begin v size first h t =
     let stands = t.holds.stands in
     let none : tally no_slot h.tree ≡ 0 = stands.numbered no_slot ∙ ap use_count (none-unused ns (nodes-below v.slots t.holds.short)) in
     let some = ne-from_count no_slot (first_slot h.tree) h.tree none (nonempty-total h.tree t.spans.some) in
-    (member-first ns h.sequence no_slot 0 first h.tree h.tree (sym t.spans.begins) (λ e. some (t.spans.begins ∙ e)) stands.standing none (outermost-few ns h.sequence h.tree stands) refl).0
+    (member-first ns h.sequence no_slot 0 first h.tree h.tree (sym t.spans.begins) (λ e. some (t.spans.begins ∙ e)) stands.standing none
+    (outermost-few ns h.sequence h.tree stands) refl).0
 
 pub member-inside : (slots : List Slot) (at next : ℕ) (s : Sequence) (n : Numbered) → (next ≡ no_slot → ⊥)
     → IsAtMember (nodes slots) at next s n → next < length slots

@@ -24,7 +24,8 @@ pub cut-beside : (whole r : Sides) → whole.height ≡ r.height → r.width < w
 cut-beside whole r e l p =
     let more = product-positive (whole.width - r.width) r.height (omega arith) p in
     let none : whole.height - r.height ≡ 0 = omega arith in
-    let less = lt-ltb (cap (r.width * (whole.height - r.height))) (cap ((whole.width - r.width) * r.height)) (omega (arith, more, ap (λ v. r.width * v) none)) in
+    let less = lt-ltb (cap (r.width * (whole.height - r.height))) (cap ((whole.width - r.width) * r.height))
+    (omega (arith, more, ap (λ v. r.width * v) none)) in
     line false true whole r (ne_eqb whole.width r.width (λ x. absurd (omega arith))) (eq-eqb whole.height r.height e)
     ∙ ap Strip (cond-true _ Horizontal Vertical less)
 

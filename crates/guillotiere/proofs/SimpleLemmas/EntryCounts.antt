@@ -1,5 +1,6 @@
 -- Each entry of the simple allocator is a free box or unused: how many there are of both.
-use Rattle.std.proofs.Common.{◌≡◌, ℕ, zero, suc, ◌+◌, ◌<◌, ◌≤◌, max, inl, inr, true, false, List, [], ◌∷◌, length, refl, sym, ap, subst, arith}
+use Rattle.std.proofs.Common.{◌≡◌, ℕ, zero, suc, ◌+◌, ◌<◌, ◌≤◌, max, inl, inr, true, false, List, [], ◌∷◌, length, refl, sym, ap, subst}
+use Rattle.std.proofs.Common.{arith}
 use Rattle.std.proofs.Math.Nat.{max-eq_left}
 use Rattle.std.proofs.lemmas.Bool.{cases_eq, cases_Bool, cond-true, cond-false}
 use Rattle.atlas_model.specs.Choice.{Options}
@@ -76,7 +77,13 @@ unfolding sums
 sums-same j zero l = absurd (omega arith)
 sums-same j (suc m) l =
     elim (cases_eq m j) [
-      | inl e ↦ omega (arith, same-self j, ap (λ v. same v j) e, sums-none (λ i. same i j) m (λ i b. same-ne i j (λ q. absurd (omega arith))))
+      | inl e ↦ omega (
+        arith,
+        same-self j,
+        ap (λ v. same v j) e,
+        sums-none (λ i. same i j) m
+            (λ i b. same-ne i j (λ q. absurd (omega arith))),
+      )
       | inr ne ↦ omega (arith, same-ne m j ne, sums-same j m (omega arith))
     ]
 
@@ -84,7 +91,12 @@ sums-occurs : (es : List Item) (from m : ℕ) (xs : List ℕ) → length es ≤ 
     → sums (λ i. occurs i xs) m ≡ length xs
 sums-occurs es from m [] l path = sums-none (λ i. 0) m (λ i b. refl)
 sums-occurs es from m (x ∷ xs) l path =
-    omega (arith, sums-add (λ i. same i x) (λ i. occurs i xs) m, sums-same x m (omega (arith, path.1)), sums-occurs es (item_at es x).up m xs l path.2)
+    omega (
+      arith,
+      sums-add (λ i. same i x) (λ i. occurs i xs) m,
+      sums-same x m (omega (arith, path.1)),
+      sums-occurs es (item_at es x).up m xs l path.2,
+    )
 
 count-first : (t : Item) (es : List Item)
     → length (free_item_boxes (t ∷ es)) ≡ free_count t + length (free_item_boxes es)
@@ -106,7 +118,8 @@ used-free o v kept =
     let f : ℕ → ℕ = λ i. occurs i kept.unused_list in
     let g : ℕ → ℕ = λ i. free_count (item_at v.entries i) in
     let all : sums (λ i. f i + g i) m ≡ m = sums-all (λ i. f i + g i) m (λ i l. omega (arith, kept.each i l)) in
-    let unused_list : sums f m ≡ length kept.unused_list = sums-occurs v.entries v.unused.number m kept.unused_list (omega arith) kept.chain in
+    let unused_list : sums f m ≡ length kept.unused_list = sums-occurs v.entries v.unused.number m kept.unused_list (omega arith) kept.chain
+    in
     omega (arith, all, sums-add f g m, unused_list, sums-free v.entries, kept.used)
 
 -- A free box is used.

@@ -21,12 +21,14 @@ pub simply_grants : (old new : List Item) (whole : Sides) (options : AllocatorOp
     → CanBeRounded (options_of options) s × (size ≡ size_of (rounded (options_of options) s))
     → IsPick (free_item_boxes old) (options_of options) (sides_of size) (box_of picked)
     → granted ≡ rectangle_of (box_at (box_of picked).min (sides_of size))
-    → AreSameBoxes (box_of picked ∷ free_item_boxes new) (kept_rest (options_of options) (box_of picked) (sides_of size) ++ free_item_boxes old)
+    → AreSameBoxes (box_of picked ∷ free_item_boxes new) (kept_rest (options_of options) (box_of picked) (sides_of size) ++ free_item_boxes
+    old)
     → SimplyGrants (state_of_items old whole options) s (box_of granted) (state_of_items new whole options)
 simply_grants old new whole options s size picked granted h pick is boxes = grind arith
 
 -- Where a rounded side passes an `i32`, and no side of the allocator does, nothing is granted and no memory is asked for.
-module _ (old new : SimpleState) (r : Sides) (simple : IsSimple old) (wide : old.size.width ≤ 2147483647) (high : old.size.height ≤ 2147483647)
+module _ (old new : SimpleState) (r : Sides) (simple : IsSimple old) (wide : old.size.width ≤ 2147483647)
+    (high : old.size.height ≤ 2147483647)
     (past : (2147483647 < (rounded old.options r).width) ⊎ (2147483647 < (rounded old.options r).height)) where
   no_room : HasNoRoom old.free old.options r
   no_room =

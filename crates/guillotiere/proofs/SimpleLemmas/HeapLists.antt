@@ -8,13 +8,15 @@ use Rattle.atlas_model.specs.declared.geometry.Rectangle.{Rectangle}
 use Rattle.atlas_model.specs.Boxes.{box_sides}
 use Rattle.atlas_model.specs.Choice.{Options}
 use Rattle.atlas_model.specs.Pixels.{box_of}
-use Rattle.atlas_search.specs.Heaps.{IsListed, tag_of}
+use Rattle.atlas_search.specs.Forks.{IsListed}
+use Rattle.atlas_search.specs.Heaps.{members, tag_of}
 use Rattle.atlas_search.specs.Items.{Item, item_at, item_sides}
 use Rattle.atlas_search.specs.Lookups.{AreListed}
 use Rattle.atlas_search.specs.Numbers.{occurs}
 use Rattle.atlas_search.specs.Rectangles.{IsSolid}
 use Rattle.atlas_search.specs.Tables.{head_of}
 use Rattle.atlas_search.proofs.HeapLemmas.Frames.{heap-frame}
+use Rattle.atlas_search.proofs.SearchLemmas.SortedLists.{sorted-frame}
 
 -- The list of an entry's sides.
 abbrev pub list_at : Options → List Item → ℕ → ℕ
@@ -69,11 +71,13 @@ module _ (o : Options) (heads heads' : List Link) (es fs : List Item) (a : AreLi
     | inl e ↦ subst₂ (λ n ys. IsListed fs n (head_of heads' n).number ys) (sym e) (sym (lists-same j e)) c.list
     | inr ne ↦
         let was = a.lists j l in
-        let frame = heap-frame es fs (tag_of j) (head_of heads j).number was.0 c.long
-        (λ i h.
+        let kept : (i : ℕ) → 0 < occurs i (members was.0) → item_at fs i ≡ item_at es i =
+        λ i h.
         let in_list : 0 < occurs i (a.free_lists j) = omega (arith, h, was.2 i) in
-        c.others i (not-x j i l ne in_list) (not-here j i l ne in_list)) was.1 in
-        subst₂ (λ (n : Link) ys. IsListed fs j n.number ys) (sym (c.heads_stay j ne)) (sym (lists-other j ne)) (was.0, frame, was.2)
+        c.others i (not-x j i l ne in_list) (not-here j i l ne in_list) in
+        let frame = heap-frame es fs (tag_of j) (head_of heads j).number was.0 c.long kept was.1 in
+        subst₂ (λ (n : Link) ys. IsListed fs j n.number ys) (sym (c.heads_stay j ne)) (sym (lists-other j ne))
+        (was.0, frame, was.2, sorted-frame es fs was.0 kept was.3)
   ]
 
   owns : (j i : ℕ) → j < 2704 → 0 < occurs i (lists j) → ((item_at fs i).is_free ≡ true) × (list_at o fs i ≡ j)
@@ -104,7 +108,13 @@ module _ (o : Options) (heads heads' : List Link) (es fs : List Item) (a : AreLi
         let same_list = list-kept i other in
         elim (cases_eq (list_at o fs i) k) [
           | inl here ↦
-              omega (arith, was, c.has i other, ap (occurs i) (lists-same (list_at o fs i) here), ap (λ n. occurs i (a.free_lists n)) (sym same_list ∙ here))
+              omega (
+                arith,
+                was,
+                c.has i other,
+                ap (occurs i) (lists-same (list_at o fs i) here),
+                ap (λ n. occurs i (a.free_lists n)) (sym same_list ∙ here),
+              )
           | inr ne ↦ omega (arith, was, ap (occurs i) (lists-other (list_at o fs i) ne), ap (λ n. occurs i (a.free_lists n)) same_list)
         ]
   ]

@@ -15,7 +15,7 @@ use Rattle.atlas_model.specs.Boxes.{Box, Sides, whole_box, Fits, IsPositive, Are
 use Rattle.atlas_model.specs.Choice.{Options}
 use Rattle.atlas_model.specs.Pixels.{box_of, rectangle_of, sides_of}
 use Rattle.atlas_search.specs.Rectangles.{FitsInto, IsRestOf}
-use Rattle.atlas_store.specs.Slots.{nodes}
+use Rattle.atlas_store.specs.Slots.{nodes, node_of}
 use Rattle.atlas_store.specs.Slots.Lists.{is_free}
 use Rattle.atlas_store.specs.Visits.{free_areas}
 use Rattle.atlas_model.specs.Simple.{kept_rest}
@@ -28,36 +28,40 @@ use Rattle.atlas_model.proofs.SimpleLemmas.SimpleSteps.{whole-fits, whole-positi
 
 -- The free slots, one after another.
 
-next-free : (xs : List Slot) (i : ℕ) (d : Slot) → i < length xs → (get_or xs i d).node.kind ≡ kind.Free
-    → free_areas (nodes (drop i xs)) ≡ (get_or xs i d).node.area ∷ free_areas (nodes (drop (i + 1) xs))
+next-free : (xs : List Slot) (i : ℕ) (d : Slot) → i < length xs → (node_of (get_or xs i d)).kind ≡ kind.Free
+    → free_areas (nodes (drop i xs)) ≡ (node_of (get_or xs i d)).area ∷ free_areas (nodes (drop (i + 1) xs))
 next-free xs i d low is =
     at_drop_more (λ ys. free_areas (nodes ys)) xs i d low
-    ∙ ap (λ k. cond (is_free k) ((get_or xs i d).node.area ∷ free_areas (nodes (drop (i + 1) xs))) (free_areas (nodes (drop (i + 1) xs)))) is
+    ∙ ap (λ k. cond (is_free k) ((node_of (get_or xs i d)).area ∷ free_areas (nodes (drop (i + 1) xs)))
+    (free_areas (nodes (drop (i + 1) xs)))) is
 
 pub passed-free : (xs : List Slot) (i : ℕ) (d : Slot) (b : Bool) → i < length xs
-    → b ≡ sameb the_type (get_or xs i d).node.kind kind.Free → b ≡ false
+    → b ≡ sameb the_type (node_of (get_or xs i d)).kind kind.Free → b ≡ false
     → free_areas (nodes (drop i xs)) ≡ free_areas (nodes (drop (i + 1) xs))
 passed-free xs i d b low test is =
     at_drop_more (λ ys. free_areas (nodes ys)) xs i d low
-    ∙ ap (λ t. cond t ((get_or xs i d).node.area ∷ free_areas (nodes (drop (i + 1) xs))) (free_areas (nodes (drop (i + 1) xs)))) (not_free _ b test is)
+    ∙ ap (λ t. cond t ((node_of (get_or xs i d)).area ∷ free_areas (nodes (drop (i + 1) xs))) (free_areas (nodes (drop (i + 1) xs))))
+    (not_free _ b test is)
 
 pub next-all : (P : Rectangle → Type 0) (xs : List Slot) (i : ℕ) (d : Slot) → i < length xs
-    → (get_or xs i d).node.kind ≡ kind.Free
+    → (node_of (get_or xs i d)).kind ≡ kind.Free
     → All P (free_areas (nodes (drop i xs)))
-    → P (get_or xs i d).node.area × All P (free_areas (nodes (drop (i + 1) xs)))
+    → P (node_of (get_or xs i d)).area × All P (free_areas (nodes (drop (i + 1) xs)))
 next-all P xs i d low is all =
-    let here = subst (All P) (next-free xs i d low is) all in
-    (All-head P (get_or xs i d).node.area (free_areas (nodes (drop (i + 1) xs))) here, All-tail P (get_or xs i d).node.area (free_areas (nodes (drop (i + 1) xs))) here)
+    let here = subst (All P) (next-free xs i d low is) all in (
+      All-head P (node_of (get_or xs i d)).area (free_areas (nodes (drop (i + 1) xs))) here,
+      All-tail P (node_of (get_or xs i d)).area (free_areas (nodes (drop (i + 1) xs))) here,
+    )
 
 pub next-boxes : (xs : List Slot) (i : ℕ) (d : Slot) (old new boxes : List Box) → i < length xs
-    → (get_or xs i d).node.kind ≡ kind.Free
+    → (node_of (get_or xs i d)).kind ≡ kind.Free
     → AreSameBoxes (map box_of (free_areas (nodes (drop i xs))) ++ old) boxes
-    → AreSameBoxes new (box_of (get_or xs i d).node.area ∷ old)
+    → AreSameBoxes new (box_of (node_of (get_or xs i d)).area ∷ old)
     → AreSameBoxes (map box_of (free_areas (nodes (drop (i + 1) xs))) ++ new) boxes
 next-boxes xs i d old new boxes low is before filed p =
     let g : Box → ℕ = λ b. cond (p b) 1 0 in
     let rest = map box_of (free_areas (nodes (drop (i + 1) xs))) in
-    let area = box_of (get_or xs i d).node.area in
+    let area = box_of (node_of (get_or xs i d)).area in
     let e : count_by p (map box_of (free_areas (nodes (drop i xs))) ++ old) ≡ count_by p ((area ∷ rest) ++ old) =
     ap (λ l. count_by p (map box_of l ++ old)) (next-free xs i d low is) in
     omega (
@@ -73,9 +77,9 @@ next-boxes xs i d old new boxes low is before filed p =
 
 pub next-filed : (P : Rectangle → Type 0) (xs : List Slot) (i : ℕ) (d : Slot) (old roomy new boxes : List Box)
     → roomy ≡ old
-    → i < length xs → (get_or xs i d).node.kind ≡ kind.Free → All P (free_areas (nodes (drop i xs)))
+    → i < length xs → (node_of (get_or xs i d)).kind ≡ kind.Free → All P (free_areas (nodes (drop i xs)))
     → AreSameBoxes (map box_of (free_areas (nodes (drop i xs))) ++ old) boxes
-    → AreSameBoxes new (box_of (get_or xs i d).node.area ∷ roomy)
+    → AreSameBoxes new (box_of (node_of (get_or xs i d)).area ∷ roomy)
     → All P (free_areas (nodes (drop (i + 1) xs)))
     × AreSameBoxes (map box_of (free_areas (nodes (drop (i + 1) xs))) ++ new) boxes
 next-filed P xs i d old roomy new boxes same low is all before filed =

@@ -4,7 +4,8 @@ use Rattle.std.proofs.lemmas.List.{take_more, map-append, length-map}
 use Rattle.atlas_model.specs.States.{State}
 use Rattle.atlas_model.specs.Simple.{IsSimple, SimpleAtlasCall}
 use Rattle.atlas_model.specs.Simple.SimpleRuns.{SimpleRun}
-use Rattle.guillotiere.specs.SimpleSessions.{AreSimplyAnswered, IsSimplyAnswered, IsSimpleSession, simple_answers_of, simple_call_of, simple_calls_of}
+use Rattle.guillotiere.specs.SimpleSessions.{AreSimplyAnswered, IsSimplyAnswered, IsSimpleSession, simple_answers_of, simple_call_of}
+use Rattle.guillotiere.specs.SimpleSessions.{simple_calls_of}
 use Rattle.guillotiere.specs.SimpleStored.{SimpleValue, simple_state_of}
 use Rattle.guillotiere.specs.declared.session.simple.SimpleCall.{SimpleCall}
 use Rattle.guillotiere.specs.declared.session.simple.SimpleReply.{SimpleReply}
@@ -18,7 +19,8 @@ answered-more : (calls : List SimpleAtlasCall) (replies : List SimpleReply) (old
 answered-more [] [] old mid new call reply before next = (new, subst (λ v. IsSimplyAnswered v call reply new) before next, refl)
 answered-more [] (b ∷ replies) old mid new call reply before next = absurd before
 answered-more (c ∷ calls) [] old mid new call reply before next = absurd before
-answered-more (c ∷ calls) (b ∷ replies) old mid new call reply (after, first, rest) next = (after, first, answered-more calls replies after mid new call reply rest next)
+answered-more (c ∷ calls) (b ∷ replies) old mid new call reply (after, first, rest) next =
+    (after, first, answered-more calls replies after mid new call reply rest next)
 
 -- The next call of a list.
 pub answered-taken : {X : Type 0} (f : X → SimpleAtlasCall) (xs : List X) (i : ℕ) (d : X) (replies : List SimpleReply)
@@ -41,7 +43,11 @@ answered-run : (calls : List SimpleAtlasCall) (replies : List SimpleReply) (old 
 answered-run [] [] old new is = ap simple_state_of is
 answered-run [] (b ∷ replies) old new are = absurd are
 answered-run (c ∷ calls) [] old new are = absurd are
-answered-run (c ∷ calls) (b ∷ replies) old new (mid, first, rest) = (simple_state_of mid, first.step, answered-run calls replies mid new rest)
+answered-run (c ∷ calls) (b ∷ replies) old new (mid, first, rest) = (
+  simple_state_of mid,
+  first.step,
+  answered-run calls replies mid new rest,
+)
 
 -- As many replies as calls.
 answered-count : (calls : List SimpleAtlasCall) (replies : List SimpleReply) (old new : SimpleValue)
@@ -60,5 +66,6 @@ simple-session source old new calls replies simple are =
       answered = are;
       count = answered-count (simple_calls_of source calls) replies old new are ∙ length-map calls (simple_call_of source);
       run = run;
-      guard = simple_runs_keep_guard (simple_state_of old) (simple_state_of new) (simple_calls_of source calls) (simple_answers_of replies) simple run;
+      guard = simple_runs_keep_guard (simple_state_of old) (simple_state_of new) (simple_calls_of source calls) (simple_answers_of replies)
+          simple run;
     }

@@ -36,11 +36,13 @@ grows-stored old new size n options boxes = record { free = boxes; size = refl; 
 
 pub grown-stored : (old new : BoxShelf) (size n : Size) (options : AllocatorOptions)
     → IsStoredState old size options → Fits (sides_of size) (sides_of n) → AreKept (options_of options) new
-    → AreSameBoxes (free_item_boxes new.entries) (kept_rest (options_of options) (whole_box (sides_of n)) (sides_of size) ++ free_item_boxes old.entries)
+    → AreSameBoxes (free_item_boxes new.entries) (kept_rest (options_of options) (whole_box (sides_of n)) (sides_of size) ++ free_item_boxes
+    old.entries)
     → IsStoredState new n options
 grown-stored old new size n options stored fits kept boxes = record {
   simple =
-      grow-simple (state_of_items old.entries (sides_of size) options) (state_of_items new.entries (sides_of n) options) (sides_of n) stored.simple fits
+      grow-simple (state_of_items old.entries (sides_of size) options) (state_of_items new.entries (sides_of n) options) (sides_of n)
+      stored.simple fits
       (grows-stored old.entries new.entries size n options boxes);
   kept = kept;
 }
@@ -81,8 +83,10 @@ areas-filed s areas sound are =
     let P : Box → Type 0 = λ b. IsNonempty b × IsWithin s.size b in
     let bad = misplaced s.size in
     let none : count_by bad (map box_of areas) ≡ 0 =
-    are.list bad ∙ count-none bad (free_in s) (All-weaker P (λ b. bad b ≡ false) (not_misplaced s.size) (free_in s) (free_in_place s.size s.tree sound.well_formed)) in
-    let placed = All-weaker (λ b. bad b ≡ false) IsNonempty (λ b h. (well_placed s.size b h).0) (map box_of areas) (none-count bad (map box_of areas) none) in
+    are.list bad ∙ count-none bad (free_in s) (All-weaker P (λ b. bad b ≡ false) (not_misplaced s.size) (free_in s)
+    (free_in_place s.size s.tree sound.well_formed)) in
+    let placed = All-weaker (λ b. bad b ≡ false) IsNonempty (λ b h. (well_placed s.size b h).0) (map box_of areas)
+    (none-count bad (map box_of areas) none) in
     boxed-all IsNonempty areas placed are.exact
 
 pub starts-from : (source : State) (areas : List Rectangle) (empty new : List Item) (size : Size)

@@ -14,7 +14,8 @@ use Rattle.atlas_search.specs.Rectangles.{IsSolid, IsUnsigned}
 use Rattle.atlas_search.specs.Lookups.{AreListed}
 use Rattle.guillotiere.specs.declared.simple.boxes.FreeBox.{FreeBox}
 use Rattle.atlas_search.specs.declared.link.Link.{Link}
-use Rattle.guillotiere.proofs.SimpleLemmas.BoxShelves.{exact-width, free-inside, lone_box, read-item}
+use Rattle.guillotiere.proofs.SimpleLemmas.BoxShelves.{lone_box}
+use Rattle.guillotiere.proofs.SimpleLemmas.ItemBoxes.{exact-width, free-inside, read-item}
 use Rattle.guillotiere.proofs.SimpleLemmas.FreeItems.{are-free}
 use Rattle.std.proofs.lemmas.List.{get_or_default, length-map}
 use Rattle.atlas_model.specs.Choice.{Options}
@@ -30,12 +31,14 @@ use Rattle.atlas_store.proofs.StoreLemmas.Sizes.{size_is}
 pub stored-step : (old new : BoxShelf) (size : Size) (options : AllocatorOptions) (s : Sides)
     (result : Result (Option Rectangle) AtlasError)
     → IsStoredState old size options → AreKept (options_of options) new
-    → SimpleStep (state_of_items old.entries (sides_of size) options) (Allocate s) (simple_answer result) (state_of_items new.entries (sides_of size) options)
+    → SimpleStep (state_of_items old.entries (sides_of size) options) (Allocate s) (simple_answer result)
+    (state_of_items new.entries (sides_of size) options)
     → IsStoredState new size options
 stored-step old new size options s result stored kept step =
     grind (
       arith,
-      step-simple (state_of_items old.entries (sides_of size) options) (state_of_items new.entries (sides_of size) options) (Allocate s) (simple_answer result) stored.simple step,
+      step-simple (state_of_items old.entries (sides_of size) options) (state_of_items new.entries (sides_of size) options) (Allocate s)
+          (simple_answer result) stored.simple step,
     )
 
 -- The rectangle of a whole size.
@@ -85,7 +88,8 @@ pub whole-listed : (v : BoxShelf) (bs : List FreeBox) (size : Size) (options : A
     → (IsTrue answer ↔ Any (λ b. box_sides b ≡ sides_of size) (free_item_boxes v.entries))
 whole-listed v bs size options r answer are stored e says = (
   λ t. there (subst (λ es. Contains (free_item_boxes es) (box_of r)) (sym are) (boxed bs r (exact-width r exact) (says.0 t))),
-  λ any. says.1 (unboxed (options_of options) v.heads bs r (subst (AreListed (options_of options) v.heads) are stored.kept.listed) exact.unsigned
+  λ any. says.1 (unboxed (options_of options) v.heads bs r (subst (AreListed (options_of options) v.heads) are stored.kept.listed)
+      exact.unsigned
       (subst (λ es. Contains (free_item_boxes es) (box_of r)) are (back any))),
 )
   where
@@ -106,7 +110,8 @@ whole-listed v bs size options r answer are stored e says = (
         → Contains (free_item_boxes v.entries) (box_of r)
     back any =
         let b = any.1 in
-        let inside = All-contains (λ q. IsNonempty q × IsWithin (sides_of size) q) (free_item_boxes v.entries) b stored.simple.boxes (any.0, any.2, any.3) in
+        let inside = All-contains (λ q. IsNonempty q × IsWithin (sides_of size) q) (free_item_boxes v.entries) b stored.simple.boxes
+        (any.0, any.2, any.3) in
         let w : b.max.x - b.min.x ≡ natural size.width = ap (λ s. s.width) any.4 in
         let h' : b.max.y - b.min.y ≡ natural size.height = ap (λ s. s.height) any.4 in
         let F : ℕ → ℕ → ℕ → ℕ → Box = λ i j m n. record { min = record { x = i; y = j }; max = record { x = m; y = n } } in
@@ -114,5 +119,6 @@ whole-listed v bs size options r answer are stored e says = (
         let y0 : b.min.y ≡ 0 = omega (arith, inside.0.1, inside.1.1) in
         let x1 : b.max.x ≡ natural size.width = omega (arith, inside.0.0, inside.1.0) in
         let y1 : b.max.y ≡ natural size.height = omega (arith, inside.0.1, inside.1.1) in
-        let is : b ≡ box_of (whole_rectangle size) = ap (λ i. F i b.min.y b.max.x b.max.y) x0 ∙ (ap (λ j. F 0 j b.max.x b.max.y) y0 ∙ (ap (λ m. F 0 0 m b.max.y) x1 ∙ ap (λ n. F 0 0 (natural size.width) n) y1)) in
+        let is : b ≡ box_of (whole_rectangle size) = ap (λ i. F i b.min.y b.max.x b.max.y) x0 ∙
+        (ap (λ j. F 0 j b.max.x b.max.y) y0 ∙ (ap (λ m. F 0 0 m b.max.y) x1 ∙ ap (λ n. F 0 0 (natural size.width) n) y1)) in
         subst (λ (x : Box). Contains (free_item_boxes v.entries) x) (is ∙ sym (ap box_of e)) (any.0, any.2, any.3)

@@ -7,6 +7,7 @@ use Rattle.atlas_model.specs.Choice.{Options}
 use Rattle.atlas_model.specs.Pixels.{box_of}
 use Rattle.atlas_search.specs.Lookups.{IsStanding}
 use Rattle.atlas_search.specs.Bands.{list_of}
+use Rattle.atlas_search.specs.Forks.{IsSorted}
 use Rattle.atlas_search.specs.HeapCalls.{KeepsAreas}
 use Rattle.atlas_search.specs.Heaps.{Heap, IsHeap, members, tag_of}
 use Rattle.atlas_search.specs.Items.{item_at, item_sides}
@@ -48,6 +49,7 @@ pub record HasUnlisted (o : Options) (old : BoxShelf) (kept : AreKept o old) (ne
   pub own : k ≡ list_of o (item_sides (item_at old.entries at))
   pub rest : Heap
   pub heap : IsHeap new.entries (tag_of k) (head_of new.heads k).number rest
+  pub sorted : IsSorted new.entries rest
   pub has : (i : ℕ) → same i at + occurs i (members rest) ≡ occurs i (kept.listed.free_lists k)
   pub heads : (j : ℕ) → j ≢ k → head_of new.heads j ≡ head_of old.heads j
   pub areas : KeepsAreas old.entries new.entries

@@ -1,6 +1,6 @@
 -- The free boxes that the simple allocator stores: entries in the lists of a table, and a chain of unused entries. No
 -- public clause cites this module.
-use Rattle.std.specs.Prelude.{ℕ, ◌≡◌, ◌+◌, ◌<◌, Bool, List, [], ◌∷◌, map, max, length, int_lt}
+use Rattle.std.specs.Prelude.{ℕ, ◌≡◌, ◌+◌, ◌<◌, Bool, false, List, [], ◌∷◌, map, max, length, int_lt}
 use Rattle.std.specs.Prelude.{if◌then◌else◌}
 use Rattle.guillotiere.specs.declared.simple.boxes.FreeBox.{FreeBox}
 use Rattle.guillotiere.specs.declared.simple.boxes.FreeBoxes.{FreeBoxes}
@@ -24,12 +24,13 @@ stored_item b =
       up = b.up.number;
       left = b.left.number;
       right = b.right.number;
+      is_fork = b.is_fork;
       is_free = has_width b.area;
     }
 
 -- An entry but for its links.
 abbrev pub bare_box : FreeBox → FreeBox
-bare_box b = record { area = b.area; up = no_link; left = no_link; right = no_link }
+bare_box b = record { area = b.area; up = no_link; left = no_link; right = no_link; is_fork = false }
 
 -- An unused entry before this one.
 abbrev pub idle_item : ℕ → Item

@@ -30,6 +30,7 @@ pub struct FreeBox {
     pub up: Link,
     pub left: Link,
     pub right: Link,
+    pub is_fork: bool,
 }
 
 impl Entry for FreeBox {
@@ -52,6 +53,10 @@ impl Entry for FreeBox {
     fn right(&self) -> Link {
         self.right
     }
+
+    fn is_fork(&self) -> bool {
+        self.is_fork
+    }
 }
 
 impl Linked for FreeBox {
@@ -63,6 +68,10 @@ impl Linked for FreeBox {
         self.up = up;
         self.left = left;
         self.right = right;
+    }
+
+    fn set_fork(&mut self, is_fork: bool) {
+        self.is_fork = is_fork;
     }
 }
 
@@ -92,6 +101,7 @@ fn unused_box(next: Link) -> FreeBox
         up: next,
         left: none,
         right: none,
+        is_fork: false,
     }
 }
 
@@ -177,6 +187,7 @@ impl<A: Allocator> FreeBoxes<A> {
             up: none,
             left: none,
             right: none,
+            is_fork: false,
         };
         let top = heap::push(
             &mut self.entries,

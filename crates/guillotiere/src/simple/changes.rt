@@ -177,8 +177,8 @@ fn file_free<A: Allocator>(
     ensures capacity { vec_capacity boxes.old.entries ≤ vec_capacity boxes.new.entries }
 {
     for slot in slots {
-        if slot.node.kind == NodeKind::Free {
-            file_area(boxes, slot.node.area, options)?;
+        if slot.kind == NodeKind::Free {
+            file_area(boxes, slot.area, options)?;
         }
     }
     Ok(())

@@ -1,5 +1,5 @@
 //! What a recording allocator is asked without recording it: options, room, slots, a copy of the recording; and memory in reserve.
-ghost use Rattle.std.specs.Prelude.{◌≡◌, ◌≢◌, ◌+◌, ◌^◌, ◌<◌, ◌↔◌, ◌⊎◌, IsTrue, Err, IfErr, IfOk, OnErr, OnOk, IsOkUnless};
+ghost use Rattle.std.specs.Prelude.{◌≡◌, ◌≢◌, ◌+◌, ◌^◌, ◌<◌, ◌≤◌, ◌↔◌, ◌⊎◌, IsTrue, Err, IfErr, IfOk, OnErr, OnOk, IsOkUnless};
 ghost use Rattle.guillotiere.specs.Boxes.{Fits};
 ghost use Rattle.guillotiere.specs.Choice.{AreValid, HasRoom};
 ghost use Rattle.guillotiere.specs.Pixels.{allocator_options_of, options_of, sides_of};
@@ -49,10 +49,11 @@ impl<A: Allocator + Copy> RecordingAllocator<A> {
     }
 
     /// Takes memory for so many slots of the atlas in addition to those in use, as the atlas's `reserve` does. It is no call
-    /// that is recorded: names and events stay. `Slots` if more slots would be used than the limit allows; `Memory` if
-    /// memory for them is refused; then nothing changes at all.
+    /// that is recorded: names and events stay, and what was in reserve beside stays so. `Slots` if more slots would be used than the
+    /// limit allows; `Memory` if memory for them is refused; then nothing changes at all.
     pub fn reserve(&mut self, additional: u32) -> Result<(), RecordingError>
         ensures ready { OnOk result (HasReserve additional self.new.atlas) }
+        ensures capacity { self.old.atlas.capacity ≤ self.new.atlas.capacity }
         ensures state { state_of self.new.atlas ≡ state_of self.old.atlas }
         ensures recording { self.new.recording ≡ self.old.recording }
         ensures given { self.new.given ≡ self.old.given }

@@ -1,7 +1,9 @@
 // Erased from crates/atlas_cache/src/cache.rt by rust/erase: don't edit.
 //! The cache.
 
+mod batches;
 mod clearing;
+mod compacting;
 mod copying;
 mod figures;
 pub mod holding;
@@ -147,13 +149,13 @@ impl<K: Copy + Eq + Hash, S: BuildHasher, A: Allocator + Copy> TextureCache<K, S
     /// pixels, with the padding. If none has room, a page grows; if none can, one is added; and if no more are allowed,
     /// the least recently used entry that lies on a page and that this frame didn't use is evicted; and so on, up to 16 entries. If there
     /// still is no room then, only entries that lie in one box go: the first box on a page that would come free and that the request fits,
-    /// if all that this frame didn't use went in that order. Where memory for its search is refused, a byte for each slot of the pages, they
-    /// go on in that order. `FrameFull` if no page has room, nor would one have it, were all entries gone that this frame didn't use, which
-    /// can't be while this frame has used nothing; `NeverFits` if the size, with the padding and rounded up to the alignment, exceeds the
-    /// largest page, and then nothing changes. What was done is added to the changes, whose room is never given back, also after
-    /// `FrameFull` and after an error: `Memory`, `Slots` if those of the first page that has room, or of the one that would grow, don't
-    /// suffice (no later frame helps then, but `remove`, `trim` and `clear` do), or `Numbers` only where 4,294,967,295 entries are still
-    /// held.
+    /// if all that this frame didn't use went in that order. Where memory for its search is refused, a byte for each slot of the pages,
+    /// they go on in that order. `FrameFull` if no page has room, nor would one have it, were all entries gone that this frame didn't
+    /// use, which can't be while this frame has used nothing; `NeverFits` if the size, with the padding and rounded up to the alignment,
+    /// exceeds the largest page, and then nothing changes. What was done is added to the changes, whose room is never given back, also
+    /// after `FrameFull` and after an error: `Memory`, `Slots` if those of the first page that has room, or of the one that would grow,
+    /// don't suffice (no later frame helps then, but `remove`, `trim` and `clear` do), or `Numbers` only where 4,294,967,295 entries are
+    /// still held.
     ///
     /// A new key with an empty size, of which a side is 0 or below, becomes a blank entry: `Placed` with a place that is
     /// empty. It takes no room, so no page changes and nothing is evicted for it, nor is it ever evicted for another key.

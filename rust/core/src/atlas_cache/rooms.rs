@@ -4,7 +4,7 @@
 mod asking;
 mod copying;
 mod rehearsing;
-mod repacking;
+pub mod repacking;
 mod reserving;
 mod usable;
 
@@ -143,10 +143,21 @@ impl<A: Allocator + Copy> Rooms<A> {
         self.place_among(0, to, asked)
     }
 
-    // The same, where none but the pages from `from` on and before `to` can have room: only these are looked at, and of
-    // these only those are searched that changed since they refused a size that was no larger.
+    // The same, where none but the pages from `from` on and before `to` can have room: only these are looked at.
     #[inline]
     pub(crate) fn place_among(
+        &mut self,
+        from: usize,
+        to: usize,
+        asked: Size,
+    ) -> Result<Option<(u32, Allocation)>, CacheError> {
+        self.place_before(from, to, asked)
+    }
+
+    // Grants a request on the first page before `to` that has room for it, where those before `from` have none: only the others are
+    // looked at, and of these only those are searched that changed since they refused a size that was no larger.
+    #[inline]
+    pub(crate) fn place_before(
         &mut self,
         from: usize,
         to: usize,

@@ -226,10 +226,12 @@ impl<K: Copy + Eq + Hash, S: BuildHasher, A: Allocator + Copy> Entries<K, S, A> 
         let _number = self.map.remove(&key);
     }
 
-    /// Moves an entry to another rectangle of its page. The order stays.
+    /// Moves an entry to another rectangle, of its page or of another one. The order stays. Requires that it lies on a page before and
+    /// after it, or neither.
     #[inline]
-    pub fn move_to(&mut self, number: u32, id: AllocId, rectangle: Rectangle) {
+    pub fn move_to(&mut self, number: u32, page: u32, id: AllocId, rectangle: Rectangle) {
         let entry = &mut self.items[number as usize];
+        entry.page = page;
         entry.id = id;
         entry.rectangle = rectangle;
     }

@@ -46,6 +46,33 @@ fn step(side: u32) -> usize {
     STEPS[side.min(256) as usize] as usize
 }
 
+// The band of each side up to 256 with the usual thresholds, 32 and 256.
+static USUAL_BANDS: [u8; 257] = [
+    0, 0, 1, 2, 3, 4, 5, 6, 7, 8, 9, 10, 11, 12, 13, 14, 15, 15, 16, 16, 17, 17, 18, 18, 19, 19,
+    20, 20, 21, 21, 22, 22, 24, 24, 25, 25, 26, 26, 27, 27, 28, 28, 29, 29, 30, 30, 31, 31, 32, 32,
+    33, 33, 34, 34, 35, 35, 36, 36, 37, 37, 38, 38, 39, 39, 40, 40, 40, 40, 40, 40, 40, 40, 41, 41,
+    41, 41, 41, 41, 41, 41, 42, 42, 42, 42, 42, 42, 42, 42, 43, 43, 43, 43, 43, 43, 43, 43, 44, 44,
+    44, 44, 44, 44, 44, 44, 45, 45, 45, 45, 45, 45, 45, 45, 46, 46, 46, 46, 46, 46, 46, 46, 47, 47,
+    47, 47, 47, 47, 47, 47, 48, 48, 48, 48, 48, 48, 48, 48, 48, 48, 48, 48, 48, 48, 48, 48, 48, 48,
+    48, 48, 48, 48, 48, 48, 48, 48, 48, 48, 48, 48, 48, 48, 48, 48, 48, 48, 48, 48, 48, 48, 48, 48,
+    48, 48, 48, 48, 48, 48, 48, 48, 48, 48, 48, 48, 48, 48, 48, 48, 48, 48, 48, 48, 48, 48, 49, 49,
+    49, 49, 49, 49, 49, 49, 49, 49, 49, 49, 49, 49, 49, 49, 49, 49, 49, 49, 49, 49, 49, 49, 49, 49,
+    49, 49, 49, 49, 49, 49, 49, 49, 49, 49, 49, 49, 49, 49, 49, 49, 49, 49, 49, 49, 49, 49, 49, 49,
+    49, 49, 49, 49, 49, 49, 49, 49, 49, 49, 49, 49, 49, 49, 51,
+];
+
+// The band of a side with the usual thresholds.
+#[inline]
+fn usual_band(side: u32) -> usize {
+    USUAL_BANDS[side.min(256) as usize] as usize
+}
+
+// Whether the thresholds are the usual ones.
+#[inline]
+fn are_usual(options: &AllocatorOptions) -> bool {
+    options.small_size_threshold == 32 && options.large_size_threshold == 256
+}
+
 // 1 if a side is at least a threshold.
 #[inline]
 fn passed(side: i32, threshold: i32) -> usize {
@@ -89,14 +116,12 @@ fn borders_for(options: &AllocatorOptions) -> Borders {
     }
 }
 
-/// Options, with what the lists take of them: the borders of the classes, and the band of each side up to 256.
-/// Contracts see the options alone.
+/// Options, with what the lists take of them: the borders of the classes, and whether the bands of sides are the usual
+/// ones. Contracts see the options alone.
 pub struct Scale {
     options: AllocatorOptions,
     borders: Borders,
-    // The greater threshold.
-    top: i32,
-    bands: [u8; 257],
+    are_usual: bool,
 }
 
 impl Scale {
@@ -104,17 +129,10 @@ impl Scale {
     #[inline]
     #[must_use]
     pub fn new(options: &AllocatorOptions) -> Scale {
-        let mut bands = [0; 257];
-        for side in 1..257 {
-            bands[side] = band(side as i32, options) as u8;
-        }
         Scale {
             options: *options,
             borders: borders_for(options),
-            top: options
-                .small_size_threshold
-                .max(options.large_size_threshold),
-            bands,
+            are_usual: are_usual(options),
         }
     }
 
@@ -133,8 +151,7 @@ impl Scale {
         Scale {
             options: self.options,
             borders: self.borders,
-            top: self.top,
-            bands: self.bands,
+            are_usual: self.are_usual,
         }
     }
 
@@ -165,25 +182,19 @@ impl Scale {
         }
     }
 
-    // The band of a side.
-    #[inline]
-    fn band(&self, side: i32) -> usize {
-        if side <= 256 {
-            self.bands[side as usize] as usize
-        } else if side >= self.top {
-            BANDS - 1
-        } else {
-            band(side, &self.options)
-        }
-    }
-
     /// The list of a size.
     #[inline]
     #[must_use]
     pub fn place_for(&self, size: Size) -> Place {
+        if self.are_usual {
+            return Place {
+                row: usual_band(size.width as u32),
+                column: usual_band(size.height as u32),
+            };
+        }
         Place {
-            row: self.band(size.width),
-            column: self.band(size.height),
+            row: band(size.width, &self.options),
+            column: band(size.height, &self.options),
         }
     }
 }

@@ -2,6 +2,7 @@
 //! The best free box that a search was shown.
 
 use crate::atlas_model::{Rectangle, Size};
+use crate::atlas_search::cells::Cell;
 use crate::atlas_search::choice::margin_in;
 use crate::atlas_search::link::Link;
 
@@ -17,6 +18,9 @@ const NO_RANK: u32 = 2147483647;
 
 const NO_CORNER: u64 = u64::MAX;
 
+// No limit of margins.
+const NO_REACH: u32 = 4294967295;
+
 /// The best of the boxes that a search was shown.
 #[derive(Clone, Copy)]
 pub struct Best {
@@ -28,6 +32,8 @@ pub struct Best {
     corner: u64,
     // Its corner once it has an equal side: no box that begins there or later is better. Before that `NO_CORNER`.
     bar: u64,
+    // No box with a greater least margin is better; `NO_REACH` as long as that isn't known.
+    reach: u32,
     // Its entry.
     at: Link,
 }
@@ -40,6 +46,22 @@ fn rank(is_large: bool, margin: i32) -> u32 {
     } else {
         margin as u32
     }
+}
+
+// How great the least margin of a box may be that is better than the best of this rank. For a large request that doesn't end, unless there
+// is an equal side.
+#[inline]
+fn reach_of(is_large: bool, rank: u32) -> u32 {
+    if rank == 0 {
+        return 0;
+    }
+    if is_large {
+        return NO_REACH;
+    }
+    if rank >= NO_RANK {
+        return NO_REACH;
+    }
+    rank
 }
 
 // The `min` of a box as one number, the greater the later the box comes: the y, and below it the x.
@@ -60,6 +82,7 @@ impl Best {
             rank: NO_RANK,
             corner: NO_CORNER,
             bar: NO_CORNER,
+            reach: NO_REACH,
             at: Link::NONE,
         }
     }
@@ -95,6 +118,7 @@ impl Best {
                 rank,
                 corner,
                 bar: if rank == 0 { corner } else { NO_CORNER },
+                reach: reach_of(self.is_large, rank),
                 at,
             };
         }
@@ -113,6 +137,17 @@ impl Best {
     #[must_use]
     pub fn passes(&self, corner: u64) -> bool {
         self.bar <= corner
+    }
+
+    /// Whether a box of a size in this cell may be better than the best: it may fit, and leave no more over than the best does, or anything
+    /// where the request is large and the best has no equal side.
+    #[inline(always)]
+    #[must_use]
+    pub fn may_be_in(&self, cell: Cell) -> bool {
+        if !cell.is_below_ends(self.size) {
+            return false;
+        }
+        !cell.is_beyond(self.size, self.reach)
     }
 
     /// The entry of the best of the boxes shown.

@@ -1,7 +1,10 @@
 // Erased from crates/atlas_search/src/heap.rt by rust/erase: don't edit.
 //! Lists of free boxes: each is a tree by links inside the entries, and no entry comes before the one that it hangs below.
 
+use crate::atlas_model::Size;
 use crate::atlas_search::best::corner;
+use crate::atlas_search::cells::Cell;
+use crate::atlas_search::cut::exact_size;
 use crate::atlas_search::link::{Link, NO_SLOT};
 use crate::atlas_search::search::Entry;
 
@@ -9,6 +12,9 @@ use crate::atlas_search::search::Entry;
 pub trait Linked: Entry {
     /// Hangs the entry below `up`, with these below it. All else of it stays.
     fn set_links(&mut self, up: Link, left: Link, right: Link);
+
+    /// Whether what hangs below it is divided by size, from now on. All else of it stays.
+    fn set_fork(&mut self, is_fork: bool);
 }
 
 // What an entry hangs below, and what hangs below it.
@@ -102,10 +108,137 @@ fn meld<E: Linked>(entries: &mut [E], one: Link, other: Link, up: Link) -> Link 
     one
 }
 
-// Whether an entry, if there is one, has nothing on its left and comes before another one.
+// Writes the three links of an entry, and whether it is a fork.
+#[inline(always)]
+fn put<E: Linked>(entries: &mut [E], at: Link, up: Link, left: Link, right: Link, is_fork: bool) {
+    let entry = &mut entries[at.number as usize];
+    entry.set_links(up, left, right);
+    entry.set_fork(is_fork);
+}
+
+// An entry, if it is one, hangs below another one, or a tag.
+#[inline(always)]
+fn move_below<E: Linked>(entries: &mut [E], at: Link, up: Link) {
+    if at.number != NO_SLOT {
+        set_up(entries, at, up);
+    }
+}
+
+// The size of an entry's rectangle.
+#[inline(always)]
+fn size_at<E: Entry>(entries: &[E], at: Link) -> Size {
+    exact_size(entries[at.number as usize].rectangle())
+}
+
+#[inline(always)]
+fn is_fork<E: Entry>(entries: &[E], at: Link) -> bool {
+    entries[at.number as usize].is_fork()
+}
+
+// Whether an entry is no fork and has the size of another one.
+#[inline(always)]
+fn is_alike<E: Entry>(entries: &[E], top: Link, at: Link) -> bool {
+    if is_fork(entries, top) {
+        return false;
+    }
+    let one = size_at(entries, top);
+    let other = size_at(entries, at);
+    one.width == other.width && one.height == other.height
+}
+
+// What hangs below an entry that is no fork becomes one heap, which hangs below `up`. Answers its top, or none.
+#[inline(always)]
+fn close<E: Linked>(entries: &mut [E], at: Link, up: Link) -> Link {
+    let links = links_at(entries, at);
+    if links.left.number == NO_SLOT {
+        if links.right.number != NO_SLOT {
+            set_up(entries, links.right, up);
+        }
+        return links.right;
+    }
+    if links.right.number == NO_SLOT {
+        set_up(entries, links.left, up);
+        return links.left;
+    }
+    meld(entries, links.left, links.right, up)
+}
+
+// The top of a heap becomes a fork, if it is none: what hangs below it, melded, hangs in the half of its own size.
+#[inline(always)]
+fn make_fork<E: Linked>(entries: &mut [E], cell: Cell, top: Link) {
+    if is_fork(entries, top) {
+        return;
+    }
+    let none = Link::NONE;
+    let up = links_at(entries, top).up;
+    let size = size_at(entries, top);
+    let rest = close(entries, top, top);
+    if cell.halves().low.is_below_ends(size) {
+        put(entries, top, up, rest, none, true);
+    } else {
+        put(entries, top, up, none, rest, true);
+    }
+}
+
+// Two entries, of which the second doesn't come first.
+#[derive(Clone, Copy)]
+struct Pair {
+    first: Link,
+    rest: Link,
+}
+
+// These two, in order.
+#[inline(always)]
+fn in_order<E: Entry>(entries: &[E], one: Link, other: Link) -> Pair {
+    if corner_at(entries, other) < corner_at(entries, one) {
+        Pair {
+            first: other,
+            rest: one,
+        }
+    } else {
+        Pair {
+            first: one,
+            rest: other,
+        }
+    }
+}
+
+// An entry joins a heap by its size. Answers the top, which hangs below `up`.
+#[inline]
+fn sort_in<E: Linked>(entries: &mut [E], cell: Cell, up: Link, top: Link, at: Link) -> Link {
+    let none = Link::NONE;
+    if top.number == NO_SLOT {
+        put(entries, at, up, none, none, false);
+        return at;
+    }
+    if is_alike(entries, top, at) {
+        let under = links_at(entries, top).up;
+        put(entries, at, under, none, none, false);
+        return meld(entries, top, at, up);
+    }
+    make_fork(entries, cell, top);
+    let links = links_at(entries, top);
+    let Pair { first, rest } = in_order(entries, top, at);
+    let halves = cell.halves();
+    if halves.low.is_below_ends(size_at(entries, rest)) {
+        let left = sort_in(entries, halves.low, first, links.left, rest);
+        move_below(entries, links.right, first);
+        put(entries, first, up, left, links.right, true);
+    } else {
+        let right = sort_in(entries, halves.high, first, links.right, rest);
+        move_below(entries, links.left, first);
+        put(entries, first, up, links.left, right, true);
+    }
+    first
+}
+
+// Whether an entry, if there is one, has nothing on its left, comes before another one, and is alike.
 #[inline(always)]
 fn is_place<E: Entry>(entries: &[E], near: Link, at: Link) -> bool {
     if near.number == NO_SLOT || links_at(entries, near).left.number != NO_SLOT {
+        return false;
+    }
+    if !is_alike(entries, near, at) {
         return false;
     }
     corner_at(entries, near) < corner_at(entries, at)
@@ -116,35 +249,56 @@ fn is_place<E: Entry>(entries: &[E], near: Link, at: Link) -> bool {
 #[inline(always)]
 pub fn push<E: Linked>(entries: &mut [E], tag: Link, top: Link, near: Link, at: Link) -> Link {
     let none = Link::NONE;
-    if top.number == NO_SLOT {
-        relink(entries, at, tag, none, none);
-        return at;
-    }
-    if is_place(entries, near, at) {
-        relink(entries, at, near, none, none);
+    if top.number != NO_SLOT && is_place(entries, near, at) {
+        put(entries, at, near, none, none, false);
         let links = links_at(entries, near);
         relink(entries, near, links.up, at, links.right);
         return top;
     }
-    relink(entries, at, tag, none, none);
-    meld(entries, top, at, tag)
+    let cell = Cell::around(size_at(entries, at));
+    sort_in(entries, cell, tag, top, at)
 }
 
-// What hangs below an entry becomes one heap, which hangs where the entry does. Answers its top, or none.
+// Whether the left one of two entries comes first: it is there, and the right one isn't, or comes no earlier.
 #[inline(always)]
-fn close<E: Linked>(entries: &mut [E], at: Link) -> Link {
-    let links = links_at(entries, at);
-    if links.left.number == NO_SLOT {
-        if links.right.number != NO_SLOT {
-            set_up(entries, links.right, links.up);
-        }
-        return links.right;
+fn is_left_first<E: Entry>(entries: &[E], left: Link, right: Link) -> bool {
+    if left.number == NO_SLOT {
+        return false;
     }
-    if links.right.number == NO_SLOT {
-        set_up(entries, links.left, links.up);
+    if right.number == NO_SLOT {
+        return true;
+    }
+    corner_at(entries, left) <= corner_at(entries, right)
+}
+
+// What hangs below an entry becomes one heap, which hangs below `up`. Of a fork's two sides the top that comes first comes up.
+#[inline]
+fn leave<E: Linked>(entries: &mut [E], at: Link, up: Link) -> Link {
+    if !is_fork(entries, at) {
+        return close(entries, at, up);
+    }
+    let links = links_at(entries, at);
+    if is_left_first(entries, links.left, links.right) {
+        if links.right.number == NO_SLOT && !is_fork(entries, links.left) {
+            set_up(entries, links.left, up);
+            return links.left;
+        }
+        let rest = leave(entries, links.left, links.left);
+        move_below(entries, links.right, links.left);
+        put(entries, links.left, up, rest, links.right, true);
         return links.left;
     }
-    meld(entries, links.left, links.right, links.up)
+    if links.right.number == NO_SLOT {
+        return links.right;
+    }
+    if links.left.number == NO_SLOT && !is_fork(entries, links.right) {
+        set_up(entries, links.right, up);
+        return links.right;
+    }
+    let rest = leave(entries, links.right, links.right);
+    move_below(entries, links.left, links.right);
+    put(entries, links.right, up, links.left, rest, true);
+    links.right
 }
 
 /// An entry leaves its heap. Answers the top of what was below it, which took its place. A tag above the heap's top isn't
@@ -152,7 +306,7 @@ fn close<E: Linked>(entries: &mut [E], at: Link) -> Link {
 #[inline(always)]
 pub fn remove<E: Linked>(entries: &mut [E], at: Link) -> Link {
     let up = links_at(entries, at).up;
-    let rest = close(entries, at);
+    let rest = leave(entries, at, up);
     if up.number as usize >= entries.len() {
         return rest;
     }

@@ -24,7 +24,7 @@ impl Marks {
         }
     }
 
-    /// The same marks again.
+    /// A copy of the marks.
     #[inline]
     #[must_use]
     pub fn copy(&self) -> Marks {

@@ -4,7 +4,9 @@
 use crate::atlas_model::{Rectangle, Size};
 use crate::atlas_search::bands::{Place, Scale, BANDS};
 use crate::atlas_search::best::{corner, Best, Found};
-use crate::atlas_search::link::{Link, NO_SLOT};
+use crate::atlas_search::cells::Cell;
+use crate::atlas_search::cut::exact_size;
+use crate::atlas_search::link::Link;
 use crate::atlas_search::masks::Mask;
 use crate::atlas_search::table::Table;
 use wollemigo_support::alloc::Allocator;
@@ -22,74 +24,53 @@ pub trait Entry {
 
     /// The entry that hangs below it to the right, or none.
     fn right(&self) -> Link;
+
+    /// Whether what hangs below it is divided by size.
+    fn is_fork(&self) -> bool;
 }
 
-// What hangs below an entry begins with this: what hangs to the left, or else to the right.
-#[inline]
-fn below<E: Entry>(entry: &E) -> Link {
-    let left = entry.left();
-    if left.number == NO_SLOT {
-        entry.right()
-    } else {
-        left
-    }
-}
-
-// Shows an entry to a search. Answers with what the entries below it begin, or none if none of them can be the best.
+// Shows an entry to a search. Answers whether one that hangs below it may be better: where it is a fork, since else those have
+// its size and come no earlier, and where the best hasn't an equal side and comes no later.
 #[inline(always)]
-fn show_entry<E: Entry>(entry: &E, at: Link, best: &mut Best) -> Link {
+fn show_entry<E: Entry>(entry: &E, at: Link, best: &mut Best) -> bool {
     let area = entry.rectangle();
     let corner = corner(area);
     if best.passes(corner) {
-        return Link::NONE;
+        return false;
     }
     best.look(area, corner, at);
     if best.passes(corner) {
-        return Link::NONE;
+        return false;
     }
-    below(entry)
+    entry.is_fork()
 }
 
-// The entry after all that hangs below one, in a heap with this top; none if they are the last.
-#[inline(always)]
-fn climb<E: Entry>(entries: &[E], top: Link, from: Link) -> Link {
-    let mut at = from;
-    while at.number != top.number {
-        let up = entries[at.number as usize].up();
-        let above = &entries[up.number as usize];
-        let right = above.right();
-        if right.number != NO_SLOT && above.left().number == at.number {
-            return right;
-        }
-        at = up;
+// Shows the entries of a heap with this top and of sizes of a cell to a search, but for those that can't be the best.
+#[inline]
+fn show<E: Entry>(entries: &[E], at: Link, cell: Cell, best: &mut Best) {
+    if at.number as usize >= entries.len() || !best.may_be_in(cell) {
+        return;
     }
-    Link::NONE
-}
-
-// Shows the entries of a heap with this top to a search, from one on, but for what hangs below one that can't be the best.
-#[inline(never)]
-fn show_below<E: Entry>(entries: &[E], top: Link, from: Link, best: Best) -> Best {
-    let mut found = best;
-    let mut at = from;
-    while (at.number as usize) < entries.len() {
-        let next = show_entry(&entries[at.number as usize], at, &mut found);
-        at = if next.number == NO_SLOT {
-            climb(entries, top, at)
-        } else {
-            next
-        };
+    let entry = &entries[at.number as usize];
+    if !show_entry(entry, at, best) {
+        return;
     }
-    found
+    let halves = cell.halves();
+    show(entries, entry.left(), halves.low, best);
+    show(entries, entry.right(), halves.high, best);
 }
 
 // Shows a list that begins with this to a search.
 #[inline(always)]
 fn show_list<E: Entry>(entries: &[E], top: Link, best: &mut Best) {
-    if (top.number as usize) < entries.len() {
-        let from = show_entry(&entries[top.number as usize], top, best);
-        if from.number != NO_SLOT {
-            *best = show_below(entries, top, from, *best);
-        }
+    if top.number as usize >= entries.len() {
+        return;
+    }
+    let entry = &entries[top.number as usize];
+    if show_entry(entry, top, best) {
+        let halves = Cell::around(exact_size(entry.rectangle())).halves();
+        show(entries, entry.left(), halves.low, best);
+        show(entries, entry.right(), halves.high, best);
     }
 }
 

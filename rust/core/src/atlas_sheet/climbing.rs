@@ -42,7 +42,7 @@ pub fn asked_in<A: Allocator + Copy>(
     })
 }
 
-// The same sprites in another order, with one change, and what they find in it.
+// An arrangement's sprites in another order, with one change, and what they find in it.
 #[inline]
 fn changed<A: Allocator + Copy>(
     alloc: A,

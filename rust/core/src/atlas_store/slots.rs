@@ -38,40 +38,72 @@ pub struct Node {
     pub generation: u8,
 }
 
-/// The lists' part of a slot: in its list of free slots, what it hangs below and the two that hang below it. The list of unused
-/// slots goes on with what is on the right.
+/// The lists' part of a slot: in its list of free slots, what it hangs below, the two that hang below it, and whether those are
+/// divided by size. The list of unused slots goes on with what is on the right.
 #[derive(Clone, Copy, Debug, PartialEq, Eq)]
 pub struct Ring {
     pub up: Link,
     pub left: Link,
     pub right: Link,
+    pub is_fork: bool,
 }
 
+/// Both parts of a slot, side by side: so they take 44 bytes.
 #[derive(Clone, Copy, Debug, PartialEq, Eq)]
 pub struct Slot {
-    pub node: Node,
-    pub ring: Ring,
+    pub parent: Link,
+    pub previous: Link,
+    pub next: Link,
+    pub area: Rectangle,
+    pub up: Link,
+    pub left: Link,
+    pub right: Link,
+    pub kind: NodeKind,
+    pub axis: Orientation,
+    pub generation: u8,
+    pub is_fork: bool,
 }
 
 /// The tree's part of a slot.
 #[inline]
 #[must_use]
 pub fn read_node(slots: &[Slot], at: Link) -> Node {
-    slots[at.number as usize].node
+    let slot = &slots[at.number as usize];
+    Node {
+        parent: slot.parent,
+        previous: slot.previous,
+        next: slot.next,
+        area: slot.area,
+        kind: slot.kind,
+        axis: slot.axis,
+        generation: slot.generation,
+    }
 }
 
 /// The lists' part of a slot.
 #[inline]
 #[must_use]
 pub fn read_ring(slots: &[Slot], at: Link) -> Ring {
-    slots[at.number as usize].ring
+    let slot = &slots[at.number as usize];
+    Ring {
+        up: slot.up,
+        left: slot.left,
+        right: slot.right,
+        is_fork: slot.is_fork,
+    }
 }
 
 /// Writes the tree's part of a slot.
 #[inline]
 pub fn write_node(slots: &mut [Slot], at: Link, node: Node) {
     let slot = &mut slots[at.number as usize];
-    slot.node = node;
+    slot.parent = node.parent;
+    slot.previous = node.previous;
+    slot.next = node.next;
+    slot.area = node.area;
+    slot.kind = node.kind;
+    slot.axis = node.axis;
+    slot.generation = node.generation;
 }
 
 /// What a slot is used for from now on.

@@ -8,7 +8,7 @@ pub mod pages;
 pub mod session;
 mod simple;
 
-pub use crate::atlas_allocator::AtlasAllocator;
+pub use crate::atlas_allocator::{AtlasAllocator, FreeIter, LiveIter};
 pub use crate::atlas_model::{
     point2, size2, AllocId, Allocation, AllocatorOptions, AtlasError, Change, ChangeList, Point,
     Rectangle, Size, SlotCount, DEFAULT_OPTIONS, MOST_SLOTS,

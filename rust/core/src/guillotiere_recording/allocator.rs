@@ -38,7 +38,7 @@ impl<A: Allocator + Copy> RecordingAllocator<A> {
         RecordingAllocator::with_options(alloc, size, &DEFAULT_OPTIONS)
     }
 
-    /// The same with these options. Requires a size that isn't empty and valid options.
+    /// A recording atlas of this size with these options: one free rectangle. Requires a size that isn't empty and valid options.
     #[inline]
     pub fn with_options(
         alloc: A,

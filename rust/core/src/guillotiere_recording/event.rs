@@ -21,7 +21,7 @@ pub enum Event<A: Allocator + Copy = Global> {
 }
 
 impl<A: Allocator + Copy> Event<A> {
-    /// The same event once more. `Memory` is the only error.
+    /// A copy of the event. `Memory` is the only error.
     #[inline]
     pub fn clone(&self) -> Result<Event<A>, RecordingError> {
         Ok(match self {

@@ -40,7 +40,7 @@ impl<A: Allocator + Copy> Log<A> {
         append(&mut self.events, event);
     }
 
-    /// The same log once more. `Memory` is the only error.
+    /// A copy of the log. `Memory` is the only error.
     #[inline]
     pub fn clone(&self) -> Result<Log<A>, RecordingError> {
         let mut events = Vec::new(*self.events.allocator());

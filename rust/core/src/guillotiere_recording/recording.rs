@@ -73,7 +73,7 @@ impl<A: Allocator + Copy> Recording<A> {
         self.log.events.remove(at);
     }
 
-    /// The same recording once more. `Memory` is the only error.
+    /// A copy of the recording. `Memory` is the only error.
     #[inline]
     pub fn clone(&self) -> Result<Recording<A>, RecordingError> {
         Ok(Recording {

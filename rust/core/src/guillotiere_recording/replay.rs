@@ -57,7 +57,7 @@ pub struct ReplayStats<A: Allocator + Copy = Global> {
 }
 
 impl<A: Allocator + Copy> ReplayStats<A> {
-    /// The same once more. `Memory` is the only error.
+    /// A copy of what a replay counted. `Memory` is the only error.
     #[inline]
     pub fn clone(&self) -> Result<ReplayStats<A>, RecordingError> {
         Ok(ReplayStats {

@@ -114,7 +114,8 @@ pub enum CacheChange<K = u64> {
         /// Where it was.
         place: Place,
     },
-    /// A key moved, by a repacking: copy `from.rectangle`, out of a copy of the page as it was before, to `to.rectangle`.
+    /// A key moved, by a repacking: copy `from.rectangle`, out of a copy of the page as it was before, to `to.rectangle`. By a compacting
+    /// it moved to another page, and its pixels can be copied at once.
     Moved {
         /// The key.
         key: K,

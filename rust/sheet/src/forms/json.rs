@@ -215,7 +215,7 @@ fn split(sheet: &Sheet) -> Played<'_> {
         .collect()
 }
 
-// The same, by the places of the first and the last frame in the list.
+// Animations that lie on one sheet, by the places of the first and the last frame in its list.
 fn tags<'a>(sheet: &'a Sheet, page: &Page) -> Vec<Tag<'a>> {
     let is_once = |name: &str| {
         let mut all = sheet.animations.iter();

@@ -1,6 +1,6 @@
 //! Long sessions of grants and freeings.
 
-use test_tables::rectangle;
+use guillotiere_tests::tables::rectangle;
 use wollemigo_core::guillotiere::{size2, AllocId, AtlasAllocator, AtlasError};
 use wollemigo_support::alloc::Global;
 use wollemigo_support::test::Fail;

@@ -1,6 +1,6 @@
 //! Sizes, boxes and options.
 
-use test_tables::{rectangle, size};
+use guillotiere_tests::tables::{rectangle, size};
 use wollemigo_core::guillotiere::{point2, size2, AllocatorOptions, Rectangle, DEFAULT_OPTIONS};
 
 #[test]

@@ -2,6 +2,7 @@
 //! session. Expected values are worked by hand from the rules, or recorded from the Rust crate `guillotiere` 0.7.0; none is
 //! an answer of the code under test.
 
+mod bands;
 mod churn;
 mod equal_sides;
 mod errors;
@@ -11,4 +12,5 @@ mod queries;
 mod rearranging;
 mod reserving;
 mod session_long;
+mod thresholds;
 mod walks;

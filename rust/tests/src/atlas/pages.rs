@@ -1,6 +1,6 @@
 //! Pages of a texture array.
 
-use test_tables::rectangle;
+use guillotiere_tests::tables::rectangle;
 use wollemigo_core::guillotiere::pages::{allocate_on, deallocate_on, page_with_room};
 use wollemigo_core::guillotiere::{size2, AllocId, AtlasAllocator, AtlasError};
 use wollemigo_support::alloc::Global;

@@ -1,7 +1,7 @@
 //! What may be asked of an atlas before a call.
 
+use guillotiere_tests::tables::{size, ALIGNED_TO_8};
 use test_memory::Refusing;
-use test_tables::{size, ALIGNED_TO_8};
 use wollemigo_core::guillotiere::{size2, AtlasAllocator, AtlasError, DEFAULT_OPTIONS};
 use wollemigo_support::alloc::Global;
 use wollemigo_support::test::Fail;

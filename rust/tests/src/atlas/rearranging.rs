@@ -1,6 +1,6 @@
 //! Pictures that are placed again: what moves and what is lost, as the Rust crate's atlas answers the same calls.
 
-use test_tables::{rectangle, size, Corners, Sides};
+use guillotiere_tests::tables::{rectangle, size, Corners, Sides};
 use wollemigo_core::guillotiere::{
     size2, AllocId, Allocation, AtlasAllocator, AtlasError, ChangeList,
 };

@@ -43,6 +43,10 @@ fn told<A: Allocator + Copy>(cache: &mut Cache<A>, alloc: A, word: u64) -> Strin
         1..=4 => format!("{:?}", cache.get(&key)),
         5 => format!("{:?}", cache.remove(&key)),
         6 if (word >> 48) % 8 == 0 => format!("{:?}", cache.clear()),
+        6 if (word >> 48) % 8 < 3 => {
+            let keys = ((word >> 56) % 3) as usize;
+            format!("{:?}", cache.end_batch(keys, &mut changes))
+        }
         6 => format!("{:?}", cache.trim(1 + (word >> 56) % 3, &mut changes)),
         7 => format!(
             "{:?}",
@@ -117,6 +121,37 @@ fn without_padding() -> Result<(), Fail> {
 #[test]
 fn with_padding() -> Result<(), Fail> {
     copy_goes_on(1000, 1)
+}
+
+// Where `repack` of a copy evicts none, a repacking that keeps all does the same; where it would evict one, it changes nothing.
+fn keeps_all(seed: u64, padding: i32) -> Result<(), Fail> {
+    let mut cache = new(Global, padding)?;
+    let (mut state, mut seen) = (seed, [0, 0]);
+    for _ in 0..5_000 {
+        let _ = told(&mut cache, Global, next(&mut state));
+        let page = (next(&mut state) % 2) as u32;
+        let mut copy = cache.clone()?;
+        let (mut wanted, mut changes) = (LibraryVec::new(Global), LibraryVec::new(Global));
+        let is_there = copy.repack(page, &mut wanted)?;
+        let loses = copy.statistics().evictions > cache.statistics().evictions;
+        let before = shown(&cache);
+        let done = cache.repack_keeping_all(page, &mut changes)?;
+        assert_eq!(done, is_there && !loses);
+        if done {
+            assert!(changes.as_slice() == wanted.as_slice() && shown(&cache) == shown(&copy));
+        } else {
+            assert!(changes.is_empty() && shown(&cache) == before);
+        }
+        seen[usize::from(loses)] += usize::from(is_there);
+    }
+    assert!(seen[0] > 100 && seen[1] > 100, "{:?}", seen);
+    Ok(())
+}
+
+#[test]
+fn a_repacking_keeps_all_or_does_nothing() -> Result<(), Fail> {
+    keeps_all(1, 0)?;
+    keeps_all(1000, 1)
 }
 
 // Each request for memory is refused in turn: the cache stays, and all memory is given back.

@@ -100,6 +100,47 @@ fn a_refused_repacking_changes_nothing() -> Result<(), Fail> {
     Ok(())
 }
 
+// Where memory for the changes is refused, no key goes; with room for them none is asked for.
+#[test]
+fn a_refused_end_of_a_batch_changes_nothing() -> Result<(), Fail> {
+    let heap = Refusing::new(Global);
+    let mut cache = three(&heap)?;
+    let mut changes = Vec::new(&heap);
+    heap.refuse_nth(1);
+    assert_eq!(cache.end_batch(2, &mut changes), Err(CacheError::Memory));
+    assert!(changes.is_empty() && cache.len() == 3);
+    changes.reserve(3)?;
+    heap.refuse_nth(1);
+    cache.end_batch(2, &mut changes)?;
+    assert_eq!((changes.len(), cache.len()), (2, 1));
+    assert_eq!(lies(&cache, 1), Some(at(0, 0, 6, 8)));
+    Ok(())
+}
+
+// One that keeps all asks for the same memory, and gives it back where a key would go.
+#[test]
+fn a_repacking_that_keeps_all_leaves_nothing() -> Result<(), Fail> {
+    let heap = Refusing::new(Global);
+    let mut cache = three(&heap)?;
+    let mut changes = Vec::new(&heap);
+    let mut answers = 0;
+    for nth in 1..20 {
+        heap.refuse_nth(nth);
+        if let Ok(done) = cache.repack_keeping_all(0, &mut changes) {
+            assert!(!done && nth > 3);
+            answers += 1;
+        }
+        assert!(changes.is_empty() && cache.len() == 3 && cache.statistics().evictions == 0);
+        assert_eq!(lies(&cache, 2), Some(at(6, 0, 16, 9)));
+    }
+    assert!(answers > 0);
+    cache.remove(&1);
+    assert!(cache.repack_keeping_all(0, &mut changes)? && changes.len() == 2);
+    assert_eq!(lies(&cache, 2), Some(at(0, 0, 10, 9)));
+    assert_eq!(lies(&cache, 3), Some(at(10, 0, 16, 8)));
+    Ok(())
+}
+
 // How many requests for memory 16 insertions make, where room for so many entries was asked for before.
 fn requests_after<A: Allocator + Copy>(heap: &Refusing<A>, additional: usize) -> Result<u64, Fail> {
     let options = options(size2(64, 64), 1, 0);

@@ -42,6 +42,12 @@ fn doubled(side: i32, largest: i32) -> i32 {
     side.saturating_mul(2).min(largest)
 }
 
+// How many pixels a place has, with its padding.
+fn area_of(place: Place) -> u64 {
+    let (min, max) = (place.rectangle.min, place.rectangle.max);
+    u64::from((max.x - min.x) as u32) * u64::from((max.y - min.y) as u32)
+}
+
 // A page that has grown: its lesser side, the width of equal ones, or the other one if that is at its largest.
 fn grown(page: Size, largest: Size) -> Size {
     let is_lesser = page.width <= page.height || page.height == largest.height;
@@ -147,6 +153,56 @@ impl Plain {
             Some(last) => !self.is_unused(*last, frames),
             None => true,
         }
+    }
+
+    /// So many of the keys that were used last go, all if there are no more. Whether these changes tell just them, the most recently used
+    /// first.
+    pub fn end_batch(&mut self, keys: usize, told: &[CacheChange<u32>]) -> bool {
+        let count = keys.min(self.held.len());
+        let gone = self.held.drain(..count).map(|held| CacheChange::Evicted {
+            key: held.key,
+            place: held.place,
+        });
+        gone.eq(told.iter().copied())
+    }
+
+    // Whether a key can move from one place to another, on a page before that one.
+    fn can_move(&self, held: Held, to: Place) -> bool {
+        to.number == held.place.number
+            && to.page < held.place.page
+            && area_of(to) == area_of(held.place)
+            && self.is_free(to)
+            && shows(to, held.size, self.options.padding)
+    }
+
+    /// Keys of the last page move to pages before it, from so many pixels at most: how many. None unless these changes tell just that, in
+    /// the order of use.
+    pub fn compact(&mut self, pixels: u64, told: &[CacheChange<u32>]) -> Option<u64> {
+        let (mut moved, mut visited) = (0, 0);
+        for change in told {
+            let (key, from, to) = match *change {
+                CacheChange::Moved { key, from, to } => (key, from, to),
+                _ => return None,
+            };
+            let at = self.find(key).filter(|at| *at >= visited)?;
+            let is_last = from.page as usize + 1 == self.pages.len();
+            if self.held[at].place != from || !is_last || !self.can_move(self.held[at], to) {
+                return None;
+            }
+            self.held[at].place = to;
+            moved += area_of(from);
+            visited = at + 1;
+        }
+        Some(moved).filter(|moved| *moved <= pixels)
+    }
+
+    /// The sizes of the keys of the last page that take no more than so many pixels.
+    pub fn small_on_last(&self, pixels: u64) -> Vec<Size> {
+        let last = |held: &&Held| {
+            let place = held.place;
+            !is_empty(held.size) && place.page as usize + 1 == self.pages.len() && area_of(place) <= pixels
+        };
+        self.held.iter().filter(last).map(|held| held.size).collect()
     }
 
     // Whether a key has its place on this page.

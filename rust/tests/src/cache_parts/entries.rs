@@ -93,14 +93,14 @@ fn remove(entries: &mut Entries<u32>, key: u32) {
     }
 }
 
-// An entry gets another id and rectangle, and is read again.
+// An entry gets another page, id and rectangle, and is read again.
 fn moved(entries: &mut Entries<u32>, key: u32, id: AllocId, x: i32) -> Option<Entry<u32>> {
     let number = entries.find(&key)?;
     let rectangle = Rectangle {
         min: point2(x, 0),
         max: point2(x, 18),
     };
-    entries.move_to(number, id, rectangle);
+    entries.move_to(number, 4, id, rectangle);
     Some(entries.entry(entries.find(&key)?))
 }
 
@@ -228,7 +228,8 @@ fn a_moved_entry_keeps_its_place_in_the_order() -> Result<(), Fail> {
     let mut entries = three()?;
     let id = AllocId::deserialize(9);
     let held = moved(&mut entries, 71, id, 40);
-    assert!(held.map_or(false, |e| e.id == id
+    assert!(held.map_or(false, |e| e.page == 4
+        && e.id == id
         && e.rectangle.min.x == 40
         && e.key == 71));
     assert_eq!(nth(&entries, 1), Some((71, 1)));

@@ -59,7 +59,7 @@ fn repack_first(
     rooms: &mut Rooms,
     held: Vec<Allocation>,
 ) -> Result<(usize, Option<Rectangle>, usize), CacheError> {
-    let list = rooms.repack(0, held)?;
+    let list = rooms.repack(0, held, false)?.expect("a page that is there");
     let first = list.changes.first().map(|change| change.new.rectangle);
     Ok((list.changes.len(), first, list.failures.len()))
 }
@@ -167,7 +167,7 @@ fn a_page_that_refused_is_asked_again_when_it_changed() -> Result<(), Fail> {
     assert_eq!(place(&mut rooms, size2(33, 1))?, None);
     assert_eq!(place(&mut rooms, size2(32, 16))?, Some((1, at(0, 0, 32, 16))));
     assert_eq!(place(&mut rooms, size2(32, 16))?, None);
-    rooms.repack(1, Vec::new(Global))?;
+    rooms.repack(1, Vec::new(Global), false)?;
     assert_eq!(
         place(&mut rooms, size2(32, 16))?,
         Some((1, at(0, 0, 32, 16)))

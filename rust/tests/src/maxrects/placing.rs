@@ -1,7 +1,7 @@
 //! Places worked out by hand.
 
+use guillotiere_tests::tables::rectangle;
 use test_memory::Refusing;
-use test_tables::rectangle;
 use wollemigo_core::atlas_maxrects::TopmostPacker;
 use wollemigo_core::atlas_model::{size2, AtlasError};
 use wollemigo_support::alloc::Global;

@@ -3,7 +3,7 @@
 mod reading;
 mod writing;
 
-use pack_lines::Sprite;
+use atlas_pack::sprites::Sprite;
 use wollemigo_core::atlas_model::size2;
 use wollemigo_support::alloc::Global;
 use wollemigo_support::string::String;

@@ -1,9 +1,10 @@
 //! Lines that are read.
 
 use super::sprite;
-use pack_lines::{
-    folder_groups, read_job, read_settings, read_sprite, Settings, Sheets, DEFAULT_SETTINGS,
-};
+use atlas_pack::folders::folder_groups;
+use atlas_pack::job::read_job;
+use atlas_pack::settings::{read_settings, Settings, Sheets, DEFAULT_SETTINGS};
+use atlas_pack::sprites::read_sprite;
 use wollemigo_core::atlas_model::size2;
 use wollemigo_support::alloc::Global;
 

@@ -1,10 +1,12 @@
 //! Sheets that are written.
 
 use super::sprite;
+use atlas_pack::frames::{fullness, Frame};
+use atlas_pack::json::sheet_json;
+use atlas_pack::pages::{pages_fullness, pages_lines, PageFrame};
+use atlas_pack::sprites::read_sprite;
+use atlas_pack::text::sheet_lines;
 use core::str;
-use pack_lines::{
-    fullness, pages_fullness, pages_lines, read_sprite, sheet_json, sheet_lines, Frame, PageFrame,
-};
 use wollemigo_core::atlas_model::{point2, size2, Size};
 use wollemigo_support::alloc::Global;
 

@@ -1,8 +1,8 @@
 //! Replays: rows of recordings that are whole, cut or made up, and a long session.
 
 use crate::random::{below, side};
+use guillotiere_tests::tables::{rectangle, Corners};
 use test_memory::Refusing;
-use test_tables::{rectangle, Corners};
 use wollemigo_core::guillotiere::{size2, AllocId, Allocation, ChangeList, Size, DEFAULT_OPTIONS};
 use wollemigo_core::guillotiere_recording::{
     Event, Recorder, Recording, RecordingAllocator, RecordingError, ReplayFault,

@@ -1,8 +1,8 @@
 //! Recordings that are resumed: what goes on from their end, and what can't be carried out.
 
 use super::replay::{allocation, are_equal, box_of_seven, column, remove, request, MOVED};
+use guillotiere_tests::tables::Corners;
 use test_memory::Refusing;
-use test_tables::Corners;
 use wollemigo_core::guillotiere::{
     size2, AllocId, Allocation, AtlasAllocator, ChangeList, DEFAULT_OPTIONS,
 };

@@ -2,8 +2,8 @@
 //! session shows and answers is compared in `recorded_tests`.
 
 use super::replay::allocation;
+use guillotiere_tests::tables::{size, Corners, Sides};
 use test_memory::Refusing;
-use test_tables::{size, Corners, Sides};
 use wollemigo_core::guillotiere::{
     size2, AllocId, Allocation, Change, ChangeList, Size, DEFAULT_OPTIONS,
 };
@@ -28,7 +28,7 @@ enum Call {
     Grow(Sides),
     /// `rearrange`: the names that were moved, with their old and their new boxes, and the names that found no room.
     Rearrange(&'static [Moved], &'static [(u32, Corners)]),
-    /// The same of `resize_and_rearrange`.
+    /// `resize_and_rearrange`: the new size, then as of `rearrange`.
     Resize(Sides, &'static [Moved], &'static [(u32, Corners)]),
 }
 

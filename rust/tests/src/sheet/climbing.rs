@@ -258,7 +258,7 @@ const EIGHT: [(i32, i32); 8] = [
 ];
 
 // Of these sprites, by effort and seed, the side of the least square, and whether the seventh has a place in 16 x 16. The
-// program says the same of them (gate/pack_cases.py), so it hands both on.
+// program says the same of them (gate/program_cases.py), so it hands both on.
 #[test]
 fn effort_and_seed_show() -> Result<(), Fail> {
     let sprites = EIGHT.map(|(width, height)| sides(width, height));

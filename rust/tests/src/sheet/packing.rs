@@ -2,7 +2,7 @@
 
 use super::filling::{are_apart, is_good, sprites_of, upright};
 use super::sides;
-use test_tables::rectangle;
+use guillotiere_tests::tables::rectangle;
 use wollemigo_core::atlas_sheet::{
     pack, pack_dense, pack_pages, Allowed, Placed, SheetError, SheetOptions,
 };

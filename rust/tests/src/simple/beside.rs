@@ -1,6 +1,6 @@
 //! Rectangles that are placed beside those of an atlas.
 
-use test_tables::{rectangle, size};
+use guillotiere_tests::tables::{rectangle, size};
 use wollemigo_core::guillotiere::{
     size2, AllocId, AtlasAllocator, AtlasError, Rectangle, SimpleAtlasAllocator, Size,
 };

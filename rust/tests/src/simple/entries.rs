@@ -1,7 +1,7 @@
 //! How many entries a simple allocator uses and keeps, and a start whose free boxes are all narrower than the
 //! alignment.
 
-use test_tables::{size, Sides, ALIGNED_TO_8};
+use guillotiere_tests::tables::{size, Sides, ALIGNED_TO_8};
 use wollemigo_core::guillotiere::{
     size2, AllocId, AtlasAllocator, AtlasError, SimpleAtlasAllocator, SlotCount,
 };

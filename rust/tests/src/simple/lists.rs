@@ -2,8 +2,8 @@
 
 use super::steps::{Row, Step, ROWS};
 use super::whole::{begun, source_of, Atlas, Simple};
+use guillotiere_tests::tables::{rectangle, size};
 use test_memory::Refusing;
-use test_tables::{rectangle, size};
 use wollemigo_core::guillotiere::session::{run_simple, SimpleCall, SimpleReply};
 use wollemigo_core::guillotiere::AtlasError;
 use wollemigo_support::alloc::Global;

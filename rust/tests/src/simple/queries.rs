@@ -1,6 +1,6 @@
 //! What may be asked of a simple allocator before a call.
 
-use test_tables::{size, ALIGNED_TO_8};
+use guillotiere_tests::tables::{size, ALIGNED_TO_8};
 use wollemigo_core::guillotiere::{size2, AtlasError, SimpleAtlasAllocator};
 use wollemigo_support::alloc::Global;
 use wollemigo_support::test::Fail;

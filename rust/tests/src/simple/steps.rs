@@ -1,6 +1,6 @@
 //! Steps of the simple allocator with their answers: worked rows of growths and starts.
 
-use test_tables::{Corners, Sides, ALIGNED_TO_2, ALIGNED_TO_8};
+use guillotiere_tests::tables::{Corners, Sides, ALIGNED_TO_2, ALIGNED_TO_8};
 use wollemigo_core::guillotiere::{AllocatorOptions, Size, DEFAULT_OPTIONS};
 
 /// A call of the simple allocator with its answer.

@@ -1,8 +1,8 @@
 //! Calls of the simple allocator by themselves, and those that need no memory.
 
 use super::steps::{Row, Source, Step, ROWS};
+use guillotiere_tests::tables::{rectangle, size, Sides, ALIGNED_TO_8};
 use test_memory::Refusing;
-use test_tables::{rectangle, size, Sides, ALIGNED_TO_8};
 use wollemigo_core::guillotiere::{
     size2, AllocId, AtlasAllocator, AtlasError, Rectangle, SimpleAtlasAllocator, DEFAULT_OPTIONS,
 };

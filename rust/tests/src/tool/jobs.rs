@@ -1,6 +1,6 @@
 //! Lines that spell the benchmark's jobs: which line is the first bad one.
 
-use bench_jobs::jobs::{jobs, JobsError};
+use atlas_bench::jobs::{jobs, JobsError};
 use wollemigo_support::alloc::Global;
 
 // The number of the bad line, or 0.

@@ -1,6 +1,6 @@
 //! Calls of one of several pages.
 
-use test_tables::rectangle;
+use guillotiere_tests::tables::rectangle;
 use wollemigo_core::guillotiere::{size2, AllocId, AtlasAllocator, AtlasError, Rectangle, Size};
 use wollemigo_core::guillotiere_total::{pages, CallError};
 use wollemigo_support::alloc::Global;

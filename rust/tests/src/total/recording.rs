@@ -1,8 +1,8 @@
 //! Calls of a recording allocator and of a recorder.
 
 use super::tables::{options, Start, BAD_STARTS};
+use guillotiere_tests::tables::{size, ALIGNED_TO_8};
 use test_memory::Refusing;
-use test_tables::{size, ALIGNED_TO_8};
 use wollemigo_core::guillotiere::{size2, AllocId, AtlasError, ChangeList, Size, DEFAULT_OPTIONS};
 use wollemigo_core::guillotiere_recording::{Event, RecordingAllocator};
 use wollemigo_core::guillotiere_total::{recording, CallError};

@@ -1,6 +1,6 @@
 //! Sides of any rectangle.
 
-use test_tables::{rectangle, Corners};
+use guillotiere_tests::tables::{rectangle, Corners};
 use wollemigo_core::guillotiere::size2;
 use wollemigo_core::guillotiere_total::{rectangles, CallError};
 

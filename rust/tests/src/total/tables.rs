@@ -1,6 +1,6 @@
 //! Starts that are refused, with the first condition that fails.
 
-use test_tables::Sides;
+use guillotiere_tests::tables::Sides;
 use wollemigo_core::guillotiere::{size2, AllocatorOptions};
 use wollemigo_core::guillotiere_total::CallError;
 

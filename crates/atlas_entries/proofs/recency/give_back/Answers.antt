@@ -14,7 +14,9 @@ returns-clause-ring c = λ xs h l.
     let at = c.args.at in
     let m = h.inside at l in
     let ni : at ≡ no_entry → ⊥ = (λ q. omega (arith, q, m, c.requires.short)) in
-    IsRing-relinked c.unlink.new.links c.set_next.new.links c.unlink.new.ends c.set_next.new.ends at (without at xs) c.set_next.ensures.size ni (gone-from at xs l (h.once at)) (λ k ne. c.set_next.ensures.next k ∙ at_once-there at c.args.unused (next_at c.unlink.new.links c.unlink.new.ends) k ne) c.set_next.ensures.previous (c.unlink.ensures.ring xs h l)
+    IsRing-relinked c.unlink.new.links c.set_next.new.links c.unlink.new.ends c.set_next.new.ends at (without at xs) c.set_next.ensures.size
+    ni (gone-from at xs l (h.once at)) (λ k ne. c.set_next.ensures.next k ∙ at_once-there at c.args.unused
+    (next_at c.unlink.new.links c.unlink.new.ends) k ne) c.set_next.ensures.previous (c.unlink.ensures.ring xs h l)
 
 pub returns-clause-own : goal.returns-clause-own
 returns-clause-own c =
@@ -24,4 +26,5 @@ pub returns-clause-others : goal.returns-clause-others
 returns-clause-others c = λ xs k h l m z.
     let at = c.args.at in
     let nk : k ≡ no_entry → ⊥ = (λ q. omega (arith, q, m, c.requires.short)) in
-    c.set_next.ensures.next k ∙ at_once-there at c.args.unused (next_at c.unlink.new.links c.unlink.new.ends) k (λ q. ne-from_occurs k at xs z l (sym q)) ∙ c.unlink.ensures.others xs k h l nk z
+    c.set_next.ensures.next k ∙ at_once-there at c.args.unused (next_at c.unlink.new.links c.unlink.new.ends) k
+    (λ q. ne-from_occurs k at xs z l (sym q)) ∙ c.unlink.ensures.others xs k h l nk z

@@ -8,7 +8,8 @@ returns-then-number-clause-rest g c = λ ends xs h.
     let links = c.args.links.now.items in
     let u = c.args.unused.now in
     let inside : u < length links = elim c.requires.unused [ inl e ↦ absurd (c.if-number.true e) | inr m ↦ m ] in
-    rw (next-read links ends c.index.result.now u c.if-number.true c.index.ensures inside) (HasSpare-reused links ends u xs c.if-number.true h)
+    rw (next-read links ends c.index.result.now u c.if-number.true c.index.ensures inside)
+    (HasSpare-reused links ends u xs c.if-number.true h)
 
 pub returns-clause-ring : goal.returns-clause-ring
 returns-clause-ring g c = λ ends xs h.

@@ -10,5 +10,6 @@ pub returns-in-Ok : goal.returns-in-Ok
 returns-in-Ok g c =
     let list = c.in-Ok.list in
     let exact = c.requires list c.in-Ok.is in
-    let P : Result (ChangeList g.row.A.Denot) AtlasError → Type 0 = λ r. ShowsRearranging (change_reply r) (ToolReply.ChangeLines list.changes.items list.failures.items) in
+    let P : Result (ChangeList g.row.A.Denot) AtlasError → Type 0 = λ r. ShowsRearranging (change_reply r)
+    (ToolReply.ChangeLines list.changes.items list.failures.items) in
     subst P (sym c.in-Ok.is) (changes_shown _ _ exact.changes exact.failures)

@@ -7,5 +7,6 @@ abbrev pub invariant-loop-change : goal.invariant-loop-change
 invariant-loop-change g l = record {
   working : g.W.ToolOutput.has_failed l.output ≡ false;
   gathered : IsGathered
-      (g.W.ToolOutput.contents l.fn.output) (g.W.ToolOutput.contents l.output) l.waiting (l.fn.waiting ++ flat_map change_line (take l.change-index l.changes));
+      (g.W.ToolOutput.contents l.fn.output) (g.W.ToolOutput.contents l.output) l.waiting
+      (l.fn.waiting ++ flat_map change_line (take l.change-index l.changes));
 }

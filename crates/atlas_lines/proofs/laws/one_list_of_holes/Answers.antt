@@ -9,4 +9,5 @@ pub returns-clause-list : goal.returns-clause-list
 returns-clause-list c = same_holes
 
 pub returns-clause-text : goal.returns-clause-text
-returns-clause-text c state areas others sound a b = ap (λ (list : List Rectangle). reply_text (ToolReply.HoleLines list)) (same_holes state areas others sound a b)
+returns-clause-text c state areas others sound a b = ap (λ (list : List Rectangle). reply_text (ToolReply.HoleLines list))
+    (same_holes state areas others sound a b)

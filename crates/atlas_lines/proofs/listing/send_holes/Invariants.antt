@@ -7,5 +7,6 @@ abbrev pub invariant-loop-area : goal.invariant-loop-area
 invariant-loop-area g l = record {
   working : g.W.ToolOutput.has_failed l.output ≡ false;
   gathered : IsGathered
-      (g.W.ToolOutput.contents l.fn.output) (g.W.ToolOutput.contents l.output) l.waiting (l.fn.waiting ++ flat_map hole_line (take l.area-index l.found));
+      (g.W.ToolOutput.contents l.fn.output) (g.W.ToolOutput.contents l.output) l.waiting
+      (l.fn.waiting ++ flat_map hole_line (take l.area-index l.found));
 }

@@ -7,5 +7,6 @@ abbrev pub invariant-loop-allocation : goal.invariant-loop-allocation
 invariant-loop-allocation g l = record {
   working : g.W.ToolOutput.has_failed l.output ≡ false;
   gathered : IsGathered
-      (g.W.ToolOutput.contents l.fn.output) (g.W.ToolOutput.contents l.output) l.waiting (l.fn.waiting ++ flat_map live_line (take l.allocation-index l.found));
+      (g.W.ToolOutput.contents l.fn.output) (g.W.ToolOutput.contents l.output) l.waiting
+      (l.fn.waiting ++ flat_map live_line (take l.allocation-index l.found));
 }

@@ -5,5 +5,9 @@ use Rattle.atlas_lines.proofs.session_calls.replay.Goals as goal
 
 pub returns : goal.returns
 returns g c =
-    subst (λ (r : RecordingValue). IsFaultOf r c.in-Err.fault × (IsRecorded r → MayFail r c.in-Err.fault)) c.finish-recording.ensures.taken
-    (c.in-Err.ensures.fault, λ recorded. subst (λ x. IfErr x (MayFail c.finish-recording.result)) c.in-Err.is (c.replay.ensures.recorded recorded))
+    let P : RecordingValue → Type 0 = λ r. IsFaultOf r c.in-Err.fault × (IsRecorded r → MayFail r c.in-Err.fault) in
+    subst P c.finish-recording.ensures.taken (
+      c.in-Err.ensures.fault,
+      λ recorded. subst (λ x. IfErr x (MayFail c.finish-recording.result)) c.in-Err.is
+          (c.replay.ensures.recorded recorded),
+    )

@@ -8,7 +8,8 @@ pub returns-clause-kept : goal.returns-clause-kept
 returns-clause-kept g c =
     rw c.in_ok-push.ensures.items
     (added_last c.args.boxes.now.items c.in_ok-kept.kept.items c.args.part
-    (subst (λ xs. (b : Box) → LiesInOne xs b → LiesInOne c.in_ok-kept.kept.items b ⊎ IsInside b (free_box c.args.part)) c.deref-2.ensures.value
+    (subst (λ xs. (b : Box) → LiesInOne xs b → LiesInOne c.in_ok-kept.kept.items b ⊎ IsInside b (free_box c.args.part))
+    c.deref-2.ensures.value
     c.in_ok-kept.ensures.kept))
 
 pub returns-clause-added : goal.returns-clause-added

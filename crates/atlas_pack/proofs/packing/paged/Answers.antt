@@ -1,5 +1,5 @@
 use Rattle.std.proofs.Common.{◌≡◌, ◌∙◌, ℕ, Bool, List, Option, IfOk, IfSome, subst, sym}
-use Rattle.pack_lines.specs.Folders.{folder_groups}
+use Rattle.atlas_pack.specs.Folders.{folder_groups}
 use Rattle.atlas_pack.specs.Runs.{AreGrouped, AreSheets, groups_of}
 use Rattle.atlas_pack.proofs.KnownResults.{all_known}
 use Rattle.atlas_pack.proofs.packing.paged.Goals as goal

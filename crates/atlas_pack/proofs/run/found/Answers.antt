@@ -7,14 +7,16 @@ returns-then-settings-clause-answers g c =
     let s = c.args.settings in
     let sizes = map (λ sprite. sprite.size) c.args.sprites.now in
     let fact : IfOk c.fill_one.result (λ found. IsFilled (sheet_options s) sizes found.0 found.1.items) = search rules in
-    subst (λ (b : Bool). IfOk c.fill_one.result (λ found. Answers b s.dense (sheet_options s) sizes found.0 found.1.items)) (sym c.if-settings.true) fact
+    subst (λ (b : Bool). IfOk c.fill_one.result (λ found. Answers b s.dense (sheet_options s) sizes found.0 found.1.items))
+    (sym c.if-settings.true) fact
 
 pub returns-clause-answers : goal.returns-clause-answers
 returns-clause-answers g c =
     let s = c.args.settings in
     let sizes = map (λ sprite. sprite.size) c.args.sprites.now in
     let fact : IfOk c.pack_whole.result (λ found. IsAllPacked s.dense (sheet_options s) sizes found.0 found.1.items) = search rules in
-    subst (λ (b : Bool). IfOk c.pack_whole.result (λ found. Answers b s.dense (sheet_options s) sizes found.0 found.1.items)) (sym c.if-settings.false) fact
+    subst (λ (b : Bool). IfOk c.pack_whole.result (λ found. Answers b s.dense (sheet_options s) sizes found.0 found.1.items))
+    (sym c.if-settings.false) fact
 
 pub returns-then-settings-clause-fault : goal.returns-then-settings-clause-fault
 returns-then-settings-clause-fault g c =

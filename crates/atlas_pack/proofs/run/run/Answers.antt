@@ -14,9 +14,11 @@ returns-clause-packs g c =
       settings = job.settings;
       sprites = job.sprites.items;
       text = c.in_ok-told.told.items;
-      read = read_all _ c.new-text.result.items c.read_to_end.new.buf.items _ c.in_ok-read_to_end.ensures.bytes c.new-text.ensures.items c.deref.ensures.value;
+      read = read_all _ c.new-text.result.items c.read_to_end.new.buf.items _ c.in_ok-read_to_end.ensures.bytes c.new-text.ensures.items
+          c.deref.ensures.value;
       asked = c.in_ok-job.ensures.asks;
-      answered = subst (λ (many : ℕ). IsPackAnswer job.settings.pages job.settings job.sprites.items many c.in_ok-told.told.items) (sym (c.len.ensures ∙ c.in_ok-told.left.ok.0)) c.in_ok-told.ensures.packs;
+      answered = subst (λ (many : ℕ). IsPackAnswer job.settings.pages job.settings job.sprites.items many c.in_ok-told.told.items)
+          (sym (c.len.ensures ∙ c.in_ok-told.left.ok.0)) c.in_ok-told.ensures.packs;
       told = subst (λ (bytes : List ℕ). Appends (g.W.Write.contents c.args.output.now) (g.W.Write.contents c.write_all.new.self) bytes)
           c.deref-2.ensures.value c.in_ok-write_all.ensures.bytes;
     }
@@ -33,7 +35,8 @@ returns-in_err-told-clause-fault g c =
     rw same
     (inr (inr (record {
       input = c.deref.result.now;
-      read = read_all _ c.new-text.result.items c.read_to_end.new.buf.items _ c.in_ok-read_to_end.ensures.bytes c.new-text.ensures.items c.deref.ensures.value;
+      read = read_all _ c.new-text.result.items c.read_to_end.new.buf.items _ c.in_ok-read_to_end.ensures.bytes c.new-text.ensures.items
+          c.deref.ensures.value;
       fault = inr (record {
         before = job.before;
         settings = job.settings;

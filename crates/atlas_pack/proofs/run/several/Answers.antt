@@ -2,8 +2,8 @@ use Rattle.std.proofs.Common.{◌≡◌, ◌∙◌, List, Option, Some, ap, map,
 use Rattle.std.specs.List.{zip}
 use Rattle.atlas_model.specs.declared.geometry.Size.{Size}
 use Rattle.atlas_sheet.specs.declared.options.SheetOptions.{SheetOptions}
-use Rattle.pack_lines.specs.declared.sprites.Sprite.{Sprite}
-use Rattle.pack_lines.specs.Pages.{pages_text_of}
+use Rattle.atlas_pack.specs.declared.sprites.Sprite.{Sprite}
+use Rattle.atlas_pack.specs.Pages.{pages_text_of}
 use Rattle.atlas_pack.specs.Runs.{AreSheets, IsPackFault, Several, groups_of, page_frame_of}
 use Rattle.atlas_pack.proofs.run.several.Goals as goal
 
@@ -16,16 +16,20 @@ returns-clause-packs c =
     record {
       sheets = pages.sizes.items;
       places = pages.places.items;
-      answered = subst (λ (o : SheetOptions). AreSheets (groups_of group c.args.sprites.items) o (map (λ sprite. sprite.size) c.args.sprites.items)
+      answered = subst (λ (o : SheetOptions). AreSheets (groups_of group c.args.sprites.items) o
+          (map (λ sprite. sprite.size) c.args.sprites.items)
           pages.sizes.items pages.places.items)
           c.sheet_options-options.ensures
-          (subst (λ (xs : List Size). AreSheets (groups_of group c.args.sprites.items) c.sheet_options-options.result xs pages.sizes.items pages.places.items) sizes
-          (subst (λ (all : List Sprite). AreSheets (groups_of group all) c.sheet_options-options.result c.deref-3.result.now pages.sizes.items pages.places.items)
+          (subst (λ (xs : List Size). AreSheets (groups_of group c.args.sprites.items) c.sheet_options-options.result xs pages.sizes.items
+          pages.places.items) sizes
+          (subst (λ (all : List Sprite). AreSheets (groups_of group all) c.sheet_options-options.result c.deref-3.result.now
+          pages.sizes.items pages.places.items)
           c.deref-2.ensures.value c.in_ok-pages.ensures.pages));
       few = c.in_ok-pages.ensures.few;
       left = refl;
       told = c.in_ok-pages_lines.ensures ∙ (λ k. pages_text_of (c.deref-5.ensures.value k) (c.deref-6.ensures.value k))
-          ∙ ap (pages_text_of pages.sizes.items) (c.in_ok-frames.ensures ∙ ap (map page_frame_of) (c.in_ok-pairs.ensures ∙ ap (zip c.args.sprites.items) c.deref-4.ensures.value));
+          ∙ ap (pages_text_of pages.sizes.items) (c.in_ok-frames.ensures ∙ ap (map page_frame_of)
+          (c.in_ok-pairs.ensures ∙ ap (zip c.args.sprites.items) c.deref-4.ensures.value));
     }
 
 pub returns-in_err-pages-clause-fault : goal.returns-in_err-pages-clause-fault

@@ -7,4 +7,5 @@ pub returns-clause-step : goal.returns-clause-step
 returns-clause-step c = ap (λ i. get_or STEPS i 0) c.min.ensures ∙ step_is c.args.side
 
 pub returns-clause-most : goal.returns-clause-most
-returns-clause-most c = subst (λ x. x ≤ 49) (sym (ap (λ i. get_or STEPS i 0) c.min.ensures ∙ step_is c.args.side)) (step_of-most c.args.side)
+returns-clause-most c = subst (λ x. x ≤ 49) (sym (ap (λ i. get_or STEPS i 0) c.min.ensures ∙ step_is c.args.side))
+    (step_of-most c.args.side)

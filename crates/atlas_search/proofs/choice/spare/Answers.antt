@@ -13,4 +13,8 @@ returns c =
     let d : FitsSigned w32 side = search rules in
     let e : FitsSigned w32 (to -ℤ from) = omega (arith, ints) in
     let f : FitsSigned w32 (to -ℤ from -ℤ side) = omega (arith, ints) in
-    simp to_z-of_z (record { fits = spare_fits from to side c.requires.unsigned c.requires.nonempty c.requires.positive; value = spare_value from to side c.requires.unsigned c.requires.nonempty c.requires.positive })
+    simp to_z-of_z (record {
+      fits = spare_fits from to side c.requires.unsigned c.requires.nonempty c.requires.positive;
+      value =
+          spare_value from to side c.requires.unsigned c.requires.nonempty c.requires.positive;
+    })

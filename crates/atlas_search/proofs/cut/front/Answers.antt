@@ -8,7 +8,8 @@ overflow_add-result c =
     let area = c.args.area in
     let a : FitsSigned w32 area.min.x = search rules in
     let d : FitsSigned w32 c.args.extent = search rules in
-    simp to_z-of_z (sum_fits area.min.x c.args.extent area.max.x a (search rules) c.requires.least (rw c.in-Horizontal.is at c.requires.most))
+    simp to_z-of_z (sum_fits area.min.x c.args.extent area.max.x a (search rules) c.requires.least
+    (rw c.in-Horizontal.is at c.requires.most))
 
 pub returns-in-Horizontal : goal.returns-in-Horizontal
 returns-in-Horizontal c =

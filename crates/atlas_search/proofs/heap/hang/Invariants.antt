@@ -1,7 +1,7 @@
 use Rattle.std.proofs.Common.{ℕ, ◌+◌, ◌<◌, ◌≡◌, length, map}
 use Rattle.atlas_search.specs.Ranks.{corner_of}
 use Rattle.atlas_search.specs.Heaps.{Heap, IsAbove}
-use Rattle.atlas_search.specs.HeapCalls.{AreApart, KeepsAreas}
+use Rattle.atlas_search.specs.HeapCalls.{AreApart, KeepsKinds}
 use Rattle.atlas_search.specs.Items.{item_at, item_box}
 use Rattle.atlas_search.proofs.HeapLemmas.Hanging.{IsHanging}
 use Rattle.atlas_search.proofs.HeapLemmas.Spines.{spine}
@@ -15,7 +15,7 @@ invariant-loop-next g l = record {
       → IsHanging (map g.E.Entry.item l.fn.entries) (map g.E.Entry.item l.entries) up l.fn.top.number a b l.above.number l.rest.number;
   corner : l.rest_corner ≡ corner_of (item_box (item_at (map g.E.Entry.item l.entries) l.rest.number));
   narrow : (item_box (item_at (map g.E.Entry.item l.entries) l.rest.number)).min.x < 4294967296;
-  areas : KeepsAreas (map g.E.Entry.item l.fn.entries) (map g.E.Entry.item l.entries);
+  areas : KeepsKinds (map g.E.Entry.item l.fn.entries) (map g.E.Entry.item l.entries);
   bare : map g.E.Linked.bare l.entries ≡ map g.E.Linked.bare l.fn.entries;
 }
 

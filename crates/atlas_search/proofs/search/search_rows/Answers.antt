@@ -15,15 +15,21 @@ loop-row-preserved g c =
     let inside = l.invariant.0 k c.in-Some.ensures.first.0 in (
       λ j h. l.invariant.0 j (rest-marked l.left c.take_first.new.self k j c.in-Some.ensures.rest h),
       λ o r a.
-          rows-go_on o (map g.E.Entry.item c.args.entries.now) c.args.end r c.args.table.now k c.args.first c.args.rows l.left c.take_first.new.self
+          rows-go_on o (map g.E.Entry.item c.args.entries.now) c.args.end r c.args.table.now k c.args.first c.args.rows l.left
+          c.take_first.new.self
           c.below-columns.result c.args.best.now l.best c.search_row.new.best a c.in-Some.ensures.rest
           (λ j past before used. marked-below c.from.result c.below-columns.result c.args.end j c.below-columns.ensures
-          (marked-from c.row.result c.from.result c.args.first j c.from.ensures (grind (arith, c.row.ensures.used, used, before)) past) before)
+          (marked-from c.row.result c.from.result c.args.first j c.from.ensures (grind (arith, c.row.ensures.used, used, before)) past)
+          before)
           (l.invariant.1 o r a)
-          (c.search_row.ensures o c.args.end r a (λ j h. (c.requires.rows k inside, (below-marked c.from.result c.below-columns.result c.args.end j c.below-columns.ensures h).1))),
+          (c.search_row.ensures o c.args.end r a (λ j h. (
+            c.requires.rows k inside,
+            (below-marked c.from.result c.below-columns.result c.args.end j c.below-columns.ensures h).1,
+          ))),
     )
 
 pub returns : goal.returns
 returns g c o r a =
     let l = c.loop-row in
-    added-of o (map g.E.Entry.item c.args.entries.now) c.args.end r _ _ c.args.best.now l.best (λ i j v. (v, c.in_default.ensures.none refl i)) (l.invariant.1 o r a)
+    added-of o (map g.E.Entry.item c.args.entries.now) c.args.end r _ _ c.args.best.now l.best
+    (λ i j v. (v, c.in_default.ensures.none refl i)) (l.invariant.1 o r a)

@@ -9,7 +9,8 @@ abbrev pub invariant-loop-row : goal.invariant-loop-row
 invariant-loop-row g l =
     ((k : ℕ) → IsMarked l.left k → IsMarked l.fn.rows k)
     × ((o : Options) (r : Sides) → AreListed o l.table (map g.E.Entry.item l.entries)
-    → HasAdded o (map g.E.Entry.item l.entries) l.end r (λ i j. IsBeyond l.fn.rows l.first l.end i j × (has l.left i ≡ false)) l.fn.best l.best)
+    → HasAdded o (map g.E.Entry.item l.entries) l.end r (λ i j. IsBeyond l.fn.rows l.first l.end i j × (has l.left i ≡ false)) l.fn.best
+    l.best)
 
 abbrev pub decreases-loop-row : goal.decreases-loop-row
 decreases-loop-row g l = l.left.bits

@@ -1,39 +1,80 @@
-use Rattle.std.proofs.Common.{◌∷◌, [], map, arith}
+use Rattle.std.proofs.Common.{map, ap, sym, ◌∙◌, subst, arith, rules}
 use Rattle.std.proofs.lemmas.List.{length-map}
-use Rattle.atlas_search.proofs.SearchLemmas.HeapSearches.{list-alone, list-empty, list-next, list-read, list-solid}
+use Rattle.atlas_search.specs.Forks.{cell_of}
+use Rattle.atlas_search.specs.Rectangles.{IsSolid}
+use Rattle.atlas_search.proofs.SearchLemmas.HeapSearches.{heap-empty, heap-high, heap-low, heap-shown, list-alone, list-as_heap, list-read}
+use Rattle.atlas_search.proofs.SearchLemmas.HeapSearches.{list-solid}
 use Rattle.atlas_search.proofs.search.show_list.Goals as goal
 
-pub show_entry-from-requires : goal.show_entry-from-requires
-show_entry-from-requires g c =
-    list-solid g.E.Entry.item c.args.entries.now c.args.top.number c.requires.0 c.requires.1 c.if-top-entries.true c.index-entries-top.result
+pub returns-then-top-entries : goal.returns-then-top-entries
+returns-then-top-entries g c = λ h s.
+    heap-empty (map g.E.Entry.item c.args.entries.now) s.up c.args.top.number h (omega (arith, s.short)) s.heap
+    (omega (arith, c.if-top-entries.true, length-map c.args.entries.now g.E.Entry.item)) c.args.best.now
+
+pub exact_size-requires : goal.exact_size-requires
+exact_size-requires g c =
+    subst IsSolid (sym c.rectangle.ensures)
+    (list-solid g.E.Entry.item c.args.entries.now c.args.top.number c.requires.0 c.requires.1 c.if-top-entries.false
+    c.index-entries-top.result
+    c.index-entries-top.is)
+
+pub show_entry-requires : goal.show_entry-requires
+show_entry-requires g c =
+    list-solid g.E.Entry.item c.args.entries.now c.args.top.number c.requires.0 c.requires.1 c.if-top-entries.false
+    c.index-entries-top.result
     c.index-entries-top.is
 
-pub show_below-requires : goal.show_below-requires
-show_below-requires g c = (
-  c.requires.0,
-  c.args.top.number ∷ [],
-  c.requires.1,
-  list-next g.E.Entry.item c.args.entries.now c.args.top.number c.requires.0 c.requires.1 c.if-top-entries.true c.index-entries-top.result
-      c.index-entries-top.is c.show_entry-from.result.number c.if-from.true (c.show_entry-from.ensures.some c.if-from.true).0,
-)
+pub halves-halves-requires : goal.halves-halves-requires
+halves-halves-requires g c =
+    let s = list-as_heap g.E.Entry.item c.args.entries.now c.args.top.number c.requires.0 c.requires.1 c.if-top-entries.false
+    c.index-entries-top.result c.index-entries-top.is c.rectangle.result c.rectangle.ensures (search rules) (search rules) c.around.result
+    (c.around.ensures ∙ ap cell_of c.exact_size.ensures.sides) in
+    s.is_cell
 
-pub returns-then-from : goal.returns-then-from
-returns-then-from g c = λ h s is_large r shown seen.
-    let some = c.show_entry-from.ensures.some c.if-from.true in
-    let read = list-read g.E.Entry.item c.args.entries.now c.args.top.number h s c.if-top-entries.true c.index-entries-top.result c.index-entries-top.is in
-    let next = list-next g.E.Entry.item c.args.entries.now c.args.top.number h s c.if-top-entries.true c.index-entries-top.result
-    c.index-entries-top.is c.show_entry-from.result.number c.if-from.true some.0 in
-    c.show_below.ensures h (c.args.top.number ∷ []) s next is_large r shown
-    (some.1 (map g.E.Entry.item c.args.entries.now) read is_large r shown seen)
+pub show-requires : goal.show-requires
+show-requires g c =
+    let s = list-as_heap g.E.Entry.item c.args.entries.now c.args.top.number c.requires.0 c.requires.1 c.if-top-entries.false
+    c.index-entries-top.result c.index-entries-top.is c.rectangle.result c.rectangle.ensures (search rules) (search rules) c.around.result
+    (c.around.ensures ∙ ap cell_of c.exact_size.ensures.sides) in (
+      _,
+      heap-low g.E.Entry.item c.args.entries.now c.around.result c.args.top.number c.requires.0 s c.if-top-entries.false
+          c.index-entries-top.result c.index-entries-top.is (c.show_entry.ensures.fork c.if-show_entry.true).0
+          c.left.result.number c.left.ensures c.halves-halves.result.low c.halves-halves.ensures.low,
+    )
 
-pub returns-else-from : goal.returns-else-from
-returns-else-from g c = λ h s.
-    let read = list-read g.E.Entry.item c.args.entries.now c.args.top.number h s c.if-top-entries.true c.index-entries-top.result c.index-entries-top.is in
-    list-alone g.E.Entry.item c.args.entries.now c.args.top.number h s c.if-top-entries.true c.index-entries-top.result c.index-entries-top.is
-    c.args.best.now c.show_entry-from.new.best
-    (c.show_entry-from.ensures.none c.if-from.false (map g.E.Entry.item c.args.entries.now) read)
+pub show-requires-then-show_entry : goal.show-requires-then-show_entry
+show-requires-then-show_entry g c =
+    let s = list-as_heap g.E.Entry.item c.args.entries.now c.args.top.number c.requires.0 c.requires.1 c.if-top-entries.false
+    c.index-entries-top.result c.index-entries-top.is c.rectangle.result c.rectangle.ensures (search rules) (search rules) c.around.result
+    (c.around.ensures ∙ ap cell_of c.exact_size.ensures.sides) in (
+      _,
+      heap-high g.E.Entry.item c.args.entries.now c.around.result c.args.top.number c.requires.0 s c.if-top-entries.false
+          c.index-entries-top.result c.index-entries-top.is (c.show_entry.ensures.fork c.if-show_entry.true).0
+          c.right.result.number c.right.ensures c.halves-halves.result.high c.halves-halves.ensures.high,
+    )
 
-pub returns-else-top-entries : goal.returns-else-top-entries
-returns-else-top-entries g c = λ h s.
-    list-empty (map g.E.Entry.item c.args.entries.now) c.args.top.number h s
-    (omega (arith, c.if-top-entries.false, length-map c.args.entries.now g.E.Entry.item)) c.args.best.now
+pub returns-then-show_entry : goal.returns-then-show_entry
+returns-then-show_entry g c = λ h l.
+    let xs = c.args.entries.now in
+    let x = c.index-entries-top.result in
+    let s = list-as_heap g.E.Entry.item c.args.entries.now c.args.top.number h l c.if-top-entries.false
+    c.index-entries-top.result c.index-entries-top.is c.rectangle.result c.rectangle.ensures (search rules) (search rules) c.around.result
+    (c.around.ensures ∙ ap cell_of c.exact_size.ensures.sides) in
+    let f = c.show_entry.ensures.fork c.if-show_entry.true in
+    heap-shown g.E.Entry.item xs c.around.result c.args.top.number h s c.if-top-entries.false x c.index-entries-top.is f.0
+    c.args.best.now c.show_entry.new.best c.show.new.best c.show-then-show_entry.new.best
+    (f.1 (map g.E.Entry.item xs)
+    (list-read g.E.Entry.item xs c.args.top.number h l c.if-top-entries.false x c.index-entries-top.is))
+    (c.show.ensures _ (heap-low g.E.Entry.item xs c.around.result c.args.top.number h s c.if-top-entries.false x c.index-entries-top.is f.0
+    c.left.result.number c.left.ensures c.halves-halves.result.low c.halves-halves.ensures.low))
+    (c.show-then-show_entry.ensures _ (heap-high g.E.Entry.item xs c.around.result c.args.top.number h s c.if-top-entries.false x
+    c.index-entries-top.is f.0
+    c.right.result.number c.right.ensures c.halves-halves.result.high c.halves-halves.ensures.high))
+
+pub returns-else-show_entry : goal.returns-else-show_entry
+returns-else-show_entry g c = λ h s.
+    let xs = c.args.entries.now in
+    list-alone g.E.Entry.item xs c.args.top.number h s c.if-top-entries.false c.index-entries-top.result c.index-entries-top.is
+    c.args.best.now c.show_entry.new.best
+    (c.show_entry.ensures.all c.if-show_entry.false (map g.E.Entry.item xs)
+    (list-read g.E.Entry.item xs c.args.top.number h s c.if-top-entries.false c.index-entries-top.result c.index-entries-top.is))

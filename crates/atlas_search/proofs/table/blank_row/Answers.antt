@@ -8,7 +8,12 @@ loop-column-init c = ((λ k h. h), blanking-begins c.args.heads.now c.args.row c
 
 below : (c : goal.In-Some) → 52 * c.args.row + c.in-Some.column < 2704
 below c =
-    omega (arith, c.requires.row, c.requires.columns c.in-Some.column (c.loop-column.invariant.0 c.in-Some.column c.in-Some.ensures.first.0))
+    omega (
+      arith,
+      c.requires.row,
+      c.requires.columns c.in-Some.column (c.loop-column.invariant.0 c.in-Some.column
+          c.in-Some.ensures.first.0),
+    )
 
 pub overflow_add-row : goal.overflow_add-row
 overflow_add-row c = grind (arith, below c)
@@ -27,7 +32,8 @@ loop-column-preserved c =
     let l = c.loop-column in
     let k = c.in-Some.column in (
       λ j h. l.invariant.0 j (rest-marked l.left c.take_first.new.self k j c.in-Some.ensures.rest h),
-      blanking-goes_on c.args.heads.now l.heads c.args.row k c.args.columns l.left c.take_first.new.self c.in-Some.ensures.rest (below c) l.invariant.1,
+      blanking-goes_on c.args.heads.now l.heads c.args.row k c.args.columns l.left c.take_first.new.self c.in-Some.ensures.rest (below c)
+          l.invariant.1,
     )
 
 pub returns-clause-long : goal.returns-clause-long

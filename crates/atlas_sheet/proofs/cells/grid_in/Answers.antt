@@ -15,6 +15,8 @@ returns-clause-whole c =
     let top : room.height < down * cell.height + cell.height = search (rules, c.whole_cells-2.ensures.most) in
     let w : (sides_of c.size2.result).width ≡ across = search (rules, c.size2.ensures) in
     let h : (sides_of c.size2.result).height ≡ down = search (rules, c.size2.ensures) in
-    let x = w ∙ whole_is across room.width cell.width c.requires.aligned.0 fits most ∙ ap (λ s. s.width / cell.width) c.inner-room.ensures.sides in
-    let y = h ∙ whole_is down room.height cell.height c.requires.aligned.1 stands top ∙ ap (λ s. s.height / cell.height) c.inner-room.ensures.sides in
+    let x = w ∙ whole_is across room.width cell.width c.requires.aligned.0 fits most ∙
+    ap (λ s. s.width / cell.width) c.inner-room.ensures.sides in
+    let y = h ∙ whole_is down room.height cell.height c.requires.aligned.1 stands top ∙
+    ap (λ s. s.height / cell.height) c.inner-room.ensures.sides in
     λ i. record { width = x i; height = y i }

@@ -10,6 +10,8 @@ returns-clause-permuted g c =
     let b : c.in_ok-order.order.len ≡ length c.change.new.order =
     omega (arith, c.change.auto.order, ap length c.deref_mut.ensures.value, c.in_ok-order.order.ok.0) in
     let lying = take c.in_ok-lying.lying.len (c.change.new.lying ++ drop (length c.change.new.lying) c.in_ok-lying.lying.items) in
-    subst (λ xs. IsPermutation (enumerate_from 0 lying) xs) (sym (written c.in_ok-order.order.len c.change.new.order c.in_ok-order.order.items b))
-    (subst (λ ys. IsPermutation (enumerate_from 0 ys) c.change.new.order) (sym (written c.in_ok-lying.lying.len c.change.new.lying c.in_ok-lying.lying.items a))
+    subst (λ xs. IsPermutation (enumerate_from 0 lying) xs) (sym (written c.in_ok-order.order.len c.change.new.order
+    c.in_ok-order.order.items b))
+    (subst (λ ys. IsPermutation (enumerate_from 0 ys) c.change.new.order)
+    (sym (written c.in_ok-lying.lying.len c.change.new.lying c.in_ok-lying.lying.items a))
     c.change.ensures.permuted)

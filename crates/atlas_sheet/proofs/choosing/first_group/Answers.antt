@@ -7,7 +7,8 @@ pub loop-number-preserved : goal.loop-number-preserved
 loop-number-preserved c =
     let k = c.loop-number.number-index in
     let groups = c.args.groups.now in
-    let here : IsNone (get_or groups k None) = first_of (search (rules, c.in_default.not-Some), search rules, grind c.in_default.not-Some) in
+    let here : IsNone (get_or groups k None) = first_of (search (rules, c.in_default.not-Some), search rules, grind c.in_default.not-Some)
+    in
     rw add-one
     (subst (All IsNone) (sym (take-suc groups k None c.loop-number-test.true))
     (All-push IsNone (take k groups) (get_or groups k None) c.loop-number.invariant here))

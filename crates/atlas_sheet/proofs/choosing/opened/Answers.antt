@@ -31,7 +31,8 @@ returns-in-Some-clause-chosen g c =
 pub returns-in-None-clause-none : goal.returns-in-None-clause-none
 returns-in-None-clause-none g c =
     subst (NoWayFinds c.args.options.now)
-    (c.deref-2.ensures.value ∙ c.in_ok-some.ensures.picked ∙ ap (λ r. picked r c.args.sprites.now) (c.deref.ensures.value ∙ c.in_ok-row.ensures.row))
+    (c.deref-2.ensures.value ∙ c.in_ok-some.ensures.picked ∙ ap (λ r. picked r c.args.sprites.now)
+    (c.deref.ensures.value ∙ c.in_ok-row.ensures.row))
     (rw c.in-None.is at c.in_ok-found.ensures.none)
 
 pub returns-in-Some-clause-row : goal.returns-in-Some-clause-row

@@ -30,8 +30,10 @@ spread-requires g c =
     let some_is : c.deref-2.result.now ≡ picked row c.args.sprites.now =
     c.deref-2.ensures.value ∙ c.in_ok-some.ensures.picked ∙ ap (λ r. picked r c.args.sprites.now) c.deref.ensures.value in
     ap length c.deref-4.ensures.value
-    ∙ found_long c.args.options.now c.args.sprites.now c.deref-2.result.now c.args.groups.now row (sides_of f.size) f.order.items f.places.items
-    (spread row f.places.items) some_is c.requires.chosen.long c.requires.chosen.closed (λ i. spread row f.places.items) c.in_ok-filled.ensures.shown
+    ∙ found_long c.args.options.now c.args.sprites.now c.deref-2.result.now c.args.groups.now row (sides_of f.size) f.order.items
+    f.places.items
+    (spread row f.places.items) some_is c.requires.chosen.long c.requires.chosen.closed (λ i. spread row f.places.items)
+    c.in_ok-filled.ensures.shown
     c.in_ok-filled.ensures.whole
     ∙ ap (λ r. length (picked r r)) (sym c.deref-3.ensures.value)
 
@@ -43,8 +45,10 @@ returns-clause-page g c =
     let some_is : c.deref-2.result.now ≡ picked row c.args.sprites.now =
     c.deref-2.ensures.value ∙ c.in_ok-some.ensures.picked ∙ ap (λ r. picked r c.args.sprites.now) c.deref.ensures.value in
     let placed : places ≡ spread row f.places.items =
-    c.in_ok-places.ensures.spread ∙ ap (λ r. spread r c.deref-4.result.now) c.deref-3.ensures.value ∙ ap (spread row) c.deref-4.ensures.value in
-    chosen_page c.args.options.now c.args.sprites.now c.deref-2.result.now c.args.groups.now row (sides_of f.size) f.order.items f.places.items places
+    c.in_ok-places.ensures.spread ∙ ap (λ r. spread r c.deref-4.result.now) c.deref-3.ensures.value ∙
+    ap (spread row) c.deref-4.ensures.value in
+    chosen_page c.args.options.now c.args.sprites.now c.deref-2.result.now c.args.groups.now row (sides_of f.size) f.order.items
+    f.places.items places
     some_is c.requires.chosen.long c.requires.chosen.closed placed c.in_ok-filled.ensures.shown c.in_ok-filled.ensures.whole
     c.in_ok-filled.ensures.allowed c.in_ok-filled.ensures.larger
 
@@ -56,8 +60,10 @@ returns-clause-count g c =
     let some_is : c.deref-2.result.now ≡ picked row c.args.sprites.now =
     c.deref-2.ensures.value ∙ c.in_ok-some.ensures.picked ∙ ap (λ r. picked r c.args.sprites.now) c.deref.ensures.value in
     let placed : places ≡ spread row f.places.items =
-    c.in_ok-places.ensures.spread ∙ ap (λ r. spread r c.deref-4.result.now) c.deref-3.ensures.value ∙ ap (spread row) c.deref-4.ensures.value in
-    chosen_long c.args.options.now c.args.sprites.now c.deref-2.result.now c.args.groups.now row (sides_of f.size) f.order.items f.places.items places
+    c.in_ok-places.ensures.spread ∙ ap (λ r. spread r c.deref-4.result.now) c.deref-3.ensures.value ∙
+    ap (spread row) c.deref-4.ensures.value in
+    chosen_long c.args.options.now c.args.sprites.now c.deref-2.result.now c.args.groups.now row (sides_of f.size) f.order.items
+    f.places.items places
     some_is c.requires.chosen.long c.requires.chosen.closed placed c.in_ok-filled.ensures.shown c.in_ok-filled.ensures.whole
 
 pub returns-clause-closed : goal.returns-clause-closed
@@ -68,8 +74,10 @@ returns-clause-closed g c =
     let some_is : c.deref-2.result.now ≡ picked row c.args.sprites.now =
     c.deref-2.ensures.value ∙ c.in_ok-some.ensures.picked ∙ ap (λ r. picked r c.args.sprites.now) c.deref.ensures.value in
     let placed : places ≡ spread row f.places.items =
-    c.in_ok-places.ensures.spread ∙ ap (λ r. spread r c.deref-4.result.now) c.deref-3.ensures.value ∙ ap (spread row) c.deref-4.ensures.value in
-    chosen_closed c.args.options.now c.args.sprites.now c.deref-2.result.now c.args.groups.now row (sides_of f.size) f.order.items f.places.items places
+    c.in_ok-places.ensures.spread ∙ ap (λ r. spread r c.deref-4.result.now) c.deref-3.ensures.value ∙
+    ap (spread row) c.deref-4.ensures.value in
+    chosen_closed c.args.options.now c.args.sprites.now c.deref-2.result.now c.args.groups.now row (sides_of f.size) f.order.items
+    f.places.items places
     some_is c.requires.chosen.long c.requires.chosen.closed placed c.in_ok-filled.ensures.shown c.in_ok-filled.ensures.whole
 
 pub returns-clause-row : goal.returns-clause-row
@@ -80,6 +88,8 @@ returns-clause-row g c =
     let some_is : c.deref-2.result.now ≡ picked row c.args.sprites.now =
     c.deref-2.ensures.value ∙ c.in_ok-some.ensures.picked ∙ ap (λ r. picked r c.args.sprites.now) c.deref.ensures.value in
     let placed : places ≡ spread row f.places.items =
-    c.in_ok-places.ensures.spread ∙ ap (λ r. spread r c.deref-4.result.now) c.deref-3.ensures.value ∙ ap (spread row) c.deref-4.ensures.value in
-    chosen_row_is c.args.options.now c.args.sprites.now c.deref-2.result.now c.args.groups.now row (sides_of f.size) f.order.items f.places.items places
+    c.in_ok-places.ensures.spread ∙ ap (λ r. spread r c.deref-4.result.now) c.deref-3.ensures.value ∙
+    ap (spread row) c.deref-4.ensures.value in
+    chosen_row_is c.args.options.now c.args.sprites.now c.deref-2.result.now c.args.groups.now row (sides_of f.size) f.order.items
+    f.places.items places
     some_is c.requires.chosen.long c.requires.chosen.closed placed c.in_ok-filled.ensures.shown c.in_ok-filled.ensures.whole

@@ -7,7 +7,8 @@ use Rattle.atlas_sheet.proofs.choosing.shown_smallest.Goals as goal
 
 pub returns-clause-whole : goal.returns-clause-whole
 returns-clause-whole g c =
-    shown_whole c.in_ok-filled.filled.places.items c.in_ok-smaller.smaller.places.items c.in_ok-filled.ensures.areas c.in_ok-smaller.ensures.whole
+    shown_whole c.in_ok-filled.filled.places.items c.in_ok-smaller.smaller.places.items c.in_ok-filled.ensures.areas
+    c.in_ok-smaller.ensures.whole
 
 pub returns-clause-larger : goal.returns-clause-larger
 returns-clause-larger g c =

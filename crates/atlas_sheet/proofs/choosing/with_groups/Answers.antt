@@ -2,7 +2,8 @@ use Rattle.std.proofs.Common.{◌≡◌, ◌∙◌, ◌<◌, ◌≤◌, ℕ, ap,
 use Rattle.atlas_sheet.specs.Grouping.{AreChosen, members, pixels_together}
 use Rattle.atlas_sheet.proofs.GroupTakes.{written}
 use Rattle.std.proofs.lemmas.List.{get_or_read}
-use Rattle.atlas_sheet.proofs.GroupAsks.{HasRoom, IsMarked, IsShut, asked_as, asked_begin, asked_closed, asked_end, asked_none, asked_tried, none_asked}
+use Rattle.atlas_sheet.proofs.GroupAsks.{HasRoom, IsMarked, IsShut, asked_as, asked_begin, asked_closed, asked_end, asked_none, asked_tried}
+use Rattle.atlas_sheet.proofs.GroupAsks.{none_asked}
 use Rattle.atlas_sheet.proofs.choosing.with_groups.Goals as goal
 use Rattle.atlas_sheet.proofs.choosing.with_groups.Goals.{in-Some+then-is_open+in_ok-chosen+in_ok-room-2, in-Some+else-is_open, in_default}
 
@@ -11,10 +12,12 @@ loop-number-init g c =
     let o = c.args.options.now in
     let sprites = c.args.sprites.now in
     let first = c.args.first.row.items in
-    let bare : c.in_ok-asked.asked.items ≡ replicate c.len.result false = c.in_ok-asked.ensures.items_if_clones_equal (λ y is. search (rules, is)) in
+    let bare : c.in_ok-asked.asked.items ≡ replicate c.len.result false = c.in_ok-asked.ensures.items_if_clones_equal
+    (λ y is. search (rules, is)) in
     record {
       chosen = c.requires.chosen;
-      asked = asked_begin o sprites c.args.groups.now c.in_ok-slots.slots.items c.in_ok-asked.asked.items first c.in_ok-room.room c.requires.first.0
+      asked = asked_begin o sprites c.args.groups.now c.in_ok-slots.slots.items c.in_ok-asked.asked.items first c.in_ok-room.room
+          c.requires.first.0
           c.in_ok-slots.ensures.slots.0 c.requires.first.1 c.requires.first.2 c.in_ok-slots.ensures.slots.1
           (none_asked c.len.result c.in_ok-asked.asked.items bare)
           (subst (λ r. HasRoom o sprites r c.in_ok-room.room) c.deref-2.ensures.value c.in_ok-room.ensures.room);
@@ -37,7 +40,8 @@ loop-number-preserved g c =
           let slot : w.index.result.now ≡ get_or slots k None =
           get_or_read slots k w.index.result.now (omega (arith, inside, c.in_ok-slots.ensures.long)) w.index.ensures None in
           let is_chosen : w.index-is_chosen.result.now ≡ get_or row k false =
-          get_or_read row k w.index-is_chosen.result.now (omega (arith, inside, c.requires.long, c.loop-number.invariant.chosen.long)) w.index-is_chosen.ensures false in
+          get_or_read row k w.index-is_chosen.result.now (omega (arith, inside, c.requires.long, c.loop-number.invariant.chosen.long))
+          w.index-is_chosen.ensures false in
           let long : length new ≡ c.loop-number.asked.len =
           omega (arith, w.is_open.auto.asked, ap length w.deref_mut.ensures.value, c.loop-number.asked.ok.0) in
           let asked_is : c.match-place.asked.items ≡ new =
@@ -51,15 +55,18 @@ loop-number-preserved g c =
           record {
             chosen = subst (AreChosen o sprites groups) (sym w.chosen-is) w.in_ok-chosen.ensures.chosen;
             asked = asked_as
-                (asked_tried so inside w.in-Some.group w.in-Some.is new marks off more w.in_ok-room-2.room (w.in_ok-chosen.ensures.taken so.there so.row_is) room)
-                c.match-place.asked.items c.match-place.chosen.row.items c.match-place.room asked_is (ap (λ x. x.row.items) w.chosen-is) w.room-is;
+                (asked_tried so inside w.in-Some.group w.in-Some.is new marks off more w.in_ok-room-2.room
+                (w.in_ok-chosen.ensures.taken so.there so.row_is) room)
+                c.match-place.asked.items c.match-place.chosen.row.items c.match-place.room asked_is (ap (λ x. x.row.items) w.chosen-is)
+                w.room-is;
           }
       | in-Some+else-is_open w ↦
           let new = w.is_open.new.asked in
           let slot : w.index.result.now ≡ get_or slots k None =
           get_or_read slots k w.index.result.now (omega (arith, inside, c.in_ok-slots.ensures.long)) w.index.ensures None in
           let is_chosen : w.index-is_chosen.result.now ≡ get_or row k false =
-          get_or_read row k w.index-is_chosen.result.now (omega (arith, inside, c.requires.long, c.loop-number.invariant.chosen.long)) w.index-is_chosen.ensures false in
+          get_or_read row k w.index-is_chosen.result.now (omega (arith, inside, c.requires.long, c.loop-number.invariant.chosen.long))
+          w.index-is_chosen.ensures false in
           let long : length new ≡ c.loop-number.asked.len =
           omega (arith, w.is_open.auto.asked, ap length w.deref_mut.ensures.value, c.loop-number.asked.ok.0) in
           let asked_is : c.match-place.asked.items ≡ new =
@@ -68,7 +75,8 @@ loop-number-preserved g c =
           subst (λ q. IsMarked q c.loop-number.asked.items new s) slot
           (subst (λ a. IsMarked w.index.result.now a new s) w.deref_mut.ensures.value (w.is_open.ensures.asked s)) in
           let less : (s : ℕ) → get_or pixels_in s 0 ≤ pixels_together (members s slots sprites) = λ s.
-          subst (λ qs. get_or pixels_in s 0 ≤ pixels_together (members s qs sprites)) c.deref.ensures.value (c.in_ok-pixels.ensures.together s) in
+          subst (λ qs. get_or pixels_in s 0 ≤ pixels_together (members s qs sprites)) c.deref.ensures.value
+          (c.in_ok-pixels.ensures.together s) in
           let room = c.loop-number.room in
           let shut : IsShut (get_or slots k None) c.loop-number.asked.items (get_or row k false) pixels_in room =
           subst (λ q. IsShut q c.loop-number.asked.items (get_or row k false) pixels_in room) slot
@@ -79,7 +87,8 @@ loop-number-preserved g c =
           record {
             chosen = subst (AreChosen o sprites groups) (sym w.chosen-is) c.loop-number.invariant.chosen;
             asked = asked_as (asked_closed so inside w.in-Some.group w.in-Some.is new marks pixels_in c.requires.long less shut)
-                c.match-place.asked.items c.match-place.chosen.row.items c.match-place.room asked_is (ap (λ x. x.row.items) w.chosen-is) w.room-is;
+                c.match-place.asked.items c.match-place.chosen.row.items c.match-place.room asked_is (ap (λ x. x.row.items) w.chosen-is)
+                w.room-is;
           }
       | in_default w ↦ record {
         chosen = subst (AreChosen o sprites groups) (sym w.chosen-is) c.loop-number.invariant.chosen;

@@ -7,7 +7,8 @@ pub asked_in-requires-clause-good : goal.asked_in-requires-clause-good
 asked_in-requires-clause-good g c =
     rw c.deref-3.ensures.value (record {
       aligned = c.requires.good.aligned;
-      packable = lie_packable (spacing_of c.args.options.now) c.args.options.now.turn c.args.from.now.lying.items c.in_ok-asking.asking.lying.items
+      packable = lie_packable (spacing_of c.args.options.now) c.args.options.now.turn c.args.from.now.lying.items
+          c.in_ok-asking.asking.lying.items
           (rw c.deref.ensures.value at c.in_ok-asking.ensures.lies) c.requires.good.packable;
     })
 

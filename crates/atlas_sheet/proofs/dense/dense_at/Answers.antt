@@ -8,7 +8,8 @@ use Rattle.atlas_sheet.proofs.dense.dense_at.Goals as goal
 
 pub sheet_of-requires-clause-apart : goal.sheet_of-requires-clause-apart
 sheet_of-requires-clause-apart g c =
-    subst (ArePaddedApart (spacing_of c.args.options.now)) (sym c.deref.ensures.value) (rw c.in-Some.is at c.in_ok-topmost_places.ensures.apart)
+    subst (ArePaddedApart (spacing_of c.args.options.now)) (sym c.deref.ensures.value)
+    (rw c.in-Some.is at c.in_ok-topmost_places.ensures.apart)
 
 pub sheet_of-requires-clause-upright : goal.sheet_of-requires-clause-upright
 sheet_of-requires-clause-upright g c =
@@ -17,7 +18,8 @@ sheet_of-requires-clause-upright g c =
 pub sheet_of-requires-clause-found : goal.sheet_of-requires-clause-found
 sheet_of-requires-clause-found g c =
     let spacing = spacing_of c.args.options.now in
-    subst (λ ps. FindAllTopmost spacing (empty_grid spacing (sides_of c.args.size)) (with_places (areas_of ps) c.args.order.now)) (sym c.deref.ensures.value)
+    subst (λ ps. FindAllTopmost spacing (empty_grid spacing (sides_of c.args.size)) (with_places (areas_of ps) c.args.order.now))
+    (sym c.deref.ensures.value)
     (rw c.in-Some.is at c.in_ok-topmost_places.ensures.found)
 
 pub returns-in-None-clause-left : goal.returns-in-None-clause-left

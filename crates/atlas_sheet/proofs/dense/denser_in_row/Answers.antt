@@ -13,7 +13,8 @@ loop-low-init g c = record {
   best = c.requires.whole;
   none = c.requires.none;
   inside = omega (arith, c.count-high.ensures.count);
-  going = densed_first (λ sheet. sides_of sheet.size) c.args.options.now c.args.sprites.now c.count-high.result c.args.first c.count-high.ensures.count;
+  going = densed_first (λ sheet. sides_of sheet.size) c.args.options.now c.args.sprites.now c.count-high.result c.args.first
+      c.count-high.ensures.count;
 }
 
 pub loop-low-preserved-then-is_smaller : goal.loop-low-preserved-then-is_smaller
@@ -29,14 +30,17 @@ loop-low-preserved-then-is_smaller g c =
     let next = c.newer-best.result in
     let sides = c.nth-size.ensures.sides in
     let at = IfSome_then found c.in_ok-found.ensures.size (λ sheet is. ap sides_of is ∙ sides) in
-    let left = subst (λ s. IfNone found (IfSome c.loop-low.best (λ b. pixels s < pixels (sides_of b.size)) → LeavesDense o sprites s)) sides c.in_ok-found.ensures.left in
+    let left = subst (λ s. IfNone found (IfSome c.loop-low.best (λ b. pixels s < pixels (sides_of b.size)) → LeavesDense o sprites s)) sides
+    c.in_ok-found.ensures.left in
     record {
       best = newer_some (IsWholeSheet o sprites) found c.loop-low.best next c.newer-best.ensures c.in_ok-found.ensures.whole before.best;
       none = newer_none (NoWayFinds o sprites) found c.loop-low.best next c.newer-best.ensures before.none;
       inside = before.inside;
-      going = densed_up (λ sheet. sides_of sheet.size) o sprites low high middle (omega (arith, test)) (omega (arith, test)) c.requires.row c.requires.good.usable
+      going = densed_up (λ sheet. sides_of sheet.size) o sprites low high middle (omega (arith, test)) (omega (arith, test)) c.requires.row
+          c.requires.good.usable
           found c.loop-low.best next c.newer-best.ensures at left
-          (subst (λ s. IfSome next (λ b. pixels s < pixels (sides_of b.size))) sides (c.is_smaller.ensures.0 c.if-is_smaller.true)) before.going;
+          (subst (λ s. IfSome next (λ b. pixels s < pixels (sides_of b.size))) sides (c.is_smaller.ensures.0 c.if-is_smaller.true))
+          before.going;
     }
 
 pub loop-low-preserved : goal.loop-low-preserved
@@ -56,7 +60,8 @@ loop-low-preserved g c =
       best = newer_some (IsWholeSheet o sprites) found c.loop-low.best next c.newer-best.ensures c.in_ok-found.ensures.whole before.best;
       none = newer_none (NoWayFinds o sprites) found c.loop-low.best next c.newer-best.ensures before.none;
       inside = omega (arith, test, before.inside);
-      going = densed_down (λ sheet. sides_of sheet.size) o sprites low high middle (omega (arith, test)) (omega (arith, test)) c.requires.row c.requires.good.usable
+      going = densed_down (λ sheet. sides_of sheet.size) o sprites low high middle (omega (arith, test)) (omega (arith, test))
+          c.requires.row c.requires.good.usable
           found c.loop-low.best next c.newer-best.ensures at
           (λ less. false≢true (sym c.if-is_smaller.false
           ∙ c.is_smaller.ensures.1 (subst (λ s. IfSome next (λ b. pixels s < pixels (sides_of b.size))) (sym sides) less))) before.going;
@@ -64,10 +69,13 @@ loop-low-preserved g c =
 
 pub returns-clause-least : goal.returns-clause-least
 returns-clause-least g c =
-    densed_least (λ sheet. sides_of sheet.size) c.args.options.now c.args.sprites.now c.loop-low.low c.loop-low.high c.requires.row c.requires.good.usable
-    c.loop-low-test.false c.loop-low.best (IfSome_then c.loop-low.best c.loop-low.invariant.best (λ sheet whole. whole.allowed)) c.loop-low.invariant.going
+    densed_least (λ sheet. sides_of sheet.size) c.args.options.now c.args.sprites.now c.loop-low.low c.loop-low.high c.requires.row
+    c.requires.good.usable
+    c.loop-low-test.false c.loop-low.best (IfSome_then c.loop-low.best c.loop-low.invariant.best (λ sheet whole. whole.allowed))
+    c.loop-low.invariant.going
 
 pub returns-clause-full : goal.returns-clause-full
 returns-clause-full g c =
-    densed_none (λ sheet. sides_of sheet.size) c.args.options.now c.args.sprites.now c.loop-low.low c.loop-low.high c.requires.row c.requires.good.usable
+    densed_none (λ sheet. sides_of sheet.size) c.args.options.now c.args.sprites.now c.loop-low.low c.loop-low.high c.requires.row
+    c.requires.good.usable
     c.loop-low-test.false c.loop-low.best (omega (arith, c.count-high.ensures.count, c.count-high.ensures.some)) c.loop-low.invariant.going

@@ -47,7 +47,8 @@ loop-next-preserved g c = record {
 pub loop-next-smaller : goal.loop-next-smaller
 loop-next-smaller g c =
     rw c.in-Some.is
-    (found_falls (λ sheet. sides_of sheet.size) c.args.options.now c.args.sprites.now c.in_ok-found.found c.in-Some.size c.next_size-next-in-Some.result
+    (found_falls (λ sheet. sides_of sheet.size) c.args.options.now c.args.sprites.now c.in_ok-found.found c.in-Some.size
+    c.next_size-next-in-Some.result
     (c.is_none.ensures ∙ ap not c.if-is_none.false)
     (IfSome_then c.in_ok-found.found c.in_ok-found.ensures.size (λ sheet is. ap sides_of is))
     (record {
@@ -60,8 +61,10 @@ loop-next-smaller g c =
 
 pub returns-clause-least : goal.returns-clause-least
 returns-clause-least g c =
-    ended_least (λ sheet. sides_of sheet.size) c.args.options.now c.args.sprites.now c.loop-next.best (rw c.in_default.is at c.loop-next.invariant.trying)
+    ended_least (λ sheet. sides_of sheet.size) c.args.options.now c.args.sprites.now c.loop-next.best
+    (rw c.in_default.is at c.loop-next.invariant.trying)
 
 pub returns-clause-full : goal.returns-clause-full
 returns-clause-full g c =
-    ended_none (λ sheet. sides_of sheet.size) c.args.options.now c.args.sprites.now c.loop-next.best (rw c.in_default.is at c.loop-next.invariant.trying)
+    ended_none (λ sheet. sides_of sheet.size) c.args.options.now c.args.sprites.now c.loop-next.best
+    (rw c.in_default.is at c.loop-next.invariant.trying)

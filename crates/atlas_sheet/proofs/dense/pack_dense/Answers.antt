@@ -5,7 +5,8 @@ use Rattle.atlas_sheet.proofs.dense.pack_dense.Goals as goal
 pub denser-requires-clause-whole : goal.denser-requires-clause-whole
 denser-requires-clause-whole g c =
     whole_packed c.args.options.now c.args.sprites.now c.in_ok-first.first
-    c.in_ok-first.ensures.allowed c.in_ok-first.ensures.shown c.in_ok-first.ensures.area c.in_ok-first.ensures.larger c.in_ok-first.ensures.first
+    c.in_ok-first.ensures.allowed c.in_ok-first.ensures.shown c.in_ok-first.ensures.area c.in_ok-first.ensures.larger
+    c.in_ok-first.ensures.first
     c.in_ok-first.ensures.earliest
 
 pub returns-clause-allowed : goal.returns-clause-allowed

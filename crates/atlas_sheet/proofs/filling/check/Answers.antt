@@ -11,4 +11,5 @@ loop-number-preserved c =
 
 pub returns-clause-ok : goal.returns-clause-ok
 returns-clause-ok c =
-    subst (All (IsPackable c.args.spacing)) (take_all c.loop-number.number c.args.sprites.now c.loop-number-test.false) c.loop-number.invariant
+    subst (All (IsPackable c.args.spacing)) (take_all c.loop-number.number c.args.sprites.now c.loop-number-test.false)
+    c.loop-number.invariant

@@ -12,13 +12,15 @@ with_sheet-requires-clause-long g c = c.requires.so_far.are.long
 pub returns-clause-so_far : goal.returns-clause-so_far
 returns-clause-so_far g c =
     let m = c.in_ok-more.more in
-    so_more c.requires.so_far c.args.sheet.size c.args.sheet.places.items c.requires.count c.requires.page c.requires.next c.requires.says.0 c.requires.says.1
+    so_more c.requires.so_far c.args.sheet.size c.args.sheet.places.items c.requires.count c.requires.page c.requires.next c.requires.says.0
+    c.requires.says.1
     m.sizes.items c.in_ok-more.ensures.sizes m.places.items c.in_ok-more.ensures.places m.left.items c.in_ok-more.ensures.left m.kept.items
     (ap (λ k. k.items) c.in_ok-more.ensures.kept)
 
 pub returns-clause-less : goal.returns-clause-less
 returns-clause-less g c =
     let m = c.in_ok-more.more in
-    less_more c.requires.so_far c.args.sheet.size c.args.sheet.places.items c.requires.count c.requires.page c.requires.next c.requires.says.0 c.requires.says.1
+    less_more c.requires.so_far c.args.sheet.size c.args.sheet.places.items c.requires.count c.requires.page c.requires.next
+    c.requires.says.0 c.requires.says.1
     m.sizes.items c.in_ok-more.ensures.sizes m.places.items c.in_ok-more.ensures.places m.left.items c.in_ok-more.ensures.left m.kept.items
     (ap (λ k. k.items) c.in_ok-more.ensures.kept)

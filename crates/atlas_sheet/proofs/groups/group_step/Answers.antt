@@ -32,8 +32,11 @@ after_sheet-requires-clause-count g c = (rw c.in-Some.is at c.in_ok-found.ensure
 
 pub after_sheet-requires-clause-says : goal.after_sheet-requires-clause-says
 after_sheet-requires-clause-says g c =
-    let closed = rw c.in-Some.is at c.in_ok-found.ensures.closed in
-    (closed.whether, subst (λ ns. AllZip (SaysOf closed.whether) ns (map is_some c.in-Some.sheet.places.items)) c.requires.numbers closed.same)
+    let closed = rw c.in-Some.is at c.in_ok-found.ensures.closed in (
+      closed.whether,
+      subst (λ ns. AllZip (SaysOf closed.whether) ns (map is_some c.in-Some.sheet.places.items)) c.requires.numbers
+          closed.same,
+    )
 
 pub after_group-requires-clause-there : goal.after_group-requires-clause-there
 after_group-requires-clause-there g c = subst (HasMember c.args.group) c.requires.numbers c.requires.there

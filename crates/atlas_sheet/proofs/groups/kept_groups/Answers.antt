@@ -9,7 +9,8 @@ pub loop-number-init : goal.loop-number-init
 loop-number-init g c = all_kept c.args.options.now c.args.sprites.now c.args.groups.now c.in_ok-kept.kept.items c.in_ok-kept.ensures.items
 
 pub kept_unless_lost-requires-clause-there : goal.kept_unless_lost-requires-clause-there
-kept_unless_lost-requires-clause-there g c = has_at c.args.groups.now c.loop-number.number c.in-Some.group c.loop-number-test.true c.in-Some.is
+kept_unless_lost-requires-clause-there g c = has_at c.args.groups.now c.loop-number.number c.in-Some.group c.loop-number-test.true
+    c.in-Some.is
 
 pub loop-number-preserved : goal.loop-number-preserved
 loop-number-preserved g c =

@@ -15,22 +15,26 @@ grouped-requires-clause-long g c =
 pub returns-clause-count : goal.returns-clause-count
 returns-clause-count g c =
     both c.in_ok-found.found c.in_ok-found.ensures.pages c.in_ok-found.ensures.pages
-    (λ p are same. pages_count c.args.options.now (IsGroupPage WAYS c.args.options.now) (group_good WAYS c.args.options.now) c.args.sprites.now p.sizes.items p.places.items are)
+    (λ p are same. pages_count c.args.options.now (IsGroupPage WAYS c.args.options.now) (group_good WAYS c.args.options.now)
+    c.args.sprites.now p.sizes.items p.places.items are)
 
 pub returns-clause-each : goal.returns-clause-each
 returns-clause-each g c =
     both c.in_ok-found.found c.in_ok-found.ensures.pages c.in_ok-found.ensures.pages
-    (λ p are same. pages_each c.args.options.now (IsGroupPage WAYS c.args.options.now) (group_good WAYS c.args.options.now) c.args.sprites.now p.sizes.items p.places.items are)
+    (λ p are same. pages_each c.args.options.now (IsGroupPage WAYS c.args.options.now) (group_good WAYS c.args.options.now)
+    c.args.sprites.now p.sizes.items p.places.items are)
 
 pub returns-clause-apart : goal.returns-clause-apart
 returns-clause-apart g c =
     both c.in_ok-found.found c.in_ok-found.ensures.pages c.in_ok-found.ensures.pages
-    (λ p are same. pages_apart c.args.options.now (IsGroupPage WAYS c.args.options.now) (group_good WAYS c.args.options.now) c.args.sprites.now p.sizes.items p.places.items are)
+    (λ p are same. pages_apart c.args.options.now (IsGroupPage WAYS c.args.options.now) (group_good WAYS c.args.options.now)
+    c.args.sprites.now p.sizes.items p.places.items are)
 
 pub returns-clause-used : goal.returns-clause-used
 returns-clause-used g c =
     both c.in_ok-found.found c.in_ok-found.ensures.pages c.in_ok-found.ensures.pages
-    (λ p are same. pages_used c.args.options.now (IsGroupPage WAYS c.args.options.now) (group_good WAYS c.args.options.now) c.args.sprites.now p.sizes.items p.places.items are)
+    (λ p are same. pages_used c.args.options.now (IsGroupPage WAYS c.args.options.now) (group_good WAYS c.args.options.now)
+    c.args.sprites.now p.sizes.items p.places.items are)
 
 pub returns-clause-known : goal.returns-clause-known
 returns-clause-known g c =
@@ -45,9 +49,11 @@ returns-clause-allowed g c =
 pub returns-clause-together : goal.returns-clause-together
 returns-clause-together g c =
     both c.in_ok-found.found c.in_ok-found.ensures.pages c.in_ok-found.ensures.together
-    (λ p are together. together_given c.args.options.now c.args.sprites.now c.args.groups.now c.deref.result.now (length c.args.sprites.now) refl
+    (λ p are together. together_given c.args.options.now c.args.sprites.now c.args.groups.now c.deref.result.now (length c.args.sprites.now)
+    refl
     (c.deref.ensures.value ∙ c.in_ok-numbers.ensures.padded) p.places.items
-    (pages_count c.args.options.now (IsGroupPage WAYS c.args.options.now) (group_good WAYS c.args.options.now) c.args.sprites.now p.sizes.items p.places.items are) together)
+    (pages_count c.args.options.now (IsGroupPage WAYS c.args.options.now) (group_good WAYS c.args.options.now) c.args.sprites.now
+    p.sizes.items p.places.items are) together)
 
 pub returns-clause-sheets : goal.returns-clause-sheets
 returns-clause-sheets g c =

@@ -19,7 +19,11 @@ pub after_sheet-requires-clause-page : goal.after_sheet-requires-clause-page
 after_sheet-requires-clause-page g c = inl (rw c.deref.ensures.value at (rw c.in-Some.is at c.in_ok-found.ensures.page))
 
 pub after_sheet-requires-clause-next : goal.after_sheet-requires-clause-next
-after_sheet-requires-clause-next g c = inl (c.requires.no_group, rw c.deref.ensures.value at (rw c.in-Some.is at c.in_ok-found.ensures.page))
+after_sheet-requires-clause-next g c = inl (
+  c.requires.no_group,
+  rw c.deref.ensures.value at
+      (rw c.in-Some.is at c.in_ok-found.ensures.page),
+)
 
 pub after_sheet-requires-clause-count : goal.after_sheet-requires-clause-count
 after_sheet-requires-clause-count g c = (rw c.in-Some.is at c.in_ok-found.ensures.count) ∙ ap length c.deref.ensures.value
@@ -27,7 +31,8 @@ after_sheet-requires-clause-count g c = (rw c.in-Some.is at c.in_ok-found.ensure
 pub after_sheet-requires-clause-says : goal.after_sheet-requires-clause-says
 after_sheet-requires-clause-says g c =
     let places = c.in-Some.sheet.places.items in
-    let count : length places ≡ length c.args.so_far.left.items = (rw c.in-Some.is at c.in_ok-found.ensures.count) ∙ ap length c.deref.ensures.value in (
+    let count : length places ≡ length c.args.so_far.left.items = (rw c.in-Some.is at c.in_ok-found.ensures.count) ∙
+    ap length c.deref.ensures.value in (
       (λ n. false),
       none_says (λ n. false) (waiting c.args.so_far.kept.items c.args.so_far.places.items) (map is_some places)
           (length-map places is_some ∙ count ∙ sym (numbers_long c.requires.so_far))

@@ -29,7 +29,8 @@ loop-tries-init g c = record {
   callable = search of_calls;
   told = (
     [],
-    FoldsTo-push (λ p size q. goal.F-step g p size tt q) c.args.told [] c.args.told c.args.first.size _ refl (search (rules, c.told.ensures)),
+    FoldsTo-push (λ p size q. goal.F-step g p size tt q) c.args.told [] c.args.told c.args.first.size _ refl
+        (search (rules, c.told.ensures)),
     tt,
     All-cons (HoldsAll c.args.options.now c.args.first.lying.items) c.args.first.size []
         (holds_all c.args.options.now c.args.first.lying.items c.args.first c.requires.arranged c.requires.allowed c.requires.whole)

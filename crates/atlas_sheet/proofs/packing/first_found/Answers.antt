@@ -33,13 +33,16 @@ returns-clause-first g c =
     (smallest_found c.args.options.now c.args.sprites.now WAYS (λ a. a.size) (λ a. map (λ s. s.0) a.order.items) (λ a. a.places.items)
     c.in_ok-given.given c.in_ok-wide.wide c.in_ok-high.high c.smaller_of.result c.smaller_of-2.result
     (found_best c.args.options.now c.args.sprites.now WAYS (λ a. a.size) (λ a. map (λ s. s.0) a.order.items) (λ a. a.places.items)
-    turning.AsGiven c.in_ok-given.given (λ a. a.lying.items) c.in_ok-given.ensures.laid c.in_ok-given.ensures.first c.in_ok-given.ensures.none)
+    turning.AsGiven c.in_ok-given.given (λ a. a.lying.items) c.in_ok-given.ensures.laid c.in_ok-given.ensures.first
+    c.in_ok-given.ensures.none)
     (found_best c.args.options.now c.args.sprites.now WAYS (λ a. a.size) (λ a. map (λ s. s.0) a.order.items) (λ a. a.places.items)
     turning.Wide c.in_ok-wide.wide (λ a. a.lying.items) c.in_ok-wide.ensures.laid c.in_ok-wide.ensures.first c.in_ok-wide.ensures.none)
     (found_best c.args.options.now c.args.sprites.now WAYS (λ a. a.size) (λ a. map (λ s. s.0) a.order.items) (λ a. a.places.items)
     turning.High c.in_ok-high.high (λ a. a.lying.items) c.in_ok-high.ensures.laid c.in_ok-high.ensures.first c.in_ok-high.ensures.none)
-    c.smaller_of.ensures.kept c.smaller_of.ensures.earlier (c.smaller_of.ensures.one, c.smaller_of.ensures.none_one) (c.smaller_of.ensures.other, c.smaller_of.ensures.none_other)
-    c.smaller_of-2.ensures.kept c.smaller_of-2.ensures.earlier (c.smaller_of-2.ensures.one, c.smaller_of-2.ensures.none_one) (c.smaller_of-2.ensures.other, c.smaller_of-2.ensures.none_other))
+    c.smaller_of.ensures.kept c.smaller_of.ensures.earlier (c.smaller_of.ensures.one, c.smaller_of.ensures.none_one)
+    (c.smaller_of.ensures.other, c.smaller_of.ensures.none_other)
+    c.smaller_of-2.ensures.kept c.smaller_of-2.ensures.earlier (c.smaller_of-2.ensures.one, c.smaller_of-2.ensures.none_one)
+    (c.smaller_of-2.ensures.other, c.smaller_of-2.ensures.none_other))
 
 pub returns-then-not-options-clause-first : goal.returns-then-not-options-clause-first
 returns-then-not-options-clause-first g c =
@@ -47,7 +50,8 @@ returns-then-not-options-clause-first g c =
     found_one c.args.options.now c.args.sprites.now WAYS (λ a. a.size) (λ a. map (λ s. s.0) a.order.items) (λ a. a.places.items)
     false c.in_ok-given.given off
     (found_best c.args.options.now c.args.sprites.now WAYS (λ a. a.size) (λ a. map (λ s. s.0) a.order.items) (λ a. a.places.items)
-    turning.AsGiven c.in_ok-given.given (λ a. a.lying.items) c.in_ok-given.ensures.laid c.in_ok-given.ensures.first c.in_ok-given.ensures.none)
+    turning.AsGiven c.in_ok-given.given (λ a. a.lying.items) c.in_ok-given.ensures.laid c.in_ok-given.ensures.first
+    c.in_ok-given.ensures.none)
 
 pub returns-clause-larger : goal.returns-clause-larger
 returns-clause-larger g c =
@@ -57,13 +61,16 @@ returns-clause-larger g c =
     (smallest_found c.args.options.now c.args.sprites.now WAYS (λ a. a.size) (λ a. map (λ s. s.0) a.order.items) (λ a. a.places.items)
     c.in_ok-given.given c.in_ok-wide.wide c.in_ok-high.high c.smaller_of.result c.smaller_of-2.result
     (found_best c.args.options.now c.args.sprites.now WAYS (λ a. a.size) (λ a. map (λ s. s.0) a.order.items) (λ a. a.places.items)
-    turning.AsGiven c.in_ok-given.given (λ a. a.lying.items) c.in_ok-given.ensures.laid c.in_ok-given.ensures.first c.in_ok-given.ensures.none)
+    turning.AsGiven c.in_ok-given.given (λ a. a.lying.items) c.in_ok-given.ensures.laid c.in_ok-given.ensures.first
+    c.in_ok-given.ensures.none)
     (found_best c.args.options.now c.args.sprites.now WAYS (λ a. a.size) (λ a. map (λ s. s.0) a.order.items) (λ a. a.places.items)
     turning.Wide c.in_ok-wide.wide (λ a. a.lying.items) c.in_ok-wide.ensures.laid c.in_ok-wide.ensures.first c.in_ok-wide.ensures.none)
     (found_best c.args.options.now c.args.sprites.now WAYS (λ a. a.size) (λ a. map (λ s. s.0) a.order.items) (λ a. a.places.items)
     turning.High c.in_ok-high.high (λ a. a.lying.items) c.in_ok-high.ensures.laid c.in_ok-high.ensures.first c.in_ok-high.ensures.none)
-    c.smaller_of.ensures.kept c.smaller_of.ensures.earlier (c.smaller_of.ensures.one, c.smaller_of.ensures.none_one) (c.smaller_of.ensures.other, c.smaller_of.ensures.none_other)
-    c.smaller_of-2.ensures.kept c.smaller_of-2.ensures.earlier (c.smaller_of-2.ensures.one, c.smaller_of-2.ensures.none_one) (c.smaller_of-2.ensures.other, c.smaller_of-2.ensures.none_other))
+    c.smaller_of.ensures.kept c.smaller_of.ensures.earlier (c.smaller_of.ensures.one, c.smaller_of.ensures.none_one)
+    (c.smaller_of.ensures.other, c.smaller_of.ensures.none_other)
+    c.smaller_of-2.ensures.kept c.smaller_of-2.ensures.earlier (c.smaller_of-2.ensures.one, c.smaller_of-2.ensures.none_one)
+    (c.smaller_of-2.ensures.other, c.smaller_of-2.ensures.none_other))
 
 pub returns-then-not-options-clause-larger : goal.returns-then-not-options-clause-larger
 returns-then-not-options-clause-larger g c =
@@ -71,7 +78,8 @@ returns-then-not-options-clause-larger g c =
     found_each c.args.options.now c.args.sprites.now WAYS (λ a. a.size) (λ a. map (λ s. s.0) a.order.items) (λ a. a.places.items)
     false c.in_ok-given.given off
     (found_best c.args.options.now c.args.sprites.now WAYS (λ a. a.size) (λ a. map (λ s. s.0) a.order.items) (λ a. a.places.items)
-    turning.AsGiven c.in_ok-given.given (λ a. a.lying.items) c.in_ok-given.ensures.laid c.in_ok-given.ensures.first c.in_ok-given.ensures.none)
+    turning.AsGiven c.in_ok-given.given (λ a. a.lying.items) c.in_ok-given.ensures.laid c.in_ok-given.ensures.first
+    c.in_ok-given.ensures.none)
 
 pub returns-clause-none : goal.returns-clause-none
 returns-clause-none g c =
@@ -81,13 +89,16 @@ returns-clause-none g c =
     (smallest_found c.args.options.now c.args.sprites.now WAYS (λ a. a.size) (λ a. map (λ s. s.0) a.order.items) (λ a. a.places.items)
     c.in_ok-given.given c.in_ok-wide.wide c.in_ok-high.high c.smaller_of.result c.smaller_of-2.result
     (found_best c.args.options.now c.args.sprites.now WAYS (λ a. a.size) (λ a. map (λ s. s.0) a.order.items) (λ a. a.places.items)
-    turning.AsGiven c.in_ok-given.given (λ a. a.lying.items) c.in_ok-given.ensures.laid c.in_ok-given.ensures.first c.in_ok-given.ensures.none)
+    turning.AsGiven c.in_ok-given.given (λ a. a.lying.items) c.in_ok-given.ensures.laid c.in_ok-given.ensures.first
+    c.in_ok-given.ensures.none)
     (found_best c.args.options.now c.args.sprites.now WAYS (λ a. a.size) (λ a. map (λ s. s.0) a.order.items) (λ a. a.places.items)
     turning.Wide c.in_ok-wide.wide (λ a. a.lying.items) c.in_ok-wide.ensures.laid c.in_ok-wide.ensures.first c.in_ok-wide.ensures.none)
     (found_best c.args.options.now c.args.sprites.now WAYS (λ a. a.size) (λ a. map (λ s. s.0) a.order.items) (λ a. a.places.items)
     turning.High c.in_ok-high.high (λ a. a.lying.items) c.in_ok-high.ensures.laid c.in_ok-high.ensures.first c.in_ok-high.ensures.none)
-    c.smaller_of.ensures.kept c.smaller_of.ensures.earlier (c.smaller_of.ensures.one, c.smaller_of.ensures.none_one) (c.smaller_of.ensures.other, c.smaller_of.ensures.none_other)
-    c.smaller_of-2.ensures.kept c.smaller_of-2.ensures.earlier (c.smaller_of-2.ensures.one, c.smaller_of-2.ensures.none_one) (c.smaller_of-2.ensures.other, c.smaller_of-2.ensures.none_other))
+    c.smaller_of.ensures.kept c.smaller_of.ensures.earlier (c.smaller_of.ensures.one, c.smaller_of.ensures.none_one)
+    (c.smaller_of.ensures.other, c.smaller_of.ensures.none_other)
+    c.smaller_of-2.ensures.kept c.smaller_of-2.ensures.earlier (c.smaller_of-2.ensures.one, c.smaller_of-2.ensures.none_one)
+    (c.smaller_of-2.ensures.other, c.smaller_of-2.ensures.none_other))
 
 pub returns-then-not-options-clause-none : goal.returns-then-not-options-clause-none
 returns-then-not-options-clause-none g c =
@@ -95,4 +106,5 @@ returns-then-not-options-clause-none g c =
     found_none c.args.options.now c.args.sprites.now WAYS (λ a. a.size) (λ a. map (λ s. s.0) a.order.items) (λ a. a.places.items)
     false c.in_ok-given.given off
     (found_best c.args.options.now c.args.sprites.now WAYS (λ a. a.size) (λ a. map (λ s. s.0) a.order.items) (λ a. a.places.items)
-    turning.AsGiven c.in_ok-given.given (λ a. a.lying.items) c.in_ok-given.ensures.laid c.in_ok-given.ensures.first c.in_ok-given.ensures.none)
+    turning.AsGiven c.in_ok-given.given (λ a. a.lying.items) c.in_ok-given.ensures.laid c.in_ok-given.ensures.first
+    c.in_ok-given.ensures.none)

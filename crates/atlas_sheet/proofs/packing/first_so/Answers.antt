@@ -23,7 +23,8 @@ arrangement_of-requires g c =
     let p = c.in-Some.packing in
     let ways : map (λ t. t.way) c.deref-3.result.now ≡ WAYS = ap (map (λ t. t.way)) c.deref-3.ensures.value ∙ c.in_ok-trials.ensures.ways in
     let least = rw c.in-Some.is at c.in_ok-found.ensures.least in
-    subst (λ (ws : List Way). IsLeastFound ws c.args.options.now.allowed (spacing_of c.args.options.now) c.in_ok-lying.lying.items (sides_of p.size)
+    subst (λ (ws : List Way). IsLeastFound ws c.args.options.now.allowed (spacing_of c.args.options.now) c.in_ok-lying.lying.items
+    (sides_of p.size)
     (record { way = p.way; order = p.order.items; places = p.places.items })) ways
     (rw (c.spacing.ensures, c.deref-2.ensures.value) at least)
 

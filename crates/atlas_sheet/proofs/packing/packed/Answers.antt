@@ -55,5 +55,6 @@ returns-clause-told g c =
       told.1,
       told.2,
       told.3,
-      holds_lying c.args.options.now c.args.sprites.now c.in-Some.first.lying.items arranged.lies (told.0 ++ c.in_ok-best.best.size ∷ []) told.4,
+      holds_lying c.args.options.now c.args.sprites.now c.in-Some.first.lying.items arranged.lies (told.0 ++ c.in_ok-best.best.size ∷ [])
+          told.4,
     )

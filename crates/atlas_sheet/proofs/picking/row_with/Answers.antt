@@ -15,7 +15,8 @@ loop-number-preserved g c =
     let inside : k < length groups = omega (arith, c.loop-number-test.true, c.requires) in
     let longer = ap length c.in_ok-push.ensures.items ∙ length-append c.loop-number.all.items (c.or_in-is_chosen.result ∷ []) in
     record {
-      rows = rows_more groups row (with_one c.args.group) k c.loop-number.all.items c.push.new.self.items n b c.or_in-is_chosen.result inside
+      rows = rows_more groups row (with_one c.args.group) k c.loop-number.all.items c.push.new.self.items n b c.or_in-is_chosen.result
+          inside
           (get_or_default groups k None n inside) (get_or_default row k false b c.loop-number-test.true)
           (λ whether says. rw c.or_in-is_chosen.ensures (says_with c.args.group n b whether says)) c.in_ok-push.ensures.items
           c.loop-number.invariant.rows;

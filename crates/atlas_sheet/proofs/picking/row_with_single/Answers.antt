@@ -16,12 +16,15 @@ loop-number-preserved g c =
     record {
       rows = rows_more groups row as_before k c.loop-number.all.items c.push.new.self.items n b c.or_single-is_chosen.result inside
           (get_or_default groups k None n inside) (get_or_default row k false b c.loop-number-test.true)
-          (says_before n b c.or_single-is_chosen.result c.or_single-is_chosen.ensures.group) c.in_ok-push.ensures.items c.loop-number.invariant.rows;
+          (says_before n b c.or_single-is_chosen.result c.or_single-is_chosen.ensures.group) c.in_ok-push.ensures.items
+          c.loop-number.invariant.rows;
       long = omega (arith, longer, c.loop-number.invariant.long);
       chosen = λ there row_is.
-          single_more there c.args.many groups row k c.loop-number.room c.room_left-room.result c.loop-number.all.items c.push.new.self.items
+          single_more there c.args.many groups row k c.loop-number.room c.room_left-room.result c.loop-number.all.items
+          c.push.new.self.items
           c.or_single-is_chosen.result inside row_is c.or_single-is_chosen.ensures.group c.or_single-is_chosen.ensures.none
-          c.room_left-room.ensures.same c.room_left-room.ensures.less c.in_ok-push.ensures.items (c.loop-number.invariant.chosen there row_is);
+          c.room_left-room.ensures.same c.room_left-room.ensures.less c.in_ok-push.ensures.items
+          (c.loop-number.invariant.chosen there row_is);
     }
 
 pub returns-clause-closed : goal.returns-clause-closed

@@ -16,7 +16,8 @@ place-requires-clause-packable g c =
 
 pub index_mut-requires : goal.index_mut-requires
 index_mut-requires g c =
-    let room = All-get_or (λ s. s.0 < length c.args.sprites.now) c.args.order.now c.loop-sprite.sprite-index no_sprite c.loop-sprite-test.true
+    let room = All-get_or (λ s. s.0 < length c.args.sprites.now) c.args.order.now c.loop-sprite.sprite-index no_sprite
+    c.loop-sprite-test.true
     (order_below c.args.sprites.now c.args.order.now c.requires.permuted (length c.args.sprites.now) (omega arith)) in
     search (rules, room, c.loop-sprite.invariant.long)
 
@@ -28,7 +29,8 @@ returns-in-None-clause-left g c =
     let s = get_or order k no_sprite in
     let room = All-get_or (λ s. s.0 < length c.args.sprites.now) order k no_sprite c.loop-sprite-test.true
     (order_below c.args.sprites.now order c.requires.permuted (length c.args.sprites.now) (omega arith)) in
-    one_left c.args.spacing (simple_state_of c.in_ok-packer.packer) (simple_state_of c.loop-sprite.packer) (simple_state_of c.place.new.packer)
+    one_left c.args.spacing (simple_state_of c.in_ok-packer.packer) (simple_state_of c.loop-sprite.packer)
+    (simple_state_of c.place.new.packer)
     order k c.loop-sprite.places.items s no_sprite (order_once c.args.sprites.now order c.requires.permuted) c.loop-sprite-test.true refl
     (rw (← before.long) at room) before.going _ c.args.choice c.in_ok-packer.ensures.start
     (rw c.in-None.is at c.in_ok-found.ensures.step)
@@ -53,12 +55,14 @@ loop-sprite-preserved g c =
     (record {
       long = length-set places s.0 found ∙ before.long;
       aligned = keeps_positive spacing now next s.1 (Some found) step before.aligned;
-      going = one_more spacing start now next order k places s no_sprite (order_once sprites order c.requires.permuted) c.loop-sprite-test.true refl
+      going = one_more spacing start now next order k places s no_sprite (order_once sprites order c.requires.permuted)
+          c.loop-sprite-test.true refl
           (rw (← before.long) at room) before.going found step;
     })
 
 pub returns-clause-found : goal.returns-clause-found
 returns-clause-found g c =
-    subst (λ s. FindPlaces c.args.spacing s (with_places (map Some c.loop-sprite.places.items) c.args.order.now)) c.in_ok-packer.ensures.start
+    subst (λ s. FindPlaces c.args.spacing s (with_places (map Some c.loop-sprite.places.items) c.args.order.now))
+    c.in_ok-packer.ensures.start
     (all_found c.args.spacing _ _ c.args.order.now c.loop-sprite.sprite-index (map Some c.loop-sprite.places.items) c.loop-sprite-test.false
     c.loop-sprite.invariant.going)

@@ -8,7 +8,8 @@ use Rattle.atlas_sheet.proofs.places.find_in.Goals as goal
 
 pub place_unless-requires-clause-packable : goal.place_unless-requires-clause-packable
 place_unless-requires-clause-packable g c =
-    All-get_or (λ s. IsPackable c.args.spacing s.1) c.args.order.now c.loop-sprite.sprite-index no_sprite c.loop-sprite-test.true c.requires.packable
+    All-get_or (λ s. IsPackable c.args.spacing s.1) c.args.order.now c.loop-sprite.sprite-index no_sprite c.loop-sprite-test.true
+    c.requires.packable
 
 pub loop-sprite-preserved : goal.loop-sprite-preserved
 loop-sprite-preserved g c =

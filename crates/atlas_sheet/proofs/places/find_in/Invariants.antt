@@ -11,5 +11,6 @@ invariant-loop-sprite g l = record {
   aligned : IsPositive (simple_state_of l.packer).options.alignment;
   going : HaveFound l.spacing
       (simple_state_of l.initial.packer) (simple_state_of l.packer) (with_places l.places (take l.sprite-index l.order));
-  refused : IfSome l.refused (λ s. HasNoRoom (simple_state_of l.packer).free (simple_state_of l.packer).options (asked_sides l.spacing.padding s));
+  refused : IfSome l.refused (λ s. HasNoRoom (simple_state_of l.packer).free (simple_state_of l.packer).options
+      (asked_sides l.spacing.padding s));
 }

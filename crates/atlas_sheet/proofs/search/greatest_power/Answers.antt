@@ -10,5 +10,7 @@ pub returns : goal.returns
 returns c =
     subst (IsGreatest (allowed.Powers c.args.greatest)) (sym c.power_size.ensures.sides)
     (powers_greatest c.exponent_in-most.result c.args.greatest
-    (subst (λ (z : ℤ). 2 ^ c.exponent_in-most.result ≤ natural z) (to_z-of_z w32 c.args.greatest c.ranges.greatest) c.exponent_in-most.ensures.power)
-    (subst (λ (z : ℤ). natural z < 2 * 2 ^ c.exponent_in-most.result) (to_z-of_z w32 c.args.greatest c.ranges.greatest) c.exponent_in-most.ensures.next))
+    (subst (λ (z : ℤ). 2 ^ c.exponent_in-most.result ≤ natural z) (to_z-of_z w32 c.args.greatest c.ranges.greatest)
+    c.exponent_in-most.ensures.power)
+    (subst (λ (z : ℤ). natural z < 2 * 2 ^ c.exponent_in-most.result) (to_z-of_z w32 c.args.greatest c.ranges.greatest)
+    c.exponent_in-most.ensures.next))

@@ -9,4 +9,5 @@ pub returns-clause-positive : goal.returns-clause-positive
 returns-clause-positive c = subst (λ n. 0 < n) (sym (one_shl c.args.exponent 32 (omega arith))) (pow_pos c.args.exponent)
 
 pub returns-clause-small : goal.returns-clause-small
-returns-clause-small c = subst (λ n. n < 2147483648) (sym (one_shl c.args.exponent 32 (omega arith))) (pow_below c.args.exponent 31 c.requires)
+returns-clause-small c = subst (λ n. n < 2147483648) (sym (one_shl c.args.exponent 32 (omega arith)))
+    (pow_below c.args.exponent 31 c.requires)

@@ -12,22 +12,28 @@ loop-sum-init g c = λ j below. absurd (omega arith)
 
 pub loop-sum-preserved : goal.loop-sum-preserved
 loop-sum-preserved g c =
-    up_to_more (map (λ t. t.way) c.args.trials.now) c.exponent_in-most.result c.args.spacing c.args.sprites.now c.loop-sum.sum c.loop-sum.invariant
+    up_to_more (map (λ t. t.way) c.args.trials.now) c.exponent_in-most.result c.args.spacing c.args.sprites.now c.loop-sum.sum
+    c.loop-sum.invariant
     (at_none c.in_ok-found.found (sym c.is_some.ensures ∙ c.if-is_some.false) c.in_ok-found.ensures.none)
 
 pub returns-then-is_some-clause-least : goal.returns-then-is_some-clause-least
 returns-then-is_some-clause-least g c =
     IfSome_then c.in_ok-found.found c.in_ok-found.ensures.packed (λ sheet packed.
     scan_found (map (λ t. t.way) c.args.trials.now) c.exponent_in-most.result c.args.spacing c.args.sprites.now c.args.greatest
-    (subst (λ (z : ℤ). 2 ^ c.exponent_in-most.result ≤ natural z) (to_z-of_z w32 c.args.greatest c.ranges.greatest) c.exponent_in-most.ensures.power)
-    (subst (λ (z : ℤ). natural z < 2 * 2 ^ c.exponent_in-most.result) (to_z-of_z w32 c.args.greatest c.ranges.greatest) c.exponent_in-most.ensures.next) c.loop-sum.sum (sides_of sheet.size) (record { way = sheet.way; order = sheet.order.items; places = sheet.places.items })
+    (subst (λ (z : ℤ). 2 ^ c.exponent_in-most.result ≤ natural z) (to_z-of_z w32 c.args.greatest c.ranges.greatest)
+    c.exponent_in-most.ensures.power)
+    (subst (λ (z : ℤ). natural z < 2 * 2 ^ c.exponent_in-most.result) (to_z-of_z w32 c.args.greatest c.ranges.greatest)
+    c.exponent_in-most.ensures.next) c.loop-sum.sum (sides_of sheet.size)
+    (record { way = sheet.way; order = sheet.order.items; places = sheet.places.items })
     c.loop-sum.invariant packed)
 
 pub returns-clause-none : goal.returns-clause-none
 returns-clause-none g c =
     scan_none (map (λ t. t.way) c.args.trials.now) c.exponent_in-most.result c.args.spacing c.args.sprites.now c.args.greatest
-    (subst (λ (z : ℤ). 2 ^ c.exponent_in-most.result ≤ natural z) (to_z-of_z w32 c.args.greatest c.ranges.greatest) c.exponent_in-most.ensures.power)
-    (subst (λ (z : ℤ). natural z < 2 * 2 ^ c.exponent_in-most.result) (to_z-of_z w32 c.args.greatest c.ranges.greatest) c.exponent_in-most.ensures.next) c.loop-sum.sum (omega arith) c.loop-sum.invariant
+    (subst (λ (z : ℤ). 2 ^ c.exponent_in-most.result ≤ natural z) (to_z-of_z w32 c.args.greatest c.ranges.greatest)
+    c.exponent_in-most.ensures.power)
+    (subst (λ (z : ℤ). natural z < 2 * 2 ^ c.exponent_in-most.result) (to_z-of_z w32 c.args.greatest c.ranges.greatest)
+    c.exponent_in-most.ensures.next) c.loop-sum.sum (omega arith) c.loop-sum.invariant
 
 pub returns-in_err-found : goal.returns-in_err-found
 returns-in_err-found g c =

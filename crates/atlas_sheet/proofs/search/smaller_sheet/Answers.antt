@@ -3,7 +3,8 @@ use Rattle.std.proofs.lemmas.Option.{IfSome_then}
 use Rattle.guillotiere.specs.Boxes.{Sides}
 use Rattle.guillotiere.specs.Pixels.{sides_of}
 use Rattle.atlas_sheet.proofs.Maybes.{none_then}
-use Rattle.atlas_sheet.proofs.Steps.{halved, height_down, heights_least, heights_next, one_least, powers_least, powers_next, square_down, squares_least, squares_next}
+use Rattle.atlas_sheet.proofs.Steps.{halved, height_down, heights_least, heights_next, one_least, powers_least, powers_next, square_down}
+use Rattle.atlas_sheet.proofs.Steps.{squares_least, squares_next}
 use Rattle.atlas_sheet.proofs.search.smaller_sheet.Goals as goal
 
 pub returns-in-One-clause-none : goal.returns-in-One-clause-none
@@ -29,7 +30,8 @@ returns-in-Squares-clause-none c =
 pub returns-in-Heights-clause-smaller : goal.returns-in-Heights-clause-smaller
 returns-in-Heights-clause-smaller c =
     IfSome_then c.lower.result c.lower.ensures.some (λ t step.
-    height_down c.args.allowed _ _ (sides_of c.args.size) (sides_of t) c.in-Heights.is c.requires.allowed c.requires.usable step.0 step.1 step.2)
+    height_down c.args.allowed _ _ (sides_of c.args.size) (sides_of t) c.in-Heights.is c.requires.allowed c.requires.usable step.0 step.1
+    step.2)
 
 pub returns-in-Heights-clause-next : goal.returns-in-Heights-clause-next
 returns-in-Heights-clause-next c =

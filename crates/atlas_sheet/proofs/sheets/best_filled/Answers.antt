@@ -17,7 +17,8 @@ returns-clause-best g c =
     let best = c.in_ok-best.best in
     let ways = take (ways_tried (length c.args.sprites.now)) WAYS in
     subst (λ (s : Size). InEach c.args.options.now c.args.sprites.now
-    (λ lying. All (IsNoBetter (sides_of s) (spacing_of c.args.options.now) lying (used_area best.places.items)) ways)) (sym c.in_ok-best.ensures.size)
+    (λ lying. All (IsNoBetter (sides_of s) (spacing_of c.args.options.now) lying (used_area best.places.items)) ways))
+    (sym c.in_ok-best.ensures.size)
     (each_weaker c.args.options.now c.args.sprites.now
     (λ lying. All (IsNoBetter (sides_of first.size) (spacing_of c.args.options.now) lying (used_area first.places.items)) ways)
     (λ lying. All (IsNoBetter (sides_of first.size) (spacing_of c.args.options.now) lying (used_area best.places.items)) ways)

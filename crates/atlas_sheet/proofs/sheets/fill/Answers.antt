@@ -26,7 +26,8 @@ returns-clause-plain g c e =
     let ways = take (ways_tried (length c.args.sprites.now)) WAYS in
     rw (c.in_ok-filled.ensures.size, c.in_ok-filled.ensures.order, c.in_ok-filled.ensures.areas)
     (first_in_one c.args.options.now c.args.sprites.now
-    (λ lying. IsBestFound ways (sides_of best.size) (spacing_of c.args.options.now) lying (map (λ s. s.0) best.order.items) best.places.items)
+    (λ lying. IsBestFound ways (sides_of best.size) (spacing_of c.args.options.now) lying (map (λ s. s.0) best.order.items)
+    best.places.items)
     (λ lying. All (FindsFewer (sides_of best.size) (spacing_of c.args.options.now) lying (used_area best.places.items)) ways)
     (c.in_ok-best.ensures.plain e))
 

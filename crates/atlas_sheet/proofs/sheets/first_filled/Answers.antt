@@ -14,13 +14,15 @@ use Rattle.atlas_sheet.proofs.sheets.first_filled.Goals as goal
 
 pub returns-clause-arranged : goal.returns-clause-arranged
 returns-clause-arranged g c =
-    taken (IsArranged c.args.options.now c.args.sprites.now) c.in_ok-given.given c.in_ok-wide.wide c.in_ok-high.high c.fuller.result c.fuller-2.result
+    taken (IsArranged c.args.options.now c.args.sprites.now) c.in_ok-given.given c.in_ok-wide.wide c.in_ok-high.high c.fuller.result
+    c.fuller-2.result
     c.fuller.ensures c.fuller-2.ensures c.in_ok-given.ensures.arranged c.in_ok-wide.ensures.arranged c.in_ok-high.ensures.arranged
 
 pub returns-clause-size : goal.returns-clause-size
 returns-clause-size g c =
     let size : c.fuller-2.result.size ≡ c.greatest_sheet-size.result =
-    taken (λ a. a.size ≡ c.greatest_sheet-size.result) c.in_ok-given.given c.in_ok-wide.wide c.in_ok-high.high c.fuller.result c.fuller-2.result
+    taken (λ a. a.size ≡ c.greatest_sheet-size.result) c.in_ok-given.given c.in_ok-wide.wide c.in_ok-high.high c.fuller.result
+    c.fuller-2.result
     c.fuller.ensures c.fuller-2.ensures c.in_ok-given.ensures.size c.in_ok-wide.ensures.size c.in_ok-high.ensures.size in
     subst (λ (s : Size). IsGreatest c.args.options.now.allowed (sides_of s)) (sym size) c.greatest_sheet-size.ensures
 
@@ -69,9 +71,11 @@ returns-then-not-options-clause-best g c =
     let off : c.args.options.now.turn ≡ false = search rules in
     let sheet = sides_of c.greatest_sheet-size.result in
     subst (λ (s : Size). InEach c.args.options.now sprites
-    (λ lying. All (IsNoBetter (sides_of s) (spacing_of c.args.options.now) lying (used_area a.places.items)) ways)) (sym c.in_ok-given.ensures.size)
+    (λ lying. All (IsNoBetter (sides_of s) (spacing_of c.args.options.now) lying (used_area a.places.items)) ways))
+    (sym c.in_ok-given.ensures.size)
     (full_each c.args.options.now sprites ways sheet (λ a. map (λ s. s.0) a.order.items) (λ a. a.places.items) false a off
-    (filled_best c.args.options.now sprites ways sheet (λ a. map (λ s. s.0) a.order.items) (λ a. a.places.items) turning.AsGiven a a.lying.items
+    (filled_best c.args.options.now sprites ways sheet (λ a. map (λ s. s.0) a.order.items) (λ a. a.places.items) turning.AsGiven a
+    a.lying.items
     c.in_ok-given.ensures.laid c.in_ok-given.ensures.found))
 
 pub returns-then-not-options-clause-found : goal.returns-then-not-options-clause-found
@@ -86,5 +90,6 @@ returns-then-not-options-clause-found g c =
     (λ lying. All (FindsFewer (sides_of s) (spacing_of c.args.options.now) lying (used_area a.places.items)) ways))
     (sym c.in_ok-given.ensures.size)
     (full_one c.args.options.now sprites ways sheet (λ a. map (λ s. s.0) a.order.items) (λ a. a.places.items) false a off
-    (filled_best c.args.options.now sprites ways sheet (λ a. map (λ s. s.0) a.order.items) (λ a. a.places.items) turning.AsGiven a a.lying.items
+    (filled_best c.args.options.now sprites ways sheet (λ a. map (λ s. s.0) a.order.items) (λ a. a.places.items) turning.AsGiven a
+    a.lying.items
     c.in_ok-given.ensures.laid c.in_ok-given.ensures.found))

@@ -19,7 +19,8 @@ pub returns-then-is_some-clause-packed : goal.returns-then-is_some-clause-packed
 returns-then-is_some-clause-packed g c =
     IfSome_then c.in_ok-found.found c.in_ok-found.ensures.packed (λ p packed.
     packed (map (λ t. t.way) c.args.trials.now)
-    (stands_at (LeavesSprite (sides_of c.args.size) c.args.spacing c.args.sprites.now) (λ t. t.way) c.args.trials.now c.loop-trial.trial-index
+    (stands_at (LeavesSprite (sides_of c.args.size) c.args.spacing c.args.sprites.now) (λ t. t.way) c.args.trials.now
+    c.loop-trial.trial-index
     c.trial-item.result c.loop-trial-test.true c.trial-item.is c.loop-trial.invariant))
 
 pub loop-trial-preserved : goal.loop-trial-preserved

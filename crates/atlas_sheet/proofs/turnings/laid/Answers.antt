@@ -15,7 +15,8 @@ pub returns-clause-lies : goal.returns-clause-lies
 returns-clause-lies g c =
     let sheet = sides_of c.greatest_sheet-sheet.result in
     let turn : c.args.options.now.turn ≡ true = search rules in
-    let all : c.loop-sprite.lying.items ≡ map (λ (s : Size). fitted sheet c.spacing-spacing.result (turned_to c.args.how s)) c.args.sprites.now =
+    let all : c.loop-sprite.lying.items ≡ map (λ (s : Size). fitted sheet c.spacing-spacing.result (turned_to c.args.how s))
+    c.args.sprites.now =
     c.loop-sprite.invariant ∙ ap (map (λ (s : Size). fitted sheet c.spacing-spacing.result (turned_to c.args.how s)))
     (take_all c.loop-sprite.sprite-index c.args.sprites.now c.loop-sprite-test.false) in
     laid_so sheet c.spacing-spacing.result c.args.options.now.turn c.args.how c.args.sprites.now c.loop-sprite.lying.items turn all
@@ -24,7 +25,8 @@ pub returns-clause-good : goal.returns-clause-good
 returns-clause-good g c =
     let sheet = sides_of c.greatest_sheet-sheet.result in
     let turn : c.args.options.now.turn ≡ true = search rules in
-    let all : c.loop-sprite.lying.items ≡ map (λ (s : Size). fitted sheet c.spacing-spacing.result (turned_to c.args.how s)) c.args.sprites.now =
+    let all : c.loop-sprite.lying.items ≡ map (λ (s : Size). fitted sheet c.spacing-spacing.result (turned_to c.args.how s))
+    c.args.sprites.now =
     c.loop-sprite.invariant ∙ ap (map (λ (s : Size). fitted sheet c.spacing-spacing.result (turned_to c.args.how s)))
     (take_all c.loop-sprite.sprite-index c.args.sprites.now c.loop-sprite-test.false) in
     record {

@@ -4,7 +4,9 @@ use Rattle.atlas_model.specs.Pixels.{sides_of}
 use Rattle.atlas_store.specs.Stored.{Holding}
 use Rattle.atlas_store.specs.Store.Holdings.{OnlyTakes}
 use Rattle.atlas_tree.specs.Plans.Growths.{IsGrowable}
-use Rattle.atlas_tree.proofs.PlanLemmas.GrownStages.{IsMidwayIn, equal-yes, equal-no, unequal-yes, unequal-no, along-longer, along-same, across-longer, across-same, across_need, longer-ready, longer-midway, same-midway, midway-grown, midway-ready, widened-grown}
+use Rattle.atlas_tree.proofs.PlanLemmas.GrownStages.{IsMidwayIn, equal-yes, equal-no, unequal-yes, unequal-no, along-longer, along-same}
+use Rattle.atlas_tree.proofs.PlanLemmas.GrownStages.{across-longer, across-same, across_need, longer-ready, longer-midway, same-midway}
+use Rattle.atlas_tree.proofs.PlanLemmas.GrownStages.{midway-grown, midway-ready, widened-grown}
 use Rattle.atlas_store.proofs.StoreLemmas.TakenOnce.{only-takes}
 use Rattle.atlas_tree.proofs.growth.grow_tree.Goals as goal
 use Rattle.atlas_tree.proofs.growth.grow_tree.Goals.{then-ne, else-ne}
@@ -25,7 +27,8 @@ widen-requires-clause-ready g c =
     let old = sides_of p.from in
     let new = sides_of p.to in
     let i = c.args.first.number in
-    let midway : (h : Holding) (n : ℕ) → IsGrowable c.args.store.now old new i n p h → IsMidwayIn c.if-ne.store old new i n h = (λ h n w. elim c.if-ne.branch [
+    let midway : (h : Holding) (n : ℕ) → IsGrowable c.args.store.now old new i n p h → IsMidwayIn c.if-ne.store old new i n h =
+    (λ h n w. elim c.if-ne.branch [
       | then-ne b ↦
           let longer = along-longer old new h p w.growth w.fits (unequal-yes p.middle p.from c.ne.result c.ne.ensures b.if-ne.true) in
           subst (λ s. IsMidwayIn s old new i n h) (sym b.store-is) (longer-midway w longer b.lengthen.ensures)
@@ -45,7 +48,8 @@ returns-then-eq g c =
     let old = sides_of p.from in
     let new = sides_of p.to in
     let i = c.args.first.number in
-    let midway : (h : Holding) (n : ℕ) → IsGrowable c.args.store.now old new i n p h → IsMidwayIn c.if-ne.store old new i n h = (λ h n w. elim c.if-ne.branch [
+    let midway : (h : Holding) (n : ℕ) → IsGrowable c.args.store.now old new i n p h → IsMidwayIn c.if-ne.store old new i n h =
+    (λ h n w. elim c.if-ne.branch [
       | then-ne b ↦
           let longer = along-longer old new h p w.growth w.fits (unequal-yes p.middle p.from c.ne.result c.ne.ensures b.if-ne.true) in
           subst (λ s. IsMidwayIn s old new i n h) (sym b.store-is) (longer-midway w longer b.lengthen.ensures)
@@ -68,7 +72,8 @@ returns g c =
     let old = sides_of p.from in
     let new = sides_of p.to in
     let i = c.args.first.number in
-    let midway : (h : Holding) (n : ℕ) → IsGrowable c.args.store.now old new i n p h → IsMidwayIn c.if-ne.store old new i n h = (λ h n w. elim c.if-ne.branch [
+    let midway : (h : Holding) (n : ℕ) → IsGrowable c.args.store.now old new i n p h → IsMidwayIn c.if-ne.store old new i n h =
+    (λ h n w. elim c.if-ne.branch [
       | then-ne b ↦
           let longer = along-longer old new h p w.growth w.fits (unequal-yes p.middle p.from c.ne.result c.ne.ensures b.if-ne.true) in
           subst (λ s. IsMidwayIn s old new i n h) (sym b.store-is) (longer-midway w longer b.lengthen.ensures)
@@ -80,7 +85,8 @@ returns g c =
     record {
       grown = λ h n w.
           let m = midway h n w in
-          let wider = across-longer old new h p w.growth w.fits (λ e. equal-no p.to p.middle c.eq.result c.eq.ensures c.if-eq.false (sym e)) in
+          let wider = across-longer old new h p w.growth w.fits (λ e. equal-no p.to p.middle c.eq.result c.eq.ensures c.if-eq.false (sym e))
+          in
           widened-grown w m.1 wider c.widen.ensures;
       takes = only-takes takes c.widen.ensures.takes;
     }

@@ -10,7 +10,8 @@ use Rattle.atlas_tree.proofs.growth.last_member.Given as goal
 
 abbrev pub invariant-loop-next : goal.invariant-loop-next
 invariant-loop-next g l =
-    (h : Holding) (size : Sides) → IsTreeOf (shelf_of l.fn.store) size l.fn.first.number h → IsAtMember (nodes l.store.slots.items) l.at.number l.next.number h.sequence h.tree
+    (h : Holding) (size : Sides) → IsTreeOf (shelf_of l.fn.store) size l.fn.first.number h →
+    IsAtMember (nodes l.store.slots.items) l.at.number l.next.number h.sequence h.tree
 
 abbrev pub decreases-loop-next : goal.decreases-loop-next
 decreases-loop-next g l =

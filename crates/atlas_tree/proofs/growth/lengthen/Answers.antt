@@ -3,7 +3,8 @@ use Rattle.std.proofs.lemmas.Bool.{true≢false}
 use Rattle.atlas_store.specs.declared.slots.NodeKind.TheVariants.{Free}
 use Rattle.atlas_model.specs.Pixels.{sides_of}
 use Rattle.atlas_store.specs.Store.Holdings.{shelf_of, node_in}
-use Rattle.atlas_tree.proofs.PlanLemmas.GrownSlots.{end-slot, stretch-ready, stretch-list, stretch-lengthened, append-ready, append-list, append-lengthened}
+use Rattle.atlas_tree.proofs.PlanLemmas.GrownSlots.{end-slot, stretch-ready, stretch-list, stretch-lengthened, append-ready, append-list}
+use Rattle.atlas_tree.proofs.PlanLemmas.GrownSlots.{append-lengthened}
 use Rattle.atlas_store.proofs.StoreLemmas.TakenOnce.{only-takes}
 use Rattle.atlas_tree.proofs.growth.lengthen.Goals as goal
 
@@ -24,7 +25,8 @@ append-strip-requires-clause-ready g c = grind (arith, true≢false, append-read
 
 pub list-requires-else-is_free : goal.list-requires-else-is_free
 list-requires-else-is_free g c =
-    let busy : (node_in (shelf_of c.args.store.now) c.args.last.number).kind ≡ Free → ⊥ = (λ f. true≢false (sym (c.is_free.ensures.1 f) ∙ c.if-is_free.false)) in
+    let busy : (node_in (shelf_of c.args.store.now) c.args.last.number).kind ≡ Free → ⊥ =
+    (λ f. true≢false (sym (c.is_free.ensures.1 f) ∙ c.if-is_free.false)) in
     append-list c.requires.ready.3 busy c.append-strip.ensures
 
 pub returns-then-is_free : goal.returns-then-is_free
@@ -35,7 +37,8 @@ returns-then-is_free g c = record {
 
 pub returns-else-is_free : goal.returns-else-is_free
 returns-else-is_free g c =
-    let busy : (node_in (shelf_of c.args.store.now) c.args.last.number).kind ≡ Free → ⊥ = (λ f. true≢false (sym (c.is_free.ensures.1 f) ∙ c.if-is_free.false)) in
+    let busy : (node_in (shelf_of c.args.store.now) c.args.last.number).kind ≡ Free → ⊥ =
+    (λ f. true≢false (sym (c.is_free.ensures.1 f) ∙ c.if-is_free.false)) in
     record {
       kept = λ h d n s. append-lengthened s busy c.append-strip.ensures c.list-else-is_free.ensures;
       takes = only-takes c.append-strip.ensures.takes c.list-else-is_free.ensures.takes;

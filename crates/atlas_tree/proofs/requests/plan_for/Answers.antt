@@ -17,7 +17,8 @@ returns-then-whole-size-3-clause-line c =
     let as_high : whole.height ≡ r.height = search rules in
     let narrower : r.width < whole.width = search rules in
     c.strip-then-whole-size-3.ensures.line r
-    (subst (λ (s : Sides). cut s r ≡ Strip Horizontal) c.exact_size-whole.ensures.sides (cut-beside whole r as_high narrower c.requires.positive.1)) (search rules)
+    (subst (λ (s : Sides). cut s r ≡ Strip Horizontal) c.exact_size-whole.ensures.sides
+    (cut-beside whole r as_high narrower c.requires.positive.1)) (search rules)
 
 pub corner-requires-clause-narrower : goal.corner-requires-clause-narrower
 corner-requires-clause-narrower c = search rules

@@ -23,7 +23,8 @@ loop-left-preserved c =
       room = omega (arith, length_step l.left c.loop-left-test.true l.auto.left-fits.fits);
       short = omega arith;
       whole = length-set _ _ _ ∙ l.invariant.whole;
-      written = one_digit_more l.left l.start l.digits c.loop-left-test.true l.auto.left-fits.fits (omega arith) (omega arith) ∙ l.invariant.written;
+      written = one_digit_more l.left l.start l.digits c.loop-left-test.true l.auto.left-fits.fits (omega arith) (omega arith) ∙
+          l.invariant.written;
     }
 
 pub overflow_sub-start-2 : goal.overflow_sub-start-2

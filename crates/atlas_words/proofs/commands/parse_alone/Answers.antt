@@ -1,5 +1,6 @@
 use Rattle.std.proofs.Common.{rules}
-use Rattle.atlas_words.proofs.Keywords.{only_live, only_holes, only_size, only_empty, only_clear, only_rearrange, only_from_atlas, only_replay, ends_alone, no_keyword, no_bytes}
+use Rattle.atlas_words.proofs.Keywords.{only_live, only_holes, only_size, only_empty, only_clear, only_rearrange, only_from_atlas}
+use Rattle.atlas_words.proofs.Keywords.{only_replay, ends_alone, no_keyword, no_bytes}
 use Rattle.atlas_words.proofs.commands.parse_alone.Goals as goal
 
 pub returns-then-not-is_empty-clause-only : goal.returns-then-not-is_empty-clause-only
@@ -47,7 +48,8 @@ returns-then-eq-8-clause-only c command alone parts =
 
 pub returns-clause-only : goal.returns-clause-only
 returns-clause-only c command alone parts =
-    absurd (no_keyword command _ _ alone (search rules) (search rules) (search rules) (search rules) (search rules) (search rules) (search rules) (search rules) parts)
+    absurd (no_keyword command _ _ alone (search rules) (search rules) (search rules) (search rules) (search rules) (search rules)
+    (search rules) (search rules) parts)
 
 pub returns-then-eq-clause-found : goal.returns-then-eq-clause-found
 returns-then-eq-clause-found c = (search rules, no_bytes _ (search rules))

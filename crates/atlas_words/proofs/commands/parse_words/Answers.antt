@@ -1,5 +1,6 @@
 use Rattle.std.proofs.Common.{rules}
-use Rattle.atlas_words.proofs.Keywords.{only_simple, only_take, only_atlas, only_alloc, only_free, only_grow, only_resize, only_record, stands_alone}
+use Rattle.atlas_words.proofs.Keywords.{only_simple, only_take, only_atlas, only_alloc, only_free, only_grow, only_resize, only_record}
+use Rattle.atlas_words.proofs.Keywords.{stands_alone}
 use Rattle.atlas_words.proofs.commands.parse_words.Goals as goal
 
 pub returns-in_err-size_arguments-clause-only : goal.returns-in_err-size_arguments-clause-only
@@ -111,4 +112,5 @@ returns-then-eq-8-clause-only c command parts =
 pub returns-clause-only : goal.returns-clause-only
 returns-clause-only c command parts =
     c.parse_alone.ensures.only command
-    (stands_alone command _ _ (search rules) (search rules) (search rules) (search rules) (search rules) (search rules) (search rules) (search rules) parts) parts
+    (stands_alone command _ _ (search rules) (search rules) (search rules) (search rules) (search rules) (search rules) (search rules)
+    (search rules) parts) parts

@@ -38,7 +38,8 @@ loop-call-preserved g c =
       played = subst₂ (λ calls replies. IsPlayed c.args.atlas.now calls replies c.step.new.atlas) (sym made)
           (sym (ap (map reply_of) more ∙ map-append reply_of (drop n items) (c.step.result ∷ [])))
           (played_more c.args.atlas.now c.loop-call.atlas c.step.new.atlas (calls_of (take c.loop-call.call-index c.args.calls.now))
-          (replies_of (drop n items)) (call_of c.call-item.result) (reply_of c.step.result) i.sound i.played c.step.ensures.step c.step.ensures.turns);
+          (replies_of (drop n items)) (call_of c.call-item.result) (reply_of c.step.result) i.sound i.played c.step.ensures.step
+          c.step.ensures.turns);
     }
 
 pub returns-clause-session : goal.returns-clause-session

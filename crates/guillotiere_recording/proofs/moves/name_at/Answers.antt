@@ -12,7 +12,8 @@ found c =
     let ns = c.args.by_id.now in
     let at = c.partition_point-at.result in
     let parted = IsPartitionedBy-ltb (λ (n : Entry). n.id) ns c.args.number c.requires.sorted in
-    let point = IsPartitionPoint-from_clause (λ (n : Entry). ltb n.id c.args.number) ns at c.partition_point-at.ensures.partitioned parted (λ a r q k. search rules) in
+    let point = IsPartitionPoint-from_clause (λ (n : Entry). ltb n.id c.args.number) ns at c.partition_point-at.ensures.partitioned parted
+    (λ a r q k. search rules) in
     placed_id ns at c.args.number c.requires.sorted c.requires.entered point
 
 pub bounds-by_id-at : goal.bounds-by_id-at
@@ -27,6 +28,7 @@ returns c =
     let at = c.partition_point-at.result in
     let w = c.index-by_id-at.result in
     let parted = IsPartitionedBy-ltb (λ (n : Entry). n.id) ns c.args.number c.requires.sorted in
-    let point = IsPartitionPoint-from_clause (λ (n : Entry). ltb n.id c.args.number) ns at c.partition_point-at.ensures.partitioned parted (λ a r q k. search rules) in
+    let point = IsPartitionPoint-from_clause (λ (n : Entry). ltb n.id c.args.number) ns at c.partition_point-at.ensures.partitioned parted
+    (λ a r q k. search rules) in
     let it = placed_id ns at c.args.number c.requires.sorted c.requires.entered point in
     contains_there ns at w c.args.number it.0 (it.1 w)

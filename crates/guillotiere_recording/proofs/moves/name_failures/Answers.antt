@@ -18,6 +18,7 @@ loop-failure-preserved g c =
     let x = get_or c.args.failures.now c.loop-failure.failure-index c.failure-item.result in
     let names = named_so c.args.by_id.now c.name_at-name.result c.serialize.result x.id c.requires.once
     (c.serialize.ensures ∙ ap (λ (y : Allocation). y.id) c.failure-item.is) c.name_at-name.ensures in
-    let pushed = failure_named x c.failure-item.result c.under_name.result c.name_at-name.result f c.failure-item.is names c.under_name.ensures in
+    let pushed = failure_named x c.failure-item.result c.under_name.result c.name_at-name.result f c.failure-item.is names
+    c.under_name.ensures in
     c.in_ok-push.ensures.items ∙ ap₂ (λ ys y. ys ++ y ∷ []) c.loop-failure.invariant pushed
     ∙ sym (map_more (failure_under f) c.args.failures.now c.loop-failure.failure-index c.failure-item.result c.loop-failure-test.true)

@@ -25,7 +25,8 @@ loop-name-preserved g c =
     let s = state_of c.args.atlas.now in
     let shows = λ (es : Entries). map (shown_entry s) es in
     let all = subst (λ (es : Entries). All (IsFound c.args.names.now) es) c.in-Some.ensures.steps c.loop-name.invariant.1 in
-    let one = shown_by s c.deserialize.result c.in-Some.name.now c.in-Some.id.now c.index.result.now c.deserialize.ensures c.index.ensures in (
+    let one = shown_by s c.deserialize.result c.in-Some.name.now c.in-Some.id.now c.index.result.now c.deserialize.ensures c.index.ensures
+    in (
       ap (λ (xs : List Allocation). xs ++ shows c.next.new.self) c.in_ok-push.ensures.items
           ∙ append_assoc c.loop-name.live.items _ (shows c.next.new.self)
           ∙ ap (λ (a : Allocation). c.loop-name.live.items ++ (a ∷ shows c.next.new.self)) one

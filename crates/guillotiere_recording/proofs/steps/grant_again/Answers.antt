@@ -25,7 +25,8 @@ returns-in_ok-insert-in-Some-clause-ok g c = λ s h.
     let name = c.serialize-name.ensures in
     let missing : is_some (get nat_cmp c.args.names.now c.args.recorded.now.id) ≡ false =
     ap (λ n. is_some (get nat_cmp c.args.names.now n)) (sym name) ∙ sym c.contains_key.ensures ∙ c.if-contains_key.false in
-    let step = subst (λ o. Step (state_of c.args.atlas.now) (atlas.Allocate (sides_of size)) (allocate_reply (Ok o)) (state_of c.ask.new.atlas))
+    let step = subst (λ o. Step (state_of c.args.atlas.now) (atlas.Allocate (sides_of size)) (allocate_reply (Ok o))
+    (state_of c.ask.new.atlas))
     c.in-Some.is c.in_ok-granted.ensures.step in
     let exact = subst (λ (o : Option Allocation). IfSome o (λ a. IsExact a.rectangle)) c.in-Some.is c.in_ok-granted.ensures.exact in
     let updates = subst (λ n. Updates nat_cmp c.args.names.now c.insert.new.self n (Some c.in-Some.granted.id)) name

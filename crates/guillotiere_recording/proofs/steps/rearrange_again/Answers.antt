@@ -13,7 +13,8 @@ use Rattle.guillotiere_recording.proofs.steps.rearrange_again.Goals as goal
 pub follow-requires : goal.follow-requires
 follow-requires g c = record {
   before = value_of c.args.atlas.now c.args.names.now;
-  kept = names_kept c.args.atlas.now c.args.names.now c.requires.0 c.requires.1 c.in_ok-entries.ensures.ordered c.in_ok-entries.ensures.found;
+  kept = names_kept c.args.atlas.now c.args.names.now c.requires.0 c.requires.1 c.in_ok-entries.ensures.ordered
+      c.in_ok-entries.ensures.found;
   names = sym (c.deref.ensures.value ∙ c.in_ok-entries.ensures.list);
   new = state_of c.rearrange.new.self;
   asked = atlas.Rearrange;
@@ -26,9 +27,11 @@ returns-in_err-names-clause-fault g c =
     let e = c.in_err-names.field-0.0 in
     let said = list_value_of c.args.recorded.now in
     let unlike = subst (λ es. IsUnlike es c.in_ok-list.list said e) entries c.in_err-names.ensures.fault in
-    stopped_as (IsStopped c.args.atlas.now c.args.names.now (Rearrange said)) c.from_residual-in_err-names.result e c.from_residual-in_err-names.ensures.1
+    stopped_as (IsStopped c.args.atlas.now c.args.names.now (Rearrange said)) c.from_residual-in_err-names.result e
+    c.from_residual-in_err-names.ensures.1
     (unlike_stops c.args.atlas.now c.args.names.now c.in_ok-list.list said (Rearrange said) e
-    (λ s h other. other_rearranging c.args.atlas.now c.rearrange.new.self c.args.names.now (atlas.Rearrange) c.in_ok-list.list c.in_ok-list.ensures.step c.in_ok-list.ensures.exact
+    (λ s h other. other_rearranging c.args.atlas.now c.rearrange.new.self c.args.names.now (atlas.Rearrange) c.in_ok-list.list
+    c.in_ok-list.ensures.step c.in_ok-list.ensures.exact
     c.in_ok-entries.ensures.ordered c.in_ok-entries.ensures.found s h said other refl) unlike)
 
 pub returns-clause-ok : goal.returns-clause-ok
@@ -36,5 +39,6 @@ returns-clause-ok g c = λ s h.
     let entries = c.deref.ensures.value ∙ c.in_ok-entries.ensures.list in
     let said = list_value_of c.args.recorded.now in
     let followed = subst (λ es. IsFollowed es c.in_ok-list.list said c.in_ok-names.field-0) entries c.in_ok-names.ensures.ok in
-    rearranged_on c.args.atlas.now c.rearrange.new.self c.args.names.now (atlas.Rearrange) c.in_ok-list.list c.in_ok-list.ensures.step c.in_ok-list.ensures.exact
+    rearranged_on c.args.atlas.now c.rearrange.new.self c.args.names.now (atlas.Rearrange) c.in_ok-list.list c.in_ok-list.ensures.step
+    c.in_ok-list.ensures.exact
     c.in_ok-entries.ensures.ordered c.in_ok-entries.ensures.found s h said c.in_ok-names.field-0 followed (Rearrange said) (λ t led. led)

@@ -12,7 +12,8 @@ visit-requires g c =
     let area = subst (λ (n : Entry). option_map rectangle_of (live_box (state_of c.args.atlas.now) n.id) ≡ Some c.index.result.now)
     c.entry-item.is c.index.ensures in
     asks-name g.F.FnMut (state_of c.args.atlas.now) c.args.names.now c.loop-entry.entry-index c.entry-item.result c.loop-entry-test.true
-    c.loop-entry.visit c.deserialize.result c.index.result (c.deserialize.ensures ∙ ap (λ (n : Entry). n.name) c.entry-item.is) area c.requires.shown c.loop-entry.invariant.0
+    c.loop-entry.visit c.deserialize.result c.index.result (c.deserialize.ensures ∙ ap (λ (n : Entry). n.name) c.entry-item.is) area
+    c.requires.shown c.loop-entry.invariant.0
 
 pub loop-entry-preserved : goal.loop-entry-preserved
 loop-entry-preserved g c =
@@ -23,7 +24,8 @@ loop-entry-preserved g c =
           c.loop-entry.visit c.visit.new.self c.deserialize.result c.index.result name area c.visit.ensures c.loop-entry.invariant.0,
       λ last more.
           c.loop-entry.invariant.1 last
-          (visits-name g.F.FnMut c.loop-entry.visit c.visit.new.self last (state_of c.args.atlas.now) c.args.names.now c.loop-entry.entry-index c.entry-item.result
+          (visits-name g.F.FnMut c.loop-entry.visit c.visit.new.self last (state_of c.args.atlas.now) c.args.names.now
+          c.loop-entry.entry-index c.entry-item.result
           c.deserialize.result c.index.result c.loop-entry-test.true name area c.visit.ensures more),
     )
 

@@ -74,7 +74,7 @@ fn settle<K: Copy + Eq + Hash, S: BuildHasher, A: Allocator + Copy>(
                 rectangle: change.new.rectangle,
                 ..entry
             };
-            entries.move_to(number, moved.id, moved.rectangle);
+            entries.move_to(number, moved.page, moved.id, moved.rectangle);
             let to = place_of(moved, options);
             changes.push_reserved(CacheChange::Moved { key, from, to });
         }
@@ -115,8 +115,8 @@ impl<K: Copy + Eq + Hash, S: BuildHasher, A: Allocator + Copy> TextureCache<K, S
     /// `rectangle`, and among equal areas the most recently used; the page doesn't grow. Returns whether there is such a page; if
     /// not, nothing changes. Each entry of the page is added to the changes once, the most recently used first: as
     /// `Moved`, also where it stays in its place, or as `Evicted`, which is counted, where it found no room when its
-    /// turn came. Every other entry stays, and so do the order of use, the frame, the options and what entries are in reserve;
-    /// the page may have no slots in reserve then.
+    /// turn came, also if this frame uses it: `repack_keeping_all` evicts none. Every other entry stays, and so do the order of use, the
+    /// frame, the options and what entries are in reserve; the page may have no slots in reserve then.
     ///
     /// A place that an entry moves to can overlap one that a later change moves from: copy all pixels from the page as
     /// it was before the call. `Slots` if the page has too few of them, which takes more than 4,194,303 entries on it, `Memory` if
@@ -124,13 +124,41 @@ impl<K: Copy + Eq + Hash, S: BuildHasher, A: Allocator + Copy> TextureCache<K, S
     /// one request of an atlas and as many steps as the logarithm of their number.
     #[inline]
     pub fn repack(&mut self, page: u32, changes: &mut Changes<K, A>) -> Result<bool, CacheError> {
+        self.repack_page(page, false, changes)
+    }
+
+    /// Places the entries of a page anew as `repack` does, but only where each of them finds room: no key goes, and none is counted as
+    /// evicted. Returns whether it did; if not, there is no such page, or `repack` would evict some of its entries, and nothing changes.
+    /// Takes what `repack` takes, also where nothing changes.
+    #[inline]
+    pub fn repack_keeping_all(
+        &mut self,
+        page: u32,
+        changes: &mut Changes<K, A>,
+    ) -> Result<bool, CacheError> {
+        self.repack_page(page, true, changes)
+    }
+
+    // Places the entries of a page anew; if `whole`, only where each finds room. Whether it did.
+    #[inline]
+    fn repack_page(
+        &mut self,
+        page: u32,
+        whole: bool,
+        changes: &mut Changes<K, A>,
+    ) -> Result<bool, CacheError> {
         if page >= self.rooms.len() {
             return Ok(false);
         }
         let before = self.entries.len();
         changes.reserve(before)?;
         let held = rectangles_of(&self.entries, page, *changes.allocator())?;
-        let mut list = self.rooms.repack(page, held)?;
+        let mut list = match self.rooms.repack(page, held, whole)? {
+            Some(list) => list,
+            _ => {
+                return Ok(false);
+            }
+        };
         sort_by_id(&mut list.changes);
         let options = self.rooms.options();
         settle_all(&mut self.entries, &options, &list.changes, page, changes);

@@ -8,9 +8,10 @@ use crate::atlas_entries::entries::{Entries, Entry};
 use wollemigo_support::alloc::Allocator;
 use wollemigo_support::hash::{BuildHasher, Hash};
 
-// The most recently used entry with its number; None if there is none.
+/// The most recently used entry with its number; None if there is none.
 #[inline]
-fn newest<K: Copy + Eq + Hash, S: BuildHasher, A: Allocator + Copy>(
+#[must_use]
+pub fn newest<K: Copy + Eq + Hash, S: BuildHasher, A: Allocator + Copy>(
     entries: &Entries<K, S, A>,
 ) -> Option<(u32, Entry<K>)> {
     let number = entries.newest()?;

@@ -7,7 +7,7 @@ use wollemigo_support::alloc::{AllocError, Allocator};
 use wollemigo_support::prelude::Vec;
 
 impl<A: Allocator + Copy> Rooms<A> {
-    /// Begins a rehearsal on a page: no rectangle is shown as freed. An error is a refusal of memory for the marks, one for each slot of it.
+    /// Begins a rehearsal on a page: no rectangle is shown as freed. An error: memory for the marks is refused, one for each slot of it.
     #[inline]
     pub(crate) fn show_none(&self, page: u32, marks: &mut Vec<bool, A>) -> Result<(), AllocError> {
         let atlas = &self.pages[page as usize];

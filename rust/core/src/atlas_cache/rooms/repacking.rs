@@ -12,7 +12,7 @@ use wollemigo_support::prelude::Vec;
 
 // How many pixels a rectangle has. A coordinate below 0 counts as 0.
 #[inline]
-fn area_of(rectangle: Rectangle) -> u64 {
+pub(crate) fn area_of(rectangle: Rectangle) -> u64 {
     extent(rectangle.min.x, rectangle.max.x) * extent(rectangle.min.y, rectangle.max.y)
 }
 
@@ -25,7 +25,7 @@ fn sort_by_area<A: Allocator>(held: &mut Vec<Allocation, A>) -> Result<(), Cache
 
 // The size of a rectangle.
 #[inline]
-fn size_of_box(rectangle: Rectangle) -> Size {
+pub(crate) fn size_of_box(rectangle: Rectangle) -> Size {
     rectangle.size()
 }
 
@@ -70,14 +70,15 @@ impl<A: Allocator + Copy> Rooms<A> {
     /// of boxes. If the list names what is live on the page, each once, then the answer lists each rectangle of the
     /// page once: those that were placed anew, with their former and their new ids, and those that found no room when
     /// their turn came, whose ids are no longer live. All former ids of the page are void. Other pages stay as they
-    /// are. `Slots` if the page has too few of them, which takes more than 4,194,303 rectangles, `Memory` if memory is refused; then
-    /// nothing changes.
+    /// are. None, and then nothing changes, exactly if `whole` is asked for and one would find no room. `Slots` if the page has too few
+    /// of them, which takes more than 4,194,303 rectangles, `Memory` if memory is refused; then nothing changes.
     #[inline]
     pub fn repack(
         &mut self,
         page: u32,
         held: Vec<Allocation, A>,
-    ) -> Result<ChangeList<A>, CacheError> {
+        whole: bool,
+    ) -> Result<Option<ChangeList<A>>, CacheError> {
         let mut order = held;
         sort_by_area(&mut order)?;
         let page = page as usize;
@@ -90,9 +91,12 @@ impl<A: Allocator + Copy> Rooms<A> {
             }
         };
         let list = place_all(&mut placed, order)?;
+        if whole && !list.failures.is_empty() {
+            return Ok(None);
+        }
         self.pages[page] = placed;
         self.refused[page] = NOTHING;
-        Ok(list)
+        Ok(Some(list))
     }
 
     /// The area of all live rectangles of a page together, in unit squares. Requires that there is such a page. Takes no

@@ -4,33 +4,45 @@ use crate::atlas_model::Rectangle;
 use crate::atlas_search::heap::Linked;
 use crate::atlas_search::link::Link;
 use crate::atlas_search::search::Entry;
-use crate::atlas_store::slots::{Ring, Slot};
+use crate::atlas_store::slots::Slot;
 
 impl Entry for Slot {
     #[inline]
     fn rectangle(&self) -> Rectangle {
-        self.node.area
+        self.area
     }
 
     #[inline]
     fn up(&self) -> Link {
-        self.ring.up
+        self.up
     }
 
     #[inline]
     fn left(&self) -> Link {
-        self.ring.left
+        self.left
     }
 
     #[inline]
     fn right(&self) -> Link {
-        self.ring.right
+        self.right
+    }
+
+    #[inline]
+    fn is_fork(&self) -> bool {
+        self.is_fork
     }
 }
 
 impl Linked for Slot {
     #[inline]
     fn set_links(&mut self, up: Link, left: Link, right: Link) {
-        self.ring = Ring { up, left, right };
+        self.up = up;
+        self.left = left;
+        self.right = right;
+    }
+
+    #[inline]
+    fn set_fork(&mut self, is_fork: bool) {
+        self.is_fork = is_fork;
     }
 }

@@ -7,7 +7,7 @@ use crate::atlas_search::cut::{exact_size, Orientation};
 use crate::atlas_search::heap::{push, remove};
 use crate::atlas_search::link::{Link, NO_SLOT, TAG};
 use crate::atlas_search::table::Table;
-use crate::atlas_store::slots::{read_node, read_ring, write_node, Node, NodeKind, Ring, Slot};
+use crate::atlas_store::slots::{read_node, read_ring, write_node, NodeKind, Slot};
 use wollemigo_support::alloc::Allocator;
 use wollemigo_support::prelude::Vec;
 
@@ -56,7 +56,7 @@ fn set_top<A: Allocator>(lists: &mut Table<A>, up: Link, first: Link) {
 #[inline]
 fn set_right(slots: &mut [Slot], at: Link, right: Link) {
     let slot = &mut slots[at.number as usize];
-    slot.ring.right = right;
+    slot.right = right;
 }
 
 /// Takes a free slot out of its list; it is detached from then on.
@@ -102,23 +102,20 @@ fn fresh_slot() -> Slot {
     let none = Link { number: 0 };
     let corner = point2(0, 0);
     Slot {
-        node: Node {
-            parent: none,
-            previous: none,
-            next: none,
-            area: Rectangle {
-                min: corner,
-                max: corner,
-            },
-            kind: NodeKind::Unused,
-            axis: Orientation::Vertical,
-            generation: 0,
+        parent: none,
+        previous: none,
+        next: none,
+        area: Rectangle {
+            min: corner,
+            max: corner,
         },
-        ring: Ring {
-            up: none,
-            left: none,
-            right: none,
-        },
+        up: none,
+        left: none,
+        right: none,
+        kind: NodeKind::Unused,
+        axis: Orientation::Vertical,
+        generation: 0,
+        is_fork: false,
     }
 }
 

@@ -25,8 +25,8 @@ pub fn slot_number(id: AllocId) -> u32 {
 #[must_use]
 pub fn named_slot(slots: &[Slot], id: AllocId) -> Option<usize> {
     let at = slot_number(id) as usize;
-    let node = slots.get(at)?.node;
-    if node.kind == NodeKind::Alloc && u32::from(node.generation) == id.serialize() / MOST_SLOTS {
+    let slot = slots.get(at)?;
+    if slot.kind == NodeKind::Alloc && u32::from(slot.generation) == id.serialize() / MOST_SLOTS {
         Some(at)
     } else {
         None
@@ -37,8 +37,8 @@ pub fn named_slot(slots: &[Slot], id: AllocId) -> Option<usize> {
 #[inline]
 pub fn visit_allocated<F: FnMut(AllocId, &Rectangle)>(slots: &[Slot], mut visit: F) {
     for (number, slot) in slots.iter().enumerate() {
-        if slot.node.kind == NodeKind::Alloc {
-            visit(slot_id(number, slot.node.generation), &slot.node.area);
+        if slot.kind == NodeKind::Alloc {
+            visit(slot_id(number, slot.generation), &slot.area);
         }
     }
 }
@@ -47,8 +47,8 @@ pub fn visit_allocated<F: FnMut(AllocId, &Rectangle)>(slots: &[Slot], mut visit:
 #[inline]
 pub fn visit_free<F: FnMut(&Rectangle)>(slots: &[Slot], mut visit: F) {
     for slot in slots {
-        if slot.node.kind == NodeKind::Free {
-            visit(&slot.node.area);
+        if slot.kind == NodeKind::Free {
+            visit(&slot.area);
         }
     }
 }
@@ -61,10 +61,10 @@ pub fn gather_allocated<A: Allocator>(
 ) -> Result<Vec<Allocation, A>, AtlasError> {
     let mut found = Vec::new(alloc);
     for (number, slot) in slots.iter().enumerate() {
-        if slot.node.kind == NodeKind::Alloc {
+        if slot.kind == NodeKind::Alloc {
             found.push(Allocation {
-                id: slot_id(number, slot.node.generation),
-                rectangle: slot.node.area,
+                id: slot_id(number, slot.generation),
+                rectangle: slot.area,
             })?;
         }
     }
@@ -79,8 +79,8 @@ pub fn gather_free<A: Allocator>(
 ) -> Result<Vec<Rectangle, A>, AtlasError> {
     let mut found = Vec::new(alloc);
     for slot in slots {
-        if slot.node.kind == NodeKind::Free {
-            found.push(slot.node.area)?;
+        if slot.kind == NodeKind::Free {
+            found.push(slot.area)?;
         }
     }
     Ok(found)
@@ -98,8 +98,8 @@ fn area_of(rectangle: &Rectangle) -> u64 {
 pub fn free_sum(slots: &[Slot]) -> u64 {
     let mut sum = 0;
     for slot in slots {
-        if slot.node.kind == NodeKind::Free {
-            sum += area_of(&slot.node.area);
+        if slot.kind == NodeKind::Free {
+            sum += area_of(&slot.area);
         }
     }
     sum
@@ -111,8 +111,8 @@ pub fn free_sum(slots: &[Slot]) -> u64 {
 pub fn live_sum(slots: &[Slot]) -> u64 {
     let mut sum = 0;
     for slot in slots {
-        if slot.node.kind == NodeKind::Alloc {
-            sum += area_of(&slot.node.area);
+        if slot.kind == NodeKind::Alloc {
+            sum += area_of(&slot.area);
         }
     }
     sum

@@ -7,7 +7,7 @@ use crate::atlas_search::cut::Orientation;
 use crate::atlas_search::link::Link;
 use crate::atlas_search::table::Table;
 use crate::atlas_store::slots::lists::Recent;
-use crate::atlas_store::slots::{Node, NodeKind, Ring, Slot};
+use crate::atlas_store::slots::{NodeKind, Slot};
 use crate::atlas_store::store::turns::Turns;
 use crate::atlas_store::store::Store;
 use wollemigo_support::alloc::{AllocError, Allocator};
@@ -17,21 +17,19 @@ use wollemigo_support::prelude::Vec;
 #[inline]
 fn whole_slot(size: Size) -> Slot {
     let none = Link::NONE;
-    let node = Node {
+    Slot {
         parent: none,
         previous: none,
         next: none,
         area: Rectangle::from(size),
-        kind: NodeKind::Free,
-        axis: Orientation::Vertical,
-        generation: 0,
-    };
-    let ring = Ring {
         up: none,
         left: none,
         right: none,
-    };
-    Slot { node, ring }
+        kind: NodeKind::Free,
+        axis: Orientation::Vertical,
+        generation: 0,
+        is_fork: false,
+    }
 }
 
 impl<A: Allocator> Store<A> {

@@ -20,6 +20,7 @@ pub struct FreeBox {
     pub up: Link,
     pub left: Link,
     pub right: Link,
+    pub is_fork: bool,
 }
 
 impl Entry for FreeBox {
@@ -42,6 +43,11 @@ impl Entry for FreeBox {
     fn right(&self) -> Link {
         self.right
     }
+
+    #[inline]
+    fn is_fork(&self) -> bool {
+        self.is_fork
+    }
 }
 
 impl Linked for FreeBox {
@@ -50,6 +56,11 @@ impl Linked for FreeBox {
         self.up = up;
         self.left = left;
         self.right = right;
+    }
+
+    #[inline]
+    fn set_fork(&mut self, is_fork: bool) {
+        self.is_fork = is_fork;
     }
 }
 
@@ -77,6 +88,7 @@ fn unused_box(next: Link) -> FreeBox {
         up: next,
         left: none,
         right: none,
+        is_fork: false,
     }
 }
 
@@ -142,6 +154,7 @@ impl<A: Allocator> FreeBoxes<A> {
             up: none,
             left: none,
             right: none,
+            is_fork: false,
         };
         let top = heap::push(
             &mut self.entries,

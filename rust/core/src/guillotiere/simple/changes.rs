@@ -95,8 +95,8 @@ fn file_free<A: Allocator>(
     options: &Scale,
 ) -> Result<(), AtlasError> {
     for slot in slots {
-        if slot.node.kind == NodeKind::Free {
-            file_area(boxes, slot.node.area, options)?;
+        if slot.kind == NodeKind::Free {
+            file_area(boxes, slot.area, options)?;
         }
     }
     Ok(())

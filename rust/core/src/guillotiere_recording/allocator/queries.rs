@@ -38,8 +38,8 @@ impl<A: Allocator + Copy> RecordingAllocator<A> {
     }
 
     /// Takes memory for so many slots of the atlas in addition to those in use, as the atlas's `reserve` does. It is no call
-    /// that is recorded: names and events stay. `Slots` if more slots would be used than the limit allows; `Memory` if
-    /// memory for them is refused; then nothing changes at all.
+    /// that is recorded: names and events stay, and what was in reserve beside stays so. `Slots` if more slots would be used than the
+    /// limit allows; `Memory` if memory for them is refused; then nothing changes at all.
     #[inline]
     pub fn reserve(&mut self, additional: u32) -> Result<(), RecordingError> {
         Ok(self.atlas.reserve(additional)?)

@@ -13,7 +13,8 @@ live_sum-requires-clause-fits g c = rw c.slots.ensures (live_sum-fits _ c.self.i
 
 pub returns-clause-area : goal.returns-clause-area
 returns-clause-area g c =
-    rw (← c.self.view_is) (c.live_sum.ensures ∙ ap (λ l. area_sum (live_areas (nodes l))) c.slots.ensures ∙ live_sum-IsAtlas _ c.self.invariant 0)
+    rw (← c.self.view_is) (c.live_sum.ensures ∙ ap (λ l. area_sum (live_areas (nodes l))) c.slots.ensures ∙
+    live_sum-IsAtlas _ c.self.invariant 0)
 
 pub returns-clause-whole : goal.returns-clause-whole
 returns-clause-whole g c =

@@ -9,7 +9,8 @@ use Rattle.atlas_allocator.proofs.atlas.AtlasAllocator.allocations.Goals as goal
 pub returns-clause-list : goal.returns-clause-list
 returns-clause-list g c =
     rw (← c.self.view_is)
-    (listed (λ found. found.items) (AreGrants _) _ c.gather_allocated.result c.gather_allocated.ensures.list (grants-IsAtlas _ c.self.invariant 0 _ c.slots.ensures))
+    (listed (λ found. found.items) (AreGrants _) _ c.gather_allocated.result c.gather_allocated.ensures.list
+    (grants-IsAtlas _ c.self.invariant 0 _ c.slots.ensures))
 
 pub returns-clause-measurable : goal.returns-clause-measurable
 returns-clause-measurable g c =

@@ -11,17 +11,20 @@ loop-id-init g c = grind (arith, after_each)
 
 pub free-requires : goal.free-requires
 free-requires g c =
-    (head-live (state_of c.loop-id.self) c.args.ids.now c.loop-id.id-index c.id-item.result c.loop-id-test.true c.id-item.is c.loop-id.invariant.live).0
+    (head-live (state_of c.loop-id.self) c.args.ids.now c.loop-id.id-index c.id-item.result c.loop-id-test.true c.id-item.is
+    c.loop-id.invariant.live).0
 
 pub loop-id-preserved : goal.loop-id-preserved
 loop-id-preserved g c =
     let i = c.loop-id.invariant in
     let s = state_of c.loop-id.self in
-    let head = head-live (state_of c.loop-id.self) c.args.ids.now c.loop-id.id-index c.id-item.result c.loop-id-test.true c.id-item.is c.loop-id.invariant.live in
+    let head = head-live (state_of c.loop-id.self) c.args.ids.now c.loop-id.id-index c.id-item.result c.loop-id-test.true c.id-item.is
+    c.loop-id.invariant.live in
     let is = c.free.ensures.state in
     record {
       live = rw is (once-after s c.id-item.result _ head.2 head.1);
-      each = ap (λ v. after_each v (drop (c.loop-id.id-index + 1) c.args.ids.now)) is ∙ sym (each-next s c.args.ids.now c.loop-id.id-index c.id-item.result c.loop-id-test.true c.id-item.is) ∙ i.each;
+      each = ap (λ v. after_each v (drop (c.loop-id.id-index + 1) c.args.ids.now)) is ∙
+          sym (each-next s c.args.ids.now c.loop-id.id-index c.id-item.result c.loop-id-test.true c.id-item.is) ∙ i.each;
       turns = omega (arith, i.turns, c.free.ensures.turns);
       none = λ z. absurd (omega arith);
       capacity = omega (arith, i.capacity, c.free.ensures.slots.capacity);
@@ -38,7 +41,8 @@ returns-clause-turns g c = omega (arith, c.loop-id.invariant.turns, c.loop-id.au
 
 pub returns-clause-leaves : goal.returns-clause-leaves
 returns-clause-leaves g c =
-    batch_leaves (state_of c.args.self.now) (state_of c.loop-id.self) c.args.ids.now c.are_live_once.ensures.sound (returns-clause-freed g c)
+    batch_leaves (state_of c.args.self.now) (state_of c.loop-id.self) c.args.ids.now c.are_live_once.ensures.sound
+    (returns-clause-freed g c)
 
 pub returns-clause-sound : goal.returns-clause-sound
 returns-clause-sound g c = (returns-clause-leaves g c).sound

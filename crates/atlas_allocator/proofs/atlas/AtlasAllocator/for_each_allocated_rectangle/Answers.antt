@@ -9,9 +9,12 @@ use Rattle.atlas_allocator.proofs.atlas.AtlasAllocator.for_each_allocated_rectan
 
 pub visit_allocated-requires-clause-callable : goal.visit_allocated-requires-clause-callable
 visit_allocated-requires-clause-callable g c =
-    let grants = subst (λ w. AreGrants (state_of w) (allocated_from 0 (nodes c.slots.result.now))) c.self.view_is (grants-IsAtlas _ c.self.invariant c.self.inside.store.turns.count _ c.slots.ensures) in
-    let shown = subst (λ w. All (IsShownGrant (state_of w)) (allocated_from 0 (nodes c.slots.result.now))) c.self.view_is (shown-IsAtlas _ c.self.invariant c.self.inside.store.turns.count _ c.slots.ensures) in
-    along-all (CalledAtGrant g.F.FnMut) (IsShownGrant (state_of c.args.self.now)) (λ p x. TakesAtGrant g.F.FnMut p x) c.args.visit _ shown (c.requires _ grants)
+    let grants = subst (λ w. AreGrants (state_of w) (allocated_from 0 (nodes c.slots.result.now))) c.self.view_is
+    (grants-IsAtlas _ c.self.invariant c.self.inside.store.turns.count _ c.slots.ensures) in
+    let shown = subst (λ w. All (IsShownGrant (state_of w)) (allocated_from 0 (nodes c.slots.result.now))) c.self.view_is
+    (shown-IsAtlas _ c.self.invariant c.self.inside.store.turns.count _ c.slots.ensures) in
+    along-all (CalledAtGrant g.F.FnMut) (IsShownGrant (state_of c.args.self.now)) (λ p x. TakesAtGrant g.F.FnMut p x) c.args.visit _ shown
+    (c.requires _ grants)
 
 pub returns : goal.returns
 returns g c = rw (← c.self.view_is) (_, grants-IsAtlas _ c.self.invariant 0 _ c.slots.ensures, c.visit_allocated.ensures)

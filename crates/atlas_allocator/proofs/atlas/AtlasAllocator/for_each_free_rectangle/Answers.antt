@@ -10,7 +10,8 @@ use Rattle.atlas_allocator.proofs.atlas.AtlasAllocator.for_each_free_rectangle.G
 
 pub visit_free-requires : goal.visit_free-requires
 visit_free-requires g c =
-    let shown = subst (λ w. AreFreeAreas (state_of w) (free_areas (nodes c.slots.result.now))) c.self.view_is (free_areas-IsAtlas _ c.self.invariant c.self.inside.store.turns.count _ c.slots.ensures) in
+    let shown = subst (λ w. AreFreeAreas (state_of w) (free_areas (nodes c.slots.result.now))) c.self.view_is
+    (free_areas-IsAtlas _ c.self.invariant c.self.inside.store.turns.count _ c.slots.ensures) in
     along-all (λ p x q. CalledAt g.F.FnMut p x tt q) IsShownArea (λ p x. TakesAt g.F.FnMut p x) c.args.visit _
     (shown_areas-IsAtlas _ c.self.invariant 0 _ c.slots.ensures) (c.requires _ shown)
 

@@ -14,7 +14,8 @@ free_sum-requires-clause-fits g c = rw c.slots.ensures (free_sum-fits _ c.self.i
 
 pub returns-clause-area : goal.returns-clause-area
 returns-clause-area g c =
-    rw (← c.self.view_is) (c.free_sum.ensures ∙ ap (λ l. area_sum (free_areas (nodes l))) c.slots.ensures ∙ free_sum-IsAtlas _ c.self.invariant 0)
+    rw (← c.self.view_is) (c.free_sum.ensures ∙ ap (λ l. area_sum (free_areas (nodes l))) c.slots.ensures ∙
+    free_sum-IsAtlas _ c.self.invariant 0)
 
 pub returns-clause-whole : goal.returns-clause-whole
 returns-clause-whole g c =

@@ -19,17 +19,21 @@ pub invariant_of-self : goal.invariant_of-self
 invariant_of-self g c =
     let larger = subst (λ w. Fits (state_of w).size (sides_of c.args.size)) (sym c.self.view_is) c.requires.larger in
     let none = subst (λ w. live_in (state_of w) ≡ []) (sym c.self.view_is) c.requires.idle in
-    (box-done _ c.self.invariant c.args.size larger none (shelf_of c.grow_whole.new.store) c.grow_whole.ensures.takes.options c.grow_whole.ensures.grown).atlas
+    (box-done _ c.self.invariant c.args.size larger none (shelf_of c.grow_whole.new.store) c.grow_whole.ensures.takes.options
+    c.grow_whole.ensures.grown).atlas
 
 pub returns-clause-step : goal.returns-clause-step
 returns-clause-step g c =
     let larger = subst (λ w. Fits (state_of w).size (sides_of c.args.size)) (sym c.self.view_is) c.requires.larger in
     let none = subst (λ w. live_in (state_of w) ≡ []) (sym c.self.view_is) c.requires.idle in
-    rw (← c.self.view_is) ((box-done _ c.self.invariant c.args.size larger none (shelf_of c.grow_whole.new.store) c.grow_whole.ensures.takes.options c.grow_whole.ensures.grown).step c.grow_whole.new.store.turns.count c.self.inside.store.turns.count)
+    rw (← c.self.view_is) ((box-done _ c.self.invariant c.args.size larger none (shelf_of c.grow_whole.new.store)
+    c.grow_whole.ensures.takes.options c.grow_whole.ensures.grown).step c.grow_whole.new.store.turns.count
+    c.self.inside.store.turns.count)
 
 pub returns-clause-keeps : goal.returns-clause-keeps
 returns-clause-keeps g c =
-    growth_keeps _ _ (subst (λ w. IsSound (state_of w)) c.self.view_is c.self.invariant.sound) (sides_of c.args.size) Done (returns-clause-step g c)
+    growth_keeps _ _ (subst (λ w. IsSound (state_of w)) c.self.view_is c.self.invariant.sound) (sides_of c.args.size) Done
+    (returns-clause-step g c)
 
 pub returns-clause-slots : goal.returns-clause-slots
 returns-clause-slots g c = record {

@@ -22,7 +22,8 @@ pub returns-else-eq-clause-empty : goal.returns-else-eq-clause-empty
 returns-else-eq-clause-empty g c =
     rw (← c.self.view_is) (
       λ yes. absurd (true≢false (sym yes ∙ c.if-eq.false)),
-      λ none. c.eq.ensures ∙ ap (λ k. sameb the_type k kind.Free) (none_live-read _ c.self.invariant c.node-first.result c.node-first.ensures none).0,
+      λ none. c.eq.ensures ∙ ap (λ k. sameb the_type k kind.Free) (none_live-read _ c.self.invariant c.node-first.result
+          c.node-first.ensures none).0,
     )
 
 pub returns-then-eq-clause-count : goal.returns-then-eq-clause-count

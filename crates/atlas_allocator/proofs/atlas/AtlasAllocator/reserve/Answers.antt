@@ -4,7 +4,12 @@ use Rattle.atlas_allocator.proofs.AtlasLemmas.Reserves.{slots-refused, made-read
 use Rattle.atlas_allocator.proofs.atlas.AtlasAllocator.reserve.Goals as goal
 
 pub make_room-requires-clause-used : goal.make_room-requires-clause-used
-make_room-requires-clause-used g c = omega (arith, used-IsAtlas _ c.self.invariant, c.self.invariant.sound.counted, c.self.invariant.sound.limited)
+make_room-requires-clause-used g c = omega (
+  arith,
+  used-IsAtlas _ c.self.invariant,
+  c.self.invariant.sound.counted,
+  c.self.invariant.sound.limited,
+)
 
 pub returns-clause-ready : goal.returns-clause-ready
 returns-clause-ready g c =

@@ -9,14 +9,17 @@ use Rattle.atlas_allocator.proofs.atlas.AtlasAllocator.resize_and_rearrange.Goal
 
 pub returns-clause-step : goal.returns-clause-step
 returns-clause-step g c =
-    let fresh = c.in_ok-placed.ensures.state ∙ ap (λ o. started (sides_of c.args.new_size) (options_of o) c.self.inside.limit) c.options-options.ensures
+    let fresh = c.in_ok-placed.ensures.state ∙ ap (λ o. started (sides_of c.args.new_size) (options_of o) c.self.inside.limit)
+    c.options-options.ensures
     ∙ ap (λ v. started (sides_of c.args.new_size) (state_of v).options (state_of v).limit) c.self.view_is in
-    atlas-rearranged c.args.self.now c.in_ok-placed.placed c.refit.new.atlas c.become_like.new.self (sides_of c.args.new_size) c.requires fresh
+    atlas-rearranged c.args.self.now c.in_ok-placed.placed c.refit.new.atlas c.become_like.new.self (sides_of c.args.new_size) c.requires
+    fresh
     _ c.in_ok-order.ensures.order (rearrangement_of c.in_ok-list.list) c.in_ok-list.ensures.refits c.become_like.ensures.stored
 
 pub returns-clause-moves : goal.returns-clause-moves
 returns-clause-moves g c =
-    let fresh = c.in_ok-placed.ensures.state ∙ ap (λ o. started (sides_of c.args.new_size) (options_of o) c.self.inside.limit) c.options-options.ensures
+    let fresh = c.in_ok-placed.ensures.state ∙ ap (λ o. started (sides_of c.args.new_size) (options_of o) c.self.inside.limit)
+    c.options-options.ensures
     ∙ ap (λ v. started (sides_of c.args.new_size) (state_of v).options (state_of v).limit) c.self.view_is in
     atlas-moved c.args.self.now c.in_ok-placed.placed c.refit.new.atlas c.become_like.new.self (sides_of c.args.new_size) c.requires fresh
     _ c.in_ok-order.ensures.order (rearrangement_of c.in_ok-list.list) c.in_ok-list.ensures.refits c.become_like.ensures.stored
@@ -24,7 +27,8 @@ returns-clause-moves g c =
 
 pub returns-clause-sides : goal.returns-clause-sides
 returns-clause-sides g c =
-    let fresh = c.in_ok-placed.ensures.state ∙ ap (λ o. started (sides_of c.args.new_size) (options_of o) c.self.inside.limit) c.options-options.ensures
+    let fresh = c.in_ok-placed.ensures.state ∙ ap (λ o. started (sides_of c.args.new_size) (options_of o) c.self.inside.limit)
+    c.options-options.ensures
     ∙ ap (λ v. started (sides_of c.args.new_size) (state_of v).options (state_of v).limit) c.self.view_is in
     atlas-sides c.args.self.now c.in_ok-placed.placed c.refit.new.atlas c.become_like.new.self (sides_of c.args.new_size) c.requires fresh
     _ c.in_ok-order.ensures.order (rearrangement_of c.in_ok-list.list) c.in_ok-list.ensures.refits c.become_like.ensures.stored

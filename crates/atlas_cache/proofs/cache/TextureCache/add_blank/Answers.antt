@@ -21,8 +21,10 @@ invariant_of-self-2 g c =
     let falls = was.frames in
     record {
       held = rw (made.first, made.blank) was.held;
-      bordered = rw made.first
-          (record { large = λ lies. absurd (false≢true (sym lies ∙ made.blank)); empty = λ _. rw made.sized c.requires.empty }, was.bordered);
+      bordered = rw made.first (
+        record { large = λ lies. absurd (false≢true (sym lies ∙ made.blank)); empty = λ _. rw made.sized c.requires.empty },
+        was.bordered,
+      );
       frames = rw (made.first, made.used) (omega arith, falls);
     }
 

@@ -10,7 +10,8 @@ invariant_of-self-2 g c =
     let old = c.self.inside.rooms.pages in
     let new = c.remove_page.new.self.pages in
     rw c.in-Some.ensures.options (record {
-      held = stays old new (drops_same c.in-Some.page old new c.in-Some.ensures.drops) (lying (entries_of c.self.inside.entries.entries)) was.held;
+      held = stays old new (drops_same c.in-Some.page old new c.in-Some.ensures.drops) (lying (entries_of c.self.inside.entries.entries))
+          was.held;
       bordered = was.bordered;
       frames = was.frames;
     })

@@ -18,7 +18,8 @@ each-preserved g c =
     let was = c.each.invariant in
     record {
       dropped = one-dropped g.K.PartialEq.eq g.met.K.Eq.laws c.args.frames c.args.changes.now.items c.each.changes.items
-          c.drop_last.new.changes.items c.args.self.now c.each.self c.drop_last.new.self was.dropped (c.drop_last.ensures.drops c.if-not-drop_last.false);
+          c.drop_last.new.changes.items c.args.self.now c.each.self c.drop_last.new.self was.dropped
+          (c.drop_last.ensures.drops c.if-not-drop_last.false);
       room = c.drop_last.ensures.room;
       capacity = omega (arith, was.capacity, c.drop_last.ensures.capacity);
     }

@@ -69,7 +69,12 @@ returns-clause-told g c =
       counts = it.counts;
     } in
     let t : CacheState g.row.K.Denot =
-    record s { entries = entries_of c.touch.new.self.entries; numbers = c.touch.new.self.made; reserved = c.touch.new.self.reserved; counts = record it.counts { hits = c.count-self-inside-2.result } } in
+    record s {
+      entries = entries_of c.touch.new.self.entries;
+      numbers = c.touch.new.self.made;
+      reserved = c.touch.new.self.reserved;
+      counts = record it.counts { hits = c.count-self-inside-2.result };
+    } in
     let uses : Uses e s t = record {
       newer = p.newer;
       older = p.older;

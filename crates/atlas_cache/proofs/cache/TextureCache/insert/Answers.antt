@@ -164,7 +164,13 @@ returns-in-Some-clause-told g c =
       frame = it.frame;
       counts = it.counts;
     } in
-    let t : CacheState g.row.K.Denot = record s { entries = entries_of c.touch.new.self.entries; numbers = c.touch.new.self.made; reserved = c.touch.new.self.reserved; counts = record it.counts { hits = c.count-self-inside.result } } in
+    let t : CacheState g.row.K.Denot = record s {
+      entries = entries_of c.touch.new.self.entries;
+      numbers = c.touch.new.self.made;
+      reserved =
+          c.touch.new.self.reserved;
+      counts = record it.counts { hits = c.count-self-inside.result };
+    } in
     let uses : Uses e s t = record {
       newer = p.newer;
       older = p.older;
@@ -322,30 +328,36 @@ returns-in-Some-clause-unrefused g c =
 
 pub returns-then-not-is_positive-clause-ready : goal.returns-then-not-is_positive-clause-ready
 returns-then-not-is_positive-clause-ready g c =
-    ready_after c.add_blank.result c.args.size _ _ c.args.self.now c.add_blank.new.self (returns-then-not-is_positive-clause-reserves g c) (returns-then-not-is_positive-clause-allowed g c)
+    ready_after c.add_blank.result c.args.size _ _ c.args.self.now c.add_blank.new.self (returns-then-not-is_positive-clause-reserves g c)
+    (returns-then-not-is_positive-clause-allowed g c)
     (returns-then-not-is_positive-clause-full g c)
 
 pub returns-then-not-is_positive-clause-unrefused : goal.returns-then-not-is_positive-clause-unrefused
 returns-then-not-is_positive-clause-unrefused g c =
-    unrefused_while_ready c.add_blank.result c.args.size _ _ c.args.self.now c.add_blank.new.self (returns-then-not-is_positive-clause-reserves g c) (returns-then-not-is_positive-clause-allowed g c)
+    unrefused_while_ready c.add_blank.result c.args.size _ _ c.args.self.now c.add_blank.new.self
+    (returns-then-not-is_positive-clause-reserves g c) (returns-then-not-is_positive-clause-allowed g c)
 
 pub returns-in_default-asked-clause-ready : goal.returns-in_default-asked-clause-ready
 returns-in_default-asked-clause-ready g c =
-    ready_after _ c.args.size _ _ c.args.self.now _ (returns-in_default-asked-clause-reserves g c) (returns-in_default-asked-clause-allowed g c)
+    ready_after _ c.args.size _ _ c.args.self.now _ (returns-in_default-asked-clause-reserves g c)
+    (returns-in_default-asked-clause-allowed g c)
     (rw (← c.self.view_is) (λ full. full))
 
 pub returns-in_default-asked-clause-unrefused : goal.returns-in_default-asked-clause-unrefused
 returns-in_default-asked-clause-unrefused g c =
-    unrefused_while_ready _ c.args.size _ _ c.args.self.now _ (returns-in_default-asked-clause-reserves g c) (returns-in_default-asked-clause-allowed g c)
+    unrefused_while_ready _ c.args.size _ _ c.args.self.now _ (returns-in_default-asked-clause-reserves g c)
+    (returns-in_default-asked-clause-allowed g c)
 
 pub returns-clause-ready : goal.returns-clause-ready
 returns-clause-ready g c =
-    ready_after c.insert_new.result c.args.size _ _ c.args.self.now c.insert_new.new.self (returns-clause-reserves g c) (returns-clause-allowed g c)
+    ready_after c.insert_new.result c.args.size _ _ c.args.self.now c.insert_new.new.self (returns-clause-reserves g c)
+    (returns-clause-allowed g c)
     (c.insert_new.ensures.full)
 
 pub returns-clause-unrefused : goal.returns-clause-unrefused
 returns-clause-unrefused g c =
-    unrefused_while_ready c.insert_new.result c.args.size _ _ c.args.self.now c.insert_new.new.self (returns-clause-reserves g c) (returns-clause-allowed g c)
+    unrefused_while_ready c.insert_new.result c.args.size _ _ c.args.self.now c.insert_new.new.self (returns-clause-reserves g c)
+    (returns-clause-allowed g c)
 
 pub returns-in-Some-clause-full : goal.returns-in-Some-clause-full
 returns-in-Some-clause-full g c = rw (← c.self.view_is) (full_stays _ _ refl refl)

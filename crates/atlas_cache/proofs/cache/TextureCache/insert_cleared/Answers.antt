@@ -52,7 +52,8 @@ pub returns-in_err-place-in-Room-clause-refused : goal.returns-in_err-place-in-R
 returns-in_err-place-in-Room-clause-refused g c =
     let m = c.in_ok-vacate.ensures.room c.in-Room.page (ap Ok c.in-Room.is) in
     let same : c.from_residual-in_err-place-in-Room.result ≡ Err c.in_err-place-in-Room.field-0.0 = search rules in
-    rw same (made_there c.args.asked c.in-Room.page c.args.key c.args.size (Err c.in_err-place-in-Room.field-0.0) _ _ c.args.self.now c.vacate.new.self
+    rw same (made_there c.args.asked c.in-Room.page c.args.key c.args.size (Err c.in_err-place-in-Room.field-0.0) _ _ c.args.self.now
+    c.vacate.new.self
     c.add.new.self m c.in_err-place-in-Room.ensures.refused)
 
 pub returns-in_err-place-in-Room-clause-already : goal.returns-in_err-place-in-Room-clause-already
@@ -60,7 +61,8 @@ returns-in_err-place-in-Room-clause-already g c = λ is.
     let m = c.in_ok-vacate.ensures.room c.in-Room.page (ap Ok c.in-Room.is) in
     let same : c.from_residual-in_err-place-in-Room.result ≡ Err c.in_err-place-in-Room.field-0.0 = search rules in
     short_before 4 c.args.self.now.pages c.vacate.new.self.pages m.slots
-    (c.in_err-place-in-Room.ensures.already (ap Err (error_is c.in_err-place-in-Room.field-0.0 c.from_residual-in_err-place-in-Room.result same is)))
+    (c.in_err-place-in-Room.ensures.already (ap Err (error_is c.in_err-place-in-Room.field-0.0 c.from_residual-in_err-place-in-Room.result
+    same is)))
 
 pub returns-in_err-place-in-Room-clause-reserves : goal.returns-in_err-place-in-Room-clause-reserves
 returns-in_err-place-in-Room-clause-reserves g c = λ n had.
@@ -124,22 +126,26 @@ returns-in-Some-clause-slots g c =
 pub returns-in-None-clause-inserts : goal.returns-in-None-clause-inserts
 returns-in-None-clause-inserts g c =
     let m = c.in_ok-vacate.ensures.room c.in-Room.page (ap Ok c.in-Room.is) in
-    absurd (room-there c.args.asked c.vacate.new.self.pages c.in-Room.page m.there m.room (c.in_ok-place-in-Room.ensures.full (ap Ok c.in-None.is)))
+    absurd (room-there c.args.asked c.vacate.new.self.pages c.in-Room.page m.there m.room
+    (c.in_ok-place-in-Room.ensures.full (ap Ok c.in-None.is)))
 
 pub returns-in-None-clause-reserves : goal.returns-in-None-clause-reserves
 returns-in-None-clause-reserves g c =
     let m = c.in_ok-vacate.ensures.room c.in-Room.page (ap Ok c.in-Room.is) in
-    absurd (room-there c.args.asked c.vacate.new.self.pages c.in-Room.page m.there m.room (c.in_ok-place-in-Room.ensures.full (ap Ok c.in-None.is)))
+    absurd (room-there c.args.asked c.vacate.new.self.pages c.in-Room.page m.there m.room
+    (c.in_ok-place-in-Room.ensures.full (ap Ok c.in-None.is)))
 
 pub returns-in-None-clause-full : goal.returns-in-None-clause-full
 returns-in-None-clause-full g c =
     let m = c.in_ok-vacate.ensures.room c.in-Room.page (ap Ok c.in-Room.is) in
-    absurd (room-there c.args.asked c.vacate.new.self.pages c.in-Room.page m.there m.room (c.in_ok-place-in-Room.ensures.full (ap Ok c.in-None.is)))
+    absurd (room-there c.args.asked c.vacate.new.self.pages c.in-Room.page m.there m.room
+    (c.in_ok-place-in-Room.ensures.full (ap Ok c.in-None.is)))
 
 pub returns-in-None-clause-slots : goal.returns-in-None-clause-slots
 returns-in-None-clause-slots g c =
     let m = c.in_ok-vacate.ensures.room c.in-Room.page (ap Ok c.in-Room.is) in
-    absurd (room-there c.args.asked c.vacate.new.self.pages c.in-Room.page m.there m.room (c.in_ok-place-in-Room.ensures.full (ap Ok c.in-None.is)))
+    absurd (room-there c.args.asked c.vacate.new.self.pages c.in-Room.page m.there m.room
+    (c.in_ok-place-in-Room.ensures.full (ap Ok c.in-None.is)))
 
 pub returns-in-Crowded-clause-room : goal.returns-in-Crowded-clause-room
 returns-in-Crowded-clause-room g c = λ none is.
@@ -152,7 +158,8 @@ returns-in-Crowded-clause-room g c = λ none is.
 pub returns-in-None-clause-room : goal.returns-in-None-clause-room
 returns-in-None-clause-room g c =
     let m = c.in_ok-vacate.ensures.room c.in-Room.page (ap Ok c.in-Room.is) in
-    absurd (room-there c.args.asked c.vacate.new.self.pages c.in-Room.page m.there m.room (c.in_ok-place-in-Room.ensures.full (ap Ok c.in-None.is)))
+    absurd (room-there c.args.asked c.vacate.new.self.pages c.in-Room.page m.there m.room
+    (c.in_ok-place-in-Room.ensures.full (ap Ok c.in-None.is)))
 
 pub returns-then-left-gt0-clause-reserves : goal.returns-then-left-gt0-clause-reserves
 returns-then-left-gt0-clause-reserves g c = λ n had. (λ is. cc, one_fewer n (room_in c.args.changes.now) c.args.self.now had)

@@ -90,9 +90,11 @@ pub returns-in_err-answer-clause-inserts : goal.returns-in_err-answer-clause-ins
 returns-in_err-answer-clause-inserts g c =
     let same = c.in_ok-place.ensures.none (ap Ok c.in_default.is) in
     let told : c.from_residual-in_err-answer.result ≡ Err c.in_err-answer.field-0.0 = search rules in
-    let there = subst (λ (u : CacheState g.row.K.Denot). InsertsThere c.args.asked c.args.key c.args.size (Err c.in_err-answer.field-0.0) c.loop-place.changes.items c.insert_cleared.new.changes.items u c.insert_cleared.new.self) same c.in_err-answer.ensures.refused in
+    let there = subst (λ (u : CacheState g.row.K.Denot). InsertsThere c.args.asked c.args.key c.args.size (Err c.in_err-answer.field-0.0)
+    c.loop-place.changes.items c.insert_cleared.new.changes.items u c.insert_cleared.new.self) same c.in_err-answer.ensures.refused in
     rw told (then_there c.args.asked c.args.key c.args.size (Err c.in_err-answer.field-0.0) c.args.changes.now.items
-    c.loop-place.changes.items c.insert_cleared.new.changes.items c.args.self.now c.loop-place.self c.insert_cleared.new.self c.loop-place.invariant.reached there)
+    c.loop-place.changes.items c.insert_cleared.new.changes.items c.args.self.now c.loop-place.self c.insert_cleared.new.self
+    c.loop-place.invariant.reached there)
 
 pub returns-in_err-answer-clause-reserves : goal.returns-in_err-answer-clause-reserves
 returns-in_err-answer-clause-reserves g c =
@@ -107,7 +109,8 @@ pub returns-in_err-answer-clause-slots : goal.returns-in_err-answer-clause-slots
 returns-in_err-answer-clause-slots g c = λ keeps.
     let same = c.in_ok-place.ensures.none (ap Ok c.in_default.is) in
     let uses = rw same at c.insert_cleared.ensures.slots in
-    both_used 0 4 4 c.args.self.now.pages c.loop-place.self.pages c.insert_cleared.new.self.pages (omega arith) (c.loop-place.invariant.slots keeps) uses
+    both_used 0 4 4 c.args.self.now.pages c.loop-place.self.pages c.insert_cleared.new.self.pages (omega arith)
+    (c.loop-place.invariant.slots keeps) uses
 
 pub returns-in_err-answer-clause-already : goal.returns-in_err-answer-clause-already
 returns-in_err-answer-clause-already g c = λ keeps is.
@@ -121,9 +124,11 @@ pub returns-in-Some-2-clause-inserts : goal.returns-in-Some-2-clause-inserts
 returns-in-Some-2-clause-inserts g c =
     let same = c.in_ok-place.ensures.none (ap Ok c.in_default.is) in
     let was = rw c.in-Some-2.is at c.in_ok-answer.ensures.inserts in
-    let there = subst (λ (u : CacheState g.row.K.Denot). InsertsThere c.args.asked c.args.key c.args.size (Ok c.in-Some-2.answer) c.loop-place.changes.items c.insert_cleared.new.changes.items u c.insert_cleared.new.self) same was in
+    let there = subst (λ (u : CacheState g.row.K.Denot). InsertsThere c.args.asked c.args.key c.args.size (Ok c.in-Some-2.answer)
+    c.loop-place.changes.items c.insert_cleared.new.changes.items u c.insert_cleared.new.self) same was in
     then_there c.args.asked c.args.key c.args.size (Ok c.in-Some-2.answer) c.args.changes.now.items
-    c.loop-place.changes.items c.insert_cleared.new.changes.items c.args.self.now c.loop-place.self c.insert_cleared.new.self c.loop-place.invariant.reached there
+    c.loop-place.changes.items c.insert_cleared.new.changes.items c.args.self.now c.loop-place.self c.insert_cleared.new.self
+    c.loop-place.invariant.reached there
 
 pub returns-in-Some-2-clause-room : goal.returns-in-Some-2-clause-room
 returns-in-Some-2-clause-room g c = λ none is.
@@ -145,7 +150,8 @@ pub returns-in-Some-2-clause-slots : goal.returns-in-Some-2-clause-slots
 returns-in-Some-2-clause-slots g c = λ keeps.
     let same = c.in_ok-place.ensures.none (ap Ok c.in_default.is) in
     let uses = rw same at c.insert_cleared.ensures.slots in
-    both_used 0 4 4 c.args.self.now.pages c.loop-place.self.pages c.insert_cleared.new.self.pages (omega arith) (c.loop-place.invariant.slots keeps) uses
+    both_used 0 4 4 c.args.self.now.pages c.loop-place.self.pages c.insert_cleared.new.self.pages (omega arith)
+    (c.loop-place.invariant.slots keeps) uses
 
 pub make_room-requires : goal.make_room-requires
 make_room-requires g c =

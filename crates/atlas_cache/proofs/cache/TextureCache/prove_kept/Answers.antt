@@ -17,7 +17,8 @@ returns-clause-apart g c =
 pub returns-clause-within : goal.returns-clause-within
 returns-clause-within g c =
     rw (← c.self.view_is)
-    (within c.self.inside.rooms.pages c.prove_kept.ensures.within (lying (entries_of c.self.inside.entries.entries)) c.self.invariant.held.live)
+    (within c.self.inside.rooms.pages c.prove_kept.ensures.within (lying (entries_of c.self.inside.entries.entries))
+    c.self.invariant.held.live)
 
 pub returns-clause-keys : goal.returns-clause-keys
 returns-clause-keys g c =

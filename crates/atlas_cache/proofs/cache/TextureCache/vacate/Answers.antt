@@ -64,7 +64,8 @@ invariant_of-self-2 g c =
       held = c.clear.ensures.held;
       bordered = c.clear.ensures.bordered;
       frames = rw cl.left
-          (falls-outside c.in-Some-found.vacancy.page (box_of c.in-Some-found.vacancy.area) c.self.inside.frame (entries_of v.newer) (entries_of (v.last ∷ v.older)) falls);
+          (falls-outside c.in-Some-found.vacancy.page (box_of c.in-Some-found.vacancy.area) c.self.inside.frame (entries_of v.newer)
+          (entries_of (v.last ∷ v.older)) falls);
     }
 
 pub returns-clause-room : goal.returns-clause-room
@@ -79,10 +80,13 @@ returns-clause-room g c = λ page is.
     let parts = ap entries_of v.was ∙ entries-append v.newer v.last v.older in
     let base = page-there c.self.inside.rooms.pages k there.0 in
     let held = rw (← c.oldest_lying.ensures.stays, parts) at c.self.invariant.held in
-    let made = subst (λ (t : Table g.row.K.Denot). ClearsBox k box cl.made (state_with c.self.inside.rooms t c.self.inside.frame c.self.inside.counts) (state_with c.clear.new.rooms c.clear.new.entries c.self.inside.frame c.clear.new.counts))
+    let made = subst (λ (t : Table g.row.K.Denot). ClearsBox k box cl.made
+    (state_with c.self.inside.rooms t c.self.inside.frame c.self.inside.counts)
+    (state_with c.clear.new.rooms c.clear.new.entries c.self.inside.frame c.clear.new.counts))
     c.oldest_lying.ensures.stays cl.clears in
     let none = rw (← c.self.view_is) at c.requires.none in
-    let was = subst (λ (t : Table g.row.K.Denot). entries_of t.entries ≡ entries_of v.newer ++ v.last.1 ∷ entries_of v.older) c.oldest_lying.ensures.stays parts in
+    let was = subst (λ (t : Table g.row.K.Denot). entries_of t.entries ≡ entries_of v.newer ++ v.last.1 ∷ entries_of v.older)
+    c.oldest_lying.ensures.stays parts in
     let room = cleared_on-room c.args.asked c.self.inside.rooms.pages k box (entries_of v.newer) (entries_of (v.last ∷ v.older))
     (λ w w_at. (c.prove_pages.ensures.kept.each k w w_at).sound) held
     (λ past. omega (arith, past, there.0, c.prove_pages.ensures.numbered)) c.requires.positive v.room base.0 c.clear.new.rooms.pages base.1
@@ -107,7 +111,8 @@ returns-clause-room g c = λ page is.
       there = omega (arith, there.0, as_many c.self.inside.rooms.pages c.clear.new.rooms.pages c.clear.ensures.sizes);
       room = room;
       others = cl.others;
-      full = full_stays c.args.self.now _ (rw (← c.self.view_is) c.clear.ensures.options) (rw (← c.self.view_is) c.clear.ensures.sizes) c.requires.full;
+      full = full_stays c.args.self.now _ (rw (← c.self.view_is) c.clear.ensures.options) (rw (← c.self.view_is) c.clear.ensures.sizes)
+          c.requires.full;
       slots = cleared-slots k box cl.made _ _ made;
     })
 
@@ -119,9 +124,21 @@ returns-clause-reserves g c =
     let cl = c.clear.ensures.cleared v.newer (v.last ∷ v.older) v.was (omega (arith, v.counted)) in
     let k = c.in-Some-found.vacancy.page in
     let box = box_of c.in-Some-found.vacancy.area in
-    let made = subst (λ (t : Table g.row.K.Denot). ClearsBox k box cl.made (state_with c.self.inside.rooms t c.self.inside.frame c.self.inside.counts) (state_with c.clear.new.rooms c.clear.new.entries c.self.inside.frame c.clear.new.counts))
+    let made = subst (λ (t : Table g.row.K.Denot). ClearsBox k box cl.made
+    (state_with c.self.inside.rooms t c.self.inside.frame c.self.inside.counts)
+    (state_with c.clear.new.rooms c.clear.new.entries c.self.inside.frame c.clear.new.counts))
     c.oldest_lying.ensures.stays cl.clears in
     let same = ap (λ (t : Table g.row.K.Denot). length t.entries) c.oldest_lying.ensures.stays in
     rw (← c.self.view_is) (λ n had.
-    reserves_left n n _ _ 0 _ _ (cleared-slots k box cl.made _ _ made) (omega arith) (omega (arith, cleared-reserved k box cl.made _ _ made))
-    (omega (arith, same, c.clear.ensures.length, c.clear.ensures.capacity, c.reserve.ensures.capacity, c.in_ok-reserve.ensures.len, entries-length c.clear.new.entries.entries, entries-length c.self.inside.entries.entries)) had)
+    reserves_left n n _ _ 0 _ _ (cleared-slots k box cl.made _ _ made) (omega arith)
+    (omega (arith, cleared-reserved k box cl.made _ _ made))
+    (omega (
+      arith,
+      same,
+      c.clear.ensures.length,
+      c.clear.ensures.capacity,
+      c.reserve.ensures.capacity,
+      c.in_ok-reserve.ensures.len,
+      entries-length c.clear.new.entries.entries,
+      entries-length c.self.inside.entries.entries,
+    )) had)

@@ -23,7 +23,8 @@ returns-in-Ok-clause-held g c =
     } in
     let lies : is_blank entry ≡ false = ne_eqb c.in-Some.page no_page (λ q. omega (arith, q, placed.numbered)) in
     rw (c.in-Ok.ensures.joined, lies)
-    (joined c.args.rooms.now.pages c.place_among.new.self.pages entry placed.adds (lying (entries_of c.args.entries.now.entries)) c.requires.held)
+    (joined c.args.rooms.now.pages c.place_among.new.self.pages entry placed.adds (lying (entries_of c.args.entries.now.entries))
+    c.requires.held)
 
 pub returns-in-Ok-clause-lies : goal.returns-in-Ok-clause-lies
 returns-in-Ok-clause-lies g c =

@@ -1,6 +1,7 @@
 use Rattle.std.proofs.Common.{◌∙◌, ap, refl, subst, sym, arith}
 use Rattle.atlas_entries.specs.Entries.{entry_at, numbers, EndsBlank, IsNumber, Table}
-use Rattle.atlas_cache.proofs.PassLemmas.{can-pass, looked, looked-numbers, next-number, none-passed, oldest-looked, passed-all, passed-none, passed-one}
+use Rattle.atlas_cache.proofs.PassLemmas.{can-pass, looked, looked-numbers, next-number, none-passed, oldest-looked, passed-all}
+use Rattle.atlas_cache.proofs.PassLemmas.{passed-none, passed-one}
 use Rattle.atlas_cache.proofs.cache.holding.oldest_lying.Goals as goal
 
 pub loop-init : goal.loop-init

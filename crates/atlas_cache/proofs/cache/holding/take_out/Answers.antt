@@ -44,5 +44,6 @@ returns-else-entry-len-clause-slots g c = none_used 0 c.args.rooms.now.pages
 
 pub returns-else-entry-len-clause-step : goal.returns-else-entry-len-clause-step
 returns-else-entry-len-clause-step g c = λ s t was now.
-    let none : None ≡ Some s = sym (slice_get_past c.args.rooms.now.pages c.args.entry.page (omega (arith, c.if-entry-len.false, c.len.ensures.pages))) ∙ was in
+    let none : None ≡ Some s = sym (slice_get_past c.args.rooms.now.pages c.args.entry.page
+    (omega (arith, c.if-entry-len.false, c.len.ensures.pages))) ∙ was in
     absurd (cc)

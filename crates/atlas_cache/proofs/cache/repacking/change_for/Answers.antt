@@ -10,7 +10,8 @@ returns-in-Ok c =
     let placed = facts.position former_id (answers_always _ _ _ (λ f a r h called. search rules)) in
     let within : c.in-Ok.at < length c.args.changes.now = rw c.in-Ok.is at facts.bound in
     let equal = rw (c.in-Ok.is, c.serialize.ensures) at placed in
-    ap Some c.index-changes-at.is ∙ sym (found-at c.args.changes.now c.requires c.args.id c.in-Ok.at c.index-changes-at.result within (equal c.index-changes-at.result))
+    ap Some c.index-changes-at.is ∙ sym (found-at c.args.changes.now c.requires c.args.id c.in-Ok.at c.index-changes-at.result within
+    (equal c.index-changes-at.result))
 
 pub returns-in-Err : goal.returns-in-Err
 returns-in-Err c =

@@ -1,7 +1,8 @@
 use Rattle.std.proofs.Common.{◌-◌, ◌∙◌, ap, arith, refl, vec_capacity, vec_len}
 use Rattle.std.specs.List.{filter_map}
 use Rattle.atlas_entries.specs.Entries.{numbers}
-use Rattle.atlas_cache.proofs.RelocateLemmas.{ahead, bordered-is, bordered-was, next-number, none-walked, settled, walked-all, walked-here, walked-none, walked-past}
+use Rattle.atlas_cache.proofs.RelocateLemmas.{ahead, bordered-is, bordered-was, next-number, none-walked, settled, walked-all, walked-here}
+use Rattle.atlas_cache.proofs.RelocateLemmas.{walked-none, walked-past}
 use Rattle.atlas_cache.proofs.WalkLemmas.{numbers-append}
 use Rattle.atlas_cache.proofs.cache.repacking.settle_all.Goals.{then-entry-page, else-entry-page}
 use Rattle.atlas_cache.proofs.cache.repacking.settle_all.Goals as goal
@@ -18,7 +19,8 @@ loop-init g c = record {
 
 pub returns-in_default-clause-entries : goal.returns-in_default-clause-entries
 returns-in_default-clause-entries g c =
-    (walked-none c.args.options.now.padding c.args.page c.args.moves.now _ _ _ _ _ _ (rw c.in_default.is at c.loop.invariant.walked)).entries
+    (walked-none c.args.options.now.padding c.args.page c.args.moves.now _ _ _ _ _ _
+    (rw c.in_default.is at c.loop.invariant.walked)).entries
 
 pub returns-in_default-clause-told : goal.returns-in_default-clause-told
 returns-in_default-clause-told g c =

@@ -5,7 +5,9 @@ use Rattle.atlas_entries.specs.declared.entries.Entry.{Entry}
 use Rattle.atlas_cache.specs.Caches.{entries_of}
 use Rattle.atlas_cache.specs.Vacating.{lies_in}
 use Rattle.atlas_entries.specs.Entries.{numbers}
-use Rattle.atlas_cache.proofs.ClearingLemmas.{all-suffix, cleared-all, clearing-start, count-in, count-out, count-suffix, end-of, fewer-entries, lies-here, next-at, next-number_of, next-numbers, next-of, one-gone, one-kept, split-same}
+use Rattle.atlas_cache.proofs.ClearingLemmas.{all-suffix, cleared-all, clearing-start, count-in, count-out, count-suffix, end-of}
+use Rattle.atlas_cache.proofs.ClearingLemmas.{fewer-entries, lies-here, next-at, next-number_of, next-numbers, next-of, one-gone, one-kept}
+use Rattle.atlas_cache.proofs.ClearingLemmas.{split-same}
 use Rattle.atlas_entries.proofs.AppendedLists.{append-none}
 use Rattle.atlas_cache.proofs.BlankLemmas.{length-less}
 use Rattle.atlas_cache.proofs.PassLemmas.{no-last}
@@ -51,7 +53,8 @@ clear_one-requires-clause-room g c = λ e at inside.
     let fits = inv.room it.front it.end it.was it.counted in
     let more = count-suffix page box c.args.frame l.rest ((c.in-Some.number, l.entry) ∷ inv.older) it.front it.end (sym l.was ∙ it.was)
     (omega (arith, inv.looked, it.counted, c.loop-looked-test.true)) in
-    let one = count-in page box c.args.frame l.entry (entries_of inv.older) (subst (λ (x : Entry g.row.K.Denot). lies_in page box x ≡ true) (sym same) inside) in
+    let one = count-in page box c.args.frame l.entry (entries_of inv.older)
+    (subst (λ (x : Entry g.row.K.Denot). lies_in page box x ≡ true) (sym same) inside) in
     omega (arith, fits, more, one)
 
 pub returns-clause-cleared : goal.returns-clause-cleared
@@ -60,7 +63,8 @@ returns-clause-cleared g c = λ newer older was counted.
     let same = split-same c.args.vacancy.now.page (box_of c.args.vacancy.now.area) c.args.frame inv.newer inv.older newer older
     (sym inv.was ∙ was) (omega (arith, inv.looked, counted, c.loop-looked-test.false, c.loop-looked.auto.looked-end)) in
     rw (← same.0, ← same.1)
-    (cleared-all c.args.vacancy.now.page (box_of c.args.vacancy.now.area) c.args.frame inv.newer inv.older inv.kept _ _ _ _ _ _ _ _ inv.clearing inv.is)
+    (cleared-all c.args.vacancy.now.page (box_of c.args.vacancy.now.area) c.args.frame inv.newer inv.older inv.kept _ _ _ _ _ _ _ _
+    inv.clearing inv.is)
 
 pub returns-in_default-clause-cleared : goal.returns-in_default-clause-cleared
 returns-in_default-clause-cleared g c = λ newer older was counted.
@@ -93,7 +97,8 @@ loop-looked-preserved g c =
             older = (n, e) ∷ inv.older;
             kept = inv.kept;
             was = l.was;
-            is = fewer-entries page box c.args.frame l.rest inv.older inv.kept n e _ _ _ _ _ _ _ _ clearing l.is _ _ _ _ goes c.prove_kept.ensures.numbers;
+            is = fewer-entries page box c.args.frame l.rest inv.older inv.kept n e _ _ _ _ _ _ _ _ clearing l.is _ _ _ _ goes
+                c.prove_kept.ensures.numbers;
             looked = omega (arith, inv.looked);
             next = next;
             clearing = one-gone page box c.args.frame l.rest inv.older inv.kept n e _ _ _ _ _ _ _ _ clearing l.is _ _ _ _ goes inside all.0
@@ -101,9 +106,23 @@ loop-looked-preserved g c =
                 c.requires.full c.prove_kept.ensures.numbers c.clear_one.ensures.held;
             room = λ xs shown was counted.
                 let fits = inv.room xs shown was counted in
-                omega (arith, fits, c.clear_one.ensures.longer e at inside, count-in page box c.args.frame e (entries_of inv.older) inside, c.clear_one.ensures.capacity);
-            conserved = (let fewer = fewer-entries page box c.args.frame l.rest inv.older inv.kept n e _ _ _ _ _ _ _ _ clearing l.is _ _ _ _ goes c.prove_kept.ensures.numbers in
-                omega (arith, inv.conserved, c.clear_one.ensures.longer e at inside, ap length l.is, ap length fewer, length-less l.rest (n, e) inv.kept));
+                omega (
+                  arith,
+                  fits,
+                  c.clear_one.ensures.longer e at inside,
+                  count-in page box c.args.frame e (entries_of inv.older) inside,
+                  c.clear_one.ensures.capacity,
+                );
+            conserved = (let fewer = fewer-entries page box c.args.frame l.rest inv.older inv.kept n e _ _ _ _ _ _ _ _ clearing l.is _ _ _ _
+                goes c.prove_kept.ensures.numbers in
+                omega (
+                  arith,
+                  inv.conserved,
+                  c.clear_one.ensures.longer e at inside,
+                  ap length l.is,
+                  ap length fewer,
+                  length-less l.rest (n, e) inv.kept,
+                ));
             capacity = omega (arith, inv.capacity, c.clear_one.ensures.capacity);
           }
       | inr outside ↦
@@ -120,7 +139,14 @@ loop-looked-preserved g c =
                 (one-kept page box c.args.frame l.rest inv.older inv.kept n e _ _ _ _ _ _ _ _ clearing l.is outside);
             room = λ xs shown was counted.
                 let fits = inv.room xs shown was counted in
-                omega (arith, fits, c.clear_one.ensures.as_long e at outside, count-out page box c.args.frame e (entries_of inv.older) outside, c.clear_one.ensures.capacity);
+                omega (
+                  arith,
+                  fits,
+                  c.clear_one.ensures.as_long e at outside,
+                  count-out page box c.args.frame e (entries_of inv.older)
+                      outside,
+                  c.clear_one.ensures.capacity,
+                );
             conserved = omega (arith, inv.conserved, c.clear_one.ensures.as_long e at outside, ap (λ t. length t.entries) stays.1);
             capacity = omega (arith, inv.capacity, c.clear_one.ensures.capacity);
           }

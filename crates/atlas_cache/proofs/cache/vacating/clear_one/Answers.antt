@@ -13,7 +13,9 @@ pub returns-clause-goes : goal.returns-clause-goes
 returns-clause-goes g c = λ e at inside.
     let some : Some c.entry-entry.result ≡ Some e = sym c.entry-entry.ensures ∙ at in
     let same : c.entry-entry.result ≡ e = cc in
-    subst (λ (x : Entry g.row.K.Denot). LetsGo c.args.number x c.args.changes.now.items c.push_reserved.new.self.items c.args.rooms.now c.take_out.new.rooms c.args.entries.now c.take_out.new.entries c.args.counts.now (record { hits = c.args.counts.now.hits; misses = c.args.counts.now.misses; evictions = c.count-counts.result })) same
+    subst (λ (x : Entry g.row.K.Denot). LetsGo c.args.number x c.args.changes.now.items c.push_reserved.new.self.items c.args.rooms.now
+    c.take_out.new.rooms c.args.entries.now c.take_out.new.entries c.args.counts.now
+    (record { hits = c.args.counts.now.hits; misses = c.args.counts.now.misses; evictions = c.count-counts.result })) same
     (record {
       without = c.take_out.ensures.without;
       made = c.take_out.ensures.made;

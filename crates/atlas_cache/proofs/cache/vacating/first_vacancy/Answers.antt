@@ -3,7 +3,8 @@ use Rattle.atlas_cache.specs.Caches.{entries_of}
 use Rattle.atlas_entries.specs.Entries.{numbers}
 use Rattle.atlas_cache.proofs.BlankLemmas.{falls-here}
 use Rattle.atlas_cache.proofs.CacheLemmas.{rectangle-live}
-use Rattle.atlas_cache.proofs.VacateLemmas.{crowded-all, crowded-here, entry-fresh, looked-at, looked-entries, looked-numbers_at, none-walked, walked-all, walked-none, walked-number, walked-one}
+use Rattle.atlas_cache.proofs.VacateLemmas.{crowded-all, crowded-here, entry-fresh, looked-at, looked-entries, looked-numbers_at}
+use Rattle.atlas_cache.proofs.VacateLemmas.{none-walked, walked-all, walked-none, walked-number, walked-one}
 use Rattle.atlas_cache.proofs.cache.vacating.first_vacancy.Goals as goal
 
 pub loop-looked-init : goal.loop-looked-init
@@ -23,12 +24,14 @@ entry-entry-requires g c =
 pub returns-in_default-clause-crowded : goal.returns-in_default-clause-crowded
 returns-in_default-clause-crowded g c = λ _ page.
     crowded-all c.args.asked c.args.rooms.now.pages c.args.frame page c.args.entries.now.entries c.loop-looked.invariant.older
-    (walked-none _ _ _ (rw c.in_default.is at c.loop-looked.invariant.walked)) c.loop-looked.invariant.unused (c.loop-looked.invariant.none page)
+    (walked-none _ _ _ (rw c.in_default.is at c.loop-looked.invariant.walked)) c.loop-looked.invariant.unused
+    (c.loop-looked.invariant.none page)
 
 pub returns-clause-crowded : goal.returns-clause-crowded
 returns-clause-crowded g c = λ _ page.
     crowded-all c.args.asked c.args.rooms.now.pages c.args.frame page c.args.entries.now.entries c.loop-looked.invariant.older
-    (walked-all _ _ _ _ c.loop-looked.invariant.walked (omega (arith, c.loop-looked-test.false, c.len-looked-end.ensures))) c.loop-looked.invariant.unused
+    (walked-all _ _ _ _ c.loop-looked.invariant.walked (omega (arith, c.loop-looked-test.false, c.len-looked-end.ensures)))
+    c.loop-looked.invariant.unused
     (c.loop-looked.invariant.none page)
 
 pub returns-then-entry-frame-clause-crowded : goal.returns-then-entry-frame-clause-crowded
@@ -82,9 +85,11 @@ loop-looked-preserved g c =
     record {
       older = (c.in-Some.number, c.entry-entry.result) ∷ c.loop-looked.invariant.older;
       walked = walked-one _ c.loop-looked.invariant.older _ _ _ _ l
-          (c.newer-next.ensures.next (numbers l.newer) (numbers c.loop-looked.invariant.older) (looked-numbers_at _ c.loop-looked.invariant.older _ _ _ l));
+          (c.newer-next.ensures.next (numbers l.newer) (numbers c.loop-looked.invariant.older)
+          (looked-numbers_at _ c.loop-looked.invariant.older _ _ _ l));
       looked = omega (arith, c.loop-looked.invariant.looked);
       unused = (omega (arith, least, c.if-entry-frame.false), c.loop-looked.invariant.unused);
       shown = c.show.ensures.shown (entries_of c.loop-looked.invariant.older) c.loop-looked.invariant.shown fresh;
-      none = c.show.ensures.none (entries_of c.loop-looked.invariant.older) c.loop-looked.invariant.shown fresh c.in_default-show.is c.loop-looked.invariant.none;
+      none = c.show.ensures.none (entries_of c.loop-looked.invariant.older) c.loop-looked.invariant.shown fresh c.in_default-show.is
+          c.loop-looked.invariant.none;
     }

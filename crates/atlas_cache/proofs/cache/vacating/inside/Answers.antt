@@ -48,14 +48,26 @@ loop-looked-preserved g c =
         older = (c.in-Some.number, e) ∷ inv.older;
         walked = walked;
         looked = omega (arith, inv.looked);
-        found = omega (arith, w.found-is, inv.found, count-in page box 0 e (entries_of inv.older) (sym c.lies_in.ensures ∙ w.if-lies_in.true));
+        found = omega (
+          arith,
+          w.found-is,
+          inv.found,
+          count-in page box 0 e (entries_of inv.older)
+              (sym c.lies_in.ensures ∙ w.if-lies_in.true),
+        );
         few = omega (arith, w.found-is, inv.few);
       }
       | else-lies_in w ↦ record {
         older = (c.in-Some.number, e) ∷ inv.older;
         walked = walked;
         looked = omega (arith, inv.looked);
-        found = omega (arith, w.found-is, inv.found, count-out page box 0 e (entries_of inv.older) (sym c.lies_in.ensures ∙ w.if-lies_in.false));
+        found = omega (
+          arith,
+          w.found-is,
+          inv.found,
+          count-out page box 0 e (entries_of inv.older)
+              (sym c.lies_in.ensures ∙ w.if-lies_in.false),
+        );
         few = omega (arith, w.found-is, inv.few);
       }
     ]

@@ -21,7 +21,8 @@ rehearse-requires-clause-showing g c =
     let there = page_of c.args.rooms.now.pages c.args.entry.page c.args.entry.id (c.requires.on_page lies) in
     let showing = c.requires.showing in
     let many = showing.1.many in
-    let at = slice_get-get_or c.args.marks.now.items c.args.entry.page _ (omega (arith, there, many)) ∙ ap Some (sym c.index_mut.ensures.value) in (
+    let at = slice_get-get_or c.args.marks.now.items c.args.entry.page _ (omega (arith, there, many)) ∙
+    ap Some (sym c.index_mut.ensures.value) in (
       ids_on c.args.entry.page showing.0,
       rw c.deref_mut.ensures.value (showing.1.each c.args.entry.page _ at there),
       showing.2 lies,
@@ -42,9 +43,11 @@ returns-clause-shown g c = λ older was fresh.
     let lies = sym c.is_blank.ensures ∙ c.if-is_blank.false in
     let there = page_of c.args.rooms.now.pages c.args.entry.page c.args.entry.id (c.requires.on_page lies) in
     let many = was.many in
-    let at = slice_get-get_or c.args.marks.now.items c.args.entry.page _ (omega (arith, there, many)) ∙ ap Some (sym c.index_mut.ensures.value) in
+    let at = slice_get-get_or c.args.marks.now.items c.args.entry.page _ (omega (arith, there, many)) ∙
+    ap Some (sym c.index_mut.ensures.value) in
     let own = was.each c.args.entry.page _ at there in
-    all-more c.args.rooms.now.pages c.args.marks.now.items (with_items c.index_mut.result.now c.rehearse.new.marks) c.args.entry older was there
+    all-more c.args.rooms.now.pages c.args.marks.now.items (with_items c.index_mut.result.now c.rehearse.new.marks) c.args.entry older was
+    there
     (written c.index_mut.result.now (c.rehearse.auto.marks ∙ c.deref_mut.ensures.len)
     (c.rehearse.ensures.shown (ids_on c.args.entry.page older) (rw c.deref_mut.ensures.value own) (fresh lies)))
 
@@ -53,7 +56,8 @@ returns-clause-none g c = λ older was fresh nothing none.
     let lies = sym c.is_blank.ensures ∙ c.if-is_blank.false in
     let there = page_of c.args.rooms.now.pages c.args.entry.page c.args.entry.id (c.requires.on_page lies) in
     let many = was.many in
-    let at = slice_get-get_or c.args.marks.now.items c.args.entry.page _ (omega (arith, there, many)) ∙ ap Some (sym c.index_mut.ensures.value) in
+    let at = slice_get-get_or c.args.marks.now.items c.args.entry.page _ (omega (arith, there, many)) ∙
+    ap Some (sym c.index_mut.ensures.value) in
     let own = was.each c.args.entry.page _ at there in
     none-more c.args.asked c.args.rooms.now.pages c.args.entry older
     (c.rehearse.ensures.none (ids_on c.args.entry.page older) (rw c.deref_mut.ensures.value own) (fresh lies) nothing
@@ -64,9 +68,11 @@ returns-clause-room g c = λ older was fresh.
     let lies = sym c.is_blank.ensures ∙ c.if-is_blank.false in
     let there = page_of c.args.rooms.now.pages c.args.entry.page c.args.entry.id (c.requires.on_page lies) in
     let many = was.many in
-    let at = slice_get-get_or c.args.marks.now.items c.args.entry.page _ (omega (arith, there, many)) ∙ ap Some (sym c.index_mut.ensures.value) in
+    let at = slice_get-get_or c.args.marks.now.items c.args.entry.page _ (omega (arith, there, many)) ∙
+    ap Some (sym c.index_mut.ensures.value) in
     let own = was.each c.args.entry.page _ at there in
-    ids-here (λ ids. IfSome c.rehearse.result (λ area. IsRoomWithout c.args.asked c.args.rooms.now.pages c.args.entry.page ids (box_of area)))
+    ids-here (λ ids. IfSome c.rehearse.result (λ area. IsRoomWithout c.args.asked c.args.rooms.now.pages c.args.entry.page ids
+    (box_of area)))
     c.args.entry older
     (c.rehearse.ensures.room (ids_on c.args.entry.page older) (rw c.deref_mut.ensures.value own) (fresh lies))
 

@@ -36,7 +36,8 @@ returns-in_ok-push-in-Ok-clause-less g c =
     let count = rw (← c.self.view_is) at c.len-number.ensures.pages in
     let less : length c.self.inside.pages.items < c.self.inside.options.pages = omega (arith, count, c.self.invariant.0.few) in
     rw (returns-in_ok-push-in-Ok-clause-sizes g c, ← c.self.view_is)
-    (joined_less c.self.inside.options c.self.invariant.0.usable (page_sizes c.self.inside.pages.items) (rw (length-map c.self.inside.pages.items size_of_page) less))
+    (joined_less c.self.inside.options c.self.invariant.0.usable (page_sizes c.self.inside.pages.items)
+    (rw (length-map c.self.inside.pages.items size_of_page) less))
 
 pub returns-in_ok-push-in-Ok-clause-same : goal.returns-in_ok-push-in-Ok-clause-same
 returns-in_ok-push-in-Ok-clause-same g c =

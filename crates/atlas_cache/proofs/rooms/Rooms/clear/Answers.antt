@@ -34,7 +34,8 @@ loop-page-preserved g c =
       slots = both_used 0 0 0 c.args.self.now.pages pages (slice_set pages page cleared.new.self) (omega arith) was.slots
           (page_uses pages page a cleared.new.self is within 0 cleared.ensures.slots);
       options = was.options;
-      kept = rooms_stay pages page a cleared.new.self is within c.loop-page.self-inside.options cleared.ensures.sound cleared.ensures.frame was.kept;
+      kept = rooms_stay pages page a cleared.new.self is within c.loop-page.self-inside.options cleared.ensures.sound cleared.ensures.frame
+          was.kept;
       known = refused_changed pages c.loop-page.self-inside.refused.items page cleared.new.self within was.known;
     }
 

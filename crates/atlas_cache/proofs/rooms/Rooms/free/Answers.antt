@@ -35,7 +35,8 @@ returns-clause-step g c =
     let live = id_lives pages _ c.index_mut.result.now c.index_mut.result.now c.index_mut.ensures.value within c.args.id shown in
     let done : c.deallocate-freed.result ≡ Ok tt = c.deallocate-freed.ensures.ok.1 live in
     let step = rw done at c.deallocate-freed.ensures.step in
-    rw (← c.self.view_is) (frees pages _ c.index_mut.result.now c.deallocate-freed.new.self c.index_mut.ensures.value within c.args.id step.1)
+    rw (← c.self.view_is) (frees pages _ c.index_mut.result.now c.deallocate-freed.new.self c.index_mut.ensures.value within c.args.id
+    step.1)
 
 pub invariant_of-self : goal.invariant_of-self
 invariant_of-self g c =

@@ -47,7 +47,8 @@ pub invariant_of-self : goal.invariant_of-self
 invariant_of-self g c =
     let growth = growth_of (rooms_of c.self.inside.options c.self.inside.pages.items) c.self.invariant.0 c.in-Some.page c.in-Some.old
     (rw c.deref.ensures.value at c.in-Some.ensures.here) c.in-Some.ensures.smaller in
-    let same = sym (nothing_changes c.self.inside.pages.items c.in-Some.page c.index_mut.result.now c.grow.new.self c.index_mut.ensures.value
+    let same = sym (nothing_changes c.self.inside.pages.items c.in-Some.page c.index_mut.result.now c.grow.new.self
+    c.index_mut.ensures.value
     growth.within c.in-Err.ensures.refused) in (
       subst (λ ps. KeepsRooms (rooms_of c.self.inside.options ps)) same c.self.invariant.0,
       subst (λ ps. AreRefused ps c.self.inside.refused.items) same c.self.invariant.1,

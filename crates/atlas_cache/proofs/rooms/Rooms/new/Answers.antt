@@ -5,7 +5,8 @@ use Rattle.atlas_cache.proofs.rooms.Rooms.new.Goals as goal
 
 pub invariant_of-result : goal.invariant_of-result
 invariant_of-result g c =
-    subst₂ (λ pages refused. KeepsRooms (rooms_of c.args.options pages) × AreRefused pages refused) (sym c.new.ensures.items) (sym c.new-2.ensures.items) (
+    subst₂ (λ pages refused. KeepsRooms (rooms_of c.args.options pages) × AreRefused pages refused) (sym c.new.ensures.items)
+    (sym c.new-2.ensures.items) (
       record { usable = c.requires; few = omega arith; each = λ k s on. absurd (omega (arith, slice_get_within [] k s on)) },
       record { as_many = refl; none = λ k s size on. absurd (omega (arith, slice_get_within [] k s on)) },
     )

@@ -8,7 +8,13 @@ use Rattle.atlas_cache.proofs.rooms.Rooms.remove_page.Goals as goal
 pub returns-then-is_empty-clause-used : goal.returns-then-is_empty-clause-used
 returns-then-is_empty-clause-used g c =
     let none = eqb-true c.self.inside.pages.len 0 (sym c.is_empty.ensures ∙ c.if-is_empty.true) in
-    rw (← c.self.view_is) (λ _ rest last was idle. absurd (omega (arith, none, c.self.inside.pages.ok.0, ap length was, length-append rest (last ∷ []))))
+    rw (← c.self.view_is) (λ _ rest last was idle. absurd (omega (
+      arith,
+      none,
+      c.self.inside.pages.ok.0,
+      ap length was,
+      length-append rest (last ∷ []),
+    )))
 
 pub returns-then-not-is_empty-clause-used : goal.returns-then-not-is_empty-clause-used
 returns-then-not-is_empty-clause-used g c =

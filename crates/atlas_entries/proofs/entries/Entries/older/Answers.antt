@@ -5,14 +5,17 @@ use Rattle.atlas_entries.proofs.entries.Entries.older.Goals as goal
 pub older-requires : goal.older-requires
 older-requires g c =
     let s = c.self.inside in
-    entry-is g.K.PartialEq.eq s.map s.recency s.items.items c.self.invariant.0 c.args.self.now.entries (ap (λ t. t.entries) c.self.view_is) c.args.number c.requires
+    entry-is g.K.PartialEq.eq s.map s.recency s.items.items c.self.invariant.0 c.args.self.now.entries (ap (λ t. t.entries) c.self.view_is)
+    c.args.number c.requires
 
 pub returns-clause-next : goal.returns-clause-next
 returns-clause-next g c = λ newer older e.
     let s = c.self.inside in
-    c.older.ensures.next newer older (sym (numbers-are g.K.PartialEq.eq s.map s.recency s.items.items c.self.invariant.0 c.args.self.now.entries (ap (λ t. t.entries) c.self.view_is)) ∙ e)
+    c.older.ensures.next newer older (sym (numbers-are g.K.PartialEq.eq s.map s.recency s.items.items c.self.invariant.0
+    c.args.self.now.entries (ap (λ t. t.entries) c.self.view_is)) ∙ e)
 
 pub returns-clause-entry : goal.returns-clause-entry
 returns-clause-entry g c =
     let s = c.self.inside in
-    each-number g.K.PartialEq.eq s.map s.recency s.items.items c.self.invariant.0 c.args.self.now.entries (ap (λ t. t.entries) c.self.view_is) c.older.result c.older.ensures.entry
+    each-number g.K.PartialEq.eq s.map s.recency s.items.items c.self.invariant.0 c.args.self.now.entries
+    (ap (λ t. t.entries) c.self.view_is) c.older.result c.older.ensures.entry

@@ -8,7 +8,8 @@ use Rattle.atlas_entries.proofs.entries.Entries.prove_kept.Goals as goal
 pub returns-clause-numbers : goal.returns-clause-numbers
 returns-clause-numbers g c =
     let s = c.self.inside in
-    subst (IsDistinct eqb) (sym (numbers-are g.K.PartialEq.eq s.map s.recency s.items.items c.self.invariant.0 c.args.self.now.entries (ap (λ t. t.entries) c.self.view_is)))
+    subst (IsDistinct eqb) (sym (numbers-are g.K.PartialEq.eq s.map s.recency s.items.items c.self.invariant.0 c.args.self.now.entries
+    (ap (λ t. t.entries) c.self.view_is)))
     (IsDistinct-from_once s.recency.entries c.self.invariant.0.once)
 
 pub returns-clause-keys : goal.returns-clause-keys

@@ -1,4 +1,5 @@
-use Rattle.std.proofs.Common.{◌+◌, ◌-◌, ◌<◌, ◌≤◌, arith, length, vec_capacity, max, refl, ◌≡◌, ◌∙◌, ◌∷◌, List, ap, inl, inr, subst, sym, Err, rules}
+use Rattle.std.proofs.Common.{◌+◌, ◌-◌, ◌<◌, ◌≤◌, arith, length, vec_capacity, max, refl, ◌≡◌, ◌∙◌, ◌∷◌, List, ap, inl, inr, subst, sym}
+use Rattle.std.proofs.Common.{Err, rules}
 use Rattle.std.proofs.lemmas.Bool.{false≢true}
 use Rattle.atlas_entries.specs.declared.entries.Entry.{Entry}
 use Rattle.atlas_entries.specs.Entries.{EndsBlank, Table}
@@ -30,7 +31,8 @@ invariant_of-self-in_err-make_room g c =
           (kept-alike g.K.PartialEq.eq s.map s.recency s.items.items c.self.invariant.0 new same.2),
       memory-kept s.map s.recency (vec_capacity s.items) c.self.invariant.1 new (vec_capacity c.make_room.new.items)
           c.in_ok-reserve.ensures.spare same.1 c.make_room.ensures.capacity,
-      subst (λ (xs : List (Entry g.row.K.Denot)). EndsBlank s.mark (numbered xs s.recency.entries)) (sym c.make_room.ensures.items) c.self.invariant.2,
+      subst (λ (xs : List (Entry g.row.K.Denot)). EndsBlank s.mark (numbered xs s.recency.entries)) (sym c.make_room.ensures.items)
+          c.self.invariant.2,
     )
 
 pub invariant_of-self-in_err-number : goal.invariant_of-self-in_err-number
@@ -40,13 +42,16 @@ invariant_of-self-in_err-number g c =
     let new = c.reserve.new.self in
     let items = c.make_room.new.items in
     let same = c.in_ok-reserve.ensures.entries in
-    let kept : AreKept eq new s.recency items.items = subst (λ xs. AreKept eq new s.recency xs) (sym c.make_room.ensures.items) (kept-alike eq s.map s.recency s.items.items c.self.invariant.0 new same.2) in (
+    let kept : AreKept eq new s.recency items.items = subst (λ xs. AreKept eq new s.recency xs) (sym c.make_room.ensures.items)
+    (kept-alike eq s.map s.recency s.items.items c.self.invariant.0 new same.2) in (
       subst (λ o. AreKept eq new o items.items) (sym c.in_err-number.ensures.refused) kept,
       subst (λ o. HasMemory new o (vec_capacity items)) (sym c.in_err-number.ensures.refused)
-          (memory-kept s.map s.recency (vec_capacity s.items) c.self.invariant.1 new (vec_capacity items) c.in_ok-reserve.ensures.spare same.1
+          (memory-kept s.map s.recency (vec_capacity s.items) c.self.invariant.1 new (vec_capacity items) c.in_ok-reserve.ensures.spare
+          same.1
           c.make_room.ensures.capacity),
       subst (λ (o : Order). EndsBlank s.mark (numbered items.items o.entries)) (sym c.in_err-number.ensures.refused)
-          (subst (λ (xs : List (Entry g.row.K.Denot)). EndsBlank s.mark (numbered xs s.recency.entries)) (sym c.make_room.ensures.items) c.self.invariant.2),
+          (subst (λ (xs : List (Entry g.row.K.Denot)). EndsBlank s.mark (numbered xs s.recency.entries)) (sym c.make_room.ensures.items)
+          c.self.invariant.2),
     )
 
 pub store-requires-clause-room : goal.store-requires-clause-room
@@ -67,19 +72,25 @@ invariant_of-self-2 g c =
     let items = c.make_room.new.items in
     let last = c.store.new.items in
     let same = c.in_ok-reserve.ensures.entries in
-    let kept : AreKept eq map s.recency items.items = subst (λ xs. AreKept eq map s.recency xs) (sym c.make_room.ensures.items) (kept-alike eq s.map s.recency s.items.items c.self.invariant.0 map same.2) in
-    let memory = memory-kept s.map s.recency (vec_capacity s.items) c.self.invariant.1 map (vec_capacity items) c.in_ok-reserve.ensures.spare same.1 c.make_room.ensures.capacity in
-    let absent = same.2 e.key ∙ absent-is eq s.map s.recency s.items.items c.self.invariant.0 c.args.self.now.entries (ap (λ t. t.entries) c.self.view_is) e.key c.requires in
+    let kept : AreKept eq map s.recency items.items = subst (λ xs. AreKept eq map s.recency xs) (sym c.make_room.ensures.items)
+    (kept-alike eq s.map s.recency s.items.items c.self.invariant.0 map same.2) in
+    let memory = memory-kept s.map s.recency (vec_capacity s.items) c.self.invariant.1 map (vec_capacity items)
+    c.in_ok-reserve.ensures.spare same.1 c.make_room.ensures.capacity in
+    let absent = same.2 e.key ∙ absent-is eq s.map s.recency s.items.items c.self.invariant.0 c.args.self.now.entries
+    (ap (λ t. t.entries) c.self.view_is) e.key c.requires in
     let few = subst (λ (o : Order). length o.entries ≤ o.made) c.in_ok-number.ensures.joined c.in_ok-number.ensures.few in (
       subst (λ o. AreKept eq c.bind.new.map o last.items) (sym c.in_ok-number.ensures.joined)
-          (kept-joined eq map s.recency items.items kept g.met.K.Eq.laws n e c.bind.new.map last.items c.in_ok-number.ensures.new absent c.bind.ensures.updates.0 c.store.ensures.stored c.store.ensures.others c.store.ensures.size refl),
+          (kept-joined eq map s.recency items.items kept g.met.K.Eq.laws n e c.bind.new.map last.items c.in_ok-number.ensures.new absent
+          c.bind.ensures.updates.0 c.store.ensures.stored c.store.ensures.others c.store.ensures.size refl),
       subst (λ o. HasMemory c.bind.new.map o (vec_capacity last)) (sym c.in_ok-number.ensures.joined)
-          (memory-joined map s.recency (vec_capacity items) memory n c.bind.new.map (vec_capacity last) c.bind.ensures.spare (c.bind.ensures.held absent)
+          (memory-joined map s.recency (vec_capacity items) memory n c.bind.new.map (vec_capacity last) c.bind.ensures.spare
+          (c.bind.ensures.held absent)
           (omega (arith, few))
           c.store.ensures.capacity (omega (arith, kept.made, c.store.ensures.size, last.ok.0, last.ok.1))),
       subst (λ (o : Order). EndsBlank s.mark (numbered last.items o.entries)) (sym c.in_ok-number.ensures.joined)
           (mark-new eq map s.recency items.items kept s.mark
-          (subst (λ (xs : List (Entry g.row.K.Denot)). EndsBlank s.mark (numbered xs s.recency.entries)) (sym c.make_room.ensures.items) c.self.invariant.2)
+          (subst (λ (xs : List (Entry g.row.K.Denot)). EndsBlank s.mark (numbered xs s.recency.entries)) (sym c.make_room.ensures.items)
+          c.self.invariant.2)
           n e last.items c.in_ok-number.ensures.new c.store.ensures.stored c.store.ensures.others),
     )
 
@@ -106,9 +117,11 @@ returns-clause-joined g c =
     let e : Entry g.row.K.Denot = record c.args.entry { number = n } in
     let map = c.reserve.new.self in
     let items = c.make_room.new.items.items in
-    let kept : AreKept eq map s.recency items = subst (λ xs. AreKept eq map s.recency xs) (sym c.make_room.ensures.items) (kept-alike eq s.map s.recency s.items.items c.self.invariant.0 map c.in_ok-reserve.ensures.entries.2) in
+    let kept : AreKept eq map s.recency items = subst (λ xs. AreKept eq map s.recency xs) (sym c.make_room.ensures.items)
+    (kept-alike eq s.map s.recency s.items.items c.self.invariant.0 map c.in_ok-reserve.ensures.entries.2) in
     ap (λ o. numbered c.store.new.items.items o.entries) c.in_ok-number.ensures.joined ∙
-    joined-is eq map s.recency items kept n e c.store.new.items.items c.in_ok-number.ensures.new c.store.ensures.stored c.store.ensures.others ∙
+    joined-is eq map s.recency items kept n e c.store.new.items.items c.in_ok-number.ensures.new c.store.ensures.stored
+    c.store.ensures.others ∙
     ap (λ xs. (n, e) ∷ numbered xs s.recency.entries) c.make_room.ensures.items ∙
     ap (λ es. (n, e) ∷ es) (ap (λ t. t.entries) c.self.view_is)
 

@@ -13,7 +13,8 @@ returns-then-self-clause-next g c =
 pub returns-then-self-clause-entry : goal.returns-then-self-clause-entry
 returns-then-self-clause-entry g c =
     let s = c.self.inside in
-    each-number g.K.PartialEq.eq s.map s.recency s.items.items c.self.invariant.0 c.args.self.now.entries (ap (λ t. t.entries) c.self.view_is) c.oldest.result c.oldest.ensures.entry
+    each-number g.K.PartialEq.eq s.map s.recency s.items.items c.self.invariant.0 c.args.self.now.entries
+    (ap (λ t. t.entries) c.self.view_is) c.oldest.result c.oldest.ensures.entry
 
 pub newer-requires : goal.newer-requires
 newer-requires g c =
@@ -25,9 +26,11 @@ pub returns-clause-next : goal.returns-clause-next
 returns-clause-next g c =
     let s = c.self.inside in
     rw (← c.self.view_is) (marked s.mark _ c.newer.result c.self.invariant.2 c.if-self.false
-    (λ newer older is. c.newer.ensures.next newer older (sym (numbers-are g.K.PartialEq.eq s.map s.recency s.items.items c.self.invariant.0 _ refl) ∙ is)))
+    (λ newer older is. c.newer.ensures.next newer older (sym (numbers-are g.K.PartialEq.eq s.map s.recency s.items.items c.self.invariant.0
+    _ refl) ∙ is)))
 
 pub returns-clause-entry : goal.returns-clause-entry
 returns-clause-entry g c =
     let s = c.self.inside in
-    each-number g.K.PartialEq.eq s.map s.recency s.items.items c.self.invariant.0 c.args.self.now.entries (ap (λ t. t.entries) c.self.view_is) c.newer.result c.newer.ensures.entry
+    each-number g.K.PartialEq.eq s.map s.recency s.items.items c.self.invariant.0 c.args.self.now.entries
+    (ap (λ t. t.entries) c.self.view_is) c.newer.result c.newer.ensures.entry

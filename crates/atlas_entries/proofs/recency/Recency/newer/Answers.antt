@@ -24,5 +24,7 @@ pub returns-clause-entry : goal.returns-clause-entry
 returns-clause-entry g c =
     let r = c.self.inside in
     let at = c.read_link-own.ensures.previous ∙ ap (λ (l : List Link). previous_at l r.ends c.args.number) c.deref.ensures.value in
-    let l : 0 < occurs c.args.number (run r.links.items r.ends r.count) = subst (λ (o : Order). 0 < occurs c.args.number o.entries) (sym c.self.view_is) c.requires in
-    rw at (subst (λ (o : Order). 0 < occurs (previous_at r.links.items r.ends c.args.number) o.entries) c.self.view_is (previous-entry r.links.items r.ends c.args.number _ c.self.invariant.0.ring l (λ q. c.if-own.false (at ∙ q))))
+    let l : 0 < occurs c.args.number (run r.links.items r.ends r.count) = subst (λ (o : Order). 0 < occurs c.args.number o.entries)
+    (sym c.self.view_is) c.requires in
+    rw at (subst (λ (o : Order). 0 < occurs (previous_at r.links.items r.ends c.args.number) o.entries) c.self.view_is
+    (previous-entry r.links.items r.ends c.args.number _ c.self.invariant.0.ring l (λ q. c.if-own.false (at ∙ q))))

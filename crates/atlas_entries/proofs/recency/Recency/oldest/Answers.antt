@@ -14,4 +14,5 @@ returns-clause-last g c =
 
 pub returns-clause-entry : goal.returns-clause-entry
 returns-clause-entry g c =
-    subst (λ (o : Order). 0 < occurs c.self.inside.ends.previous o.entries) c.self.view_is (last-entry _ _ _ c.self.invariant.0.ring c.if-ends.false)
+    subst (λ (o : Order). 0 < occurs c.self.inside.ends.previous o.entries) c.self.view_is
+    (last-entry _ _ _ c.self.invariant.0.ring c.if-ends.false)

@@ -48,9 +48,20 @@ invariant_of-self-2 g c =
     })
     in
     let e = with_items_is mid new (w.size ∙ sym mid.ok.0) in
-    let joined = IsRecency-joined r.links.items mid.items new r.ends last r.unused c.take_number.new.unused r.count i c.self.invariant.0 w in (
+    let joined = IsRecency-joined r.links.items mid.items new r.ends last r.unused c.take_number.new.unused r.count i c.self.invariant.0 w
+    in (
       subst (λ l. IsRecency l last c.take_number.new.unused (r.count + 1)) (sym e) joined,
-      omega (arith, c.self.invariant.1, c.in_ok-number.ensures.capacity, mid.ok.0, mid.ok.1, w.size, joined.rest.all, length-line (r.count + 1) (next_at new last) last.next, c.saturating_sub-self-inside.ensures),
+      omega (
+        arith,
+        c.self.invariant.1,
+        c.in_ok-number.ensures.capacity,
+        mid.ok.0,
+        mid.ok.1,
+        w.size,
+        joined.rest.all,
+        length-line (r.count + 1) (next_at new last) last.next,
+        c.saturating_sub-self-inside.ensures,
+      ),
     )
 
 pub returns-clause-few : goal.returns-clause-few
@@ -73,7 +84,8 @@ returns-clause-few g c =
       size = c.push_front.ensures.size;
     })
     in
-    let joined = IsRecency-joined r.links.items mid.items new r.ends last r.unused c.take_number.new.unused r.count i c.self.invariant.0 w in
+    let joined = IsRecency-joined r.links.items mid.items new r.ends last r.unused c.take_number.new.unused r.count i c.self.invariant.0 w
+    in
     let e = with_items_is mid new (w.size ∙ sym mid.ok.0) in
     rw e (omega (arith, w.size, mid.ok.0, joined.rest.all, length-line (r.count + 1) (next_at new last) last.next))
 
@@ -98,7 +110,8 @@ returns-clause-new g c =
     })
     in
     let e = with_items_is mid new (w.size ∙ sym mid.ok.0) in
-    subst (IsFreshNumber i) c.self.view_is (joined-new r.links.items mid.items new r.ends last r.unused c.take_number.new.unused r.count i c.self.invariant.0 w r.reserved c.in_ok-number.ensures.next c.in_ok-number.ensures.dense)
+    subst (IsFreshNumber i) c.self.view_is (joined-new r.links.items mid.items new r.ends last r.unused c.take_number.new.unused r.count i
+    c.self.invariant.0 w r.reserved c.in_ok-number.ensures.next c.in_ok-number.ensures.dense)
 
 pub returns-clause-joined : goal.returns-clause-joined
 returns-clause-joined g c =
@@ -122,7 +135,8 @@ returns-clause-joined g c =
     in
     let e = with_items_is mid new (w.size ∙ sym mid.ok.0) in
     rw c.saturating_sub-self-inside.ensures
-    (ap (λ l. stored l last (r.count + 1) (r.reserved - 1)) e ∙ joined-is r.links.items mid.items new r.ends last r.unused c.take_number.new.unused r.count i c.self.invariant.0 w r.reserved ∙ ap (with_newest i) c.self.view_is)
+    (ap (λ l. stored l last (r.count + 1) (r.reserved - 1)) e ∙ joined-is r.links.items mid.items new r.ends last r.unused
+    c.take_number.new.unused r.count i c.self.invariant.0 w r.reserved ∙ ap (with_newest i) c.self.view_is)
 
 pub returns-in_err-number-clause-errors : goal.returns-in_err-number-clause-errors
 returns-in_err-number-clause-errors g c =

@@ -12,10 +12,13 @@ invariant_of-self g c =
     let new = c.move_to_front.new.links in
     let last = c.move_to_front.new.ends in
     let i = c.args.number in
-    let w : IsTouched r.links.items r.ends new last i = subst (λ l. IsTouched l r.ends new last i) c.deref_mut.ensures.value (record { ring = c.move_to_front.ensures.ring; others = c.move_to_front.ensures.others; size = c.move_to_front.ensures.size }) in
-    let l : 0 < occurs i (run r.links.items r.ends r.count) = subst (λ (o : Order). 0 < occurs i o.entries) (sym c.self.view_is) c.requires in
+    let w : IsTouched r.links.items r.ends new last i = subst (λ l. IsTouched l r.ends new last i) c.deref_mut.ensures.value
+    (record { ring = c.move_to_front.ensures.ring; others = c.move_to_front.ensures.others; size = c.move_to_front.ensures.size }) in
+    let l : 0 < occurs i (run r.links.items r.ends r.count) = subst (λ (o : Order). 0 < occurs i o.entries) (sym c.self.view_is) c.requires
+    in
     let e = with_items_is r.links new (w.size ∙ sym r.links.ok.0) in (
-      subst (λ l. IsRecency l last r.unused r.count) (sym e) (IsRecency-touched r.links.items new r.ends last r.unused r.count i c.self.invariant.0 l w),
+      subst (λ l. IsRecency l last r.unused r.count) (sym e) (IsRecency-touched r.links.items new r.ends last r.unused r.count i
+          c.self.invariant.0 l w),
       c.self.invariant.1,
     )
 
@@ -25,7 +28,10 @@ returns g c =
     let new = c.move_to_front.new.links in
     let last = c.move_to_front.new.ends in
     let i = c.args.number in
-    let w : IsTouched r.links.items r.ends new last i = subst (λ l. IsTouched l r.ends new last i) c.deref_mut.ensures.value (record { ring = c.move_to_front.ensures.ring; others = c.move_to_front.ensures.others; size = c.move_to_front.ensures.size }) in
-    let l : 0 < occurs i (run r.links.items r.ends r.count) = subst (λ (o : Order). 0 < occurs i o.entries) (sym c.self.view_is) c.requires in
+    let w : IsTouched r.links.items r.ends new last i = subst (λ l. IsTouched l r.ends new last i) c.deref_mut.ensures.value
+    (record { ring = c.move_to_front.ensures.ring; others = c.move_to_front.ensures.others; size = c.move_to_front.ensures.size }) in
+    let l : 0 < occurs i (run r.links.items r.ends r.count) = subst (λ (o : Order). 0 < occurs i o.entries) (sym c.self.view_is) c.requires
+    in
     let e = with_items_is r.links new (w.size ∙ sym r.links.ok.0) in
-    ap (λ l. stored l last r.count r.reserved) e ∙ touched-is r.links.items new r.ends last r.unused r.count i c.self.invariant.0 l r.reserved w ∙ ap (used i) c.self.view_is
+    ap (λ l. stored l last r.count r.reserved) e ∙ touched-is r.links.items new r.ends last r.unused r.count i c.self.invariant.0 l
+    r.reserved w ∙ ap (used i) c.self.view_is

@@ -11,14 +11,23 @@ set_next-requires c =
 
 pub set_previous-requires : goal.set_previous-requires
 set_previous-requires c =
-    rw ((c.own_link-own.ensures.next c.args.ends.now), c.set_next.ensures.size) (neighbours-inside c.args.links.now c.args.ends.now c.args.at c.requires.listed).1
+    rw ((c.own_link-own.ensures.next c.args.ends.now), c.set_next.ensures.size)
+    (neighbours-inside c.args.links.now c.args.ends.now c.args.at c.requires.listed).1
 
 pub returns-clause-ring : goal.returns-clause-ring
 returns-clause-ring c =
-    let w = unlinked-by c.args.links.now c.set_next.new.links c.set_previous.new.links c.args.ends.now c.set_next.new.ends c.set_previous.new.ends c.args.at _ _ (c.own_link-own.ensures.previous c.args.ends.now) (c.own_link-own.ensures.next c.args.ends.now) c.set_next.ensures.next c.set_next.ensures.previous c.set_previous.ensures.next c.set_previous.ensures.previous in
-    IsRing-unlinked c.args.links.now c.args.ends.now c.set_previous.new.links c.set_previous.new.ends c.requires.short (c.set_previous.ensures.size ∙ c.set_next.ensures.size) c.args.at w
+    let w = unlinked-by c.args.links.now c.set_next.new.links c.set_previous.new.links c.args.ends.now c.set_next.new.ends
+    c.set_previous.new.ends c.args.at _ _ (c.own_link-own.ensures.previous c.args.ends.now)
+    (c.own_link-own.ensures.next c.args.ends.now) c.set_next.ensures.next c.set_next.ensures.previous c.set_previous.ensures.next
+    c.set_previous.ensures.previous in
+    IsRing-unlinked c.args.links.now c.args.ends.now c.set_previous.new.links c.set_previous.new.ends c.requires.short
+    (c.set_previous.ensures.size ∙ c.set_next.ensures.size) c.args.at w
 
 pub returns-clause-others : goal.returns-clause-others
 returns-clause-others c =
-    let w = unlinked-by c.args.links.now c.set_next.new.links c.set_previous.new.links c.args.ends.now c.set_next.new.ends c.set_previous.new.ends c.args.at _ _ (c.own_link-own.ensures.previous c.args.ends.now) (c.own_link-own.ensures.next c.args.ends.now) c.set_next.ensures.next c.set_next.ensures.previous c.set_previous.ensures.next c.set_previous.ensures.previous in
-    others-unlinked c.args.links.now c.args.ends.now c.set_previous.new.links c.set_previous.new.ends c.requires.short (c.set_previous.ensures.size ∙ c.set_next.ensures.size) c.args.at w
+    let w = unlinked-by c.args.links.now c.set_next.new.links c.set_previous.new.links c.args.ends.now c.set_next.new.ends
+    c.set_previous.new.ends c.args.at _ _ (c.own_link-own.ensures.previous c.args.ends.now)
+    (c.own_link-own.ensures.next c.args.ends.now) c.set_next.ensures.next c.set_next.ensures.previous c.set_previous.ensures.next
+    c.set_previous.ensures.previous in
+    others-unlinked c.args.links.now c.args.ends.now c.set_previous.new.links c.set_previous.new.ends c.requires.short
+    (c.set_previous.ensures.size ∙ c.set_next.ensures.size) c.args.at w

@@ -6,11 +6,13 @@ pub returns-then-not-flush-clause-line : goal.returns-then-not-flush-clause-line
 returns-then-not-flush-clause-line g c =
     inr (
       refl,
-      line_begun c.args.self.now c.end_line.new.self _ (g.W.ToolOutput.contents c.end_line.new.output) _ c.args.waiting.now c.end_line.new.waiting c.in_default.ensures.line
+      line_begun c.args.self.now c.end_line.new.self _ (g.W.ToolOutput.contents c.end_line.new.output) _ c.args.waiting.now
+          c.end_line.new.waiting c.in_default.ensures.line
           (c.if-not-flush.ensures.beginning refl),
     )
 
 pub returns-clause-line : goal.returns-clause-line
 returns-clause-line g c =
-    line_written c.args.self.now c.end_line.new.self _ (g.W.ToolOutput.contents c.end_line.new.output) _ c.args.waiting.now c.end_line.new.waiting c.in_default.ensures.line
+    line_written c.args.self.now c.end_line.new.self _ (g.W.ToolOutput.contents c.end_line.new.output) _ c.args.waiting.now
+    c.end_line.new.waiting c.in_default.ensures.line
     (c.if-not-flush.ensures.written refl)

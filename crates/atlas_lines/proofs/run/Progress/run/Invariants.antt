@@ -13,7 +13,8 @@ invariant-loop-left g l = record {
   short : length l.self.line ≤ 120;
   room : l.self.number + length l.self.line ≤ 2 ^ 64 - 1 - l.left;
   run : HasRun
-      (g.R.ToolInput.remaining l.fn.input) (g.R.ToolInput.remaining l.input) (g.W.ToolOutput.contents l.fn.output) (g.W.ToolOutput.contents l.output) l.self (2 ^ 64 - 1 - l.left);
+      (g.R.ToolInput.remaining l.fn.input) (g.R.ToolInput.remaining l.input) (g.W.ToolOutput.contents l.fn.output)
+      (g.W.ToolOutput.contents l.output) l.self (2 ^ 64 - 1 - l.left);
 }
 
 abbrev pub decreases-loop-left : goal.decreases-loop-left

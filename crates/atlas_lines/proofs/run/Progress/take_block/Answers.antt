@@ -14,7 +14,8 @@ loop-byte-init g c = record {
 pub returns-in-Some-clause-continues : goal.returns-in-Some-clause-continues
 returns-in-Some-clause-continues g c =
     let i = c.loop-byte.invariant.advances in
-    block_stops c.in-Some.end c.args.self.now c.loop-byte.self c.args.block.now c.loop-byte.byte-index i.0 _ (g.W.ToolOutput.contents c.loop-byte.output) _ c.args.waiting.now c.loop-byte.waiting
+    block_stops c.in-Some.end c.args.self.now c.loop-byte.self c.args.block.now c.loop-byte.byte-index i.0 _
+    (g.W.ToolOutput.contents c.loop-byte.output) _ c.args.waiting.now c.loop-byte.waiting
     c.loop-byte-test.true i.1 i.2 c.in-Some.ensures.continues
 
 pub loop-byte-preserved : goal.loop-byte-preserved
@@ -25,6 +26,7 @@ loop-byte-preserved g c =
       working = c.in_default.ensures.failed;
       no_end = c.in_default.ensures.line refl;
       room = omega arith;
-      advances = block_advances c.args.self.now c.loop-byte.self c.take_byte.new.self c.args.block.now c.loop-byte.byte-index i.0 _ (g.W.ToolOutput.contents c.loop-byte.output) _ c.args.waiting.now
+      advances = block_advances c.args.self.now c.loop-byte.self c.take_byte.new.self c.args.block.now c.loop-byte.byte-index i.0 _
+          (g.W.ToolOutput.contents c.loop-byte.output) _ c.args.waiting.now
           c.loop-byte.waiting _ c.loop-byte-test.true i.1 i.2 c.in_default.ensures.continues;
     }

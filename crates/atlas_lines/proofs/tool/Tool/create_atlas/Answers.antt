@@ -15,7 +15,8 @@ pub returns-in-Ok : goal.returns-in-Ok
 returns-in-Ok g c = (
   c.if-not-is_positive.ensures.0 refl,
   c.if-not-is_valid.ensures.0 refl,
-  made_atlas c.args.self.now c.self.inside.simple c.in-Ok.made (started (sides_of c.args.size) (options_of c.args.options.now) 16777216) (ap (λ (h : Held). h.simple) c.self.view_is) c.in-Ok.ensures.state,
+  made_atlas c.args.self.now c.self.inside.simple c.in-Ok.made (started (sides_of c.args.size) (options_of c.args.options.now) 16777216)
+      (ap (λ (h : Held). h.simple) c.self.view_is) c.in-Ok.ensures.state,
 )
 
 pub returns-in-Err : goal.returns-in-Err

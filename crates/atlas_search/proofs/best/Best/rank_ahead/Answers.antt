@@ -14,14 +14,16 @@ returns-then-margin-lt0-clause-passed c none is_large r shown seen at =
     let m = c.margin_in-margin.result in
     let f : FitsSigned w32 m = search rules in
     seen-unfit s is_large r shown seen (shown_at (box_of c.args.rectangle) at)
-    (λ fits. let h : pos 0 ≤ℤ m = c.margin_in-margin.ensures.fits.1 (subst P (sym (asked s is_large r shown seen)) fits) in omega (arith, ints))
+    (λ fits. let h : pos 0 ≤ℤ m = c.margin_in-margin.ensures.fits.1 (subst P (sym (asked s is_large r shown seen)) fits) in
+    omega (arith, ints))
 
 pub returns-then-is_beaten_by-clause-taken : goal.returns-then-is_beaten_by-clause-taken
 returns-then-is_beaten_by-clause-taken c is_large r shown seen at =
     let m = c.margin_in-margin.result in
     let f : FitsSigned w32 m = search rules in
     let h : pos 0 ≤ℤ m = omega (arith, ints) in
-    ranked-ahead c.args.self.now is_large r shown seen c.args.rectangle c.args.corner (search rules) (search rules) c.requires.corner m c.rank-rank.result
+    ranked-ahead c.args.self.now is_large r shown seen c.args.rectangle c.args.corner (search rules) (search rules) c.requires.corner m
+    c.rank-rank.result
     (c.margin_in-margin.ensures.fits.0 h) (c.margin_in-margin.ensures.margin h) (simp to_z-of_z at c.rank-rank.ensures) at
     (c.is_beaten_by.ensures.0 c.if-is_beaten_by.true)
 
@@ -30,6 +32,7 @@ returns-else-is_beaten_by-clause-passed c none is_large r shown seen at =
     let m = c.margin_in-margin.result in
     let f : FitsSigned w32 m = search rules in
     let h : pos 0 ≤ℤ m = omega (arith, ints) in
-    ranked-behind c.args.self.now is_large r shown seen c.args.rectangle c.args.corner (search rules) (search rules) c.requires.corner m c.rank-rank.result
+    ranked-behind c.args.self.now is_large r shown seen c.args.rectangle c.args.corner (search rules) (search rules) c.requires.corner m
+    c.rank-rank.result
     (c.margin_in-margin.ensures.fits.0 h) (c.margin_in-margin.ensures.margin h) (simp to_z-of_z at c.rank-rank.ensures) at
     (λ p. absurd (true≢false (sym (c.is_beaten_by.ensures.1 p) ∙ c.if-is_beaten_by.false)))

@@ -1,6 +1,7 @@
 use Rattle.std.proofs.Common.{◌≡◌, ◌+◌, ◌*◌, ◌<◌, ◌∙◌, true, length, refl, sym, ap, arith}
 use Rattle.atlas_search.specs.Tables.{is_used_at}
-use Rattle.atlas_search.proofs.SearchLemmas.TableHeads.{read-head, is_slot, slot-is, kept-table, kept-mark, marked-table, head_of-same, head_of-other}
+use Rattle.atlas_search.proofs.SearchLemmas.TableHeads.{read-head, is_slot, slot-is, kept-table, kept-mark, marked-table, head_of-same}
+use Rattle.atlas_search.proofs.SearchLemmas.TableHeads.{head_of-other}
 use Rattle.atlas_search.proofs.table.Table.raise.Goals as goal
 
 pub invariant_of-self : goal.invariant_of-self
@@ -14,7 +15,8 @@ pub invariant_of-self-else-self-list : goal.invariant_of-self-else-self-list
 invariant_of-self-else-self-list g c =
     let t = c.self.inside in
     let below : 52 * c.args.at.row + c.args.at.column < 2704 = omega (arith, c.requires.row, c.requires.column) in
-    kept-mark t.heads.items t.marks t.emptied (52 * c.args.at.row + c.args.at.column) c.args.first c.self.invariant below c.if-self-list.false
+    kept-mark t.heads.items t.marks t.emptied (52 * c.args.at.row + c.args.at.column) c.args.first c.self.invariant below
+    c.if-self-list.false
 
 pub invariant_of-self-else-before : goal.invariant_of-self-else-before
 invariant_of-self-else-before g c =

@@ -17,7 +17,8 @@ loop-left-preserved c =
     let last : c.loop-left.left - 1 < length c.args.ids.now = omega (arith, c.loop-left.invariant.most, c.loop-left-test.true) in
     let one : c.loop-left.left ≡ c.loop-left.left - 1 + 1 = omega (arith, c.loop-left-test.true) in
     record {
-      shown = λ ns e h. shown-more ns now (nodes c.set_kind.new.slots) c.args.ids.now (c.loop-left.left - 1) c.index-ids-left.result _ last c.index-ids-left.is c.slot_number-number.ensures
+      shown = λ ns e h. shown-more ns now (nodes c.set_kind.new.slots) c.args.ids.now (c.loop-left.left - 1) c.index-ids-left.result _ last
+          c.index-ids-left.is c.slot_number-number.ensures
           (c.loop-left.invariant.shown ns e h ∙ ap (λ v. hidden ns (take v c.args.ids.now)) one) h c.set_kind.ensures.written;
       same_rings = c.set_kind.ensures.same_rings ∙ c.loop-left.invariant.same_rings;
       most = omega (arith, c.loop-left.invariant.most);

@@ -19,7 +19,8 @@ push-first-requires g c =
     let o = options_of c.args.options.now in
     let i = c.args.at.number in
     let n = number_of c.place_for-place.result in
-    let em = number-is o c.place_for-place.result c.exact_size.result _ _ c.place_for-place.ensures.number c.exact_size.ensures.sides c.read_node-node.ensures in
+    let em = number-is o c.place_for-place.result c.exact_size.result _ _ c.place_for-place.ensures.number c.exact_size.ensures.sides
+    c.read_node-node.ensures in
     let k = c.requires.detached in
     let near = subst (λ m. IsNear c.in_list.result.number (k.places.free_lists m)) em (c.in_list.ensures k.places.free_lists k.is_recent) in
     subst₂ (λ t f. (h : Heap) × CanPush (items c.args.slots.now) t f c.in_list.result.number i h)
@@ -32,14 +33,17 @@ raise-requires-clause-slot g c =
     let o = options_of c.args.options.now in
     let i = c.args.at.number in
     let n = number_of c.place_for-place.result in
-    let em = number-is o c.place_for-place.result c.exact_size.result _ _ c.place_for-place.ensures.number c.exact_size.ensures.sides c.read_node-node.ensures in
+    let em = number-is o c.place_for-place.result c.exact_size.result _ _ c.place_for-place.ensures.number c.exact_size.ensures.sides
+    c.read_node-node.ensures in
     let k = c.requires.detached in
     let near = subst (λ m. IsNear c.in_list.result.number (k.places.free_lists m)) em (c.in_list.ensures k.places.free_lists k.is_recent) in
-    joined-some o c.args.slots.now c.args.lists.now i c.requires.free c.requires.exact c.requires.short k.unused k.places k.filed k.is_detached
+    joined-some o c.args.slots.now c.args.lists.now i c.requires.free c.requires.exact c.requires.short k.unused k.places k.filed
+    k.is_detached
     c.in_list.result.number near c.push-first.new.entries c.push-first.result.number
     (subst₂ (λ t f. (h : Heap) → CanPush (items c.args.slots.now) t f c.in_list.result.number i h
     → HasPushed (items c.args.slots.now) (items c.push-first.new.entries) t c.push-first.result.number i h)
-    (c.tag.ensures ∙ ap tag_of em) (ap (λ (l : Link). l.number) (c.head.ensures ∙ ap (head_of c.args.lists.now) em)) c.push-first.ensures.pushed)
+    (c.tag.ensures ∙ ap tag_of em) (ap (λ (l : Link). l.number) (c.head.ensures ∙ ap (head_of c.args.lists.now) em))
+    c.push-first.ensures.pushed)
     c.push-first.auto.entries
 
 pub returns-clause-filed : goal.returns-clause-filed
@@ -47,13 +51,15 @@ returns-clause-filed g c unused p filed is_recent kept =
     let o = options_of c.args.options.now in
     let i = c.args.at.number in
     let n = number_of c.place_for-place.result in
-    let em = number-is o c.place_for-place.result c.exact_size.result _ _ c.place_for-place.ensures.number c.exact_size.ensures.sides c.read_node-node.ensures in
+    let em = number-is o c.place_for-place.result c.exact_size.result _ _ c.place_for-place.ensures.number c.exact_size.ensures.sides
+    c.read_node-node.ensures in
     let near = subst (λ m. IsNear c.in_list.result.number (p.free_lists m)) em (c.in_list.ensures p.free_lists is_recent) in
     joined o c.args.slots.now c.args.lists.now i c.requires.free c.requires.exact c.requires.short unused p filed kept
     c.in_list.result.number near c.push-first.new.entries c.raise.new.self c.push-first.result
     (subst₂ (λ t f. (h : Heap) → CanPush (items c.args.slots.now) t f c.in_list.result.number i h
     → HasPushed (items c.args.slots.now) (items c.push-first.new.entries) t c.push-first.result.number i h)
-    (c.tag.ensures ∙ ap tag_of em) (ap (λ (l : Link). l.number) (c.head.ensures ∙ ap (head_of c.args.lists.now) em)) c.push-first.ensures.pushed)
+    (c.tag.ensures ∙ ap tag_of em) (ap (λ (l : Link). l.number) (c.head.ensures ∙ ap (head_of c.args.lists.now) em))
+    c.push-first.ensures.pushed)
     c.push-first.ensures.bare c.push-first.auto.entries (ap (head_of c.raise.new.self) (sym em) ∙ c.raise.ensures.head)
     (λ k ne. c.raise.ensures.heads k (λ e. ne (e ∙ em)))
 
@@ -62,7 +68,8 @@ returns-clause-recent g c p =
     let o = options_of c.args.options.now in
     let i = c.args.at.number in
     let n = number_of c.place_for-place.result in
-    let em = number-is o c.place_for-place.result c.exact_size.result _ _ c.place_for-place.ensures.number c.exact_size.ensures.sides c.read_node-node.ensures in
+    let em = number-is o c.place_for-place.result c.exact_size.result _ _ c.place_for-place.ensures.number c.exact_size.ensures.sides
+    c.read_node-node.ensures in
     recent-joined (record { at = c.args.at; list = n }) p.free_lists _ i refl em
 
 pub returns-clause-same_nodes : goal.returns-clause-same_nodes

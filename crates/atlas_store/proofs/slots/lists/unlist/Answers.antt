@@ -14,7 +14,8 @@ remove-rest-requires g c =
 pub set_top-requires : goal.set_top-requires
 set_top-requires g c =
     let k = c.requires.kept in
-    subst (λ (r : Ring). 4261412864 ≤ r.up.number → (n : ℕ) × (n < 2704) × (r.up.number ≡ tag_of n) × (is_used_at c.args.lists.now n ≡ true))
+    subst (λ (r : Ring). 4261412864 ≤ r.up.number → (n : ℕ) × (n < 2704) × (r.up.number ≡ tag_of n) ×
+    (is_used_at c.args.lists.now n ≡ true))
     (sym c.read_ring.ensures)
     (tells k.0 c.args.slots.now c.args.lists.now c.args.at.number c.requires.free c.requires.exact c.requires.short k.1.unused k.1.places
     k.1.filed k.1.kept)

@@ -24,7 +24,8 @@ is_open-requires-clause-slot c =
 pub loop-before-smaller : goal.loop-before-smaller
 loop-before-smaller c =
     let ns = nodes c.args.slots.now in
-    rw c.read_node.ensures (previous-falls ns (simp length-map c.requires.short) c.requires.tree c.loop-before.low.number c.loop-before.invariant.used)
+    rw c.read_node.ensures (previous-falls ns (simp length-map c.requires.short) c.requires.tree c.loop-before.low.number
+    c.loop-before.invariant.used)
 
 pub loop-before-preserved : goal.loop-before-preserved
 loop-before-preserved c =

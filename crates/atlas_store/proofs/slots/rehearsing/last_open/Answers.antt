@@ -24,7 +24,8 @@ is_open-requires-clause-slot c =
 pub loop-after-smaller : goal.loop-after-smaller
 loop-after-smaller c =
     let ns = nodes c.args.slots.now in
-    rw c.read_node.ensures (next-falls ns (simp length-map c.requires.short) c.requires.tree c.loop-after.high.number c.loop-after.invariant.used)
+    rw c.read_node.ensures (next-falls ns (simp length-map c.requires.short) c.requires.tree c.loop-after.high.number
+    c.loop-after.invariant.used)
 
 pub loop-after-preserved : goal.loop-after-preserved
 loop-after-preserved c =
@@ -37,7 +38,11 @@ loop-after-preserved c =
     (none-closed ns c.args.marks.now (simp length-map c.requires.marks) short) more in
     rw c.read_node.ensures (record {
       used = used;
-      line = (suc c.loop-after.invariant.line.0, line-after ns o _ _ c.loop-after.high.number c.loop-after.invariant.last c.loop-after.invariant.line.1);
+      line = (
+        suc c.loop-after.invariant.line.0,
+        line-after ns o _ _ c.loop-after.high.number c.loop-after.invariant.last
+            c.loop-after.invariant.line.1,
+      );
       last = more;
     })
 

@@ -27,7 +27,11 @@ last_open-requires-clause-member c = c.loop-low.invariant.used
 pub last_open-requires-clause-open : goal.last_open-requires-clause-open
 last_open-requires-clause-open c =
     let ns = nodes c.args.slots.now in
-    (opened-set ns c.loop-low.marks c.loop-low.at.number (omega (arith, c.loop-low.invariant.long, used-inside ns c.loop-low.at.number c.loop-low.invariant.used))).there
+    (opened-set ns c.loop-low.marks c.loop-low.at.number (omega (
+      arith,
+      c.loop-low.invariant.long,
+      used-inside ns c.loop-low.at.number c.loop-low.invariant.used,
+    ))).there
 
 pub returns-then-not-fills_container-clause-shown : goal.returns-then-not-fills_container-clause-shown
 returns-then-not-fills_container-clause-shown c s n held is none =
@@ -78,7 +82,8 @@ pub loop-low-preserved : goal.loop-low-preserved
 loop-low-preserved c =
     let ns = nodes c.args.slots.now in
     let w = c.requires.shown in
-    let fills = rw (c.read_node-low.ensures, c.read_node-high.ensures) at (c.fills_container.ensures.fills c.if-not-fills_container.false) in
+    let fills = rw (c.read_node-low.ensures, c.read_node-high.ensures) at (c.fills_container.ensures.fills c.if-not-fills_container.false)
+    in
     rw c.read_node-low.ensures (
     climbs ns c.args.marks.now c.args.leaf.number (simp length-map c.requires.short) w.0 w.1 w.2 w.3 w.4
     c.loop-low.marks c.loop-low.at.number c.loop-low.invariant c.first_open.result.number c.last_open.result.number

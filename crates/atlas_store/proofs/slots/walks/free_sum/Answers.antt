@@ -13,7 +13,8 @@ loop-slot-preserved c =
       | then-eq w ↦
           let more = free-more c.args.slots.now c.loop-slot.slot-index _ c.loop-slot-test.true (search rules) in
           record {
-            sum = more-sum free_areas c.args.slots.now c.loop-slot.slot-index _ more c.loop-slot.sum c.if-eq.sum w.area_of-sum.result _ c.loop-slot.invariant.sum w.area_of-sum.ensures w.sum-is;
+            sum = more-sum free_areas c.args.slots.now c.loop-slot.slot-index _ more c.loop-slot.sum c.if-eq.sum w.area_of-sum.result _
+                c.loop-slot.invariant.sum w.area_of-sum.ensures w.sum-is;
             shown = more-rest free_areas c.args.slots.now c.loop-slot.slot-index _ more c.loop-slot.invariant.shown;
           }
       | else-eq w ↦ grind (arith, free-past, past-sum, past-rest)

@@ -23,7 +23,8 @@ module _ (g : given.Over) (c : goal.After-tick g) where
   next = (node_in (shelf_of c.args.self.now) c.args.at.number).next.number
 
   next-is : c.join_next-next.result.number ≡ next
-  next-is = ap (λ l. l.number) (c.join_next-next.ensures.next ∙ ap (λ s. (node_at (nodes s) c.args.at.number).next) c.deref_mut.ensures.value)
+  next-is = ap (λ l. l.number) (c.join_next-next.ensures.next ∙ ap (λ s. (node_at (nodes s) c.args.at.number).next)
+      c.deref_mut.ensures.value)
 
   first : AreSlots own c.deref_mut.result.now c.join_next-next.new.slots mid
   first = grind (arith, with_items_is)
@@ -32,7 +33,8 @@ module _ (g : given.Over) (c : goal.After-tick g) where
   last =
       grind (
         arith,
-        with_items_is (with_items c.args.self.now.slots c.join_next-next.new.slots) c.give_back.new.slots (c.give_back.auto.slots ∙ c.deref_mut-2.ensures.len),
+        with_items_is (with_items c.args.self.now.slots c.join_next-next.new.slots) c.give_back.new.slots
+            (c.give_back.auto.slots ∙ c.deref_mut-2.ensures.len),
       )
 
   joined : IsNextJoined own mid c.args.at.number next
@@ -41,7 +43,8 @@ module _ (g : given.Over) (c : goal.After-tick g) where
   back : GivesBack (shelf_of c.args.self.now) mid new c.give_back.new.unused next
   back =
       subst (λ (j : ℕ). GivesBack (shelf_of c.args.self.now) mid new c.give_back.new.unused j) next-is
-      (over-shelf (λ old left. GivesBack (shelf_of c.args.self.now) old left c.give_back.new.unused c.join_next-next.result.number) _ _ _ _ last
+      (over-shelf (λ old left. GivesBack (shelf_of c.args.self.now) old left c.give_back.new.unused c.join_next-next.result.number) _ _ _ _
+      last
       (record { same_nodes = c.give_back.ensures.same_nodes; long = c.give_back.auto.slots; filed = c.give_back.ensures.filed }))
 
 pub returns : goal.returns

@@ -30,11 +30,13 @@ module _ (g : given.Over) (c : goal.After-tick g) where
   last =
       grind (
         arith,
-        with_items_is (with_items c.args.self.now.slots c.lift-container.new.slots) c.give_back.new.slots (c.give_back.auto.slots ∙ c.deref_mut-2.ensures.len),
+        with_items_is (with_items c.args.self.now.slots c.lift-container.new.slots) c.give_back.new.slots
+            (c.give_back.auto.slots ∙ c.deref_mut-2.ensures.len),
       )
 
   lifted : IsChildLifted own mid c.lift-container.result.number c.args.child.number
-  lifted = over-shelf (λ old left. IsChildLifted old left c.lift-container.result.number c.args.child.number) _ _ _ _ first c.lift-container.ensures.lifted
+  lifted = over-shelf (λ old left. IsChildLifted old left c.lift-container.result.number c.args.child.number) _ _ _ _ first
+      c.lift-container.ensures.lifted
 
   back : GivesBack (shelf_of c.args.self.now) mid new c.give_back.new.unused c.args.child.number
   back =

@@ -26,7 +26,8 @@ returns g c =
           let sides = node_sides (node_at (nodes c.deref_mut.result.now) c.args.at.number) in
           let free_lists : _ = lists_with h.free_lists (list_of (options_of c.args.self.now.options) sides) c.args.at.number in (
             free_lists,
-            listed-holds (shelf_of c.args.self.now) c.deref_mut.result.now c.enlist.new.slots _ c.enlist.new.lists c.enlist.new.recent h free_lists
+            listed-holds (shelf_of c.args.self.now) c.deref_mut.result.now c.enlist.new.slots _ c.enlist.new.lists c.enlist.new.recent h
+                free_lists
                 (with_mark h.detached c.args.at.number false) slots c.enlist.ensures.same_nodes
                 (λ filed. c.enlist.ensures.filed c.args.self.now.unused (places_of (λ i. 0) h) filed leaf.holds.is_recent leaf.detached)
                 (c.enlist.ensures.recent (places_of (λ i. 0) h)) leaf.holds,

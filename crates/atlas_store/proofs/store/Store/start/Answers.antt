@@ -11,7 +11,14 @@ list-requires g c =
     let wide : natural c.args.size.width < 2 ^ 31 = search rules in
     let high : natural c.args.size.height < 2 ^ 31 = search rules in (
       detached_holding (sides_of c.args.size),
-      whole_leaf _ c.args.size (record { slots = search rules; lists = c.clear-2.ensures; unused = refl; recent = refl; valid = subst (λ o. AreValid (options_of o)) (sym c.set.ensures) c.requires.options }) c.requires.size wide high,
+      whole_leaf _ c.args.size (record {
+        slots = search rules;
+        lists = c.clear-2.ensures;
+        unused = refl;
+        recent = refl;
+        valid =
+            subst (λ o. AreValid (options_of o)) (sym c.set.ensures) c.requires.options;
+      }) c.requires.size wide high,
     )
 
 pub returns : goal.returns
@@ -22,7 +29,14 @@ returns g c =
       begun = record {
         holds =
             c.list.ensures.kept (detached_holding (sides_of c.args.size))
-            (whole_leaf _ c.args.size (record { slots = search rules; lists = c.clear-2.ensures; unused = refl; recent = refl; valid = subst (λ o. AreValid (options_of o)) (sym c.set.ensures) c.requires.options }) c.requires.size wide high);
+            (whole_leaf _ c.args.size (record {
+              slots = search rules;
+              lists = c.clear-2.ensures;
+              unused = refl;
+              recent = refl;
+              valid =
+                  subst (λ o. AreValid (options_of o)) (sym c.set.ensures) c.requires.options;
+            }) c.requires.size wide high);
         slots = c.list.ensures.nodes ∙ search rules;
         one = c.list.ensures.slots ∙ search rules;
         once = c.list.ensures.takes.once (once-whole c.args.size (search rules) refl);

@@ -14,7 +14,8 @@ returns g c =
     let new = record old { slots = c.take_slot.new.slots; unused = c.take_slot.new.unused } in
     let call = c.take_slot.ensures.taken in
     let k : ℕ = c.take_slot.result.number in
-    let here : IsTaken (options_of old.options) old.slots.items c.take_slot.new.slots.items old.lists c.take_slot.new.unused (places_of c.requires.1 c.requires.0) k =
+    let here : IsTaken (options_of old.options) old.slots.items c.take_slot.new.slots.items old.lists c.take_slot.new.unused
+    (places_of c.requires.1 c.requires.0) k =
     call.taken (options_of old.options) old.lists (places_of c.requires.1 c.requires.0) c.requires.2.filed in
     record {
       taken = λ h claimed holds.
@@ -23,7 +24,8 @@ returns g c =
           c.requires.0 c.requires.1 c.requires.2 c.requires.3 (λ ne. (call.again ne).1) (λ e. (call.fresh e).1))
           call.others (call.taken (options_of old.options) old.lists (places_of claimed h) holds.filed) holds;
       slots = λ h claimed n holds room.
-          taken-room old new k _ blank_slot h claimed n holds (λ ne. (call.again ne).1) (λ e. (call.fresh e).1) c.take_slot.ensures.capacity room;
+          taken-room old new k _ blank_slot h claimed n holds (λ ne. (call.again ne).1) (λ e. (call.fresh e).1) c.take_slot.ensures.capacity
+          room;
       apart = λ h claimed j holds some inside.
           (call.taken (options_of old.options) old.lists (places_of claimed h) holds.filed).apart j inside some;
       was_unused = here.was_unused;

@@ -22,7 +22,8 @@ returns g c =
         lists_without h.free_lists c.args.at.number,
         listed-holds (shelf_of c.args.self.now) c.deref_mut.result.now c.unlist.new.slots _ c.unlist.new.lists c.unlist.new.recent h
             (lists_without h.free_lists c.args.at.number) (with_mark h.detached c.args.at.number true) slots c.unlist.ensures.same_nodes
-            (λ filed. c.unlist.ensures.filed (options_of c.args.self.now.options) c.args.self.now.unused (places_of (λ i. 0) h) filed listed)
+            (λ filed. c.unlist.ensures.filed (options_of c.args.self.now.options) c.args.self.now.unused (places_of (λ i. 0) h) filed
+            listed)
             (c.unlist.ensures.recent (places_of (λ i. 0) h) holds.is_recent) holds,
       );
       nodes = same;

@@ -24,7 +24,8 @@ loop-call-preserved g c =
       exact = subst (All GrantsExact) (sym more)
           (All-append GrantsExact (drop n items) (c.make.result ∷ []) i.exact
           (All-cons GrantsExact c.make.result [] c.make.ensures.exact (All-nil GrantsExact)));
-      answered = subst (λ replies. AreSimplyAnswered c.args.simple.now (simple_calls_of source (take (c.loop-call.call-index + 1) c.args.calls.now)) replies c.make.new.simple)
+      answered = subst (λ replies. AreSimplyAnswered c.args.simple.now (simple_calls_of source
+          (take (c.loop-call.call-index + 1) c.args.calls.now)) replies c.make.new.simple)
           (sym more)
           (answered-taken (simple_call_of source) c.args.calls.now c.loop-call.call-index _ (drop n items)
           c.args.simple.now c.loop-call.simple c.make.new.simple c.make.result c.loop-call-test.true i.answered c.make.ensures);

@@ -10,4 +10,5 @@ returns g c =
     let a = c.self.inside in
     let says = subst (λ bs. IsTrue c.is_listed.result ↔ Any (λ b. b.area ≡ c.from.result) bs) c.deref.ensures.value c.is_listed.ensures in
     rw (← c.self.view_is)
-    (whole-listed (box_shelf a.boxes) a.boxes.entries.items a.size a.options c.from.result c.is_listed.result refl c.self.invariant.state c.from.ensures says)
+    (whole-listed (box_shelf a.boxes) a.boxes.entries.items a.size a.options c.from.result c.is_listed.result refl c.self.invariant.state
+    c.from.ensures says)

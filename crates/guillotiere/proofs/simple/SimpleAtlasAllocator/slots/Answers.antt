@@ -15,5 +15,6 @@ returns-clause-counted g c =
     let a = c.self.inside in
     let v = box_shelf a.boxes in
     let kept = c.self.invariant.state.kept in
-    let few : length (free_item_boxes v.entries) ≤ length v.entries = omega (arith, used-free (options_of a.options) v kept, used-few (λ i. 0) (options_of a.options) v kept) in
+    let few : length (free_item_boxes v.entries) ≤ length v.entries = omega
+    (arith, used-free (options_of a.options) v kept, used-few (λ i. 0) (options_of a.options) v kept) in
     subst (λ w. used_entries w ≤ kept_entries w) c.self.view_is few

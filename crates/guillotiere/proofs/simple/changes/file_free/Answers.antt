@@ -12,7 +12,8 @@ use Rattle.guillotiere.proofs.simple.changes.file_free.Goals.{then-eq+in_ok-file
 
 pub file_area-requires-clause-exact : goal.file_area-requires-clause-exact
 file_area-requires-clause-exact g c =
-    (next-all (λ r. IsUnsigned r × IsNonempty (box_of r)) c.args.slots.now c.loop-slot.slot-index _ c.loop-slot-test.true (search rules) c.loop-slot.invariant.1).0
+    (next-all (λ r. IsUnsigned r × IsNonempty (box_of r)) c.args.slots.now c.loop-slot.slot-index _ c.loop-slot-test.true (search rules)
+    c.loop-slot.invariant.1).0
 
 pub loop-slot-preserved : goal.loop-slot-preserved
 loop-slot-preserved g c =
@@ -20,7 +21,8 @@ loop-slot-preserved g c =
     elim c.if-eq.branch [
       | then-eq+in_ok-file_area w ↦
           let old = free_item_boxes (box_shelf c.loop-slot.boxes).entries in
-          let next = next-filed (λ r. IsUnsigned r × IsNonempty (box_of r)) c.args.slots.now c.loop-slot.slot-index _ old old (free_item_boxes (box_shelf w.file_area.new.boxes).entries) all refl
+          let next = next-filed (λ r. IsUnsigned r × IsNonempty (box_of r)) c.args.slots.now c.loop-slot.slot-index _ old old
+          (free_item_boxes (box_shelf w.file_area.new.boxes).entries) all refl
           c.loop-slot-test.true (search rules) c.loop-slot.invariant.1 c.loop-slot.invariant.2 w.in_ok-file_area.ensures.boxes in
           rw w.boxes-is (
             w.in_ok-file_area.ensures.kept,

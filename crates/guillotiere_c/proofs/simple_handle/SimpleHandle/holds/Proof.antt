@@ -7,7 +7,8 @@ use base.Logic.{fst∗, never, guard_i}
 use base.Fraction.{full_share}
 use base.Fml.{ftrue, flft}
 use types.Logic.{sem}
-use types.Kit.{‵, ◌⊛◌, given, ◌$◌, ◌∵◌, !, qed, move, keep, use1, learn, split, join, fsplit, fsplit3, fjoin, feq_i, feq_l, rewrite, suffices, frame, group, done}
+use types.Kit.{‵, ◌⊛◌, given, ◌$◌, ◌∵◌, !, qed, move, keep, use1, learn, split, join, fsplit, fsplit3, fjoin, feq_i, feq_l, rewrite}
+use types.Kit.{suffices, frame, group, done}
 use types.Run.{enter, of_opd, lit, bin, un, load, stop, fld, returns}
 use types.ByLocal.{alloc_all, pass_all, free_all, look_at, get, through, sets}
 use types.Part.{whole, sub, look_in}
@@ -60,23 +61,29 @@ holds_spec 𝓤 𝓛 𝓜 𝓡 wired =
     (λ none. rewrite ! 0 (λ (k : Option SimpleValue). ‵ (keeps_simple k h.at)) none refl $ feq_l ! (λ e.
     let word = lowers.val_is h us is ∙ ap (λ (p : Ptr). lowers.lowered (record h { at = p }) ∷ []) e in
     rewrite ! 1 Cell word refl $
-    sets ! (of_opd ! (load ! (through ! refl (fld ! refl (stop !))) (look_in ! 1 (sub ! 0 refl (whole !))))) refl (tt, record { fits = lit< tt }) $
+    sets ! (of_opd ! (load ! (through ! refl (fld ! refl (stop !))) (look_in ! 1 (sub ! 0 refl (whole !))))) refl
+    (tt, record { fits = lit< tt }) $
     sets ! (bin ! (get ! refl) (lit ! tt) tt) refl (tt, tt) $ sets ! (un ! (get ! refl) tt) refl (tt, tt) $
-    rewrite ! 1 Cell (sym word) refl $ feq_i ! Ptr h.at null_ptr e $ rewrite ! 0 (λ (k : Option SimpleValue). ‵ (keeps_simple k h.at)) (sym none) refl $
+    rewrite ! 1 Cell (sym word) refl $ feq_i ! Ptr h.at null_ptr e $ rewrite ! 0 (λ (k : Option SimpleValue). ‵ (keeps_simple k h.at))
+    (sym none) refl $
     move ! (1 ∷ []) $ fjoin ! $ move ! (1 ∷ []) $ closes ! tt R h us b o $
     returns ! (look_at ! 0 refl) $ free_all ! refl $ move ! (3 ∷ []) $
     suffices ! _ (ends_at 𝓛 f.ended stayed c y (vbool false) false (h, tt) (tt, tt)) $ says ! (refl, sym (ap is_some none)) $
     group ! 3 $ nothing ! $ move ! (1 ∷ 0 ∷ []) $ join ! $ nothing ! $ move ! (2 ∷ 0 ∷ []) $ join ! $ frame ! $ frame ! $
     feq_i ! _ (vbool false ∷ []) _ refl $ done !))
     (λ x some. rewrite ! 0 (λ (k : Option SimpleValue). ‵ (keeps_simple k h.at)) some refl $
-    in_a_block ! h.at (λ p. box_owns token V p x) (fst∗ 𝓤 (never 𝓤) (sem 𝓛 (token (bare (lone V.mir)) null_ptr))) (λ b' o' e. fsplit ! $ move ! (1 ∷ []) $
-    use1 𝓛 (given (Testable (block_ptr b' o')) (‵ (token (bare (lone V.mir)) (block_ptr b' o')))) (fact_use 𝓤 _ (dealloc_token-Testable 𝓛 _ (bare (lone V.mir)) (block_ptr b' o')) (guard_i 𝓤 (Testable (block_ptr b' o')) (sem 𝓛 (token (bare (lone V.mir)) (block_ptr b' o'))))) $ learn ! (λ t.
+    in_a_block ! h.at (λ p. box_owns token V p x) (fst∗ 𝓤 (never 𝓤) (sem 𝓛 (token (bare (lone V.mir)) null_ptr)))
+    (λ b' o' e. fsplit ! $ move ! (1 ∷ []) $
+    use1 𝓛 (given (Testable (block_ptr b' o')) (‵ (token (bare (lone V.mir)) (block_ptr b' o'))))
+    (fact_use 𝓤 _ (dealloc_token-Testable 𝓛 _ (bare (lone V.mir)) (block_ptr b' o'))
+    (guard_i 𝓤 (Testable (block_ptr b' o')) (sem 𝓛 (token (bare (lone V.mir)) (block_ptr b' o'))))) $ learn ! (λ t.
     move ! (1 ∷ 0 ∷ []) $ fjoin ! $
     let word = lowers.val_is h us is ∙ ap (λ (p : Ptr). lowers.lowered (record h { at = p }) ∷ []) e in
     rewrite ! 2 Cell word refl $
     sets ! (of_opd ! (load ! (through ! refl (fld ! refl (stop !))) (look_in ! 2 (sub ! 0 refl (whole !))))) refl (tt, tt) $
     sets ! (bin ! (get ! refl) (lit ! tt) (tests_null (block_ptr b' o') t)) refl (tt, tt) $ sets ! (un ! (get ! refl) tt) refl (tt, tt) $
-    rewrite ! 2 Cell (sym word) refl $ rewrite ! 0 (λ (p : Ptr). ‵ (box_owns token V p x)) (sym e) refl $ rewrite ! 0 (λ (k : Option SimpleValue). ‵ (keeps_simple k h.at)) (sym some) refl $
+    rewrite ! 2 Cell (sym word) refl $ rewrite ! 0 (λ (p : Ptr). ‵ (box_owns token V p x)) (sym e) refl $ rewrite ! 0
+    (λ (k : Option SimpleValue). ‵ (keeps_simple k h.at)) (sym some) refl $
     move ! (1 ∷ []) $ fjoin ! $ move ! (1 ∷ []) $ closes ! tt R h us b o $
     returns ! (look_at ! 0 refl) $ free_all ! refl $ move ! (3 ∷ []) $
     suffices ! _ (ends_at 𝓛 f.ended stayed c y (vbool true) true (h, tt) (tt, tt)) $ says ! (refl, sym (ap is_some some)) $

@@ -37,7 +37,9 @@ none_spec 𝓤 𝓛 𝓜 𝓡 wired =
     split ! $ keep ! (0 ∷ []) $ enter ! 𝓣.C 𝓣.Λ fn [] Post $ alloc_all ! (λ l. pass_all ! refl tt $
     let empty : Option SimpleValue = None in let w' : Val = vstruct (vcons (vint w64 0) vnil) in
     sets ! (agg ! (and_then ! (lit ! tt) (no_more !))) refl (tt, (record { fits = lit< tt }, tt)) $
-    feq_i ! Ptr null_ptr null_ptr refl $ nothing ! $ feq_i ! (List Val) (vint w64 0 ∷ []) (vint w64 0 ∷ []) refl $ fjoin ! $ feq_i ! (List Val) (w' ∷ []) (w' ∷ []) refl $ fjoin ! $
+    feq_i ! Ptr null_ptr null_ptr refl $ nothing ! $ feq_i ! (List Val) (vint w64 0 ∷ []) (vint w64 0 ∷ []) refl $ fjoin ! $ feq_i !
+    (List Val) (w' ∷ []) (w' ∷ []) refl $ fjoin ! $
     fpack ! (Valss (RawPtr ∷ [])) (within (shape handle.the_type) (null_ptr, tt) (w' ∷ [])) (vint w64 0 ∷ [], tt) $ fjoin ! $
     use0 𝓛 (raw (fact 𝓤 (empty ≡ empty))) (fact_i 𝓤 (empty ≡ empty) (emp 𝓤) refl) $ nothing ! $
-    returns ! (look_at ! 0 refl) $ free_all ! refl $ keep ! (3 ∷ 0 ∷ 2 ∷ 1 ∷ []) $ by ! (leaves 𝓛 ended hs c z w' (record { at = null_ptr; kept = None }) tt tt)))
+    returns ! (look_at ! 0 refl) $ free_all ! refl $ keep ! (3 ∷ 0 ∷ 2 ∷ 1 ∷ []) $ by !
+    (leaves 𝓛 ended hs c z w' (record { at = null_ptr; kept = None }) tt tt)))

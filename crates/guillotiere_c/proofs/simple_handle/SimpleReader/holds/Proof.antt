@@ -59,7 +59,8 @@ holds_spec 𝓤 𝓛 𝓜 𝓡 wired =
     (λ none. rewrite ! 0 (λ k. ‵ (has h.at k)) none refl $ feq_l ! (λ null.
     let known = lowers.val_is h words is ∙ ap wordof null in
     rewrite ! 1 cell known refl $
-    sets ! (of_opd ! (load ! (through ! refl (fld ! refl (stop !))) (look_in ! 1 (sub ! 0 refl (whole !))))) refl (tt, record { fits = lit< tt }) $
+    sets ! (of_opd ! (load ! (through ! refl (fld ! refl (stop !))) (look_in ! 1 (sub ! 0 refl (whole !))))) refl
+    (tt, record { fits = lit< tt }) $
     sets ! (bin ! (get ! refl) (lit ! tt) tt) refl (tt, tt) $ sets ! (un ! (get ! refl) tt) refl (tt, tt) $
     rewrite ! 1 cell (sym known) refl $ feq_i ! Ptr h.at null_ptr null $ rewrite ! 0 (λ k. ‵ (has h.at k)) (sym none) refl $
     move ! (1 ∷ []) $ fjoin ! $ move ! (1 ∷ []) $ shuts ! tt view.the_row part h words b o $
@@ -76,7 +77,8 @@ holds_spec 𝓤 𝓛 𝓜 𝓡 wired =
     sets ! (bin ! (get ! refl) (lit ! tt) (tests_null (block_ptr block count) (subst Testable there may))) refl (tt, tt) $
     sets ! (un ! (get ! refl) tt) refl (tt, tt) $
     rewrite ! 2 cell (sym known) refl $ rewrite ! 0 (λ p. ‵ (lent x p)) (sym there) refl $
-    use0 𝓛 (‵ ftrue) (id⊢ 𝓤 (emp 𝓤)) $ fpack ! (Testable h.at) (λ _. ftrue) may $ fjoin ! $ rewrite ! 0 (λ k. ‵ (has h.at k)) (sym some) refl $
+    use0 𝓛 (‵ ftrue) (id⊢ 𝓤 (emp 𝓤)) $ fpack ! (Testable h.at) (λ _. ftrue) may $ fjoin ! $ rewrite ! 0 (λ k. ‵ (has h.at k)) (sym some)
+    refl $
     move ! (1 ∷ []) $ fjoin ! $ move ! (1 ∷ []) $ shuts ! tt view.the_row part h words b o $
     nothing ! $ move ! (1 ∷ 0 ∷ []) $ join ! $ feq_i ! (List Val) (vbool true ∷ []) (vbool true ∷ []) refl $
     use0 𝓛 (raw (fact 𝓤 (true ≡ is_some h.kept))) (fact_i 𝓤 (true ≡ is_some h.kept) (emp 𝓤) (sym (ap is_some some))) $

@@ -46,7 +46,8 @@ lent_spec 𝓤 𝓛 𝓜 𝓡 wired =
     (λ κs. (shr_vals, tt)) (λ κs. (shr_Tells (named 0) κs.0 view.the_row, tt)) (λ κs qs bounds a _ are.
     let κ : Lft = κs.0 in let b = a.0.ref_ptr.0 in let o = a.0.ref_ptr.1 in let h = a.0.now in let self = shr_vals a.0 in
     let start : walk.Ghost = ((κs, qs, bounds, a, (self, tt)), tt) in let has : Fml = lends row h.kept h.at in
-    qed 𝓛 (((‵ (flft κs.0 qs.0) ⊛ ‵ ftrue) ⊛ ‵ ((ShrRef (named 0) κs.0 view.the_row).own_val a.0 self) ⊛ ‵ ftrue) ∷ raw (fact 𝓤 (IsSome h.kept)) ∷ []) ∵
+    qed 𝓛 (((‵ (flft κs.0 qs.0) ⊛ ‵ ftrue) ⊛ ‵ ((ShrRef (named 0) κs.0 view.the_row).own_val a.0 self) ⊛ ‵ ftrue) ∷ raw
+    (fact 𝓤 (IsSome h.kept)) ∷ []) ∵
     move ! (1 ∷ []) $ heard ! (IsSome h.kept) (λ held. by_held h.kept held (λ x some.
     let lent : Ptr → Fml = λ p. lent_at row p x [] in
     split ! $ split ! $ move ! (2 ∷ []) $ split ! $ keep ! (0 ∷ 2 ∷ []) $
@@ -69,7 +70,8 @@ lent_spec 𝓤 𝓛 𝓜 𝓡 wired =
     rewrite ! 2 cell (sym known) refl $ move ! (2 ∷ 1 ∷ 3 ∷ []) $ shuts ! tt view.the_row part h words b o $
     -- [the token; what lies at the pointer; the `&`]
     move ! (1 ∷ []) $
-    use1 𝓛 (‵ (lent_at row to x κ)) (shortens 𝓛 (lent_at row to x) (lent_at_shr_laws row row_laws to x) [] κ (λ z m. absurd (not-mem-nil m))) $
+    use1 𝓛 (‵ (lent_at row to x κ)) (shortens 𝓛 (lent_at row to x) (lent_at_shr_laws row row_laws to x) [] κ
+    (λ z m. absurd (not-mem-nil m))) $
     fsplit ! $ drop ! $ hide ! $ feq_i ! (List Val) (vptr block count ∷ []) (vptr block count ∷ []) refl $ fjoin ! $
     move ! (1 ∷ []) $ nothing ! $ move ! (1 ∷ 0 ∷ []) $ join ! $ move ! (1 ∷ 0 ∷ []) $
     use0 𝓛 (raw (fact 𝓤 (h.kept ≡ Some x))) (fact_i 𝓤 (h.kept ≡ Some x) (emp 𝓤) some) $

@@ -18,7 +18,8 @@ pub returns-in_err-granted-clause-slots : goal.returns-in_err-granted-clause-slo
 returns-in_err-granted-clause-slots g c is =
     let call = atlas.Allocate (sides_of c.args.requested_size) in
     let same = ap state_of c.in_err-granted.ensures.refused in
-    let step = slots_step c.from_residual-in_err-granted.result c.in_err-granted.field-0.0 (state_of c.self.inside.atlas) (state_of c.allocate.new.self)
+    let step = slots_step c.from_residual-in_err-granted.result c.in_err-granted.field-0.0 (state_of c.self.inside.atlas)
+    (state_of c.allocate.new.self)
     call c.from_residual-in_err-granted.ensures.1 c.in_err-granted.ensures.step same is in
     subst (λ (v : SessionValue). Step (state_of v.atlas) call (atlas.Refused Slots) (state_of v.atlas)) c.self.view_is step
 
@@ -28,7 +29,8 @@ invariant_of-self-in-Some g c =
     let size = c.args.requested_size in
     let granted = c.in-Some.granted in
     let given = c.self.inside.given in
-    let step = subst (λ o. Step (state_of c.self.inside.atlas) (atlas.Allocate (sides_of size)) (allocate_reply (Ok o)) (state_of c.allocate.new.self))
+    let step = subst (λ o. Step (state_of c.self.inside.atlas) (atlas.Allocate (sides_of size)) (allocate_reply (Ok o))
+    (state_of c.allocate.new.self))
     c.in-Some.is c.in_ok-granted.ensures.step in
     let exact = subst (λ (o : Option Allocation). IfSome o (λ a. IsExact a.rectangle)) c.in-Some.is c.in_ok-granted.ensures.exact in
     let names = c.append.ensures ∙ ap (λ ns. ns ++ named_entry given granted ∷ []) c.in_ok-reserve.ensures.items in
@@ -41,7 +43,8 @@ invariant_of-self-in-Some g c =
 pub invariant_of-self-in-None : goal.invariant_of-self-in-None
 invariant_of-self-in-None g c =
     let size = c.args.requested_size in
-    let step = subst (λ o. Step (state_of c.self.inside.atlas) (atlas.Allocate (sides_of size)) (allocate_reply (Ok o)) (state_of c.allocate.new.self))
+    let step = subst (λ o. Step (state_of c.self.inside.atlas) (atlas.Allocate (sides_of size)) (allocate_reply (Ok o))
+    (state_of c.allocate.new.self))
     c.in-None.is c.in_ok-granted.ensures.step in
     let more = c.note-in-None.ensures ∙ ap (with_event (Allocate size None)) c.in_ok-make_room.ensures.same in
     unroomed_session _ c.allocate.new.self c.reserve.new.self.items (recording_of c.note-in-None.new.self) size c.self.invariant
@@ -52,7 +55,8 @@ pub returns-in-Some-clause-led : goal.returns-in-Some-clause-led
 returns-in-Some-clause-led g c =
     let size = c.args.requested_size in
     let granted = c.in-Some.granted in
-    let step = subst (λ o. Step (state_of c.self.inside.atlas) (atlas.Allocate (sides_of size)) (allocate_reply (Ok o)) (state_of c.allocate.new.self))
+    let step = subst (λ o. Step (state_of c.self.inside.atlas) (atlas.Allocate (sides_of size)) (allocate_reply (Ok o))
+    (state_of c.allocate.new.self))
     c.in-Some.is c.in_ok-granted.ensures.step in
     let exact = subst (λ (o : Option Allocation). IfSome o (λ a. IsExact a.rectangle)) c.in-Some.is c.in_ok-granted.ensures.exact in
     let names = c.append.ensures ∙ ap (λ ns. ns ++ named_entry c.self.inside.given granted ∷ []) c.in_ok-reserve.ensures.items in

@@ -20,7 +20,8 @@ gather_names-requires g c =
 
 pub returns-clause-list : goal.returns-clause-list
 returns-clause-list g c =
-    given c.gather_names.result (λ v. v.items) (map (shown (state_of c.self.inside.atlas)) c.deref.result.now) (AreBooked c.args.self.now.recording.events)
+    given c.gather_names.result (λ v. v.items) (map (shown (state_of c.self.inside.atlas)) c.deref.result.now)
+    (AreBooked c.args.self.now.recording.events)
     (λ found is. subst (λ (v : SessionValue). AreBooked v.recording.events found) c.self.view_is
     (shown_book _ found c.self.invariant (is ∙ ap (map (shown (state_of c.self.inside.atlas))) c.deref.ensures.value)))
     c.gather_names.ensures.list

@@ -13,14 +13,18 @@ invariant_of-result g c =
     let was = c.self.invariant in
     let s = c.self.inside in
     let new = c.in_ok-atlas.atlas in
-    let state : state_of new ≡ state_of s.atlas = ap (λ (v : Stored). state_of (record { stored = v; turns = 0; capacity = 0 })) c.in_ok-atlas.ensures.equal in
+    let state : state_of new ≡ state_of s.atlas = ap (λ (v : Stored). state_of (record { stored = v; turns = 0; capacity = 0 }))
+    c.in_ok-atlas.ensures.equal in
     let names : c.in_ok-names.names.items ≡ s.names.items = c.in_ok-names.ensures.items ∙ c.deref.ensures.value in
     let log = c.in_ok-log.ensures.same in
     record {
       faithful = record {
-        leads = subst (λ (r : RecordingValue). LeadsTo r (record { state = state_of new; name = name_among c.in_ok-names.names.items })) (sym log)
-            (subst (λ (ns : List LiveName). LeadsTo (recording_of s.log) (record { state = state_of new; name = name_among ns })) (sym names)
-            (subst (λ (u : State). LeadsTo (recording_of s.log) (record { state = u; name = name_among s.names.items })) (sym state) was.faithful.leads));
+        leads = subst (λ (r : RecordingValue). LeadsTo r (record { state = state_of new; name = name_among c.in_ok-names.names.items }))
+            (sym log)
+            (subst (λ (ns : List LiveName). LeadsTo (recording_of s.log) (record { state = state_of new; name = name_among ns }))
+            (sym names)
+            (subst (λ (u : State). LeadsTo (recording_of s.log) (record { state = u; name = name_among s.names.items })) (sym state)
+            was.faithful.leads));
         given = ap (λ (r : RecordingValue). given_names r.events) log ∙ was.faithful.given;
       };
       ids = subst (λ (ns : List LiveName). AreLiveIds (state_of new) ns) (sym names)

@@ -10,4 +10,10 @@ returns-clause-recorded g c = subst IsRecorded (sym c.from_log.ensures) (_, c.se
 pub returns-clause-own : goal.returns-clause-own
 returns-clause-own g c = λ few.
     subst IsOwnRecording (sym c.from_log.ensures)
-    (record { recorded = (_, c.self.invariant.faithful.leads); count = _; few = subst (λ (v : SessionValue). v.given < 2 ^ 32) (sym c.self.view_is) few; given = c.self.invariant.faithful.given })
+    (record {
+      recorded = (_, c.self.invariant.faithful.leads);
+      count = _;
+      few = subst (λ (v : SessionValue). v.given < 2 ^ 32)
+          (sym c.self.view_is) few;
+      given = c.self.invariant.faithful.given;
+    })

@@ -17,7 +17,8 @@ visit_names-requires-clause-live g c =
 
 pub visit_names-requires-clause-shown : goal.visit_names-requires-clause-shown
 visit_names-requires-clause-shown g c =
-    subst (λ ns. All (λ (a : Allocation). IsShownArea a.rectangle) (map (shown (state_of c.self.inside.atlas)) ns)) (sym c.deref.ensures.value)
+    subst (λ ns. All (λ (a : Allocation). IsShownArea a.rectangle) (map (shown (state_of c.self.inside.atlas)) ns))
+    (sym c.deref.ensures.value)
     (entries_show_areas _ c.self.invariant (grind (arith, ints, c.size-size.ensures.size)) (grind (arith, ints, c.size-size.ensures.size)))
 
 pub visit_names-requires-clause-callable : goal.visit_names-requires-clause-callable

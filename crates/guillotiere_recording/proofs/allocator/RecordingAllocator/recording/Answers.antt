@@ -11,4 +11,10 @@ returns-clause-recorded g c =
 pub returns-clause-own : goal.returns-clause-own
 returns-clause-own g c = λ few.
     subst IsOwnRecording (sym (c.from_log.ensures ∙ c.in_ok-clone.ensures.same))
-    (record { recorded = (_, c.self.invariant.faithful.leads); count = _; few = subst (λ (v : SessionValue). v.given < 2 ^ 32) (sym c.self.view_is) few; given = c.self.invariant.faithful.given })
+    (record {
+      recorded = (_, c.self.invariant.faithful.leads);
+      count = _;
+      few = subst (λ (v : SessionValue). v.given < 2 ^ 32)
+          (sym c.self.view_is) few;
+      given = c.self.invariant.faithful.given;
+    })

@@ -52,7 +52,8 @@ pub returns-clause-replayed : goal.returns-clause-replayed
 returns-clause-replayed g c =
     let log = c.args.self.now in
     let whole : length (map event_of log.events.items) ≤ c.loop-at.at =
-    subst (λ n. n ≤ c.loop-at.at) (ap length c.deref-event-items.ensures.value ∙ sym (length-map log.events.items event_of)) c.loop-at-test.false in
+    subst (λ n. n ≤ c.loop-at.at) (ap length c.deref-event-items.ensures.value ∙ sym (length-map log.events.items event_of))
+    c.loop-at-test.false in
     let e = ends (recording_of log) c.loop-at.at c.loop-at.atlas c.loop-at.names c.in_ok-live.live.items whole c.loop-at.invariant
     c.in_ok-live.ensures.ordered c.in_ok-live.ensures.found c.in_ok-live.ensures.list in
     record {

@@ -44,5 +44,6 @@ pub returns-clause-resumed : goal.returns-clause-resumed
 returns-clause-resumed g c =
     let log = c.args.self.now in
     let all : length (map event_of log.events.items) ≤ c.loop-at.at =
-    subst (λ n. n ≤ c.loop-at.at) (ap length c.deref-event-items.ensures.value ∙ sym (length-map log.events.items event_of)) c.loop-at-test.false in
+    subst (λ n. n ≤ c.loop-at.at) (ap length c.deref-event-items.ensures.value ∙ sym (length-map log.events.items event_of))
+    c.loop-at-test.false in
     whole (recording_of log) c.loop-at.session.recording c.loop-at.at all c.loop-at.invariant

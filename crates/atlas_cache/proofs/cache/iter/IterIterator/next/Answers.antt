@@ -26,8 +26,11 @@ place_of-place-requires g c =
 pub invariant_of-self : goal.invariant_of-self
 invariant_of-self g c =
     let i = c.self.inside in
-    let to_come = rw c.in-Some.is at c.self.invariant.0 in
-    (turn-to_come c.in-Some.number i.left i.entries.now.entries (turn _ _ _ to_come) c.older-self-inside.result c.older-self-inside.ensures.next, c.self.invariant.1)
+    let to_come = rw c.in-Some.is at c.self.invariant.0 in (
+      turn-to_come c.in-Some.number i.left i.entries.now.entries (turn _ _ _ to_come) c.older-self-inside.result
+          c.older-self-inside.ensures.next,
+      c.self.invariant.1,
+    )
 
 pub returns-clause-steps : goal.returns-clause-steps
 returns-clause-steps g c =

@@ -13,16 +13,19 @@ use Rattle.guillotiere.proofs.simple.boxes.FreeBoxes.put.Goals as goal
 pub push-top-requires : goal.push-top-requires
 push-top-requires g c = (
   _,
-  box-can (options_of c.args.options.now) c.args.self.now.table c.args.self.now.entries.items c.deref_mut.result.now [] c.args.self.now.unused
+  box-can (options_of c.args.options.now) c.args.self.now.table c.args.self.now.entries.items c.deref_mut.result.now []
+      c.args.self.now.unused
       c.args.self.now.used c.args.at.number (number_of c.place_for-place.result) c.args.area c.requires.claimed c.requires.exact
       (ap (list_of (options_of c.args.options.now)) (sym c.exact_size.ensures.sides) ∙ sym c.place_for-place.ensures.number)
-      (omega (arith, c.place_for-place.ensures.row_inside, c.place_for-place.ensures.column_inside)) c.tag.result.number c.head.result.number
+      (omega (arith, c.place_for-place.ensures.row_inside, c.place_for-place.ensures.column_inside)) c.tag.result.number
+      c.head.result.number
       c.deref_mut.ensures.value c.tag.ensures (ap (λ (l : Link). l.number) c.head.ensures),
 )
 
 pub raise-requires-clause-slot : goal.raise-requires-clause-slot
 raise-requires-clause-slot g c =
-    box-some (options_of c.args.options.now) c.args.self.now.table c.args.self.now.entries.items c.deref_mut.result.now c.push-top.new.entries c.args.self.now.unused
+    box-some (options_of c.args.options.now) c.args.self.now.table c.args.self.now.entries.items c.deref_mut.result.now
+    c.push-top.new.entries c.args.self.now.unused
     c.args.self.now.used c.args.at.number (number_of c.place_for-place.result) c.args.area c.requires.claimed c.requires.exact
     (ap (list_of (options_of c.args.options.now)) (sym c.exact_size.ensures.sides) ∙ sym c.place_for-place.ensures.number)
     (omega (arith, c.place_for-place.ensures.row_inside, c.place_for-place.ensures.column_inside)) c.tag.result.number c.head.result.number
@@ -31,13 +34,16 @@ raise-requires-clause-slot g c =
 
 pub returns-clause-kept : goal.returns-clause-kept
 returns-clause-kept g c =
-    let done = box-put (options_of c.args.options.now) c.args.self.now.table c.args.self.now.entries.items c.deref_mut.result.now c.push-top.new.entries c.args.self.now.unused
+    let done = box-put (options_of c.args.options.now) c.args.self.now.table c.args.self.now.entries.items c.deref_mut.result.now
+    c.push-top.new.entries c.args.self.now.unused
     c.args.self.now.used c.args.at.number (number_of c.place_for-place.result) c.args.area c.requires.claimed c.requires.exact
     (ap (list_of (options_of c.args.options.now)) (sym c.exact_size.ensures.sides) ∙ sym c.place_for-place.ensures.number)
     (omega (arith, c.place_for-place.ensures.row_inside, c.place_for-place.ensures.column_inside)) c.tag.result.number c.head.result.number
     c.deref_mut.ensures.value c.tag.ensures (ap (λ (l : Link). l.number) c.head.ensures) c.push-top.result.number
-    c.push-top.ensures.pushed c.push-top.ensures.areas c.raise.new.self (ap (λ (l : Link). l.number) c.raise.ensures.head) c.raise.ensures.heads in
-    let long = box-long (options_of c.args.options.now) c.args.self.now.table c.args.self.now.entries.items c.deref_mut.result.now c.push-top.new.entries c.args.self.now.unused
+    c.push-top.ensures.pushed c.push-top.ensures.areas c.raise.new.self (ap (λ (l : Link). l.number) c.raise.ensures.head)
+    c.raise.ensures.heads in
+    let long = box-long (options_of c.args.options.now) c.args.self.now.table c.args.self.now.entries.items c.deref_mut.result.now
+    c.push-top.new.entries c.args.self.now.unused
     c.args.self.now.used c.args.at.number (number_of c.place_for-place.result) c.args.area c.requires.claimed c.requires.exact
     (ap (list_of (options_of c.args.options.now)) (sym c.exact_size.ensures.sides) ∙ sym c.place_for-place.ensures.number)
     (omega (arith, c.place_for-place.ensures.row_inside, c.place_for-place.ensures.column_inside)) c.tag.result.number c.head.result.number
@@ -45,18 +51,22 @@ returns-clause-kept g c =
     c.push-top.ensures.pushed c.push-top.ensures.areas in
     let items = with_items_is (with_item c.args.self.now.entries c.args.at.number (lone_box c.args.area)) c.push-top.new.entries
     (long ∙ sym c.args.self.now.entries.ok.0) in
-    subst (λ (bs : List FreeBox). AreKept (options_of c.args.options.now) (record { entries = map stored_item bs; heads = c.raise.new.self; unused = c.args.self.now.unused; used = c.args.self.now.used }))
+    subst (λ (bs : List FreeBox). AreKept (options_of c.args.options.now)
+    (record { entries = map stored_item bs; heads = c.raise.new.self; unused = c.args.self.now.unused; used = c.args.self.now.used }))
     (sym items) done.0
 
 pub returns-clause-boxes : goal.returns-clause-boxes
 returns-clause-boxes g c =
-    let done = box-put (options_of c.args.options.now) c.args.self.now.table c.args.self.now.entries.items c.deref_mut.result.now c.push-top.new.entries c.args.self.now.unused
+    let done = box-put (options_of c.args.options.now) c.args.self.now.table c.args.self.now.entries.items c.deref_mut.result.now
+    c.push-top.new.entries c.args.self.now.unused
     c.args.self.now.used c.args.at.number (number_of c.place_for-place.result) c.args.area c.requires.claimed c.requires.exact
     (ap (list_of (options_of c.args.options.now)) (sym c.exact_size.ensures.sides) ∙ sym c.place_for-place.ensures.number)
     (omega (arith, c.place_for-place.ensures.row_inside, c.place_for-place.ensures.column_inside)) c.tag.result.number c.head.result.number
     c.deref_mut.ensures.value c.tag.ensures (ap (λ (l : Link). l.number) c.head.ensures) c.push-top.result.number
-    c.push-top.ensures.pushed c.push-top.ensures.areas c.raise.new.self (ap (λ (l : Link). l.number) c.raise.ensures.head) c.raise.ensures.heads in
-    let long = box-long (options_of c.args.options.now) c.args.self.now.table c.args.self.now.entries.items c.deref_mut.result.now c.push-top.new.entries c.args.self.now.unused
+    c.push-top.ensures.pushed c.push-top.ensures.areas c.raise.new.self (ap (λ (l : Link). l.number) c.raise.ensures.head)
+    c.raise.ensures.heads in
+    let long = box-long (options_of c.args.options.now) c.args.self.now.table c.args.self.now.entries.items c.deref_mut.result.now
+    c.push-top.new.entries c.args.self.now.unused
     c.args.self.now.used c.args.at.number (number_of c.place_for-place.result) c.args.area c.requires.claimed c.requires.exact
     (ap (list_of (options_of c.args.options.now)) (sym c.exact_size.ensures.sides) ∙ sym c.place_for-place.ensures.number)
     (omega (arith, c.place_for-place.ensures.row_inside, c.place_for-place.ensures.column_inside)) c.tag.result.number c.head.result.number
@@ -64,5 +74,6 @@ returns-clause-boxes g c =
     c.push-top.ensures.pushed c.push-top.ensures.areas in
     let items = with_items_is (with_item c.args.self.now.entries c.args.at.number (lone_box c.args.area)) c.push-top.new.entries
     (long ∙ sym c.args.self.now.entries.ok.0) in
-    subst (λ (bs : List FreeBox). AreSameBoxes (free_item_boxes (map stored_item bs)) (box_of c.args.area ∷ free_item_boxes (map stored_item c.args.self.now.entries.items)))
+    subst (λ (bs : List FreeBox). AreSameBoxes (free_item_boxes (map stored_item bs))
+    (box_of c.args.area ∷ free_item_boxes (map stored_item c.args.self.now.entries.items)))
     (sym items) done.1

@@ -1,7 +1,8 @@
 use Rattle.std.proofs.Common.{map, arith}
 use Rattle.guillotiere.specs.FreeBoxes.BoxShelves.{free_item_boxes, stored_item}
 use Rattle.atlas_model.specs.Pixels.{box_of}
-use Rattle.guillotiere.proofs.SimpleLemmas.BoxShelves.{empty-kept, alone}
+use Rattle.guillotiere.proofs.SimpleLemmas.BoxShelves.{empty-kept}
+use Rattle.guillotiere.proofs.SimpleLemmas.ItemBoxes.{alone}
 use Rattle.guillotiere.proofs.simple.boxes.FreeBoxes.restart.Goals as goal
 
 pub add-requires-clause-kept : goal.add-requires-clause-kept

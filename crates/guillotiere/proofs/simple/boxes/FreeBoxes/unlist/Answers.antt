@@ -6,7 +6,9 @@ use Rattle.atlas_search.specs.Items.{Item}
 use Rattle.atlas_search.specs.Tables.{head_of, is_used_at}
 use Rattle.guillotiere.specs.FreeBoxes.BoxCalls.{HasUnlisted}
 use Rattle.guillotiere.specs.FreeBoxes.BoxShelves.{box_shelf, stored_item}
-use Rattle.guillotiere.proofs.SimpleLemmas.BoxShelves.{can-remove, first-unlisted, free-inside, next-unlisted, own-few, own_list, read-item, tagged-list, tagged-used}
+use Rattle.guillotiere.proofs.SimpleLemmas.ItemBoxes.{free-inside, read-item}
+use Rattle.guillotiere.proofs.SimpleLemmas.Unlisting.{can-remove, first-unlisted, next-unlisted, own-few, own_list, tagged-list}
+use Rattle.guillotiere.proofs.SimpleLemmas.Unlisting.{tagged-used}
 use Rattle.guillotiere.proofs.simple.boxes.FreeBoxes.unlist.Goals as goal
 
 pub index-requires : goal.index-requires
@@ -54,12 +56,27 @@ returns-then-up-ge-TAG-clause-unlisted g c o kept =
     let tagged : 4261412864 ≤ c.index.result.now.up.number = c.if-up-ge-TAG.true in
     let tag = tagged-list o v kept x free (omega (arith, up, tagged)) in
     let k : c.index.result.now.up.number - 4261412864 ≡ own_list o v kept x free = omega (arith, up, tag) in
-    let head = ap (λ (l : Link). l.number) (subst (λ n. head_of c.set_first.new.self n ≡ c.remove-rest.result) k c.set_first.ensures.head) in
-    let heads = subst (λ n. (j : ℕ) → j ≢ n → head_of c.set_first.new.self j ≡ head_of c.args.self.now.table j) k c.set_first.ensures.heads in
+    let head = ap (λ (l : Link). l.number) (subst (λ n. head_of c.set_first.new.self n ≡ c.remove-rest.result) k c.set_first.ensures.head)
+    in
+    let heads = subst (λ n. (j : ℕ) → j ≢ n → head_of c.set_first.new.self j ≡ head_of c.args.self.now.table j) k c.set_first.ensures.heads
+    in
     let is = ap (map stored_item) c.deref_mut.ensures.value in
     let long : length new ≡ c.args.self.now.entries.len =
-    omega (arith, c.remove-rest.ensures.areas.long, length-map new stored_item, length-map c.deref_mut.result.now stored_item, ap length c.deref_mut.ensures.value, c.args.self.now.entries.ok.0) in
-    subst (λ (bs : List FreeBox). HasUnlisted o v kept (record { entries = map stored_item bs; heads = c.set_first.new.self; unused = v.unused; used = v.used }) x)
+    omega (
+      arith,
+      c.remove-rest.ensures.areas.long,
+      length-map new stored_item,
+      length-map c.deref_mut.result.now stored_item,
+      ap length c.deref_mut.ensures.value,
+      c.args.self.now.entries.ok.0,
+    ) in
+    subst (λ (bs : List FreeBox). HasUnlisted o v kept (record {
+      entries = map stored_item bs;
+      heads = c.set_first.new.self;
+      unused =
+          v.unused;
+      used = v.used;
+    }) x)
     (sym (with_items_is c.args.self.now.entries new long))
     (first-unlisted o v kept x free (map stored_item c.deref_mut.result.now) (map stored_item new) is c.remove-rest.result.number
     c.remove-rest.ensures.removed c.remove-rest.ensures.areas c.set_first.new.self (omega (arith, up, tagged)) head heads)
@@ -75,8 +92,21 @@ returns-else-up-ge-TAG-clause-unlisted g c o kept =
     (omega (arith, inside, length-map c.args.self.now.entries.items stored_item)) c.index.ensures) in
     let is = ap (map stored_item) c.deref_mut.ensures.value in
     let long : length new ≡ c.args.self.now.entries.len =
-    omega (arith, c.remove-rest.ensures.areas.long, length-map new stored_item, length-map c.deref_mut.result.now stored_item, ap length c.deref_mut.ensures.value, c.args.self.now.entries.ok.0) in
-    subst (λ (bs : List FreeBox). HasUnlisted o v kept (record { entries = map stored_item bs; heads = v.heads; unused = v.unused; used = v.used }) x)
+    omega (
+      arith,
+      c.remove-rest.ensures.areas.long,
+      length-map new stored_item,
+      length-map c.deref_mut.result.now stored_item,
+      ap length c.deref_mut.ensures.value,
+      c.args.self.now.entries.ok.0,
+    ) in
+    subst (λ (bs : List FreeBox). HasUnlisted o v kept (record {
+      entries = map stored_item bs;
+      heads = v.heads;
+      unused = v.unused;
+      used =
+          v.used;
+    }) x)
     (sym (with_items_is c.args.self.now.entries new long))
     (next-unlisted o v kept x free (map stored_item c.deref_mut.result.now) (map stored_item new) is c.remove-rest.result.number
     c.remove-rest.ensures.removed c.remove-rest.ensures.areas (omega (arith, up, c.if-up-ge-TAG.false)))

@@ -1,0 +1,234 @@
+-- Cells and their halves.
+use Rattle.std.proofs.Common.{◌≡◌, ◌≢◌, ℕ, ◌+◌, ◌-◌, ◌*◌, ◌/◌, ◌<◌, ◌≤◌, ◌⊎◌, Bool, true, false, refl, inl, inr, arith}
+use Rattle.std.proofs.lemmas.Bool.{ltb-true, ltb-false}
+use Rattle.atlas_search.specs.declared.cells.Cell.{Cell}
+use Rattle.atlas_model.specs.Boxes.{Sides, IsPositive}
+use Rattle.atlas_search.specs.Forks.{IsCell, IsIn, IsSplit, cell_of, end_of, first_of, high, high_by, is_cut_wide, low, low_by, middle}
+
+-- How many sides a cell has.
+abbrev pub breadth : Cell → ℕ
+breadth c = (c.right - c.left) + (c.bottom - c.top)
+
+middle-more : (first end : ℕ) → 0 < first → 1 < end - first → first < middle first end
+middle-more first end some more = omega (arith, some, more)
+
+middle-less : (first end : ℕ) → 0 < first → 1 < end - first → middle first end < end
+middle-less first end some more = omega (arith, some, more)
+
+middle-least : (first end : ℕ) → first ≤ middle first end
+middle-least first end = omega arith
+
+middle-most : (first end : ℕ) → first ≤ end → middle first end ≤ end
+middle-most first end l = omega (arith, l)
+
+-- A cell is divided by a side that has more than one value.
+pub cut-wide : (c : Cell) → is_cut_wide c ≡ true → 1 < c.right - c.left
+unfolding is_cut_wide
+cut-wide c e = grind (arith, ltb-true)
+
+pub cut-high : (c : Cell) → is_cut_wide c ≡ false → IsSplit c → 1 < c.bottom - c.top
+unfolding is_cut_wide
+cut-high c e split = grind (arith, ltb-true, ltb-false)
+
+low-is_cell : (b : Bool) (c : Cell) → IsCell c → IsSplit c → is_cut_wide c ≡ b → IsCell (low_by b c)
+low-is_cell true c is split e =
+    let more = cut-wide c e in
+    record {
+      left = is.left;
+      right = omega (arith, middle-less c.left c.right is.left more, is.right);
+      wide = middle-more c.left c.right is.left more;
+      top = is.top;
+      bottom = is.bottom;
+      high = is.high;
+    }
+low-is_cell false c is split e =
+    let more = cut-high c e split in
+    record {
+      left = is.left;
+      right = is.right;
+      wide = is.wide;
+      top = is.top;
+      bottom = omega (arith, middle-less c.top c.bottom is.top more, is.bottom);
+      high = middle-more c.top c.bottom is.top more;
+    }
+
+high-is_cell : (b : Bool) (c : Cell) → IsCell c → IsSplit c → is_cut_wide c ≡ b → IsCell (high_by b c)
+high-is_cell true c is split e =
+    let more = cut-wide c e in
+    record {
+      left = omega (arith, middle-more c.left c.right is.left more);
+      right = is.right;
+      wide = middle-less c.left c.right is.left more;
+      top = is.top;
+      bottom = is.bottom;
+      high = is.high;
+    }
+high-is_cell false c is split e =
+    let more = cut-high c e split in
+    record {
+      left = is.left;
+      right = is.right;
+      wide = is.wide;
+      top = omega (arith, middle-more c.top c.bottom is.top more);
+      bottom = is.bottom;
+      high = middle-less c.top c.bottom is.top more;
+    }
+
+pub low-cell : (c : Cell) → IsCell c → IsSplit c → IsCell (low c)
+low-cell c is split = low-is_cell (is_cut_wide c) c is split refl
+
+pub high-cell : (c : Cell) → IsCell c → IsSplit c → IsCell (high c)
+high-cell c is split = high-is_cell (is_cut_wide c) c is split refl
+
+low-breadth : (b : Bool) (c : Cell) → IsCell c → IsSplit c → is_cut_wide c ≡ b → breadth (low_by b c) < breadth c
+low-breadth true c is split e = omega (
+  arith,
+  middle-less c.left c.right is.left (cut-wide c e),
+  middle-more c.left c.right is.left (cut-wide c e),
+)
+low-breadth false c is split e = omega (
+  arith,
+  middle-less c.top c.bottom is.top (cut-high c e split),
+  middle-more c.top c.bottom is.top (cut-high c e split),
+)
+
+high-breadth : (b : Bool) (c : Cell) → IsCell c → IsSplit c → is_cut_wide c ≡ b → breadth (high_by b c) < breadth c
+high-breadth true c is split e = omega (
+  arith,
+  middle-less c.left c.right is.left (cut-wide c e),
+  middle-more c.left c.right is.left (cut-wide c e),
+)
+high-breadth false c is split e = omega (
+  arith,
+  middle-less c.top c.bottom is.top (cut-high c e split),
+  middle-more c.top c.bottom is.top (cut-high c e split),
+)
+
+pub low-less : (c : Cell) → IsCell c → IsSplit c → breadth (low c) < breadth c
+low-less c is split = low-breadth (is_cut_wide c) c is split refl
+
+pub high-less : (c : Cell) → IsCell c → IsSplit c → breadth (high c) < breadth c
+high-less c is split = high-breadth (is_cut_wide c) c is split refl
+
+-- Sizes of the halves are sizes of the cell.
+low-is_within : (b : Bool) (c : Cell) (s : Sides) → IsCell c → IsIn s (low_by b c) → IsIn s c
+low-is_within true c s is h = record {
+  left = h.left;
+  right = omega (arith, h.right, middle-most c.left c.right (omega (arith, is.wide)));
+  top = h.top;
+  bottom = h.bottom;
+}
+low-is_within false c s is h = record {
+  left = h.left;
+  right = h.right;
+  top = h.top;
+  bottom =
+      omega (arith, h.bottom, middle-most c.top c.bottom (omega (arith, is.high)));
+}
+
+high-is_within : (b : Bool) (c : Cell) (s : Sides) → IsIn s (high_by b c) → IsIn s c
+high-is_within true c s h = record {
+  left = omega (arith, h.left, middle-least c.left c.right);
+  right = h.right;
+  top = h.top;
+  bottom =
+      h.bottom;
+}
+high-is_within false c s h = record {
+  left = h.left;
+  right = h.right;
+  top = omega (arith, h.top, middle-least c.top c.bottom);
+  bottom =
+      h.bottom;
+}
+
+pub low-within : (c : Cell) (s : Sides) → IsCell c → IsIn s (low c) → IsIn s c
+low-within c s is h = low-is_within (is_cut_wide c) c s is h
+
+pub high-within : (c : Cell) (s : Sides) → IsIn s (high c) → IsIn s c
+high-within c s h = high-is_within (is_cut_wide c) c s h
+
+-- In which half a size is.
+low-has : (b : Bool) (c : Cell) (s : Sides) → IsIn s c → s.width < (low_by b c).right → s.height < (low_by b c).bottom → IsIn s (low_by b c)
+low-has true c s h w t = record { left = h.left; right = w; top = h.top; bottom = h.bottom }
+low-has false c s h w t = record { left = h.left; right = h.right; top = h.top; bottom = t }
+
+high-has : (b : Bool) (c : Cell) (s : Sides) → IsIn s c → ((low_by b c).right ≤ s.width) ⊎ ((low_by b c).bottom ≤ s.height) →
+    IsIn s (high_by b c)
+high-has true c s h (inl w) = record { left = w; right = h.right; top = h.top; bottom = h.bottom }
+high-has true c s h (inr t) = absurd (omega (arith, t, h.bottom))
+high-has false c s h (inl w) = absurd (omega (arith, w, h.right))
+high-has false c s h (inr t) = record { left = h.left; right = h.right; top = t; bottom = h.bottom }
+
+pub in-low : (c : Cell) (s : Sides) → IsIn s c → (s.width < (low c).right) × (s.height < (low c).bottom) → IsIn s (low c)
+in-low c s h l = low-has (is_cut_wide c) c s h l.0 l.1
+
+pub in-high : (c : Cell) (s : Sides) → IsIn s c → ((low c).right ≤ s.width) ⊎ ((low c).bottom ≤ s.height) → IsIn s (high c)
+in-high c s h l = high-has (is_cut_wide c) c s h l
+
+-- A cell with two sizes has more than one.
+pub two-sizes : (c : Cell) (s t : Sides) → IsIn s c → IsIn t c → s ≢ t → IsSplit c
+two-sizes c s t a b ne = grind arith
+
+-- The cell of a size.
+first-least : (n : ℕ) → first_of n ≤ n
+unfolding first_of
+first-least n = grind (arith, ltb-true, ltb-false)
+
+end-more : (n : ℕ) → n ≤ 2147483647 → n < end_of n
+unfolding end_of
+end-more n l = grind (arith, ltb-true, ltb-false)
+
+first-some : (n : ℕ) → 0 < n → 0 < first_of n
+unfolding first_of
+first-some n l = grind (arith, ltb-true, ltb-false)
+
+end-most : (n : ℕ) → end_of n ≤ 2147483648
+unfolding end_of
+end-most n = grind (arith, ltb-true, ltb-false)
+
+pub cell-has : (s : Sides) → s.width ≤ 2147483647 → s.height ≤ 2147483647 → IsIn s (cell_of s)
+cell-has s w h = record { left = first-least s.width; right = end-more s.width w; top = first-least s.height; bottom = end-more s.height h }
+
+pub cell-is : (s : Sides) → IsPositive s → s.width ≤ 2147483647 → s.height ≤ 2147483647 → IsCell (cell_of s)
+cell-is s p w h = record {
+  left = first-some s.width p.0;
+  right = end-most s.width;
+  wide = omega (arith, first-least s.width, end-more s.width w);
+  top = first-some s.height p.1;
+  bottom = end-most s.height;
+  high = omega (arith, first-least s.height, end-more s.height h);
+}
+
+-- ---- what the code reads
+
+-- The step of a side, by where it is.
+pub step-16 : (n : ℕ) → n < 16 → (first_of n ≡ n) × (end_of n ≡ n + 1)
+unfolding first_of end_of
+step-16 n l = (grind (arith, ltb-true, ltb-false), grind (arith, ltb-true, ltb-false))
+
+pub step-64 : (n : ℕ) → 16 ≤ n → n < 64 → (first_of n ≡ n / 2 * 2) × (end_of n ≡ n / 2 * 2 + 2)
+unfolding first_of end_of
+step-64 n a l = (grind (arith, ltb-true, ltb-false), grind (arith, ltb-true, ltb-false))
+
+pub step-128 : (n : ℕ) → 64 ≤ n → n < 128 → (first_of n ≡ n / 8 * 8) × (end_of n ≡ n / 8 * 8 + 8)
+unfolding first_of end_of
+step-128 n a l = (grind (arith, ltb-true, ltb-false), grind (arith, ltb-true, ltb-false))
+
+pub step-256 : (n : ℕ) → 128 ≤ n → n < 256 → (first_of n ≡ n / 64 * 64) × (end_of n ≡ n / 64 * 64 + 64)
+unfolding first_of end_of
+step-256 n a l = (grind (arith, ltb-true, ltb-false), grind (arith, ltb-true, ltb-false))
+
+pub step-more : (n : ℕ) → 256 ≤ n → (first_of n ≡ 256) × (end_of n ≡ 2147483648)
+unfolding first_of end_of
+step-more n a = (grind (arith, ltb-true, ltb-false), grind (arith, ltb-true, ltb-false))
+
+pub is-cut-wide : (c : Cell) → 1 < c.right - c.left → (c.right - c.left < c.bottom - c.top + 1) ⊎ (c.bottom - c.top < 2) →
+    is_cut_wide c ≡ true
+unfolding is_cut_wide
+is-cut-wide c w t = grind (arith, ltb-false)
+
+pub not-cut-wide : (c : Cell) → (c.right - c.left ≤ 1) ⊎ ((c.bottom - c.top + 1 ≤ c.right - c.left) × (2 ≤ c.bottom - c.top)) →
+    is_cut_wide c ≡ false
+unfolding is_cut_wide
+not-cut-wide c narrow = grind (arith, ltb-true)

@@ -1,5 +1,0 @@
-pub mod Numbers
-pub mod SaidLines
-pub mod Texts
-pub mod Shown
-pub mod Drawn

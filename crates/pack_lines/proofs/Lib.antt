@@ -1,9 +1,0 @@
-pub mod ChosenSettings
-pub mod Faults
-pub mod FlatMaps
-pub mod FolderNames
-pub mod NameSets
-pub mod QuotedTexts
-pub mod SettingLines
-pub mod Spelled
-pub mod SpriteLines

@@ -1,6 +1,0 @@
-use Rattle.std.proofs.Common.{◌≡◌, flat_map, take}
-use Rattle.pack_lines.specs.Json.{next_name_text}
-use Rattle.pack_lines.proofs.json.other_names.Given as goal
-
-abbrev pub invariant-loop-next : goal.invariant-loop-next
-invariant-loop-next l = l.text.items ≡ flat_map next_name_text (take l.next-index l.others)

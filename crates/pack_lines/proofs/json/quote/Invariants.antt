@@ -1,6 +1,0 @@
-use Rattle.std.proofs.Common.{◌≡◌, ◌∷◌, flat_map, take}
-use Rattle.pack_lines.specs.Json.{escaped_byte}
-use Rattle.pack_lines.proofs.json.quote.Given as goal
-
-abbrev pub invariant-loop-byte : goal.invariant-loop-byte
-invariant-loop-byte l = l.text.items ≡ 34 ∷ flat_map escaped_byte (take l.byte-index l.byte-items)

@@ -1,9 +1,0 @@
-use Rattle.std.proofs.Common.{◌≡◌, ◌*◌, ◌≤◌, take}
-use Rattle.pack_lines.specs.Pages.{all_pixels}
-use Rattle.pack_lines.proofs.pages.all_pixels.Given as goal
-
-abbrev pub invariant-loop-sheet : goal.invariant-loop-sheet
-invariant-loop-sheet l = record {
-  is : l.all ≡ all_pixels (take l.sheet-index l.sheets);
-  few : l.all ≤ l.sheet-index * 4611686018427387904;
-}

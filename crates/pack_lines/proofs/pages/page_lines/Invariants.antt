@@ -1,6 +1,0 @@
-use Rattle.std.proofs.Common.{◌≡◌, flat_map, take}
-use Rattle.pack_lines.specs.Pages.{page_line}
-use Rattle.pack_lines.proofs.pages.page_lines.Given as goal
-
-abbrev pub invariant-loop-sprite : goal.invariant-loop-sprite
-invariant-loop-sprite l = l.text.items ≡ flat_map page_line (take l.sprite-index l.sprites)

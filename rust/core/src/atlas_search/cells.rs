@@ -1,0 +1,130 @@
+// Erased from crates/atlas_search/src/cells.rt by rust/erase: don't edit.
+//! The sizes of a list, and the halves that they are divided into.
+
+use crate::atlas_model::Size;
+
+/// Sizes: widths from `left` on and before `right`, heights from `top` on and before `bottom`.
+#[derive(Clone, Copy, Debug, PartialEq, Eq)]
+pub struct Cell {
+    pub left: u32,
+    pub right: u32,
+    pub top: u32,
+    pub bottom: u32,
+}
+
+/// The halves of a cell.
+#[derive(Clone, Copy)]
+pub struct Halves {
+    pub low: Cell,
+    pub high: Cell,
+}
+
+// The sides of one step: from one on, and before another.
+#[derive(Clone, Copy)]
+struct Step {
+    first: u32,
+    end: u32,
+}
+
+// The step of a side: so many sides from a multiple on.
+#[inline]
+fn step_from(side: u32, many: u32) -> Step {
+    let first = side / many * many;
+    Step {
+        first,
+        end: first + many,
+    }
+}
+
+// The step of a side.
+#[inline]
+fn step_around(side: u32) -> Step {
+    if side < 16 {
+        Step {
+            first: side,
+            end: side + 1,
+        }
+    } else if side < 64 {
+        step_from(side, 2)
+    } else if side < 128 {
+        step_from(side, 8)
+    } else if side < 256 {
+        step_from(side, 64)
+    } else {
+        Step {
+            first: 256,
+            end: 2147483648,
+        }
+    }
+}
+
+// Where sides are divided.
+#[inline(always)]
+fn middle(first: u32, end: u32) -> u32 {
+    (first + (end - first) / 2).min(2 * first)
+}
+
+impl Cell {
+    /// The sizes with both sides in the steps of these.
+    #[inline]
+    #[must_use]
+    pub fn around(size: Size) -> Cell {
+        let widths = step_around(size.width as u32);
+        let heights = step_around(size.height as u32);
+        Cell {
+            left: widths.first,
+            right: widths.end,
+            top: heights.first,
+            bottom: heights.end,
+        }
+    }
+
+    /// Whether both sides of a size are before the ends.
+    #[inline(always)]
+    #[must_use]
+    pub fn is_below_ends(self, size: Size) -> bool {
+        (size.width as u32) < self.right && (size.height as u32) < self.bottom
+    }
+
+    /// Whether both sides of a size, and so much more, are before the first ones.
+    #[inline(always)]
+    #[must_use]
+    pub fn is_beyond(self, size: Size, more: u32) -> bool {
+        let width = size.width as u32 as u64 + more as u64;
+        let height = size.height as u32 as u64 + more as u64;
+        width < self.left as u64 && height < self.top as u64
+    }
+
+    // Whether it is divided by width.
+    #[inline(always)]
+    fn is_cut_wide(self) -> bool {
+        let wide = self.right - self.left;
+        let tall = self.bottom - self.top;
+        if wide <= 1 {
+            return false;
+        }
+        if wide < tall + 1 {
+            return true;
+        }
+        tall < 2
+    }
+
+    /// The halves of a cell of more than one size.
+    #[inline(always)]
+    #[must_use]
+    pub fn halves(self) -> Halves {
+        if self.is_cut_wide() {
+            let at = middle(self.left, self.right);
+            Halves {
+                low: Cell { right: at, ..self },
+                high: Cell { left: at, ..self },
+            }
+        } else {
+            let at = middle(self.top, self.bottom);
+            Halves {
+                low: Cell { bottom: at, ..self },
+                high: Cell { top: at, ..self },
+            }
+        }
+    }
+}
