@@ -2,7 +2,8 @@
 /* The atlas allocators of guillotiere, for C99.
  *
  * An atlas is one large rectangle, often a texture, that hands out boxes and takes them back. A simple allocator hands
- * out boxes and takes none back. A cache keeps rectangles under keys in pages, which are textures or the layers of a texture
+ * out boxes and takes none back. A paged atlas does as an atlas does on several pages, such as the layers of a texture array, which come
+ * where no other has room. A cache keeps rectangles under keys in pages, which are textures or the layers of a texture
  * array, and reports what its caller has to do to the textures. guillotiere_pack takes sprites that are all known beforehand
  * and packs them into one small sheet, guillotiere_pack_dense into one that is as a rule smaller, guillotiere_pack_pages into
  * several, guillotiere_pack_groups into several with each group of sprites on one of them, and guillotiere_fill as many of them
@@ -165,6 +166,11 @@ typedef struct guillotiere_simple {
     void *at;
 } guillotiere_simple;
 
+/* A place for boxes on several pages: it holds a paged atlas, or nothing, and then it is null. */
+typedef struct guillotiere_paged {
+    void *at;
+} guillotiere_paged;
+
 /* A place for a cache: it holds one, or nothing, and then it is null. */
 typedef struct guillotiere_cache {
     void *at;
@@ -225,6 +231,14 @@ typedef struct guillotiere_change_count {
     size_t changes;
     size_t failures;
 } guillotiere_change_count;
+
+/* A live box on one of several pages: its page, counted from 0, its id there, which another page may have too, and its
+ * rectangle. */
+typedef struct guillotiere_page_allocation {
+    uint32_t page;
+    uint32_t id;
+    guillotiere_rectangle rectangle;
+} guillotiere_page_allocation;
 
 /* Which sheets are allowed, and how sprites lie in them. Of `width`, `height`, `least` and `greatest`, in pixels, only those
  * that the kind names are read. */
@@ -514,6 +528,70 @@ uint32_t guillotiere_simple_slots(const guillotiere_simple *simple, guillotiere_
 
 /* Whether one free box has the allocator's size; also true of a handle that holds nothing. */
 bool guillotiere_simple_is_empty(const guillotiere_simple *simple);
+
+/* --- A paged atlas: boxes without keys on several pages, such as the layers of a texture array ------------------------ */
+
+/* Makes a paged atlas, which has no page yet, with the default options, where the handle holds nothing. Pages are made of this
+ * size, as many as are needed, but at most `most`. DONE; BAD_CALL if a side isn't above 0; MEMORY; OCCUPIED, before
+ * all others, if the handle holds one already. */
+GUILLOTIERE_CHECKED
+uint32_t guillotiere_paged_new(int32_t width, int32_t height, uint32_t most, guillotiere_paged *paged);
+
+/* The same with these options, of the atlas of each page. DONE; BAD_CALL if a side isn't above 0 or the options aren't
+ * valid; MEMORY; OCCUPIED, before all others, if the handle holds one already. */
+GUILLOTIERE_CHECKED
+uint32_t guillotiere_paged_with_options(int32_t width, int32_t height, const guillotiere_options *options, uint32_t most,
+                                        guillotiere_paged *paged);
+
+/* Frees a paged atlas, with all its memory; the handle holds nothing then. */
+void guillotiere_paged_free(guillotiere_paged *paged);
+
+/* Asks for a box of this size, rounded up by the options, on the first page that has room for it. Where none has, a page is
+ * added, as the last one. DONE: `granted` has its page, its id and its rectangle, which overlaps no other live box of that
+ * page. NO_ROOM if there are as many pages as there may be, or the size has no room on an empty page; SLOTS if that page
+ * has too few of them, of 16777216; MEMORY; EMPTY. Takes one search on each page up to that one. */
+GUILLOTIERE_CHECKED
+uint32_t guillotiere_paged_allocate(guillotiere_paged *paged, int32_t width, int32_t height,
+                                    guillotiere_page_allocation *granted);
+
+/* Frees the box of an id that is live on a page: it joins the free space next to it. The page stays, also where nothing is
+ * left on it. Takes no memory. DONE; NOT_LIVE, also if there is no such page; EMPTY. */
+GUILLOTIERE_CHECKED
+uint32_t guillotiere_paged_deallocate(guillotiere_paged *paged, uint32_t page, uint32_t id);
+
+/* The rectangle of an id that is live on a page. DONE: it is in `found`. NOT_LIVE, also if there is no such page; EMPTY. */
+GUILLOTIERE_CHECKED
+uint32_t guillotiere_paged_get(const guillotiere_paged *paged, uint32_t page, uint32_t id, guillotiere_rectangle *found);
+
+/* Makes a page larger; every live id keeps its rectangle, and pages that are added later are as before. DONE; NO_PAGE;
+ * BAD_CALL if a side shrinks; SLOTS; MEMORY; EMPTY. */
+GUILLOTIERE_CHECKED
+uint32_t guillotiere_paged_grow(guillotiere_paged *paged, uint32_t page, int32_t width, int32_t height);
+
+/* Drops the pages behind the last one with a live id, with their memory, and writes how many are left. A page that such a one
+ * follows stays, though nothing is on it. No rectangle moves. Takes no memory. DONE; EMPTY. */
+uint32_t guillotiere_paged_shrink(guillotiere_paged *paged, uint32_t *left);
+
+/* Frees all boxes. The pages stay, with their sizes; guillotiere_paged_shrink drops them. Takes no memory. DONE; EMPTY. */
+uint32_t guillotiere_paged_clear(guillotiere_paged *paged);
+
+/* How many pages there are. DONE; EMPTY. */
+uint32_t guillotiere_paged_page_count(const guillotiere_paged *paged, uint32_t *pages);
+
+/* The size of a page, counted from 0. DONE; NO_PAGE; EMPTY. */
+GUILLOTIERE_CHECKED
+uint32_t guillotiere_paged_page_size(const guillotiere_paged *paged, uint32_t page, guillotiere_size *size);
+
+/* The areas of all live and of all free boxes of a page, counted from 0, in one pass over its slots. DONE; NO_PAGE;
+ * EMPTY. */
+GUILLOTIERE_CHECKED
+uint32_t guillotiere_paged_areas(const guillotiere_paged *paged, uint32_t page, guillotiere_areas *areas);
+
+/* Writes the live boxes of a page, counted from 0, by rising slot, which is the low 24 bits of the id: as many as there is
+ * room for, and into `count` how many there are. What `found` has after them stays. DONE; NO_PAGE; MEMORY; EMPTY. */
+GUILLOTIERE_CHECKED
+uint32_t guillotiere_paged_live(const guillotiere_paged *paged, uint32_t page, guillotiere_allocation *found,
+                                size_t found_len, size_t *count);
 
 /* --- A cache of rectangles under keys, in pages that are textures or the layers of a texture array -------------------- */
 

@@ -1,6 +1,6 @@
 /**
- * The atlas allocators of guillotiere: an atlas that frees, rearranges and grows, a simple one that only grants, a cache of
- * rectangles under keys in the pages of a texture array, and sheets of sprites that are known beforehand.
+ * The atlas allocators of guillotiere: an atlas that frees, rearranges and grows, a simple one that only grants, boxes on several pages, a
+ * cache of rectangles under keys in the pages of a texture array, and sheets of sprites that are known beforehand.
  *
  * Lengths and coordinates are in pixels, areas in unit squares; y grows downwards. A length is a whole number from -2147483648
  * to 2147483647. Whatever else is given, of whatever type, is answered by a {@link WollemigoError} with a `code`, and then
@@ -211,6 +211,7 @@ export interface Memory {
   /** How many objects of each class aren't disposed of, those that are forgotten and not collected yet among them. */
   atlases: number;
   simpleAtlases: number;
+  pagedAtlases: number;
   caches: number;
 }
 
@@ -322,6 +323,53 @@ export class SimpleAtlas {
   /** Whether one free box has the size of the whole. */
   readonly isEmpty: boolean;
   toJSON(): { size: Size; slots: Slots; options: Required<AtlasOptions> } | OutOfUse;
+
+  dispose(): void;
+  [Symbol.dispose](): void;
+}
+
+/** A live box on a page, which is counted from 0. Its id is one of its page: another page may have the same. */
+export interface PageAllocation extends Allocation {
+  page: number;
+}
+
+/**
+ * Boxes on several pages, such as the layers of a texture array, without keys: a page comes where no other has room, and the last ones go by
+ * `shrink`, where nothing is on them. Where things have keys, and go by themselves, take a {@link TextureCache}.
+ */
+export class PagedAtlas {
+  /**
+   * No page yet, and at most `pages`, which are made of this size and with these options.
+   * @throws {WollemigoError} `BAD_CALL`, `MEMORY`
+   */
+  constructor(width: number, height: number, pages: number, options?: AtlasOptions);
+
+  /** A box of this size, rounded up by the options, on the first page that has room for it, where none has on a new one, which comes last:
+   * make a layer for a page that is new. null where there are as many pages as there may be, or the size has no room on an empty page.
+   * One search on each page up to that one. Throws `SLOTS`, `MEMORY`. */
+  allocate(width: number, height: number): PageAllocation | null;
+  /** Frees the box of an id that is live on a page, which stays, also where nothing is left on it. Throws `NOT_LIVE`, also where there is no
+   * such page. */
+  deallocate(page: number, id: number): void;
+  /** The rectangle of an id that is live on a page; null of every other id and page. */
+  get(page: number, id: number): Rectangle | null;
+  /** Makes a page larger; every live id keeps its rectangle, and later pages are made as before. Throws `NO_PAGE`; `BAD_CALL` if a side
+   * shrinks; `SLOTS`, `MEMORY`. */
+  grow(page: number, width: number, height: number): void;
+  /** Drops the pages behind the last one with a live id: how many are left, so drop the layers from this number on. */
+  shrink(): number;
+  /** Frees all boxes. The pages stay. */
+  clear(): void;
+
+  readonly pageCount: number;
+  /** Throws `NO_PAGE`. */
+  pageSize(page: number): Size;
+  /** The areas of all live and of all free boxes of a page, in one pass over its slots. Throws `NO_PAGE`. */
+  areas(page: number): Areas;
+  /** The live boxes of a page, by rising slot, which is the low 24 bits of the id. Throws `NO_PAGE`, `MEMORY`. */
+  allocated(page: number): Allocation[];
+  /** What `JSON.stringify` and a console show: how many pages there are; or as `state` that it is out of use. */
+  toJSON(): { pageCount: number } | OutOfUse;
 
   dispose(): void;
   [Symbol.dispose](): void;

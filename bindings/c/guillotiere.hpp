@@ -1,7 +1,7 @@
 // The atlas allocators of guillotiere and its sheets of sprites, for C++17: guillotiere.h with owners.
 //
-// An atlas, a simple allocator or a cache is owned by an object that is moved and not copied, and frees it at its end. An object
-// that was moved from holds nothing: each call of it answers status::empty. Nothing here throws but what a std::vector
+// An atlas, a simple allocator, a paged atlas or a cache is owned by an object that is moved and not copied, and frees it at its end. An
+// object that was moved from holds nothing: each call of it answers status::empty. Nothing here throws but what a std::vector
 // throws when memory runs out; it compiles without exceptions.
 //
 // Meaning, units and statuses are those of guillotiere.h, with what a caller owes there. As with a std::vector, any number of
@@ -74,6 +74,7 @@ enum class change_kind : std::uint32_t {
 using size = guillotiere_size;
 using rectangle = guillotiere_rectangle;
 using allocation = guillotiere_allocation;
+using page_allocation = guillotiere_page_allocation;
 using change = guillotiere_change;
 using options = guillotiere_options;
 using slots = guillotiere_slots;
@@ -439,6 +440,94 @@ private:
     simple_atlas() : handle_{} {}
 
     guillotiere_simple handle_;
+};
+
+// Boxes on several pages, such as the layers of a texture array, which come where no other has room.
+class paged_atlas {
+public:
+    // No page yet, and at most so many, of this size.
+    static result<paged_atlas> make(guillotiere::size of, std::uint32_t most, const guillotiere::options &with = default_options) {
+        paged_atlas made;
+        const auto answer = guillotiere_paged_with_options(of.width, of.height, &with, most, &made.handle_);
+        if (answer != GUILLOTIERE_DONE) return static_cast<status>(answer);
+        return made;
+    }
+
+    paged_atlas(paged_atlas &&other) noexcept : handle_(std::exchange(other.handle_, guillotiere_paged{})) {}
+    paged_atlas &operator=(paged_atlas &&other) noexcept {
+        paged_atlas moved(std::move(other)); // what this held goes with it
+        std::swap(handle_, moved.handle_);
+        return *this;
+    }
+    paged_atlas(const paged_atlas &) = delete;
+    paged_atlas &operator=(const paged_atlas &) = delete;
+    ~paged_atlas() { guillotiere_paged_free(&handle_); }
+
+    // A box on the first page that has room, where none has on a new one; nothing where there is none.
+    result<std::optional<page_allocation>> allocate(guillotiere::size requested) {
+        page_allocation granted;
+        const auto answer = guillotiere_paged_allocate(&handle_, requested.width, requested.height, &granted);
+        if (answer == GUILLOTIERE_DONE) return std::optional<page_allocation>(granted);
+        if (answer == GUILLOTIERE_NO_ROOM) return std::optional<page_allocation>();
+        return static_cast<status>(answer);
+    }
+
+    [[nodiscard]] status deallocate(std::uint32_t page, std::uint32_t id) {
+        return static_cast<status>(guillotiere_paged_deallocate(&handle_, page, id));
+    }
+
+    // The rectangle of an id that is live on a page.
+    std::optional<rectangle> get(std::uint32_t page, std::uint32_t id) const {
+        rectangle found;
+        if (guillotiere_paged_get(&handle_, page, id, &found) != GUILLOTIERE_DONE) return std::nullopt;
+        return found;
+    }
+
+    // Makes a page larger; later pages are made as before.
+    [[nodiscard]] status grow(std::uint32_t page, guillotiere::size to) {
+        return static_cast<status>(guillotiere_paged_grow(&handle_, page, to.width, to.height));
+    }
+    // Drops the pages behind the last one with a live id: how many are left. Of what was moved from: 0.
+    std::uint32_t shrink() {
+        std::uint32_t left = 0;
+        guillotiere_paged_shrink(&handle_, &left);
+        return left;
+    }
+    // Frees all boxes; the pages stay.
+    [[nodiscard]] status clear() { return static_cast<status>(guillotiere_paged_clear(&handle_)); }
+
+    // Of what was moved from: 0.
+    std::uint32_t page_count() const {
+        std::uint32_t found = 0;
+        guillotiere_paged_page_count(&handle_, &found);
+        return found;
+    }
+    std::optional<guillotiere::size> page_size(std::uint32_t page) const {
+        guillotiere::size found;
+        if (guillotiere_paged_page_size(&handle_, page, &found) != GUILLOTIERE_DONE) return std::nullopt;
+        return found;
+    }
+    // The areas of all live and of all free boxes of a page.
+    std::optional<guillotiere::areas> areas(std::uint32_t page) const {
+        guillotiere::areas found;
+        if (guillotiere_paged_areas(&handle_, page, &found) != GUILLOTIERE_DONE) return std::nullopt;
+        return found;
+    }
+    // The live boxes of a page, by rising slot.
+    result<std::vector<allocation>> live(std::uint32_t page) const {
+        std::size_t count = 0;
+        auto answer = guillotiere_paged_live(&handle_, page, nullptr, 0, &count);
+        std::vector<allocation> found(count + 1);
+        if (answer == GUILLOTIERE_DONE) answer = guillotiere_paged_live(&handle_, page, found.data(), count, &count);
+        if (answer != GUILLOTIERE_DONE) return static_cast<status>(answer);
+        found.resize(count);
+        return found;
+    }
+
+private:
+    paged_atlas() : handle_{} {}
+
+    guillotiere_paged handle_;
 };
 
 // A cache of rectangles under keys, in pages that are textures or the layers of a texture array.

@@ -19,6 +19,10 @@ typedef struct {
 static uint64_t state, sum;
 static sequence both[2];
 static guillotiere_simple simple;
+static guillotiere_paged paged;
+static guillotiere_page_allocation on_pages[HELD];
+static guillotiere_allocation listed[ROOM];
+static uint32_t on_pages_count;
 static guillotiere_cache cache;
 static guillotiere_allocation found[ROOM], failures[ROOM];
 static guillotiere_rectangle boxes[ROOM];
@@ -312,6 +316,73 @@ static void describe_simple(void) {
     add(guillotiere_simple_is_empty(&simple));
 }
 
+/* --- A paged atlas ---------------------------------------------------------------------------------------------- */
+
+static void make_paged(void) {
+    const guillotiere_options options = some_options();
+    const int32_t width = side(400), height = side(400);
+    const uint32_t most = below(6);
+    if (!one_in(4)) guillotiere_paged_free(&paged);
+    if (one_in(2)) add(guillotiere_paged_new(width, height, most, &paged));
+    else add(guillotiere_paged_with_options(width, height, &options, most, &paged));
+}
+
+static void take_on_a_page(void) {
+    const int32_t width = side(90), height = side(90);
+    guillotiere_page_allocation granted = {7, 7, {7, 7, 7, 7}};
+    const uint32_t status = guillotiere_paged_allocate(&paged, width, height, &granted);
+    add(status);
+    add(granted.page);
+    add(granted.id);
+    add_box(&granted.rectangle);
+    if (status != GUILLOTIERE_DONE) return;
+    if (on_pages_count < HELD) on_pages[on_pages_count++] = granted;
+    else add(guillotiere_paged_deallocate(&paged, granted.page, granted.id));
+}
+
+/* What was granted last of all that is remembered, which may be void; or a page and an id that may never have been. */
+static void give_back_on_a_page(void) {
+    const uint32_t page = below(6), id = below(60);
+    if (on_pages_count == 0 || one_in(20)) {
+        add(guillotiere_paged_deallocate(&paged, page, id));
+        return;
+    }
+    const uint32_t at = below(on_pages_count);
+    add(guillotiere_paged_deallocate(&paged, on_pages[at].page, on_pages[at].id));
+    on_pages[at] = on_pages[--on_pages_count];
+}
+
+static void ask_pages(void) {
+    const uint32_t page = below(6), id = below(60);
+    guillotiere_rectangle box = untouched;
+    guillotiere_size size = {7, 7};
+    guillotiere_areas areas = {7, 7};
+    uint32_t pages = 7;
+    size_t count = 7;
+    add(guillotiere_paged_get(&paged, page, id, &box));
+    add_box(&box);
+    add(guillotiere_paged_page_count(&paged, &pages));
+    add(pages);
+    add(guillotiere_paged_page_size(&paged, page, &size));
+    add_size(&size);
+    add(guillotiere_paged_areas(&paged, page, &areas));
+    add_wide(areas.allocated);
+    add_wide(areas.free);
+    const uint32_t status = guillotiere_paged_live(&paged, page, listed, ROOM, &count);
+    add(status);
+    add_wide(count);
+    for (size_t i = 0; status == GUILLOTIERE_DONE && i < count && i < ROOM; i++) add_allocation(&listed[i]);
+}
+
+static void change_pages(void) {
+    const uint32_t page = below(6), kind = below(12);
+    const int32_t width = side(500), height = side(500);
+    uint32_t left = 7;
+    if (kind < 6) add(guillotiere_paged_grow(&paged, page, width, height));
+    else if (kind < 11) add(guillotiere_paged_shrink(&paged, &left)), add(left);
+    else add(guillotiere_paged_clear(&paged));
+}
+
 /* --- A cache ---------------------------------------------------------------------------------------------------- */
 
 static uint64_t some_key(void) { return (uint64_t)below(KEYS) * 0x100000001u; }
@@ -579,7 +650,8 @@ static const struct {
     {3600, allocate},     {2500, deallocate},     {60, deallocate_all}, {300, look_up},       {300, ask_atlas},
     {150, describe_atlas}, {20, list_atlas},      {60, grow_atlas},     {50, reserve},        {6, start_atlas_again},
     {12, rearrange},      {40, make_atlas},       {10, copy_atlas},     {4, free_atlas},      {800, take},
-    {10, make_simple},    {20, start_simple_again}, {40, grow_simple},  {100, describe_simple}, {900 * CACHES, insert},
+    {10, make_simple},    {20, start_simple_again}, {40, grow_simple},  {100, describe_simple}, {8, make_paged},
+    {700, take_on_a_page}, {500, give_back_on_a_page}, {60, ask_pages}, {30, change_pages}, {900 * CACHES, insert},
     {700 * CACHES, ask_cache}, {80 * CACHES, let_go}, {100 * CACHES, next_frame}, {80 * CACHES, describe_cache}, {6 * CACHES, make_cache},
     {8, pack},           {30 * CACHES, know_cache}, {4, pack_pages},    {4, fill},
     {4, pack_dense},      {4, pack_groups},
@@ -619,6 +691,7 @@ int main(int words, char **word) {
     }
     for (int i = 0; i < 2; i++) guillotiere_atlas_free(&both[i].atlas);
     guillotiere_simple_free(&simple);
+    guillotiere_paged_free(&paged);
     guillotiere_cache_free(&cache);
     return 0;
 }

@@ -9,7 +9,9 @@ static const guillotiere_options defaults = GUILLOTIERE_DEFAULT_OPTIONS;
 static void zero_handles(void) {
     guillotiere_atlas none = GUILLOTIERE_NONE, other = GUILLOTIERE_NONE;
     guillotiere_simple simple = GUILLOTIERE_NONE;
+    guillotiere_paged paged = GUILLOTIERE_NONE;
     guillotiere_allocation granted = {5, {1, 2, 3, 4}};
+    guillotiere_page_allocation on_page = {5, 6, {1, 2, 3, 4}};
     guillotiere_rectangle found = {1, 2, 3, 4};
     guillotiere_change change;
     guillotiere_change_count moved = {8, 9};
@@ -51,6 +53,15 @@ static void zero_handles(void) {
     CHECK(guillotiere_simple_slots(&simple, &slots) == GUILLOTIERE_EMPTY);
     CHECK(guillotiere_simple_is_empty(&simple));
     guillotiere_simple_free(&simple);
+    CHECK(guillotiere_paged_allocate(&paged, 1, 1, &on_page) == GUILLOTIERE_EMPTY && on_page.page == 5 && on_page.id == 6);
+    CHECK(guillotiere_paged_deallocate(&paged, 0, 0) == GUILLOTIERE_EMPTY);
+    CHECK(guillotiere_paged_get(&paged, 0, 0, &found) == GUILLOTIERE_EMPTY && found.max_y == 4);
+    CHECK(guillotiere_paged_grow(&paged, 0, 5, 5) == GUILLOTIERE_EMPTY && guillotiere_paged_clear(&paged) == GUILLOTIERE_EMPTY);
+    CHECK(guillotiere_paged_shrink(&paged, &id) == GUILLOTIERE_EMPTY && guillotiere_paged_page_count(&paged, &id) == GUILLOTIERE_EMPTY);
+    CHECK(id == 0 && guillotiere_paged_page_size(&paged, 0, &size) == GUILLOTIERE_EMPTY && size.width == 6);
+    CHECK(guillotiere_paged_areas(&paged, 0, &areas) == GUILLOTIERE_EMPTY);
+    CHECK(guillotiere_paged_live(&paged, 0, &granted, 1, &count) == GUILLOTIERE_EMPTY && count == 3);
+    guillotiere_paged_free(&paged);
 }
 
 /* Handles that hold an allocator already, and handles after a freeing. */

@@ -217,6 +217,60 @@ static void pages_and_fill(void) {
     CHECK(counted > 60);
 }
 
+/* What a refused request, growth or list leaves is what was there: as many pages, and the same boxes on each. */
+static void use_pages(guillotiere_paged *paged) {
+    guillotiere_page_allocation granted[24];
+    guillotiere_allocation found[24];
+    guillotiere_rectangle box;
+    guillotiere_size size;
+    uint32_t pages = 0, held = 0, status = guillotiere_paged_new(64, 64, 6, paged);
+    CHECK(status == (paged->at == NULL ? GUILLOTIERE_MEMORY : GUILLOTIERE_DONE));
+    if (status != GUILLOTIERE_DONE) return;
+    for (int32_t i = 0; i < 24; i++) {
+        const uint32_t before = pages;
+        granted[held].id = 99;
+        status = guillotiere_paged_allocate(paged, 20 + i % 5, 30 + i % 3, &granted[held]);
+        CHECK(status == GUILLOTIERE_DONE || status == GUILLOTIERE_MEMORY);
+        CHECK(guillotiere_paged_page_count(paged, &pages) == GUILLOTIERE_DONE);
+        if (status == GUILLOTIERE_DONE) held++;
+        else CHECK(granted[held].id == 99 && pages == before);
+        for (uint32_t k = 0; k < held; k++) {
+            CHECK(guillotiere_paged_get(paged, granted[k].page, granted[k].id, &box) == GUILLOTIERE_DONE);
+            CHECK(are_same(&box, &granted[k].rectangle));
+        }
+    }
+    status = guillotiere_paged_grow(paged, 0, 80, 90);
+    CHECK(status == GUILLOTIERE_DONE || status == GUILLOTIERE_MEMORY);
+    CHECK(guillotiere_paged_page_size(paged, 0, &size) == GUILLOTIERE_DONE && size.width == (status == GUILLOTIERE_DONE ? 80 : 64));
+    size_t count = 77;
+    status = guillotiere_paged_live(paged, 0, found, 24, &count);
+    CHECK(status == GUILLOTIERE_DONE || (status == GUILLOTIERE_MEMORY && count == 77));
+    const long refused = refusals, kept = left;
+    left = 0; /* a freeing, a clearing and a shrinking ask for nothing */
+    for (uint32_t k = 1; k < held; k++)
+        CHECK(guillotiere_paged_deallocate(paged, granted[k].page, granted[k].id) == GUILLOTIERE_DONE);
+    CHECK(guillotiere_paged_shrink(paged, &pages) == GUILLOTIERE_DONE && pages == granted[0].page + 1);
+    CHECK(guillotiere_paged_clear(paged) == GUILLOTIERE_DONE);
+    CHECK(guillotiere_paged_shrink(paged, &pages) == GUILLOTIERE_DONE && pages == 0 && refusals == refused);
+    left = kept;
+}
+
+static void several_pages(void) {
+    for (long nth = 0;; nth++) {
+        guillotiere_paged paged = GUILLOTIERE_NONE;
+        const long before = blocks, refused = refusals;
+        left = nth;
+        use_pages(&paged);
+        left = -1;
+        guillotiere_paged_free(&paged);
+        CHECK(blocks == before);
+        if (refusals == refused) {
+            CHECK(nth > 10);
+            return;
+        }
+    }
+}
+
 static size_t keys_of(guillotiere_cache *cache) {
     size_t len = 0;
     CHECK(guillotiere_cache_len(cache, &len) == GUILLOTIERE_DONE);
@@ -354,6 +408,7 @@ static void no_other_page(void) {
 }
 
 int main(void) {
+    several_pages();
     caches();
     frames();
     no_other_page();

@@ -9,6 +9,7 @@ HEAD = """#include "check.h"
 
 static guillotiere_atlas live_atlas;
 static guillotiere_simple live_simple;
+static guillotiere_paged live_paged;
 static guillotiere_cache live_cache;
 /* What all other pointers point to, which no call writes. */
 static union {
@@ -29,6 +30,7 @@ static void is_untouched(int line) {
 int main(void) {
     const guillotiere_cache_options options = GUILLOTIERE_DEFAULT_CACHE_OPTIONS;
     guillotiere_allocation box;
+    guillotiere_page_allocation on_page;
     guillotiere_rectangle area;
     guillotiere_place place;
     guillotiere_areas areas;
@@ -37,16 +39,21 @@ int main(void) {
     CHECK(guillotiere_atlas_new(64, 64, &live_atlas) == GUILLOTIERE_DONE);
     CHECK(guillotiere_simple_new(64, 64, &live_simple) == GUILLOTIERE_DONE);
     CHECK(guillotiere_atlas_allocate(&live_atlas, 8, 8, &box) == GUILLOTIERE_DONE);
+    CHECK(guillotiere_paged_new(64, 64, 2, &live_paged) == GUILLOTIERE_DONE);
+    CHECK(guillotiere_paged_allocate(&live_paged, 8, 8, &on_page) == GUILLOTIERE_DONE);
     CHECK(guillotiere_cache_new(&options, &live_cache) == GUILLOTIERE_DONE);
     CHECK(guillotiere_cache_insert(&live_cache, 1, 8, 8, &place) == GUILLOTIERE_DONE);
 """
 TAIL = """    /* all that is held is as it was */
     CHECK(guillotiere_atlas_areas(&live_atlas, &areas) == GUILLOTIERE_DONE && areas.allocated == 64 && areas.free == 64 * 64 - 64);
     CHECK(guillotiere_simple_allocate(&live_simple, 64, 64, &area) == GUILLOTIERE_DONE);
+    CHECK(guillotiere_paged_get(&live_paged, 0, on_page.id, &area) == GUILLOTIERE_DONE && area.max_x == 8);
+    CHECK(guillotiere_paged_areas(&live_paged, 0, &areas) == GUILLOTIERE_DONE && areas.free == 64 * 64 - 64);
     CHECK(guillotiere_cache_len(&live_cache, &keys) == GUILLOTIERE_DONE && keys == 1);
     CHECK(guillotiere_cache_statistics(&live_cache, &counts) == GUILLOTIERE_DONE && counts.hits == 0 && counts.misses == 0);
     guillotiere_atlas_free(&live_atlas);
     guillotiere_simple_free(&live_simple);
+    guillotiere_paged_free(&live_paged);
     guillotiere_cache_free(&live_cache);
     return 0;
 }
@@ -58,7 +65,7 @@ def argument(kind, name):
     """What is passed of a parameter that isn't null: the handle that holds something, room, or 1."""
     if kind != 'void *':
         return '1'
-    return '&live_' + name if name in ('atlas', 'simple', 'cache') else '(void *)&room'
+    return '&live_' + name if name in ('atlas', 'simple', 'paged', 'cache') else '(void *)&room'
 
 
 def source():

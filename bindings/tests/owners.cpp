@@ -12,6 +12,7 @@ static_assert(!std::is_copy_constructible<atlas>::value && !std::is_copy_assigna
 static_assert(std::is_nothrow_move_constructible<atlas>::value && std::is_nothrow_move_assignable<atlas>::value, "");
 static_assert(!std::is_copy_constructible<simple_atlas>::value, "simple_atlas is move-only");
 static_assert(std::is_nothrow_move_constructible<simple_atlas>::value, "");
+static_assert(!std::is_copy_constructible<paged_atlas>::value && std::is_nothrow_move_assignable<paged_atlas>::value, "");
 
 static atlas made(size of) {
     auto answer = atlas::make(of);
@@ -97,6 +98,29 @@ static void simple_calls() {
     CHECK(simple.grow({1, 1}) == status::bad_call && simple.grow({80, 64}) == status::done);
     CHECK(simple.size().width == 80 && simple.clear() == status::done && simple.is_empty());
     CHECK(simple.reset({0, 1}) == status::bad_call && simple.reset({5, 6}) == status::done && simple.size().height == 6);
+}
+
+static void several_pages() {
+    CHECK(paged_atlas::make({0, 64}, 2).error() == status::bad_call);
+    CHECK(paged_atlas::make({64, 64}, 2, {1, 1, 9, 8}).error() == status::bad_call);
+    auto made = paged_atlas::make({64, 64}, 2);
+    CHECK(made && made->page_count() == 0 && !made->page_size(0) && !made->areas(0) && made->live(0).error() == status::no_page);
+    const auto one = made->allocate({64, 40}), other = made->allocate({64, 40});
+    CHECK(one && *one && (*one)->page == 0 && other && *other && (*other)->page == 1 && made->page_count() == 2);
+    CHECK(*made->allocate({64, 40}) == std::nullopt && *made->allocate({65, 1}) == std::nullopt);
+    CHECK(made->get(1, (*other)->id)->max_y == 40 && !made->get(2, (*other)->id));
+    const auto live = made->live(1);
+    CHECK(live && live->size() == 1 && (*live)[0].id == (*other)->id && made->areas(1)->free == 64 * 24);
+    CHECK(made->grow(1, {64, 63}) == status::bad_call && made->grow(2, {64, 64}) == status::no_page);
+    CHECK(made->grow(1, {80, 64}) == status::done && made->page_size(1)->width == 80 && made->page_size(0)->width == 64);
+    paged_atlas taken = std::move(*made);
+    CHECK(made->page_count() == 0 && made->allocate({1, 1}).error() == status::empty && made->shrink() == 0);
+    CHECK(made->deallocate(0, (*one)->id) == status::empty && made->clear() == status::empty && made->live(0).error() == status::empty);
+    CHECK(taken.deallocate(0, (*one)->id) == status::done && taken.deallocate(0, (*one)->id) == status::not_live);
+    CHECK(taken.shrink() == 2 && taken.live(0)->empty()); // the page before one with a box stays
+    CHECK(taken.clear() == status::done && taken.page_count() == 2 && taken.shrink() == 0 && taken.page_count() == 0);
+    taken = std::move(*paged_atlas::make({8, 8}, 1));
+    CHECK((*taken.allocate({8, 8}))->page == 0 && *taken.allocate({1, 1}) == std::nullopt);
 }
 
 static void sheets_of_sprites() {
@@ -258,5 +282,6 @@ int main() {
     moves();
     calls();
     simple_calls();
+    several_pages();
     return 0;
 }

@@ -7,7 +7,7 @@ from suite import BINDINGS
 
 # After it the key isn't held, whatever it answered.
 UNMARKED = {'guillotiere_cache_remove'}
-EXAMPLES = ('rearranging.c', 'drawn_glyphs.c')
+EXAMPLES = ('rearranging.c', 'layers.c', 'drawn_glyphs.c')
 
 
 def read(*path):

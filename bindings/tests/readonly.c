@@ -51,25 +51,29 @@ void __wrap_free(void *block) {
     (void)block;
 }
 
-/* An atlas of 20 boxes, 20 wide and 20 to 39 high; a simple allocator of which nothing is handed out; and a cache of the keys 0 to
- * 19, each of 10 by 10 pixels with a padding of 1. */
+/* An atlas of 20 boxes, 20 wide and 20 to 39 high; a simple allocator of which nothing is handed out; pages of 39 by 39, on each of which
+ * one of these boxes has room; and a cache of the keys 0 to 19, each of 10 by 10 pixels with a padding of 1. */
 struct held {
     guillotiere_atlas atlas;
     guillotiere_simple simple;
+    guillotiere_paged paged;
     guillotiere_cache cache;
     guillotiere_allocation last;
+    guillotiere_page_allocation on_a_page;
 };
 
-enum { SIDE = 1024, PAGE = 256, COUNT = 20, BOXES = 20 * (20 + 39) * 20 / 2, ENTRIES = COUNT * 12 * 12 };
+enum { SIDE = 1024, PAGE = 256, LAYER = 39, COUNT = 20, BOXES = 20 * (20 + 39) * 20 / 2, ENTRIES = COUNT * 12 * 12 };
 
 static void fill(struct held *h) {
     guillotiere_cache_options options = {{PAGE, PAGE}, {PAGE, PAGE}, 1, 1, GUILLOTIERE_DEFAULT_OPTIONS};
     CHECK(guillotiere_atlas_new(SIDE, SIDE, &h->atlas) == GUILLOTIERE_DONE);
     CHECK(guillotiere_simple_new(SIDE, SIDE, &h->simple) == GUILLOTIERE_DONE);
+    CHECK(guillotiere_paged_new(LAYER, LAYER, COUNT, &h->paged) == GUILLOTIERE_DONE);
     CHECK(guillotiere_cache_new(&options, &h->cache) == GUILLOTIERE_DONE);
     for (int i = 0; i < COUNT; i++) {
         guillotiere_place place;
         CHECK(guillotiere_atlas_allocate(&h->atlas, 20, 20 + i, &h->last) == GUILLOTIERE_DONE);
+        CHECK(guillotiere_paged_allocate(&h->paged, 20, 20 + i, &h->on_a_page) == GUILLOTIERE_DONE);
         CHECK(guillotiere_cache_insert(&h->cache, (uint64_t)i, 10, 10, &place) == GUILLOTIERE_DONE);
     }
 }
@@ -178,6 +182,36 @@ static bool simple_init_from_allocator(const struct held *h) {
     return is_right;
 }
 
+static bool paged_get(const struct held *h) {
+    guillotiere_rectangle found;
+    const uint32_t page = h->on_a_page.page, id = h->on_a_page.id;
+    return page == COUNT - 1 && guillotiere_paged_get(&h->paged, page, id, &found) == GUILLOTIERE_DONE && found.max_y == 39
+        && guillotiere_paged_get(&h->paged, COUNT, id, &found) == GUILLOTIERE_NOT_LIVE;
+}
+
+static bool paged_page_count(const struct held *h) {
+    uint32_t pages;
+    return guillotiere_paged_page_count(&h->paged, &pages) == GUILLOTIERE_DONE && pages == COUNT;
+}
+
+static bool paged_page_size(const struct held *h) {
+    guillotiere_size size;
+    return guillotiere_paged_page_size(&h->paged, 7, &size) == GUILLOTIERE_DONE && size.width == LAYER && size.height == LAYER;
+}
+
+static bool paged_areas(const struct held *h) {
+    guillotiere_areas areas;
+    return guillotiere_paged_areas(&h->paged, 7, &areas) == GUILLOTIERE_DONE && areas.allocated == 20 * 27
+        && areas.free == LAYER * LAYER - 20 * 27;
+}
+
+static bool paged_live(const struct held *h) {
+    guillotiere_allocation found[COUNT];
+    size_t count;
+    return guillotiere_paged_live(&h->paged, 7, found, COUNT, &count) == GUILLOTIERE_DONE && count == 1
+        && found[0].rectangle.max_y == 27;
+}
+
 static bool cache_clone(const struct held *h) {
     guillotiere_cache copy = GUILLOTIERE_NONE;
     size_t len;
@@ -262,6 +296,7 @@ static const struct {
     CALL(atlas_slots), CALL(atlas_areas), CALL(atlas_unusable_area), CALL(atlas_largest_free), CALL(atlas_live),
     CALL(atlas_free_boxes), CALL(atlas_clone), CALL(simple_size), CALL(simple_options), CALL(simple_slots),
     CALL(simple_is_empty), CALL(simple_can_grow_to), CALL(simple_init_from_allocator),
+    CALL(paged_get), CALL(paged_page_count), CALL(paged_page_size), CALL(paged_areas), CALL(paged_live),
     CALL(cache_peek), CALL(cache_newest), CALL(cache_oldest), CALL(cache_older), CALL(cache_len), CALL(cache_numbers),
     CALL(cache_page_count), CALL(cache_page_size), CALL(cache_areas), CALL(cache_unusable_area), CALL(cache_options_of),
     CALL(cache_statistics), CALL(cache_clone),
@@ -337,6 +372,7 @@ static int by_two_threads(long count) {
     }
     guillotiere_atlas_free(&held.atlas);
     guillotiere_simple_free(&held.simple);
+    guillotiere_paged_free(&held.paged);
     guillotiere_cache_free(&held.cache);
     return faults > 0;
 }

@@ -105,7 +105,7 @@ def check_readers(library, compiler):
     """Each call whose handles are const, over memory that can't be written; and the program makes each of them."""
     with open(os.path.join(BINDINGS, 'c', 'guillotiere.h')) as file:
         found = re.findall(r'^(?:uint32_t|void|bool) (guillotiere_\w+)\(([^;]*)\);', file.read(), re.M)
-    wanted = {name for name, words in found if re.search(r'const guillotiere_(atlas|simple|cache) \*', words)}
+    wanted = {name for name, words in found if re.search(r'const guillotiere_(atlas|simple|paged|cache) \*', words)}
     program = library.compiled(compiler, 'tests/readonly.c', ['-O2', '-pthread'] + REFUSING)
     if set(call([program, 'names']).split()) != wanted:
         raise Failure('tests/readonly.c makes other calls than those whose handles are const in guillotiere.h')

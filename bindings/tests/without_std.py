@@ -105,7 +105,7 @@ def test_lean(suite, library):
     suite.run("its names, and those that it needs", check_needed, lean)
     suite.run('its shared library, and glibc', check_glibc, lean)
     suite.run("a plugin's names, without std", check_plugin, lean)
-    for source in ('c/examples/glyph_cache.c', 'tests/cache.c', 'tests/hostile.c', 'tests/nulls.c', 'tests/sheet.c'):
+    for source in ('c/examples/glyph_cache.c', 'tests/cache.c', 'tests/hostile.c', 'tests/nulls.c', 'tests/paged.c', 'tests/sheet.c'):
         suite.run(source + ', without std', run_program, lean, 'gcc', source, ['-O2'])
     suite.run('each pointer in turn null, without std', run_nulls, lean, 'gcc')
     for source in ('tests/memory.c', 'tests/hook.c'):

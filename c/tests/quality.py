@@ -79,7 +79,7 @@ def test_quality(suite, file, compilers):
 def test_watched(suite, file):
     if not suite.has(['gcc', 'valgrind'], 'programs under valgrind'):
         return
-    for source in ('c/examples/glyph_cache.c', 'tests/cache.c', 'tests/hostile.c', 'tests/session.c', 'tests/sheet.c'):
+    for source in ('c/examples/glyph_cache.c', 'tests/cache.c', 'tests/hostile.c', 'tests/paged.c', 'tests/session.c', 'tests/sheet.c'):
         suite.run(source + ', under valgrind', linked.run_program, file, 'gcc', source, ['-O1', '-g'], [], WATCHED)
     suite.run('a handle that is copied, under valgrind', check_watched, file)
     suite.run('two threads that read, under helgrind', linked.run_program, file, 'gcc', 'tests/readonly.c', ['-O1', '-g', '-pthread'],

@@ -41,8 +41,10 @@ static void *resize(void *user, void *block, size_t size_before, size_t size) {
 static void end(void) {
     for (int i = 0; i < 2; i++) guillotiere_atlas_free(&both[i].atlas);
     guillotiere_simple_free(&simple);
+    guillotiere_paged_free(&paged);
     guillotiere_cache_free(&cache);
     memset(both, 0, sizeof both);
+    on_pages_count = 0;
 }
 
 int main(int count, char **words) {

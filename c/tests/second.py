@@ -16,12 +16,13 @@ from reading import Machine  # noqa: E402
 from runner import Failure, call  # noqa: E402
 
 SIZES = {'int32_t': 4, 'uint32_t': 4, 'uint64_t': 8, 'size_t': 8, 'void *': 8, 'bool': 1}
-HANDLES = ('guillotiere_atlas', 'guillotiere_simple', 'guillotiere_cache')
+HANDLES = ('guillotiere_atlas', 'guillotiere_simple', 'guillotiere_paged', 'guillotiere_cache')
 KINDS, ROOM, SPRITES = 3, 48, 5
 # How often these are called, where others are once.
 OFTEN = {'atlas_allocate': 40, 'atlas_deallocate': 20, 'atlas_get': 4, 'simple_allocate': 12, 'cache_insert': 30, 'cache_next_change': 20,
-         'cache_get': 5, 'cache_begin_frame': 4, 'atlas_new': 5, 'simple_new': 5, 'cache_new': 25}
-SELDOM = {'atlas_free', 'atlas_clear', 'simple_free', 'cache_free', 'cache_clear'}
+         'cache_get': 5, 'cache_begin_frame': 4, 'atlas_new': 5, 'simple_new': 5, 'cache_new': 25,
+         'paged_new': 5, 'paged_allocate': 25, 'paged_deallocate': 10}
+SELDOM = {'atlas_free', 'atlas_clear', 'simple_free', 'paged_free', 'paged_clear', 'cache_free', 'cache_clear'}
 
 
 # What says how much is done or taken.
@@ -142,7 +143,7 @@ class Drawing:
             return self.side()
         usual = {'id': draw.choice(self.ids), 'ids': draw.choice(self.ids), 'key': draw.randint(0, 30), 'additional': draw.randint(0, 20),
                  'limit': draw.randint(0, 90), 'frames': draw.randint(0, 4), 'page': draw.randint(0, 2), 'pages': draw.randint(0, 3),
-                 'padding': draw.randint(0, 1), 'alignment_width': draw.randint(1, 3), 'alignment_height': draw.randint(1, 3),
+                 'most': draw.randint(0, 3), 'padding': draw.randint(0, 1), 'alignment_width': draw.randint(1, 3), 'alignment_height': draw.randint(1, 3),
                  'small_size_threshold': draw.randint(0, 16), 'large_size_threshold': draw.randint(12, 60), 'allowed': draw.randint(0, 3),
                  'least': draw.randint(0, 8), 'greatest': draw.randint(8, 64), 'turn': draw.randint(0, 1), 'effort': draw.randint(0, 2),
                  'seed': draw.getrandbits(64), 'groups': draw.choice([0, 1, 2, 4294967295]), 'number': draw.randint(0, 20)}
@@ -171,8 +172,9 @@ class Drawing:
 
     def learn(self, which, told):
         """Keeps ids that were granted."""
-        if self.header.functions[which][1] == 'guillotiere_atlas_allocate' and told[0] == 0:
-            self.ids = (self.ids + [told[1]])[-40:]
+        at = {'guillotiere_atlas_allocate': 1, 'guillotiere_paged_allocate': 2}.get(self.header.functions[which][1])
+        if at and told[0] == 0:
+            self.ids = (self.ids + [told[at]])[-40:]
 
 
 class Second:

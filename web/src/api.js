@@ -3,6 +3,7 @@ export { TextureCache } from './cache.js';
 export { WollemigoError } from './errors.js';
 export { packDense } from './dense.js';
 export { packGroups } from './groups.js';
+export { PagedAtlas } from './paged.js';
 export { fill, packPages } from './pages.js';
 export { memory } from './runtime.js';
 export { pack } from './sheet.js';

@@ -71,7 +71,6 @@ export class TextureCache extends Owner {
       NO_PAGES: 'no pages are allowed',
       BAD_PADDING: 'the padding is below 0',
       BAD_ATLAS: "the options of the pages' atlases aren't valid",
-      NO_PAGE: 'there is no such page',
       NEVER_FITS: 'with the padding, rounded up to the alignment, a size exceeds the largest page',
       NOTHING_FITS: 'with the padding and rounded up, not even 1 by 1 fits the largest page',
     });

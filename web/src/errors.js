@@ -11,6 +11,7 @@ const MESSAGES = {
   NOT_LIVE: "an id isn't live, or is listed twice",
   SLOTS: 'more slots would be used than the limit allows',
   MEMORY: 'memory was refused',
+  NO_PAGE: 'there is no such page',
   DISPOSED: 'the object was disposed of',
   TRAPPED: 'the WebAssembly module has trapped, and is used no more',
   NOT_LOADED: "the module isn't there yet: await load() first",

@@ -10,8 +10,10 @@ export const EXPORTS = [
   'cache_next_change', 'cache_numbers', 'cache_older', 'cache_oldest', 'cache_options_of', 'cache_page_count', 'cache_page_size',
   'cache_peek', 'cache_remove', 'cache_repack', 'cache_repack_keeping_all', 'cache_reserve', 'cache_reserve_changes', 'cache_reserve_slots',
   'cache_shrink', 'cache_statistics', 'cache_trim', 'cache_unusable_area', 'fill', 'interface', 'pack', 'pack_dense', 'pack_groups',
-  'pack_pages', 'simple_allocate', 'simple_can_grow_to', 'simple_clear', 'simple_free', 'simple_grow', 'simple_init_from_allocator',
-  'simple_is_empty', 'simple_new', 'simple_options', 'simple_reset', 'simple_size', 'simple_slots', 'simple_with_options', 'version',
+  'pack_pages', 'paged_allocate', 'paged_areas', 'paged_clear', 'paged_deallocate', 'paged_free', 'paged_get', 'paged_grow', 'paged_live',
+  'paged_new', 'paged_page_count', 'paged_page_size', 'paged_shrink', 'paged_with_options', 'simple_allocate', 'simple_can_grow_to',
+  'simple_clear', 'simple_free', 'simple_grow', 'simple_init_from_allocator', 'simple_is_empty', 'simple_new', 'simple_options',
+  'simple_reset', 'simple_size', 'simple_slots', 'simple_with_options', 'version',
 ];
 
 /** What each status is called, by its number; an empty text where no status has it. */
@@ -76,6 +78,8 @@ export const countsAt = { hits: 0, misses: 2, evictions: 4, words: 6 };
 export const maybePlacedAt = { isPlaced: 0, placed: 1, words: 6 };
 export const onPageAt = { page: 0, placed: 1, words: 6 };
 export const optionsAt = { alignmentWidth: 0, alignmentHeight: 1, smallSizeThreshold: 2, largeSizeThreshold: 3, words: 4 };
+export const pageAllocationAt = { page: 0, id: 1, rectangle: 2, words: 6 };
+export const pagedAt = { at: 0, words: 1 };
 export const placeAt = { number: 0, page: 1, rectangle: 2, inner: 6, words: 10 };
 export const placedAt = { area: 0, turned: 4, words: 5 };
 export const rectangleAt = { minX: 0, minY: 1, maxX: 2, maxY: 3, words: 4 };

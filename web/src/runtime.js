@@ -28,7 +28,7 @@ export class Runtime {
     }
     this.hasTrapped = false;
     /** How many owners there are of each kind, by its name. */
-    this.owners = { Atlas: 0, SimpleAtlas: 0, TextureCache: 0 };
+    this.owners = { Atlas: 0, SimpleAtlas: 0, PagedAtlas: 0, TextureCache: 0 };
     this.#memory = exports.memory;
     this.#words = new Int32Array(this.#memory.buffer);
     const trap = (error) => this.trap(error);
@@ -130,7 +130,7 @@ export function running() {
 export function memory() {
   atMost(0, arguments.length);
   const { bytes, owners } = running();
-  return { bytes, atlases: owners.Atlas, simpleAtlases: owners.SimpleAtlas, caches: owners.TextureCache };
+  return { bytes, atlases: owners.Atlas, simpleAtlases: owners.SimpleAtlas, pagedAtlases: owners.PagedAtlas, caches: owners.TextureCache };
 }
 
 /** Whether a module runs that has these functions. Another one may take its place, by a larger entry of the package: then what was made
@@ -229,8 +229,9 @@ function letGo(runtime, cell, kind) {
 /** What owners are of, each by the call that lets its handle go. Only these modules have them, so nothing else makes an owner. */
 export const ATLAS = Object.freeze({ name: 'Atlas', free: 'atlas_free' });
 export const SIMPLE = Object.freeze({ name: 'SimpleAtlas', free: 'simple_free' });
+export const PAGED = Object.freeze({ name: 'PagedAtlas', free: 'paged_free' });
 export const CACHE = Object.freeze({ name: 'TextureCache', free: 'cache_free' });
-const KINDS = new Set([ATLAS, SIMPLE, CACHE]);
+const KINDS = new Set([ATLAS, SIMPLE, PAGED, CACHE]);
 
 /** Whether a value is an owner of a kind: what it was made as, whatever its prototype is now. */
 export let isOf;

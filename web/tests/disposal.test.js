@@ -5,7 +5,7 @@ import { test } from 'node:test';
 import * as wollemigo from '../node.js';
 import { refused } from './support.js';
 
-const { Atlas, SimpleAtlas, TextureCache } = wollemigo;
+const { Atlas, PagedAtlas, SimpleAtlas, TextureCache } = wollemigo;
 await wollemigo.load();
 const page = { width: 64, height: 64 };
 
@@ -17,6 +17,9 @@ const USES = {
     clone: [], allocateInto: [1, 1, {}], unusableArea: [1, 1], largestFree: [],
   },
   SimpleAtlas: { allocate: [1, 1], grow: [200, 200], canGrowTo: [200, 200], clear: [], reset: [5, 5], initFrom: [new Atlas(5, 5)] },
+  PagedAtlas: {
+    allocate: [1, 1], deallocate: [0, 3], get: [0, 3], grow: [0, 200, 200], shrink: [], clear: [], pageSize: [0], areas: [0], allocated: [0],
+  },
   TextureCache: {
     beginFrame: [], get: ['a'], peek: ['a'], insert: ['a', 1, 1], remove: ['a'], has: ['a'], changes: [], clear: [], trim: [1], repack: [0],
     repackKeepingAll: [0], endBatch: [1], compact: [1],
@@ -26,7 +29,8 @@ const USES = {
   },
 };
 const MAKERS = {
-  Atlas: () => new Atlas(100, 100), SimpleAtlas: () => new SimpleAtlas(100, 100), TextureCache: () => new TextureCache({ page }),
+  Atlas: () => new Atlas(100, 100), SimpleAtlas: () => new SimpleAtlas(100, 100), PagedAtlas: () => new PagedAtlas(100, 100, 2),
+  TextureCache: () => new TextureCache({ page }),
 };
 
 test('each call of what was disposed of', () => {
@@ -36,7 +40,7 @@ test('each call of what was disposed of', () => {
     const methods = Object.keys(described).filter((each) => !['constructor', 'toJSON'].includes(each) && described[each].value !== undefined);
     const getters = Object.keys(described).filter((each) => described[each].get !== undefined);
     assert.deepEqual(methods.sort(), Object.keys(USES[name]).sort());
-    assert.ok(getters.length > 2);
+    assert.ok(getters.length > (name === 'PagedAtlas' ? 0 : 2));
     it.dispose();
     it.dispose();
     for (const method of methods) refused(() => it[method](...USES[name][method]), 'DISPOSED', `${name}.${method}`);
@@ -52,15 +56,15 @@ test('each call of what was disposed of', () => {
 
 test('what memory tells', () => {
   const before = wollemigo.memory();
-  const counts = ({ atlases, simpleAtlases, caches }) => [atlases, simpleAtlases, caches];
+  const counts = ({ atlases, simpleAtlases, pagedAtlases, caches }) => [atlases, simpleAtlases, pagedAtlases, caches];
   assert.ok(before.bytes >= 131072 && before.bytes % 65536 === 0);
-  const made = [new Atlas(5, 5), new Atlas(5, 5).clone(), new SimpleAtlas(5, 5), new TextureCache({ page }),
+  const made = [new Atlas(5, 5), new Atlas(5, 5).clone(), new SimpleAtlas(5, 5), new PagedAtlas(5, 5, 2), new TextureCache({ page }),
     new TextureCache({ page }).clone()];
   refused(() => new Atlas(0, 5), 'BAD_CALL', 'none is made');
-  const [atlases, simples, caches] = counts(before);
-  assert.deepEqual(counts(wollemigo.memory()), [atlases + 3, simples + 1, caches + 3]);
+  const [atlases, simples, pages, caches] = counts(before);
+  assert.deepEqual(counts(wollemigo.memory()), [atlases + 3, simples + 1, pages + 1, caches + 3]);
   for (const each of made) for (let i = 0; i < 2; i++) each.dispose();
-  assert.deepEqual(counts(wollemigo.memory()), [atlases + 1, simples, caches + 1]);
+  assert.deepEqual(counts(wollemigo.memory()), [atlases + 1, simples, pages, caches + 1]);
 });
 
 test('a loop that disposes of what it makes takes no more than one', () => {

@@ -13,7 +13,7 @@ import { runInNewContext } from 'node:vm';
 import * as wollemigo from '../node.js';
 import { refused } from './support.js';
 
-const { Atlas, SimpleAtlas, TextureCache } = wollemigo;
+const { Atlas, PagedAtlas, SimpleAtlas, TextureCache } = wollemigo;
 await wollemigo.load();
 const page = { width: 64, height: 64 };
 // An atlas with memory for this many slots has some 600 MB, and there are 4 GB at most.
@@ -21,12 +21,14 @@ const MANY = 16777000;
 
 test('what a console shows', () => {
   const [atlas, simple, cache] = [new Atlas(100, 50), new SimpleAtlas(90, 40), new TextureCache({ page })];
+  const paged = new PagedAtlas(80, 40, 2);
   cache.insert('a', 5, 5);
+  assert.match(inspect(paged), /^PagedAtlas \{ pageCount: 0 \}/);
   assert.match(inspect(atlas), /^Atlas \{\s+size: \{ width: 100, height: 50 \}/);
   assert.match(inspect(simple), /^SimpleAtlas \{\s+size: \{ width: 90, height: 40 \}/);
   assert.match(inspect(cache), /^TextureCache \{\s+length: 1,\s+pageCount: 1/);
   assert.match(inspect({ atlas }, { depth: 0 }), /Atlas/);
-  for (const each of [atlas, simple, cache]) {
+  for (const each of [atlas, simple, paged, cache]) {
     each.dispose();
     assert.match(inspect(each), /^\w+ \{ state: 'DISPOSED' \}$/);
   }

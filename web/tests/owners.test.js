@@ -3,22 +3,24 @@ import assert from 'node:assert/strict';
 import { test } from 'node:test';
 
 import * as wollemigo from '../node.js';
-import { cacheState, refused, simpleState, stateOf } from './support.js';
+import { cacheState, pagedState, refused, simpleState, stateOf } from './support.js';
 
-const { Atlas, SimpleAtlas, TextureCache } = wollemigo;
+const { Atlas, PagedAtlas, SimpleAtlas, TextureCache } = wollemigo;
 await wollemigo.load();
 const page = { width: 64, height: 64 };
 
 function filled() {
   const [atlas, simple, cache] = [new Atlas(100, 50), new SimpleAtlas(90, 40), new TextureCache({ page, pages: 2 })];
+  const paged = new PagedAtlas(80, 40, 2);
   const { id } = atlas.allocate(20, 30);
+  paged.allocate(10, 10);
   simple.allocate(10, 10);
   cache.insert('a', 10, 10);
-  return { atlas, simple, cache, id };
+  return { atlas, simple, paged, cache, id };
 }
 
-function stateOfAll({ atlas, simple, cache }) {
-  return [stateOf(atlas), simpleState(simple), cacheState(cache, ['a']), cache.pageSize(0), cache.areas(0)];
+function stateOfAll({ atlas, simple, paged, cache }) {
+  return [stateOf(atlas), simpleState(simple), pagedState(paged), cacheState(cache, ['a']), cache.pageSize(0), cache.areas(0)];
 }
 
 /** Each call that a class has, by its name: methods, and what its properties call. */
@@ -32,7 +34,10 @@ function callsOf({ prototype }) {
 }
 
 /** Arguments that an object of the right class would take. */
-function argumentsFor(name, { atlas, id }) {
+function argumentsFor(made, name, { atlas, id }) {
+  const ofPages = { deallocate: [0, id], get: [0, id], grow: [0, 200, 200], allocated: [0] };
+  if (made === PagedAtlas && name in ofPages) return ofPages[name];
+  if (made === TextureCache && name === 'get') return ['a'];
   const known = { deallocate: [id], get: [id], deallocateAll: [[id]], initFrom: [atlas], pageSize: [0], areas: [0], repack: [0], repackKeepingAll: [0],
     endBatch: [1], compact: [1], trim: [0], reserve: [5], reserveSlots: [5], reserveChanges: [5], older: ['a'], peek: ['a'], touch: ['a'], getInto: ['a', {}],
     insertAll: [[], [], new Int32Array(0)],
@@ -43,15 +48,15 @@ function argumentsFor(name, { atlas, id }) {
 test('a call on what is of another class', () => {
   const all = filled();
   const before = stateOfAll(all);
-  const classes = [[Atlas, all.atlas], [SimpleAtlas, all.simple], [TextureCache, all.cache]];
+  const classes = [[Atlas, all.atlas], [SimpleAtlas, all.simple], [PagedAtlas, all.paged], [TextureCache, all.cache]];
   let tried = 0;
   for (const [made, own] of classes) {
     const strangers = [...classes.filter(([other]) => other !== made).map(([, other]) => other), Object.create(made.prototype),
       new Proxy(own, {}), Reflect.construct(made === Atlas ? SimpleAtlas : Atlas, [5, 5], made), {}, null, undefined, 5, 'x', made];
     for (const [name, call] of callsOf(made)) {
-      const words = argumentsFor(name, all);
+      const words = argumentsFor(made, name, all);
       for (const stranger of strangers) {
-        refused(() => call.apply(stranger, (name === 'get' && made === TextureCache ? ['a'] : words).slice(0, call.length)), 'BAD_THIS', `${made.name} ${name}`);
+        refused(() => call.apply(stranger, words.slice(0, call.length)), 'BAD_THIS', `${made.name} ${name}`);
         tried += 1;
       }
     }

@@ -1,7 +1,7 @@
 // Each call of the package once, as TypeScript sees it. It is compiled, and not run.
 import {
-  Allocation, Atlas, CacheChange, Container, ErrorCode, Filled, Key, MOST_SLOTS, Pages, Rectangle, Sheet, SimpleAtlas, TextureCache,
-  WollemigoError, fill, load, pack, packDense, packGroups, packPages,
+  Allocation, Atlas, CacheChange, Container, ErrorCode, Filled, Key, MOST_SLOTS, PageAllocation, PagedAtlas, Pages, Rectangle, Sheet,
+  SimpleAtlas, TextureCache, WollemigoError, fill, load, pack, packDense, packGroups, packPages,
 } from '../index.js';
 
 function follow(change: CacheChange): Key | number {
@@ -34,6 +34,18 @@ function useAtlas(): void {
   simple.allocate(atlas.size.width, 1)?.height;
   atlas.dispose();
   simple[Symbol.dispose]();
+}
+
+function usePages(): void {
+  const layers = new PagedAtlas(5, 5, 16, { smallSizeThreshold: 0 });
+  const image: PageAllocation | null = layers.allocate(1, 1);
+  if (image === null) return;
+  const [at, live]: [Rectangle | null, Allocation[]] = [layers.get(image.page, image.id), layers.allocated(image.page)];
+  if (at !== null && live.length < layers.areas(0).free) layers.grow(0, layers.pageSize(0).width, 9);
+  layers.deallocate(image.page, image.id);
+  const left: number = layers.shrink() + layers.pageCount;
+  if (left > 0) layers.clear();
+  layers.dispose();
 }
 
 function useCache(): void {
@@ -69,6 +81,7 @@ export async function use(): Promise<ErrorCode | Sheet | null> {
   await load(fetch('wollemigo.wasm'));
   try {
     useAtlas();
+    usePages();
     useCache();
     useSheets();
     return pack([{ width: 1, height: 1 }], { sheets: { kind: 'heights', width: 5, greatest: 9 }, turn: true, seed: 5n });

@@ -40,6 +40,12 @@ export function simpleState(simple) {
   return { size, options, slots, isEmpty };
 }
 
+/** What is told of each page, and of no page. */
+export function pagedState(paged) {
+  const pages = Array.from({ length: paged.pageCount }, (_, page) => page);
+  return pages.map((page) => ({ size: paged.pageSize(page), areas: paged.areas(page), live: paged.allocated(page) }));
+}
+
 export function cacheState(cache, keys) {
   const { length, pageCount, statistics } = cache;
   return { length, pageCount, statistics, places: keys.map((key) => cache.peek(key)) };

@@ -3,9 +3,9 @@ import assert from 'node:assert/strict';
 import { test } from 'node:test';
 
 import * as wollemigo from '../node.js';
-import { cacheState, refused, simpleState, stateOf } from './support.js';
+import { cacheState, pagedState, refused, simpleState, stateOf } from './support.js';
 
-const { Atlas, SimpleAtlas, TextureCache } = wollemigo;
+const { Atlas, PagedAtlas, SimpleAtlas, TextureCache } = wollemigo;
 await wollemigo.load();
 const page = { width: 64, height: 64 };
 const [sprites, out] = [[page], new Int32Array(11)];
@@ -22,6 +22,10 @@ const CALLS = {
     allocate: [5, 5], canGrowTo: [120, 120], clear: [], dispose: [], grow: [120, 120], initFrom: [new Atlas(5, 5)], isEmpty: null, options: null,
     reset: [5, 5, {}], size: null, slots: null, toJSON: null,
   },
+  PagedAtlas: {
+    allocate: [5, 5], allocated: [0], areas: [0], clear: [], deallocate: [0, 3], dispose: [], get: [0, 3], grow: [0, 120, 120], pageCount: null,
+    pageSize: [0], shrink: [], toJSON: null,
+  },
   TextureCache: {
     areas: [0], beginFrame: [], changes: [], clear: [], clone: [], compact: [1], dispose: [], endBatch: [1], get: ['a'],
     getInto: ['a', { rectangle: {}, inner: {} }], has: ['a'],
@@ -34,14 +38,16 @@ const CALLS = {
 
 function owners() {
   const [atlas, simple, cache] = [new Atlas(100, 100), new SimpleAtlas(100, 100), new TextureCache({ page })];
+  const paged = new PagedAtlas(100, 100, 2);
   atlas.allocate(20, 60);
+  paged.allocate(20, 60);
   simple.allocate(20, 60);
   cache.insert('a', 20, 20);
-  return { Atlas: atlas, SimpleAtlas: simple, TextureCache: cache };
+  return { Atlas: atlas, SimpleAtlas: simple, PagedAtlas: paged, TextureCache: cache };
 }
 
-const stateOfAll = ({ Atlas: atlas, SimpleAtlas: simple, TextureCache: cache }) => (
-  JSON.stringify([stateOf(atlas), simpleState(simple), cacheState(cache, ['a', 'b']), wollemigo.memory().atlases]));
+const stateOfAll = ({ Atlas: atlas, SimpleAtlas: simple, PagedAtlas: paged, TextureCache: cache }) => (
+  JSON.stringify([stateOf(atlas), simpleState(simple), pagedState(paged), cacheState(cache, ['a', 'b']), wollemigo.memory().atlases]));
 
 for (const [name, calls] of Object.entries(CALLS)) {
   test(`an argument more than ${name} takes`, () => {
@@ -62,7 +68,8 @@ for (const [name, calls] of Object.entries(CALLS)) {
 
 test('an argument more than other calls take', async () => {
   const cases = {
-    Atlas: () => new Atlas(5, 5, {}, 5, 5), SimpleAtlas: () => new SimpleAtlas(5, 5, {}, 5), TextureCache: () => new TextureCache({ page }, 5),
+    Atlas: () => new Atlas(5, 5, {}, 5, 5), SimpleAtlas: () => new SimpleAtlas(5, 5, {}, 5), PagedAtlas: () => new PagedAtlas(5, 5, 1, {}, 5),
+    TextureCache: () => new TextureCache({ page }, 5),
     from: () => SimpleAtlas.from(new Atlas(5, 5), 5), memory: () => wollemigo.memory(5), pack: () => wollemigo.pack(sprites, {}, 5),
     packDense: () => wollemigo.packDense(sprites, {}, 5), packPages: () => wollemigo.packPages(sprites, {}, 5),
     packGroups: () => wollemigo.packGroups(sprites, [0], {}, 5), fill: () => wollemigo.fill(sprites, {}, 5),

@@ -7,13 +7,13 @@ import * as wollemigo from '../node.js';
 import { stub } from './stub.js';
 import { refused } from './support.js';
 
-const { Atlas, SimpleAtlas, TextureCache, load, pack, packDense, packGroups } = wollemigo;
+const { Atlas, PagedAtlas, SimpleAtlas, TextureCache, load, pack, packDense, packGroups } = wollemigo;
 const bytes = readFileSync(new URL('../wollemigo.wasm', import.meta.url));
 const names = WebAssembly.Module.exports(new WebAssembly.Module(bytes)).filter(({ kind }) => kind === 'function').map(({ name }) => name);
 const page = { width: 64, height: 64 };
 
 test('nothing goes before the module is there', async () => {
-  for (const call of [() => new Atlas(5, 5), () => new SimpleAtlas(5, 5), () => new TextureCache({ page }), () => pack([]),
+  for (const call of [() => new Atlas(5, 5), () => new SimpleAtlas(5, 5), () => new PagedAtlas(5, 5, 1), () => new TextureCache({ page }), () => pack([]),
     () => packDense([]), () => packGroups([], [])]) {
     refused(call, 'NOT_LOADED', 'call');
   }

@@ -13,7 +13,7 @@ import * as nodeAtlas from '../node_atlas.js';
 import * as nodeCache from '../node_cache.js';
 
 const types = readFileSync(new URL('../index.d.ts', import.meta.url), 'utf8');
-const sources = ['interface', 'errors', 'values', 'arrays', 'runtime', 'sheet', 'keys', 'atlas', 'cache', 'simple']
+const sources = ['interface', 'errors', 'values', 'arrays', 'runtime', 'sheet', 'keys', 'atlas', 'cache', 'simple', 'paged']
   .map((name) => readFileSync(new URL(`../src/${name}.js`, import.meta.url), 'utf8')).join('\n');
 
 test('what is exported is what the types name', () => {
@@ -26,7 +26,7 @@ test('what is exported is what the types name', () => {
 });
 
 test('what a class has is what the types name', () => {
-  for (const name of ['Atlas', 'SimpleAtlas', 'TextureCache']) {
+  for (const name of ['Atlas', 'SimpleAtlas', 'PagedAtlas', 'TextureCache']) {
     const body = types.slice(types.indexOf(`export class ${name} {`)).split('\n}\n')[0];
     const named = new Set([...body.matchAll(/^ {2}(?:static |readonly )?(\w+)[(:]/gm)].map((found) => found[1]));
     const made = [node[name], node[name].prototype, Object.getPrototypeOf(node[name].prototype)].flatMap(Object.getOwnPropertyNames);

@@ -3,9 +3,9 @@ import assert from 'node:assert/strict';
 import { test } from 'node:test';
 
 import * as wollemigo from '../node.js';
-import { NO_GIVEN_NUMBERS, NO_NUMBERS, cacheState, named, refused, simpleState, stateOf } from './support.js';
+import { NO_GIVEN_NUMBERS, NO_NUMBERS, cacheState, named, pagedState, refused, simpleState, stateOf } from './support.js';
 
-const { Atlas, SimpleAtlas, TextureCache, fill, pack, packDense, packGroups, packPages } = wollemigo;
+const { Atlas, PagedAtlas, SimpleAtlas, TextureCache, fill, pack, packDense, packGroups, packPages } = wollemigo;
 await wollemigo.load();
 const NO_LENGTHS = [...NO_NUMBERS, 2 ** 31];
 const NO_COUNTS = [...NO_NUMBERS, -1];
@@ -55,6 +55,19 @@ test('lengths of a simple atlas', () => {
     refused(() => simple.initFrom(value), 'BAD_OPTION', `initFrom(${named(value)})`);
     refused(() => SimpleAtlas.from(value), 'BAD_OPTION', `from(${named(value)})`);
   }
+});
+
+test('lengths and numbers of pages', () => {
+  const paged = new PagedAtlas(100, 100, 2);
+  paged.allocate(3, 3);
+  const state = () => pagedState(paged);
+  tryAll('allocate', state, (...all) => paged.allocate(...all), NO_LENGTHS, 'BAD_NUMBER', true);
+  tryAll('grow', state, (...all) => paged.grow(0, ...all), NO_LENGTHS, 'BAD_NUMBER', true);
+  tryAll('grow a page', state, (value) => paged.grow(value, 200, 200), NO_COUNTS, 'BAD_NUMBER', false);
+  for (const name of ['deallocate', 'get']) tryAll(name, state, (...all) => paged[name](...all), NO_COUNTS, 'BAD_NUMBER', true);
+  for (const name of ['pageSize', 'areas', 'allocated']) tryAll(name, state, (value) => paged[name](value), NO_COUNTS, 'BAD_NUMBER', false);
+  tryAll('new', state, (...all) => new PagedAtlas(...all, 2), NO_LENGTHS, 'BAD_NUMBER', true);
+  tryAll('new, of so many pages', state, (value) => new PagedAtlas(5, 5, value), NO_COUNTS, 'BAD_NUMBER', false);
 });
 
 test('numbers and keys of a cache', () => {
@@ -115,6 +128,7 @@ test('options of the wrong kind, and with names that are not known', () => {
     const of = named(options);
     refused(() => new Atlas(5, 5, options), code, of);
     refused(() => new SimpleAtlas(5, 5, options), code, of);
+    refused(() => new PagedAtlas(5, 5, 2, options), code, of);
     refused(() => atlas.reset(5, 5, options), code, of);
     refused(() => new TextureCache({ page, atlas: options }), code === 'BAD_CALL' ? 'BAD_ATLAS' : code, of);
   }

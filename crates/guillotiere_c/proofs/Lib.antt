@@ -3,4 +3,5 @@ pub mod CacheReaders
 pub mod Lent
 pub mod LiveCounts
 pub mod Packings
+pub mod PagedReaders
 pub mod SimpleReaders

@@ -11,8 +11,10 @@ use Rattle.std.specs.contracts.alloc.Global
 use Rattle.std.specs.contracts.impls.GlobalAllocator.TheImpl
 use Rattle.atlas_allocator.specs.contracts.atlas.AtlasAllocator
 use Rattle.guillotiere.specs.contracts.simple.SimpleAtlasAllocator
+use Rattle.atlas_pages.specs.contracts.paged.PagedAtlas
 use Rattle.guillotiere.specs.Stored.{AtlasValue}
 use Rattle.guillotiere.specs.SimpleStored.{SimpleValue}
+use Rattle.atlas_pages.specs.Paged.{PagedState}
 use Rattle.guillotiere_c.specs.contracts.followed.FollowedCache
 use Rattle.guillotiere_c.specs.Following.{Followed}
 
@@ -26,6 +28,9 @@ atlas_row = AtlasAllocator.the_row Global.the_row TheImpl.ghosts
 abbrev pub simple_row : RattleType
 simple_row = SimpleAtlasAllocator.the_row Global.the_row TheImpl.ghosts
 
+abbrev pub paged_row : RattleType
+paged_row = PagedAtlas.the_row Global.the_row TheImpl.ghosts
+
 abbrev pub cache_row : RattleType
 cache_row = FollowedCache.the_row
 
@@ -36,6 +41,10 @@ keeps_atlas (Some v) p = box_owns token (AtlasAllocator.the_row Global.the_row T
 abbrev pub keeps_simple : Option SimpleValue → Ptr → Fml
 keeps_simple None p = feq Ptr p null_ptr
 keeps_simple (Some v) p = box_owns token (SimpleAtlasAllocator.the_row Global.the_row TheImpl.ghosts) p v
+
+abbrev pub keeps_paged : Option PagedState → Ptr → Fml
+keeps_paged None p = feq Ptr p null_ptr
+keeps_paged (Some v) p = box_owns token (PagedAtlas.the_row Global.the_row TheImpl.ghosts) p v
 
 abbrev pub keeps_cache : Option Followed → Ptr → Fml
 keeps_cache None p = feq Ptr p null_ptr

@@ -7,6 +7,8 @@ pub mod Following
 pub mod Keeping
 pub mod Numbers
 pub mod Packing
+pub mod PagedCalls
+pub mod PagedNumbers
 pub mod Rearrangings
 pub mod SheetGroups
 pub mod SheetNumbers

@@ -1,11 +1,13 @@
 //! What crosses to C: statuses, numbers, and structs of numbers. All lengths are in pixels, all areas in unit squares.
-ghost use Rattle.std.specs.Prelude.{◌≡◌, ◌↔◌, IsOk};
+ghost use Rattle.std.specs.Prelude.{◌≡◌, ◌↔◌, Err, IsOk, Some};
 ghost use Rattle.guillotiere_c.specs.Numbers.{allocation_in, allocator_options_in, change_in, options_in};
 ghost use Rattle.guillotiere_c.specs.Numbers.{corners_in, size_in};
+ghost use Rattle.guillotiere_c.specs.PagedNumbers.{error_status, page_answer};
 ghost use Rattle.guillotiere_c.specs.Statuses.{plain_reply, request_reply};
 ghost use Rattle.guillotiere_c.specs.SimpleStatuses.{plain_answer, request_answer};
 ghost use Rattle.guillotiere_c.specs.declared.plain.PlainAllocation.{PlainAllocation as Numbers};
 ghost use Rattle.guillotiere_c.specs.declared.plain.PlainRectangle.{PlainRectangle as Corners};
+ghost use Rattle.guillotiere_c.specs.declared.plain_paged.PlainPageAllocation.{PlainPageAllocation as OnPage};
 ghost use Rattle.guillotiere.specs.Steps.AtlasReply.{Refused};
 ghost use Rattle.guillotiere.specs.Simple.SimpleAnswer.{Refused as SimplyRefused};
 ghost use Rattle.guillotiere.specs.Replies.{done_reply};
@@ -305,6 +307,8 @@ pub fn status_of(error: AtlasError) -> u32
     ensures plain { plain_reply result ≡ Refused error }
     ensures request { (written : Numbers) → request_reply result written ≡ Refused error }
     ensures answer { (written : Corners) → request_answer result written ≡ SimplyRefused error }
+    ensures paged { (written : OnPage) → page_answer result written ≡ Some (Err error) }
+    ensures number { result ≡ error_status error }
 {
     match error {
         AtlasError::NotLive => NOT_LIVE,

@@ -1,6 +1,7 @@
 /** The random calls of bindings/tests/digest.c by the package: their sum is the one that the program tells. */
 import { Atlases } from './atlas.js';
 import { Cache } from './cache.js';
+import { Paged } from './paged.js';
 import { Simple } from './simple.js';
 import { Draw, SEVENS, Sum, answered, numberOf } from './sum.js';
 
@@ -98,6 +99,7 @@ function fill(api, draw, sum) {
 function kinds(api, draw, sum, hasNames) {
   const atlases = new Atlases(api, draw, sum);
   const simple = new Simple(api, draw, sum, atlases);
+  const paged = new Paged(api, draw, sum);
   const cache = new Cache(api, draw, sum, hasNames);
   return [
     [3600, () => atlases.allocate()], [2500, () => atlases.deallocate()], [60, () => atlases.deallocateAll()],
@@ -105,6 +107,7 @@ function kinds(api, draw, sum, hasNames) {
     [60, () => atlases.grow()], [50, () => atlases.reserve()], [6, () => atlases.startAgain()], [12, () => atlases.rearrange()],
     [40, () => atlases.make()], [10, () => atlases.copy()], [4, () => atlases.free()], [800, () => simple.take()],
     [10, () => simple.make()], [20, () => simple.startAgain()], [40, () => simple.grow()], [100, () => simple.describe()],
+    [8, () => paged.make()], [700, () => paged.take()], [500, () => paged.giveBack()], [60, () => paged.ask()], [30, () => paged.change()],
     [900, () => cache.insert()], [700, () => cache.ask()], [80, () => cache.letGo()], [100, () => cache.nextFrame()],
     [80, () => cache.describe()], [6, () => cache.make()], [8, () => pack(api.pack, draw, sum)],
     [30, () => cache.know()], [4, () => packPages(api, draw, sum)], [4, () => fill(api, draw, sum)],

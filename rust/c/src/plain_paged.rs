@@ -1,0 +1,36 @@
+// Erased from crates/guillotiere_c/src/plain_paged.rt by rust/erase: don't edit.
+//! What crosses to C of boxes on several pages.
+
+use crate::plain::{plain_rectangle, status_of, PlainRectangle, BAD_CALL, NO_PAGE};
+use wollemigo_core::atlas_pages::{PageAllocation, PagesError};
+
+/// A live box on one of several pages: its page, counted from 0, its id there, which another page may have too, and its
+/// rectangle.
+#[repr(C)]
+#[derive(Clone, Copy)]
+pub struct PlainPageAllocation {
+    pub page: u32,
+    pub id: u32,
+    pub rectangle: PlainRectangle,
+}
+
+/// A live box on a page as C has it.
+pub fn plain_page_allocation(allocation: PageAllocation) -> PlainPageAllocation {
+    PlainPageAllocation {
+        page: allocation.page,
+        id: allocation.id.serialize(),
+        rectangle: plain_rectangle(allocation.rectangle),
+    }
+}
+
+/// The status of an error of pages.
+pub fn status_of_pages_error(error: PagesError) -> u32 {
+    match error {
+        PagesError::NoPage => NO_PAGE,
+        PagesError::Refused(error) => status_of(error),
+        PagesError::EmptySize
+        | PagesError::Alignment
+        | PagesError::Thresholds
+        | PagesError::Shrinks => BAD_CALL,
+    }
+}
