@@ -159,10 +159,8 @@ impl<A: Allocator + Copy> PagedAtlas<A> {
     pub fn page_size(&self, page: u32) -> Option<Size>
         ensures { result ≡ option_map size_of_page (slice_get self.now.pages page) }
     {
-        match self.pages.get(page as usize) {
-            Some(atlas) => Some(atlas.size()),
-            None => None,
-        }
+        let atlas = self.pages.get(page as usize)?;
+        Some(atlas.size())
     }
 
     /// The rectangle of an id that is live on this page, in pixels; None for every other id and page.

@@ -101,10 +101,8 @@ impl<A: Allocator + Copy> PagedAtlas<A> {
     #[inline]
     #[must_use]
     pub fn page_size(&self, page: u32) -> Option<Size> {
-        match self.pages.get(page as usize) {
-            Some(atlas) => Some(atlas.size()),
-            None => None,
-        }
+        let atlas = self.pages.get(page as usize)?;
+        Some(atlas.size())
     }
 
     /// The rectangle of an id that is live on this page, in pixels; None for every other id and page.
