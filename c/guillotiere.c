@@ -4689,44 +4689,6 @@ MAKER atlas_model_AllocatorOptions new_atlas_model_AllocatorOptions(atlas_model_
     return it;
 }
 
-MAKER atlas_allocator_AtlasAllocator new_atlas_allocator_AtlasAllocator(atlas_store_Store store, atlas_search_Link first, uint32_t used,
-        atlas_model_Size size, uint32_t limit) {
-    atlas_allocator_AtlasAllocator it;
-    it.store = store;
-    it.first = first;
-    it.used = used;
-    it.size = size;
-    it.limit = limit;
-    return it;
-}
-
-MAKER Result_AtlasAllocator_AtlasError new_Result_AtlasAllocator_AtlasError_Ok(atlas_allocator_AtlasAllocator field_0) {
-    Result_AtlasAllocator_AtlasError it;
-    it.tag = 0u;
-    it.is.Ok.field_0 = field_0;
-    return it;
-}
-
-MAKER Result_Box_AtlasAllocator_AllocFailed_AtlasAllocator new_Result_Box_AtlasAllocator_AllocFailed_AtlasAllocator_Ok(Box_AtlasAllocator field_0) {
-    Result_Box_AtlasAllocator_AllocFailed_AtlasAllocator it;
-    it.tag = 0u;
-    it.is.Ok.field_0 = field_0;
-    return it;
-}
-
-MAKER AllocFailed_AtlasAllocator new_AllocFailed_AtlasAllocator(atlas_allocator_AtlasAllocator value) {
-    AllocFailed_AtlasAllocator it;
-    it.value = value;
-    return it;
-}
-
-MAKER Result_Box_AtlasAllocator_AllocFailed_AtlasAllocator new_Result_Box_AtlasAllocator_AllocFailed_AtlasAllocator_Err(AllocFailed_AtlasAllocator field_0) {
-    Result_Box_AtlasAllocator_AllocFailed_AtlasAllocator it;
-    it.tag = 1u;
-    it.is.Err.field_0 = field_0;
-    return it;
-}
-
 MAKER atlas_model_Size new_atlas_model_Size(uint32_t width, uint32_t height) {
     atlas_model_Size it;
     it.width = width;
@@ -4840,41 +4802,6 @@ MAKER atlas_cache_CacheOptions new_atlas_cache_CacheOptions(atlas_model_Size pag
     return it;
 }
 
-MAKER guillotiere_c_FollowedCache new_guillotiere_c_FollowedCache(atlas_cache_TextureCache_u64_BuildHasherDefault_FoldHasher_FoldHasher cache, Vec_Slot changes, uint64_t taken) {
-    guillotiere_c_FollowedCache it;
-    it.cache = cache;
-    it.changes = changes;
-    it.taken = taken;
-    return it;
-}
-
-MAKER Result_FollowedCache_OptionsError new_Result_FollowedCache_OptionsError_Ok(guillotiere_c_FollowedCache field_0) {
-    Result_FollowedCache_OptionsError it;
-    it.tag = 0u;
-    it.is.Ok.field_0 = field_0;
-    return it;
-}
-
-MAKER Result_Box_FollowedCache_AllocFailed_FollowedCache new_Result_Box_FollowedCache_AllocFailed_FollowedCache_Ok(Box_AtlasAllocator field_0) {
-    Result_Box_FollowedCache_AllocFailed_FollowedCache it;
-    it.tag = 0u;
-    it.is.Ok.field_0 = field_0;
-    return it;
-}
-
-MAKER AllocFailed_FollowedCache new_AllocFailed_FollowedCache(guillotiere_c_FollowedCache value) {
-    AllocFailed_FollowedCache it;
-    it.value = value;
-    return it;
-}
-
-MAKER Result_Box_FollowedCache_AllocFailed_FollowedCache new_Result_Box_FollowedCache_AllocFailed_FollowedCache_Err(AllocFailed_FollowedCache field_0) {
-    Result_Box_FollowedCache_AllocFailed_FollowedCache it;
-    it.tag = 1u;
-    it.is.Err.field_0 = field_0;
-    return it;
-}
-
 MAKER Option_Place new_Option_Place_None(void) {
     Option_Place it;
     it.tag = 0u;
@@ -4898,29 +4825,10 @@ MAKER guillotiere_place new_guillotiere_place(uint32_t number, uint32_t page, gu
     return it;
 }
 
-MAKER guillotiere_cache_change new_guillotiere_cache_change(uint32_t kind, uint32_t page, guillotiere_size size, uint64_t key,
-        guillotiere_place from, guillotiere_place to) {
-    guillotiere_cache_change it;
-    it.kind = kind;
-    it.page = page;
-    it.size = size;
-    it.key = key;
-    it.from = from;
-    it.to = to;
-    return it;
-}
-
 MAKER slice_CacheChange_u64 new_slice_CacheChange_u64(const atlas_cache_CacheChange_u64 *at, uint64_t len) {
     slice_CacheChange_u64 it;
     it.at = at;
     it.len = len;
-    return it;
-}
-
-MAKER Result_FollowedCache new_Result_FollowedCache_Ok(guillotiere_c_FollowedCache field_0) {
-    Result_FollowedCache it;
-    it.tag = 0u;
-    it.Ok.field_0 = field_0;
     return it;
 }
 
@@ -5015,22 +4923,8 @@ MAKER Option_SheetOptions new_Option_SheetOptions_Some(atlas_sheet_SheetOptions 
     return it;
 }
 
-MAKER Result_Option_Sheet_SheetError new_Result_Option_Sheet_SheetError_Ok(Option_Sheet field_0) {
-    Result_Option_Sheet_SheetError it;
-    it.tag = 0u;
-    it.is.Ok.field_0 = field_0;
-    return it;
-}
-
 MAKER Result_Option_Pages_SheetError new_Result_Option_Pages_SheetError_Ok(Option_Pages field_0) {
     Result_Option_Pages_SheetError it;
-    it.tag = 0u;
-    it.is.Ok.field_0 = field_0;
-    return it;
-}
-
-MAKER Result_Filled_SheetError new_Result_Filled_SheetError_Ok(atlas_sheet_Filled field_0) {
-    Result_Filled_SheetError it;
     it.tag = 0u;
     it.is.Ok.field_0 = field_0;
     return it;
@@ -5060,15 +4954,7 @@ MAKER Vacant_AtlasAllocator new_Vacant_AtlasAllocator(void *ptr) {
     return it;
 }
 
-MAKER tuple_AtlasAllocator_Vacant_AtlasAllocator new_tuple_AtlasAllocator_Vacant_AtlasAllocator(atlas_allocator_AtlasAllocator field_0,
-        Vacant_AtlasAllocator field_1) {
-    tuple_AtlasAllocator_Vacant_AtlasAllocator it;
-    it.field_0 = field_0;
-    it.field_1 = field_1;
-    return it;
-}
-
-MAKER atlas_store_Store new_atlas_store_Store(Vec_Slot slots, atlas_search_Table lists, atlas_search_Link unused,
+MAKER atlas_store_Store new_atlas_store_Store(Vec_Slot slots, const atlas_search_Table lists, atlas_search_Link unused,
         atlas_search_Scale options, atlas_store_Recent recent) {
     atlas_store_Store it;
     it.slots = slots;
@@ -5076,33 +4962,6 @@ MAKER atlas_store_Store new_atlas_store_Store(Vec_Slot slots, atlas_search_Table
     it.unused = unused;
     it.options = options;
     it.recent = recent;
-    return it;
-}
-
-MAKER Result_Store new_Result_Store_Ok(atlas_store_Store field_0) {
-    Result_Store it;
-    it.tag = 0u;
-    it.Ok.field_0 = field_0;
-    return it;
-}
-
-MAKER ControlFlow_Store new_ControlFlow_Store_Continue(atlas_store_Store field_0) {
-    ControlFlow_Store it;
-    it.tag = 0u;
-    it.Continue.field_0 = field_0;
-    return it;
-}
-
-MAKER ControlFlow_Store new_ControlFlow_Store_Break(void) {
-    ControlFlow_Store it;
-    it.tag = 1u;
-    return it;
-}
-
-MAKER Result_AtlasAllocator_AtlasError new_Result_AtlasAllocator_AtlasError_Err(atlas_model_AtlasError field_0) {
-    Result_AtlasAllocator_AtlasError it;
-    it.tag = 1u;
-    it.is.Err.field_0 = field_0;
     return it;
 }
 
@@ -5247,20 +5106,6 @@ MAKER Result_ChangeList_AtlasError new_Result_ChangeList_AtlasError_Err(atlas_mo
     return it;
 }
 
-MAKER ControlFlow_ErrResidual_AtlasError_AtlasAllocator new_ControlFlow_ErrResidual_AtlasError_AtlasAllocator_Continue(atlas_allocator_AtlasAllocator field_0) {
-    ControlFlow_ErrResidual_AtlasError_AtlasAllocator it;
-    it.tag = 0u;
-    it.is.Continue.field_0 = field_0;
-    return it;
-}
-
-MAKER ControlFlow_ErrResidual_AtlasError_AtlasAllocator new_ControlFlow_ErrResidual_AtlasError_AtlasAllocator_Break(ErrResidual_AtlasError field_0) {
-    ControlFlow_ErrResidual_AtlasError_AtlasAllocator it;
-    it.tag = 1u;
-    it.is.Break.field_0 = field_0;
-    return it;
-}
-
 MAKER atlas_model_Change new_atlas_model_Change(atlas_model_Allocation old, atlas_model_Allocation new_) {
     atlas_model_Change it;
     it.old = old;
@@ -5329,52 +5174,9 @@ MAKER slice_AllocId new_slice_AllocId(const atlas_model_AllocId *at, uint64_t le
     return it;
 }
 
-MAKER guillotiere_SimpleAtlasAllocator new_guillotiere_SimpleAtlasAllocator(guillotiere_FreeBoxes boxes, atlas_model_Size size,
-        atlas_search_Scale options) {
-    guillotiere_SimpleAtlasAllocator it;
-    it.boxes = boxes;
-    it.size = size;
-    it.options = options;
-    return it;
-}
-
-MAKER Result_SimpleAtlasAllocator_AtlasError new_Result_SimpleAtlasAllocator_AtlasError_Ok(guillotiere_SimpleAtlasAllocator field_0) {
-    Result_SimpleAtlasAllocator_AtlasError it;
-    it.tag = 0u;
-    it.is.Ok.field_0 = field_0;
-    return it;
-}
-
-MAKER Result_Box_SimpleAtlasAllocator_AllocFailed_SimpleAtlasAllocator new_Result_Box_SimpleAtlasAllocator_AllocFailed_SimpleAtlasAllocator_Ok(Box_AtlasAllocator field_0) {
-    Result_Box_SimpleAtlasAllocator_AllocFailed_SimpleAtlasAllocator it;
-    it.tag = 0u;
-    it.is.Ok.field_0 = field_0;
-    return it;
-}
-
-MAKER AllocFailed_SimpleAtlasAllocator new_AllocFailed_SimpleAtlasAllocator(guillotiere_SimpleAtlasAllocator value) {
-    AllocFailed_SimpleAtlasAllocator it;
-    it.value = value;
-    return it;
-}
-
-MAKER Result_Box_SimpleAtlasAllocator_AllocFailed_SimpleAtlasAllocator new_Result_Box_SimpleAtlasAllocator_AllocFailed_SimpleAtlasAllocator_Err(AllocFailed_SimpleAtlasAllocator field_0) {
-    Result_Box_SimpleAtlasAllocator_AllocFailed_SimpleAtlasAllocator it;
-    it.tag = 1u;
-    it.is.Err.field_0 = field_0;
-    return it;
-}
-
 MAKER guillotiere_simple new_guillotiere_simple(void *at) {
     guillotiere_simple it;
     it.at = at;
-    return it;
-}
-
-MAKER tuple_SimpleAtlasAllocator_Vacant_SimpleAtlasAllocator new_tuple_SimpleAtlasAllocator_Vacant_SimpleAtlasAllocator(guillotiere_SimpleAtlasAllocator field_0, Vacant_AtlasAllocator field_1) {
-    tuple_SimpleAtlasAllocator_Vacant_SimpleAtlasAllocator it;
-    it.field_0 = field_0;
-    it.field_1 = field_1;
     return it;
 }
 
@@ -5385,60 +5187,9 @@ MAKER atlas_model_Rectangle new_atlas_model_Rectangle(atlas_model_Point min_, at
     return it;
 }
 
-MAKER guillotiere_FreeBoxes new_guillotiere_FreeBoxes(Vec_Slot entries, atlas_search_Link unused, uint32_t used, atlas_search_Table table) {
-    guillotiere_FreeBoxes it;
-    it.entries = entries;
-    it.unused = unused;
-    it.used = used;
-    it.table = table;
-    return it;
-}
-
-MAKER Result_FreeBoxes_AtlasError new_Result_FreeBoxes_AtlasError_Ok(guillotiere_FreeBoxes field_0) {
-    Result_FreeBoxes_AtlasError it;
-    it.tag = 0u;
-    it.is.Ok.field_0 = field_0;
-    return it;
-}
-
-MAKER ControlFlow_ErrResidual_AtlasError_FreeBoxes new_ControlFlow_ErrResidual_AtlasError_FreeBoxes_Continue(guillotiere_FreeBoxes field_0) {
-    ControlFlow_ErrResidual_AtlasError_FreeBoxes it;
-    it.tag = 0u;
-    it.is.Continue.field_0 = field_0;
-    return it;
-}
-
-MAKER ControlFlow_ErrResidual_AtlasError_FreeBoxes new_ControlFlow_ErrResidual_AtlasError_FreeBoxes_Break(ErrResidual_AtlasError field_0) {
-    ControlFlow_ErrResidual_AtlasError_FreeBoxes it;
-    it.tag = 1u;
-    it.is.Break.field_0 = field_0;
-    return it;
-}
-
-MAKER ControlFlow_ErrResidual_OptionsError_TextureCache_u64_BuildHasherDefault_FoldHasher_FoldHasher new_ControlFlow_ErrResidual_OptionsError_TextureCache_u64_BuildHasherDefault_FoldHasher_FoldHasher_Continue(atlas_cache_TextureCache_u64_BuildHasherDefault_FoldHasher_FoldHasher field_0) {
-    ControlFlow_ErrResidual_OptionsError_TextureCache_u64_BuildHasherDefault_FoldHasher_FoldHasher it;
-    it.tag = 0u;
-    it.is.Continue.field_0 = field_0;
-    return it;
-}
-
 MAKER ErrResidual_OptionsError new_ErrResidual_OptionsError(atlas_cache_OptionsError field_0) {
     ErrResidual_OptionsError it;
     it.field_0 = field_0;
-    return it;
-}
-
-MAKER ControlFlow_ErrResidual_OptionsError_TextureCache_u64_BuildHasherDefault_FoldHasher_FoldHasher new_ControlFlow_ErrResidual_OptionsError_TextureCache_u64_BuildHasherDefault_FoldHasher_FoldHasher_Break(ErrResidual_OptionsError field_0) {
-    ControlFlow_ErrResidual_OptionsError_TextureCache_u64_BuildHasherDefault_FoldHasher_FoldHasher it;
-    it.tag = 1u;
-    it.is.Break.field_0 = field_0;
-    return it;
-}
-
-MAKER Result_FollowedCache_OptionsError new_Result_FollowedCache_OptionsError_Err(atlas_cache_OptionsError field_0) {
-    Result_FollowedCache_OptionsError it;
-    it.tag = 1u;
-    it.is.Err.field_0 = field_0;
     return it;
 }
 
@@ -5456,25 +5207,10 @@ MAKER guillotiere_cache new_guillotiere_cache(void *at) {
     return it;
 }
 
-MAKER tuple_FollowedCache_Vacant_FollowedCache new_tuple_FollowedCache_Vacant_FollowedCache(guillotiere_c_FollowedCache field_0,
-        Vacant_AtlasAllocator field_1) {
-    tuple_FollowedCache_Vacant_FollowedCache it;
-    it.field_0 = field_0;
-    it.field_1 = field_1;
-    return it;
-}
-
 MAKER tuple_u32_Entry_u64 new_tuple_u32_Entry_u64(uint32_t field_0, atlas_entries_Entry_u64 field_1) {
     tuple_u32_Entry_u64 it;
     it.field_0 = field_0;
     it.field_1 = field_1;
-    return it;
-}
-
-MAKER Option_tuple_u32_Entry_u64 new_Option_tuple_u32_Entry_u64_Some(tuple_u32_Entry_u64 field_0) {
-    Option_tuple_u32_Entry_u64 it;
-    it.tag = 1u;
-    it.Some.field_0 = field_0;
     return it;
 }
 
@@ -5517,65 +5253,10 @@ MAKER atlas_cache_Inserted new_atlas_cache_Inserted_NeverFits(void) {
     return it;
 }
 
-MAKER Option_CacheChange_u64 new_Option_CacheChange_u64_None(void) {
-    Option_CacheChange_u64 it;
-    it.tag = 0u;
-    return it;
-}
-
-MAKER Option_CacheChange_u64 new_Option_CacheChange_u64_Some(atlas_cache_CacheChange_u64 field_0) {
-    Option_CacheChange_u64 it;
-    it.tag = 1u;
-    it.Some.field_0 = field_0;
-    return it;
-}
-
 MAKER Result_u64_CacheError new_Result_u64_CacheError_Ok(uint64_t field_0) {
     Result_u64_CacheError it;
     it.tag = 0u;
     it.is.Ok.field_0 = field_0;
-    return it;
-}
-
-MAKER atlas_cache_TextureCache_u64_BuildHasherDefault_FoldHasher_FoldHasher new_atlas_cache_TextureCache_u64_BuildHasherDefault_FoldHasher_FoldHasher(atlas_cache_Rooms rooms, atlas_entries_Entries_u64_BuildHasherDefault_FoldHasher_FoldHasher entries, uint64_t frame, atlas_cache_Counts counts, Vec_Slot marks) {
-    atlas_cache_TextureCache_u64_BuildHasherDefault_FoldHasher_FoldHasher it;
-    it.rooms = rooms;
-    it.entries = entries;
-    it.frame = frame;
-    it.counts = counts;
-    it.marks = marks;
-    return it;
-}
-
-MAKER Result_TextureCache_u64_BuildHasherDefault_FoldHasher_FoldHasher new_Result_TextureCache_u64_BuildHasherDefault_FoldHasher_FoldHasher_Ok(atlas_cache_TextureCache_u64_BuildHasherDefault_FoldHasher_FoldHasher field_0) {
-    Result_TextureCache_u64_BuildHasherDefault_FoldHasher_FoldHasher it;
-    it.tag = 0u;
-    it.Ok.field_0 = field_0;
-    return it;
-}
-
-MAKER ControlFlow_TextureCache_u64_BuildHasherDefault_FoldHasher_FoldHasher new_ControlFlow_TextureCache_u64_BuildHasherDefault_FoldHasher_FoldHasher_Continue(atlas_cache_TextureCache_u64_BuildHasherDefault_FoldHasher_FoldHasher field_0) {
-    ControlFlow_TextureCache_u64_BuildHasherDefault_FoldHasher_FoldHasher it;
-    it.tag = 0u;
-    it.Continue.field_0 = field_0;
-    return it;
-}
-
-MAKER ControlFlow_TextureCache_u64_BuildHasherDefault_FoldHasher_FoldHasher new_ControlFlow_TextureCache_u64_BuildHasherDefault_FoldHasher_FoldHasher_Break(void) {
-    ControlFlow_TextureCache_u64_BuildHasherDefault_FoldHasher_FoldHasher it;
-    it.tag = 1u;
-    return it;
-}
-
-MAKER Result_FollowedCache new_Result_FollowedCache_Err(void) {
-    Result_FollowedCache it;
-    it.tag = 1u;
-    return it;
-}
-
-MAKER Option_tuple_u32_Entry_u64 new_Option_tuple_u32_Entry_u64_None(void) {
-    Option_tuple_u32_Entry_u64 it;
-    it.tag = 0u;
     return it;
 }
 
@@ -5732,27 +5413,6 @@ MAKER ControlFlow_ErrResidual_SheetError_Vec_Size new_ControlFlow_ErrResidual_Sh
     return it;
 }
 
-MAKER Result_Option_Sheet_SheetError new_Result_Option_Sheet_SheetError_Err(atlas_sheet_SheetError field_0) {
-    Result_Option_Sheet_SheetError it;
-    it.tag = 1u;
-    it.is.Err.field_0 = field_0;
-    return it;
-}
-
-MAKER ControlFlow_ErrResidual_SheetError_Option_Sheet new_ControlFlow_ErrResidual_SheetError_Option_Sheet_Continue(Option_Sheet field_0) {
-    ControlFlow_ErrResidual_SheetError_Option_Sheet it;
-    it.tag = 0u;
-    it.is.Continue.field_0 = field_0;
-    return it;
-}
-
-MAKER ControlFlow_ErrResidual_SheetError_Option_Sheet new_ControlFlow_ErrResidual_SheetError_Option_Sheet_Break(ErrResidual_SheetError field_0) {
-    ControlFlow_ErrResidual_SheetError_Option_Sheet it;
-    it.tag = 1u;
-    it.is.Break.field_0 = field_0;
-    return it;
-}
-
 MAKER slice_Placed new_slice_Placed(const atlas_sheet_Placed *at, uint64_t len) {
     slice_Placed it;
     it.at = at;
@@ -5809,27 +5469,6 @@ MAKER slice_Size new_slice_Size(const atlas_model_Size *at, uint64_t len) {
     return it;
 }
 
-MAKER Result_Filled_SheetError new_Result_Filled_SheetError_Err(atlas_sheet_SheetError field_0) {
-    Result_Filled_SheetError it;
-    it.tag = 1u;
-    it.is.Err.field_0 = field_0;
-    return it;
-}
-
-MAKER ControlFlow_ErrResidual_SheetError_Filled new_ControlFlow_ErrResidual_SheetError_Filled_Continue(atlas_sheet_Filled field_0) {
-    ControlFlow_ErrResidual_SheetError_Filled it;
-    it.tag = 0u;
-    it.is.Continue.field_0 = field_0;
-    return it;
-}
-
-MAKER ControlFlow_ErrResidual_SheetError_Filled new_ControlFlow_ErrResidual_SheetError_Filled_Break(ErrResidual_SheetError field_0) {
-    ControlFlow_ErrResidual_SheetError_Filled it;
-    it.tag = 1u;
-    it.is.Break.field_0 = field_0;
-    return it;
-}
-
 MAKER slice_Option_Placed new_slice_Option_Placed(const Option_Placed *at, uint64_t len) {
     slice_Option_Placed it;
     it.at = at;
@@ -5848,40 +5487,6 @@ MAKER atlas_store_Recent new_atlas_store_Recent(atlas_search_Link at, uint64_t l
     atlas_store_Recent it;
     it.at = at;
     it.list = list;
-    return it;
-}
-
-MAKER Result_Store new_Result_Store_Err(void) {
-    Result_Store it;
-    it.tag = 1u;
-    return it;
-}
-
-MAKER atlas_search_Table new_atlas_search_Table(Vec_Slot heads, atlas_search_Marks marks, uint64_t emptied) {
-    atlas_search_Table it;
-    it.heads = heads;
-    it.marks = marks;
-    it.emptied = emptied;
-    return it;
-}
-
-MAKER Result_Table new_Result_Table_Ok(atlas_search_Table field_0) {
-    Result_Table it;
-    it.tag = 0u;
-    it.Ok.field_0 = field_0;
-    return it;
-}
-
-MAKER ControlFlow_Table new_ControlFlow_Table_Continue(atlas_search_Table field_0) {
-    ControlFlow_Table it;
-    it.tag = 0u;
-    it.Continue.field_0 = field_0;
-    return it;
-}
-
-MAKER ControlFlow_Table new_ControlFlow_Table_Break(void) {
-    ControlFlow_Table it;
-    it.tag = 1u;
     return it;
 }
 
@@ -6117,13 +5722,6 @@ MAKER ControlFlow_ErrResidual_AllocFailed_Change new_ControlFlow_ErrResidual_All
     return it;
 }
 
-MAKER Result_SimpleAtlasAllocator_AtlasError new_Result_SimpleAtlasAllocator_AtlasError_Err(atlas_model_AtlasError field_0) {
-    Result_SimpleAtlasAllocator_AtlasError it;
-    it.tag = 1u;
-    it.is.Err.field_0 = field_0;
-    return it;
-}
-
 MAKER Result_Option_Rectangle_AtlasError new_Result_Option_Rectangle_AtlasError_Ok(Option_Rectangle field_0) {
     Result_Option_Rectangle_AtlasError it;
     it.tag = 0u;
@@ -6135,13 +5733,6 @@ MAKER atlas_model_Point new_atlas_model_Point(uint32_t x, uint32_t y) {
     atlas_model_Point it;
     it.x = x;
     it.y = y;
-    return it;
-}
-
-MAKER Result_FreeBoxes_AtlasError new_Result_FreeBoxes_AtlasError_Err(atlas_model_AtlasError field_0) {
-    Result_FreeBoxes_AtlasError it;
-    it.tag = 1u;
-    it.is.Err.field_0 = field_0;
     return it;
 }
 
@@ -6163,13 +5754,6 @@ MAKER atlas_cache_Counts new_atlas_cache_Counts(uint64_t hits, uint64_t misses, 
     it.hits = hits;
     it.misses = misses;
     it.evictions = evictions;
-    return it;
-}
-
-MAKER Result_TextureCache_u64_BuildHasherDefault_FoldHasher_FoldHasher_OptionsError new_Result_TextureCache_u64_BuildHasherDefault_FoldHasher_FoldHasher_OptionsError_Ok(atlas_cache_TextureCache_u64_BuildHasherDefault_FoldHasher_FoldHasher field_0) {
-    Result_TextureCache_u64_BuildHasherDefault_FoldHasher_FoldHasher_OptionsError it;
-    it.tag = 0u;
-    it.is.Ok.field_0 = field_0;
     return it;
 }
 
@@ -6238,69 +5822,6 @@ MAKER Result_bool_CacheError new_Result_bool_CacheError_Ok(bool field_0) {
     return it;
 }
 
-MAKER atlas_cache_Rooms new_atlas_cache_Rooms(Vec_Slot pages, Vec_Slot refused, atlas_cache_CacheOptions options) {
-    atlas_cache_Rooms it;
-    it.pages = pages;
-    it.refused = refused;
-    it.options = options;
-    return it;
-}
-
-MAKER Result_Rooms new_Result_Rooms_Ok(atlas_cache_Rooms field_0) {
-    Result_Rooms it;
-    it.tag = 0u;
-    it.Ok.field_0 = field_0;
-    return it;
-}
-
-MAKER ControlFlow_Rooms new_ControlFlow_Rooms_Continue(atlas_cache_Rooms field_0) {
-    ControlFlow_Rooms it;
-    it.tag = 0u;
-    it.Continue.field_0 = field_0;
-    return it;
-}
-
-MAKER ControlFlow_Rooms new_ControlFlow_Rooms_Break(void) {
-    ControlFlow_Rooms it;
-    it.tag = 1u;
-    return it;
-}
-
-MAKER Result_TextureCache_u64_BuildHasherDefault_FoldHasher_FoldHasher new_Result_TextureCache_u64_BuildHasherDefault_FoldHasher_FoldHasher_Err(void) {
-    Result_TextureCache_u64_BuildHasherDefault_FoldHasher_FoldHasher it;
-    it.tag = 1u;
-    return it;
-}
-
-MAKER atlas_entries_Entries_u64_BuildHasherDefault_FoldHasher_FoldHasher new_atlas_entries_Entries_u64_BuildHasherDefault_FoldHasher_FoldHasher(std_collections_HashMap_u64_u32_BuildHasherDefault_FoldHasher_FoldHasher map, atlas_entries_Recency recency, Vec_Slot items, uint32_t mark) {
-    atlas_entries_Entries_u64_BuildHasherDefault_FoldHasher_FoldHasher it;
-    it.map = map;
-    it.recency = recency;
-    it.items = items;
-    it.mark = mark;
-    return it;
-}
-
-MAKER Result_Entries_u64_BuildHasherDefault_FoldHasher_FoldHasher new_Result_Entries_u64_BuildHasherDefault_FoldHasher_FoldHasher_Ok(atlas_entries_Entries_u64_BuildHasherDefault_FoldHasher_FoldHasher field_0) {
-    Result_Entries_u64_BuildHasherDefault_FoldHasher_FoldHasher it;
-    it.tag = 0u;
-    it.Ok.field_0 = field_0;
-    return it;
-}
-
-MAKER ControlFlow_Entries_u64_BuildHasherDefault_FoldHasher_FoldHasher new_ControlFlow_Entries_u64_BuildHasherDefault_FoldHasher_FoldHasher_Continue(atlas_entries_Entries_u64_BuildHasherDefault_FoldHasher_FoldHasher field_0) {
-    ControlFlow_Entries_u64_BuildHasherDefault_FoldHasher_FoldHasher it;
-    it.tag = 0u;
-    it.Continue.field_0 = field_0;
-    return it;
-}
-
-MAKER ControlFlow_Entries_u64_BuildHasherDefault_FoldHasher_FoldHasher new_ControlFlow_Entries_u64_BuildHasherDefault_FoldHasher_FoldHasher_Break(void) {
-    ControlFlow_Entries_u64_BuildHasherDefault_FoldHasher_FoldHasher it;
-    it.tag = 1u;
-    return it;
-}
-
 MAKER ControlFlow_ErrResidual_CacheError new_ControlFlow_ErrResidual_CacheError_Continue(void) {
     ControlFlow_ErrResidual_CacheError it;
     it.tag = 0u;
@@ -6336,19 +5857,6 @@ MAKER Result_Vec_Size_SheetError new_Result_Vec_Size_SheetError_Err(atlas_sheet_
     Result_Vec_Size_SheetError it;
     it.tag = 1u;
     it.is.Err.field_0 = field_0;
-    return it;
-}
-
-MAKER Option_Sheet new_Option_Sheet_None(void) {
-    Option_Sheet it;
-    it.tag = 0u;
-    return it;
-}
-
-MAKER Option_Sheet new_Option_Sheet_Some(atlas_sheet_Sheet field_0) {
-    Option_Sheet it;
-    it.tag = 1u;
-    it.Some.field_0 = field_0;
     return it;
 }
 
@@ -6423,54 +5931,10 @@ MAKER slice_Option_u64 new_slice_Option_u64(const Option_u64 *at, uint64_t len) 
     return it;
 }
 
-MAKER Result_Arrangement_SheetError new_Result_Arrangement_SheetError_Ok(atlas_sheet_Arrangement field_0) {
-    Result_Arrangement_SheetError it;
-    it.tag = 0u;
-    it.is.Ok.field_0 = field_0;
-    return it;
-}
-
-MAKER ControlFlow_ErrResidual_SheetError_Arrangement new_ControlFlow_ErrResidual_SheetError_Arrangement_Continue(atlas_sheet_Arrangement field_0) {
-    ControlFlow_ErrResidual_SheetError_Arrangement it;
-    it.tag = 0u;
-    it.is.Continue.field_0 = field_0;
-    return it;
-}
-
-MAKER ControlFlow_ErrResidual_SheetError_Arrangement new_ControlFlow_ErrResidual_SheetError_Arrangement_Break(ErrResidual_SheetError field_0) {
-    ControlFlow_ErrResidual_SheetError_Arrangement it;
-    it.tag = 1u;
-    it.is.Break.field_0 = field_0;
-    return it;
-}
-
-MAKER atlas_sheet_Filled new_atlas_sheet_Filled(atlas_model_Size size, Vec_Slot places, wide_number used_area, Vec_Slot order) {
-    atlas_sheet_Filled it;
-    it.size = size;
-    it.places = places;
-    it.used_area = used_area;
-    it.order = order;
-    return it;
-}
-
 MAKER slice_Slot new_slice_Slot(const atlas_store_Slot *at, uint64_t len) {
     slice_Slot it;
     it.at = at;
     it.len = len;
-    return it;
-}
-
-MAKER Result_Table new_Result_Table_Err(void) {
-    Result_Table it;
-    it.tag = 1u;
-    return it;
-}
-
-MAKER atlas_search_Marks new_atlas_search_Marks(array_Mask_52 rows, array_Mask_52 columns, atlas_search_Mask used) {
-    atlas_search_Marks it;
-    it.rows = rows;
-    it.columns = columns;
-    it.used = used;
     return it;
 }
 
@@ -6744,13 +6208,6 @@ MAKER ControlFlow_ErrResidual_OptionsError new_ControlFlow_ErrResidual_OptionsEr
     return it;
 }
 
-MAKER Result_TextureCache_u64_BuildHasherDefault_FoldHasher_FoldHasher_OptionsError new_Result_TextureCache_u64_BuildHasherDefault_FoldHasher_FoldHasher_OptionsError_Err(atlas_cache_OptionsError field_0) {
-    Result_TextureCache_u64_BuildHasherDefault_FoldHasher_FoldHasher_OptionsError it;
-    it.tag = 1u;
-    it.is.Err.field_0 = field_0;
-    return it;
-}
-
 MAKER Option_ref_u32 new_Option_ref_u32_Some(const uint32_t *field_0) {
     Option_ref_u32 it;
     it.tag = 1u;
@@ -6997,12 +6454,6 @@ MAKER ControlFlow_ErrResidual_CacheError_Option_ChangeList new_ControlFlow_ErrRe
     return it;
 }
 
-MAKER Result_Rooms new_Result_Rooms_Err(void) {
-    Result_Rooms it;
-    it.tag = 1u;
-    return it;
-}
-
 MAKER Result_BuildHasherDefault_FoldHasher new_Result_BuildHasherDefault_FoldHasher_Err(void) {
     Result_BuildHasherDefault_FoldHasher it;
     it.tag = 1u;
@@ -7025,32 +6476,6 @@ MAKER ControlFlow_BuildHasherDefault_FoldHasher new_ControlFlow_BuildHasherDefau
 
 MAKER ControlFlow_BuildHasherDefault_FoldHasher new_ControlFlow_BuildHasherDefault_FoldHasher_Break(void) {
     ControlFlow_BuildHasherDefault_FoldHasher it;
-    it.tag = 1u;
-    return it;
-}
-
-MAKER Result_Entries_u64_BuildHasherDefault_FoldHasher_FoldHasher new_Result_Entries_u64_BuildHasherDefault_FoldHasher_FoldHasher_Err(void) {
-    Result_Entries_u64_BuildHasherDefault_FoldHasher_FoldHasher it;
-    it.tag = 1u;
-    return it;
-}
-
-MAKER Result_HashMap_u64_u32_BuildHasherDefault_FoldHasher_FoldHasher new_Result_HashMap_u64_u32_BuildHasherDefault_FoldHasher_FoldHasher_Ok(std_collections_HashMap_u64_u32_BuildHasherDefault_FoldHasher_FoldHasher field_0) {
-    Result_HashMap_u64_u32_BuildHasherDefault_FoldHasher_FoldHasher it;
-    it.tag = 0u;
-    it.Ok.field_0 = field_0;
-    return it;
-}
-
-MAKER ControlFlow_HashMap_u64_u32_BuildHasherDefault_FoldHasher_FoldHasher new_ControlFlow_HashMap_u64_u32_BuildHasherDefault_FoldHasher_FoldHasher_Continue(std_collections_HashMap_u64_u32_BuildHasherDefault_FoldHasher_FoldHasher field_0) {
-    ControlFlow_HashMap_u64_u32_BuildHasherDefault_FoldHasher_FoldHasher it;
-    it.tag = 0u;
-    it.Continue.field_0 = field_0;
-    return it;
-}
-
-MAKER ControlFlow_HashMap_u64_u32_BuildHasherDefault_FoldHasher_FoldHasher new_ControlFlow_HashMap_u64_u32_BuildHasherDefault_FoldHasher_FoldHasher_Break(void) {
-    ControlFlow_HashMap_u64_u32_BuildHasherDefault_FoldHasher_FoldHasher it;
     it.tag = 1u;
     return it;
 }
@@ -7116,70 +6541,6 @@ MAKER slice_AtlasAllocator new_slice_AtlasAllocator(const atlas_allocator_AtlasA
 MAKER atlas_sheet_SheetError new_atlas_sheet_SheetError_Memory(void) {
     atlas_sheet_SheetError it;
     it.tag = 0u;
-    return it;
-}
-
-MAKER Option_Arrangement new_Option_Arrangement_None(void) {
-    Option_Arrangement it;
-    it.tag = 0u;
-    return it;
-}
-
-MAKER Result_Option_Arrangement_SheetError new_Result_Option_Arrangement_SheetError_Ok(Option_Arrangement field_0) {
-    Result_Option_Arrangement_SheetError it;
-    it.tag = 0u;
-    it.is.Ok.field_0 = field_0;
-    return it;
-}
-
-MAKER Option_Arrangement new_Option_Arrangement_Some(atlas_sheet_Arrangement field_0) {
-    Option_Arrangement it;
-    it.tag = 1u;
-    it.Some.field_0 = field_0;
-    return it;
-}
-
-MAKER ControlFlow_ErrResidual_SheetError_Option_Arrangement new_ControlFlow_ErrResidual_SheetError_Option_Arrangement_Continue(Option_Arrangement field_0) {
-    ControlFlow_ErrResidual_SheetError_Option_Arrangement it;
-    it.tag = 0u;
-    it.is.Continue.field_0 = field_0;
-    return it;
-}
-
-MAKER ControlFlow_ErrResidual_SheetError_Option_Arrangement new_ControlFlow_ErrResidual_SheetError_Option_Arrangement_Break(ErrResidual_SheetError field_0) {
-    ControlFlow_ErrResidual_SheetError_Option_Arrangement it;
-    it.tag = 1u;
-    it.is.Break.field_0 = field_0;
-    return it;
-}
-
-MAKER atlas_sheet_Sheet new_atlas_sheet_Sheet(atlas_model_Size size, Vec_Slot places, wide_number used_area, Vec_Slot order) {
-    atlas_sheet_Sheet it;
-    it.size = size;
-    it.places = places;
-    it.used_area = used_area;
-    it.order = order;
-    return it;
-}
-
-MAKER Result_Sheet_SheetError new_Result_Sheet_SheetError_Ok(atlas_sheet_Sheet field_0) {
-    Result_Sheet_SheetError it;
-    it.tag = 0u;
-    it.is.Ok.field_0 = field_0;
-    return it;
-}
-
-MAKER ControlFlow_ErrResidual_SheetError_Sheet new_ControlFlow_ErrResidual_SheetError_Sheet_Continue(atlas_sheet_Sheet field_0) {
-    ControlFlow_ErrResidual_SheetError_Sheet it;
-    it.tag = 0u;
-    it.is.Continue.field_0 = field_0;
-    return it;
-}
-
-MAKER ControlFlow_ErrResidual_SheetError_Sheet new_ControlFlow_ErrResidual_SheetError_Sheet_Break(ErrResidual_SheetError field_0) {
-    ControlFlow_ErrResidual_SheetError_Sheet it;
-    it.tag = 1u;
-    it.is.Break.field_0 = field_0;
     return it;
 }
 
@@ -7253,64 +6614,6 @@ MAKER ControlFlow_ErrResidual_AllocFailed_Size new_ControlFlow_ErrResidual_Alloc
     return it;
 }
 
-MAKER atlas_sheet_SoFar new_atlas_sheet_SoFar(Vec_Slot sizes, Vec_Slot places, Vec_Slot left, Vec_Slot kept) {
-    atlas_sheet_SoFar it;
-    it.sizes = sizes;
-    it.places = places;
-    it.left = left;
-    it.kept = kept;
-    return it;
-}
-
-MAKER Result_SoFar_SheetError new_Result_SoFar_SheetError_Ok(atlas_sheet_SoFar field_0) {
-    Result_SoFar_SheetError it;
-    it.tag = 0u;
-    it.is.Ok.field_0 = field_0;
-    return it;
-}
-
-MAKER ControlFlow_ErrResidual_SheetError_SoFar new_ControlFlow_ErrResidual_SheetError_SoFar_Continue(atlas_sheet_SoFar field_0) {
-    ControlFlow_ErrResidual_SheetError_SoFar it;
-    it.tag = 0u;
-    it.is.Continue.field_0 = field_0;
-    return it;
-}
-
-MAKER ControlFlow_ErrResidual_SheetError_SoFar new_ControlFlow_ErrResidual_SheetError_SoFar_Break(ErrResidual_SheetError field_0) {
-    ControlFlow_ErrResidual_SheetError_SoFar it;
-    it.tag = 1u;
-    it.is.Break.field_0 = field_0;
-    return it;
-}
-
-MAKER Option_SoFar new_Option_SoFar_Some(atlas_sheet_SoFar field_0) {
-    Option_SoFar it;
-    it.tag = 1u;
-    it.Some.field_0 = field_0;
-    return it;
-}
-
-MAKER Result_Option_SoFar_SheetError new_Result_Option_SoFar_SheetError_Ok(Option_SoFar field_0) {
-    Result_Option_SoFar_SheetError it;
-    it.tag = 0u;
-    it.is.Ok.field_0 = field_0;
-    return it;
-}
-
-MAKER ControlFlow_ErrResidual_SheetError_Option_SoFar new_ControlFlow_ErrResidual_SheetError_Option_SoFar_Continue(Option_SoFar field_0) {
-    ControlFlow_ErrResidual_SheetError_Option_SoFar it;
-    it.tag = 0u;
-    it.is.Continue.field_0 = field_0;
-    return it;
-}
-
-MAKER ControlFlow_ErrResidual_SheetError_Option_SoFar new_ControlFlow_ErrResidual_SheetError_Option_SoFar_Break(ErrResidual_SheetError field_0) {
-    ControlFlow_ErrResidual_SheetError_Option_SoFar it;
-    it.tag = 1u;
-    it.is.Break.field_0 = field_0;
-    return it;
-}
-
 MAKER atlas_sheet_Turning new_atlas_sheet_Turning_AsGiven(void) {
     atlas_sheet_Turning it;
     it.tag = 0u;
@@ -7326,13 +6629,6 @@ MAKER atlas_sheet_Turning new_atlas_sheet_Turning_Wide(void) {
 MAKER atlas_sheet_Turning new_atlas_sheet_Turning_High(void) {
     atlas_sheet_Turning it;
     it.tag = 2u;
-    return it;
-}
-
-MAKER Result_Arrangement_SheetError new_Result_Arrangement_SheetError_Err(atlas_sheet_SheetError field_0) {
-    Result_Arrangement_SheetError it;
-    it.tag = 1u;
-    it.is.Err.field_0 = field_0;
     return it;
 }
 
@@ -7392,14 +6688,6 @@ MAKER Result_Link new_Result_Link_Ok(atlas_search_Link field_0) {
     Result_Link it;
     it.tag = 0u;
     it.Ok.field_0 = field_0;
-    return it;
-}
-
-MAKER std_collections_HashMap_u64_u32_BuildHasherDefault_FoldHasher_FoldHasher new_std_collections_HashMap_u64_u32_BuildHasherDefault_FoldHasher_FoldHasher(std_collections_Columns_u64_u32 columns, std_collections_IndexTable table, BuildHasherDefault_FoldHasher hash_builder) {
-    std_collections_HashMap_u64_u32_BuildHasherDefault_FoldHasher_FoldHasher it;
-    it.columns = columns;
-    it.table = table;
-    it.hash_builder = hash_builder;
     return it;
 }
 
@@ -7480,38 +6768,10 @@ MAKER Option_Entry_u64 new_Option_Entry_u64_None(void) {
     return it;
 }
 
-MAKER Result_Option_Entry_u64_CacheError new_Result_Option_Entry_u64_CacheError_Ok(Option_Entry_u64 field_0) {
-    Result_Option_Entry_u64_CacheError it;
-    it.tag = 0u;
-    it.is.Ok.field_0 = field_0;
-    return it;
-}
-
 MAKER Option_Entry_u64 new_Option_Entry_u64_Some(atlas_entries_Entry_u64 field_0) {
     Option_Entry_u64 it;
     it.tag = 1u;
     it.Some.field_0 = field_0;
-    return it;
-}
-
-MAKER Result_Option_Entry_u64_CacheError new_Result_Option_Entry_u64_CacheError_Err(atlas_entries_CacheError field_0) {
-    Result_Option_Entry_u64_CacheError it;
-    it.tag = 1u;
-    it.is.Err.field_0 = field_0;
-    return it;
-}
-
-MAKER ControlFlow_ErrResidual_CacheError_Option_Entry_u64 new_ControlFlow_ErrResidual_CacheError_Option_Entry_u64_Continue(Option_Entry_u64 field_0) {
-    ControlFlow_ErrResidual_CacheError_Option_Entry_u64 it;
-    it.tag = 0u;
-    it.is.Continue.field_0 = field_0;
-    return it;
-}
-
-MAKER ControlFlow_ErrResidual_CacheError_Option_Entry_u64 new_ControlFlow_ErrResidual_CacheError_Option_Entry_u64_Break(ErrResidual_CacheError field_0) {
-    ControlFlow_ErrResidual_CacheError_Option_Entry_u64 it;
-    it.tag = 1u;
-    it.is.Break.field_0 = field_0;
     return it;
 }
 
@@ -7700,38 +6960,6 @@ MAKER ControlFlow_ErrResidual_CacheError_ChangeList new_ControlFlow_ErrResidual_
     return it;
 }
 
-MAKER Result_AllocFailed_AtlasAllocator new_Result_AllocFailed_AtlasAllocator_Err(AllocFailed_AtlasAllocator field_0) {
-    Result_AllocFailed_AtlasAllocator it;
-    it.tag = 1u;
-    it.Err.field_0 = field_0;
-    return it;
-}
-
-MAKER Result_AllocFailed_AtlasAllocator new_Result_AllocFailed_AtlasAllocator_Ok(void) {
-    Result_AllocFailed_AtlasAllocator it;
-    it.tag = 0u;
-    return it;
-}
-
-MAKER ControlFlow_ErrResidual_AllocFailed_AtlasAllocator new_ControlFlow_ErrResidual_AllocFailed_AtlasAllocator_Continue(void) {
-    ControlFlow_ErrResidual_AllocFailed_AtlasAllocator it;
-    it.tag = 0u;
-    return it;
-}
-
-MAKER ErrResidual_AllocFailed_AtlasAllocator new_ErrResidual_AllocFailed_AtlasAllocator(AllocFailed_AtlasAllocator field_0) {
-    ErrResidual_AllocFailed_AtlasAllocator it;
-    it.field_0 = field_0;
-    return it;
-}
-
-MAKER ControlFlow_ErrResidual_AllocFailed_AtlasAllocator new_ControlFlow_ErrResidual_AllocFailed_AtlasAllocator_Break(ErrResidual_AllocFailed_AtlasAllocator field_0) {
-    ControlFlow_ErrResidual_AllocFailed_AtlasAllocator it;
-    it.tag = 1u;
-    it.Break.field_0 = field_0;
-    return it;
-}
-
 MAKER slice_Refusals new_slice_Refusals(const atlas_cache_Refusals *at, uint64_t len) {
     slice_Refusals it;
     it.at = at;
@@ -7743,12 +6971,6 @@ MAKER Result_FoldHasher new_Result_FoldHasher_Ok(FoldHasher field_0) {
     Result_FoldHasher it;
     it.tag = 0u;
     it.Ok.field_0 = field_0;
-    return it;
-}
-
-MAKER Result_HashMap_u64_u32_BuildHasherDefault_FoldHasher_FoldHasher new_Result_HashMap_u64_u32_BuildHasherDefault_FoldHasher_FoldHasher_Err(void) {
-    Result_HashMap_u64_u32_BuildHasherDefault_FoldHasher_FoldHasher it;
-    it.tag = 1u;
     return it;
 }
 
@@ -7854,20 +7076,6 @@ MAKER ControlFlow_ErrResidual_AllocFailed_Vec_bool new_ControlFlow_ErrResidual_A
     ControlFlow_ErrResidual_AllocFailed_Vec_bool it;
     it.tag = 1u;
     it.Break.field_0 = field_0;
-    return it;
-}
-
-MAKER Result_Option_Arrangement_SheetError new_Result_Option_Arrangement_SheetError_Err(atlas_sheet_SheetError field_0) {
-    Result_Option_Arrangement_SheetError it;
-    it.tag = 1u;
-    it.is.Err.field_0 = field_0;
-    return it;
-}
-
-MAKER Result_Sheet_SheetError new_Result_Sheet_SheetError_Err(atlas_sheet_SheetError field_0) {
-    Result_Sheet_SheetError it;
-    it.tag = 1u;
-    it.is.Err.field_0 = field_0;
     return it;
 }
 
@@ -8015,41 +7223,10 @@ MAKER slice_bool new_slice_bool(bool *at, uint64_t len) {
     return it;
 }
 
-MAKER Result_SoFar_SheetError new_Result_SoFar_SheetError_Err(atlas_sheet_SheetError field_0) {
-    Result_SoFar_SheetError it;
-    it.tag = 1u;
-    it.is.Err.field_0 = field_0;
-    return it;
-}
-
-MAKER Result_Option_SoFar_SheetError new_Result_Option_SoFar_SheetError_Err(atlas_sheet_SheetError field_0) {
-    Result_Option_SoFar_SheetError it;
-    it.tag = 1u;
-    it.is.Err.field_0 = field_0;
-    return it;
-}
-
-MAKER Option_SoFar new_Option_SoFar_None(void) {
-    Option_SoFar it;
-    it.tag = 0u;
-    return it;
-}
-
 MAKER slice_Way new_slice_Way(const atlas_sheet_Way *at, uint64_t len) {
     slice_Way it;
     it.at = at;
     it.len = len;
-    return it;
-}
-
-MAKER atlas_sheet_Arrangement new_atlas_sheet_Arrangement(atlas_model_Size size, atlas_sheet_Choice choice, Vec_Slot lying, Vec_Slot order,
-        Vec_Slot places) {
-    atlas_sheet_Arrangement it;
-    it.size = size;
-    it.choice = choice;
-    it.lying = lying;
-    it.order = order;
-    it.places = places;
     return it;
 }
 
@@ -8170,14 +7347,6 @@ MAKER std_collections_Columns_u64_u32 new_std_collections_Columns_u64_u32(Vec_u6
     std_collections_Columns_u64_u32 it;
     it.keys = keys;
     it.vals = vals;
-    return it;
-}
-
-MAKER std_collections_IndexTable new_std_collections_IndexTable(Vec_u64_Later groups, Vec_u64_Later buckets, uint64_t growth_left) {
-    std_collections_IndexTable it;
-    it.groups = groups;
-    it.buckets = buckets;
-    it.growth_left = growth_left;
     return it;
 }
 
@@ -8544,47 +7713,6 @@ MAKER Result_bool new_Result_bool_Ok(bool field_0) {
     return it;
 }
 
-MAKER atlas_sheet_Chosen new_atlas_sheet_Chosen(Vec_Slot row, atlas_sheet_Arrangement page) {
-    atlas_sheet_Chosen it;
-    it.row = row;
-    it.page = page;
-    return it;
-}
-
-MAKER Option_Chosen new_Option_Chosen_Some(atlas_sheet_Chosen field_0) {
-    Option_Chosen it;
-    it.tag = 1u;
-    it.Some.field_0 = field_0;
-    return it;
-}
-
-MAKER Result_Option_Chosen_SheetError new_Result_Option_Chosen_SheetError_Ok(Option_Chosen field_0) {
-    Result_Option_Chosen_SheetError it;
-    it.tag = 0u;
-    it.is.Ok.field_0 = field_0;
-    return it;
-}
-
-MAKER Option_Chosen new_Option_Chosen_None(void) {
-    Option_Chosen it;
-    it.tag = 0u;
-    return it;
-}
-
-MAKER ControlFlow_ErrResidual_SheetError_Option_Chosen new_ControlFlow_ErrResidual_SheetError_Option_Chosen_Continue(Option_Chosen field_0) {
-    ControlFlow_ErrResidual_SheetError_Option_Chosen it;
-    it.tag = 0u;
-    it.is.Continue.field_0 = field_0;
-    return it;
-}
-
-MAKER ControlFlow_ErrResidual_SheetError_Option_Chosen new_ControlFlow_ErrResidual_SheetError_Option_Chosen_Break(ErrResidual_SheetError field_0) {
-    ControlFlow_ErrResidual_SheetError_Option_Chosen it;
-    it.tag = 1u;
-    it.is.Break.field_0 = field_0;
-    return it;
-}
-
 MAKER atlas_sheet_map_Self_ref_u64 new_atlas_sheet_map_Self_ref_u64(const uint64_t *field_0) {
     atlas_sheet_map_Self_ref_u64 it;
     it.field_0 = field_0;
@@ -8636,35 +7764,6 @@ MAKER atlas_sheet_Found new_atlas_sheet_Found(Vec_Slot order, Vec_Slot places) {
     atlas_sheet_Found it;
     it.order = order;
     it.places = places;
-    return it;
-}
-
-MAKER atlas_sheet_Filling new_atlas_sheet_Filling(atlas_sheet_Way way, atlas_sheet_Found found, wide_number used_area) {
-    atlas_sheet_Filling it;
-    it.way = way;
-    it.found = found;
-    it.used_area = used_area;
-    return it;
-}
-
-MAKER Result_Filling_SheetError new_Result_Filling_SheetError_Ok(atlas_sheet_Filling field_0) {
-    Result_Filling_SheetError it;
-    it.tag = 0u;
-    it.is.Ok.field_0 = field_0;
-    return it;
-}
-
-MAKER ControlFlow_ErrResidual_SheetError_Filling new_ControlFlow_ErrResidual_SheetError_Filling_Continue(atlas_sheet_Filling field_0) {
-    ControlFlow_ErrResidual_SheetError_Filling it;
-    it.tag = 0u;
-    it.is.Continue.field_0 = field_0;
-    return it;
-}
-
-MAKER ControlFlow_ErrResidual_SheetError_Filling new_ControlFlow_ErrResidual_SheetError_Filling_Break(ErrResidual_SheetError field_0) {
-    ControlFlow_ErrResidual_SheetError_Filling it;
-    it.tag = 1u;
-    it.is.Break.field_0 = field_0;
     return it;
 }
 
@@ -9051,13 +8150,6 @@ MAKER map_Self_ref_u64_2 new_map_Self_ref_u64_2(const uint64_t *field_0) {
     return it;
 }
 
-MAKER Result_Option_Chosen_SheetError new_Result_Option_Chosen_SheetError_Err(atlas_sheet_SheetError field_0) {
-    Result_Option_Chosen_SheetError it;
-    it.tag = 1u;
-    it.is.Err.field_0 = field_0;
-    return it;
-}
-
 MAKER Iter_Option_u64 new_Iter_Option_u64(slice_Option_u64 rest) {
     Iter_Option_u64 it;
     it.rest = rest;
@@ -9075,27 +8167,6 @@ MAKER Result_Option_OneSheet_SheetError new_Result_Option_OneSheet_SheetError_Er
     Result_Option_OneSheet_SheetError it;
     it.tag = 1u;
     it.is.Err.field_0 = field_0;
-    return it;
-}
-
-MAKER Result_Chosen_SheetError new_Result_Chosen_SheetError_Ok(atlas_sheet_Chosen field_0) {
-    Result_Chosen_SheetError it;
-    it.tag = 0u;
-    it.is.Ok.field_0 = field_0;
-    return it;
-}
-
-MAKER ControlFlow_ErrResidual_SheetError_Chosen new_ControlFlow_ErrResidual_SheetError_Chosen_Continue(atlas_sheet_Chosen field_0) {
-    ControlFlow_ErrResidual_SheetError_Chosen it;
-    it.tag = 0u;
-    it.is.Continue.field_0 = field_0;
-    return it;
-}
-
-MAKER ControlFlow_ErrResidual_SheetError_Chosen new_ControlFlow_ErrResidual_SheetError_Chosen_Break(ErrResidual_SheetError field_0) {
-    ControlFlow_ErrResidual_SheetError_Chosen it;
-    it.tag = 1u;
-    it.is.Break.field_0 = field_0;
     return it;
 }
 
@@ -9138,13 +8209,6 @@ MAKER ControlFlow_ErrResidual_SheetError_Found new_ControlFlow_ErrResidual_Sheet
     ControlFlow_ErrResidual_SheetError_Found it;
     it.tag = 1u;
     it.is.Break.field_0 = field_0;
-    return it;
-}
-
-MAKER Result_Filling_SheetError new_Result_Filling_SheetError_Err(atlas_sheet_SheetError field_0) {
-    Result_Filling_SheetError it;
-    it.tag = 1u;
-    it.is.Err.field_0 = field_0;
     return it;
 }
 
@@ -9303,41 +8367,6 @@ MAKER atlas_sheet_Trial new_atlas_sheet_Trial(atlas_sheet_Way way, Vec_Slot orde
     return it;
 }
 
-MAKER ControlFlow_ErrResidual_SheetError_Option_Packing new_ControlFlow_ErrResidual_SheetError_Option_Packing_Continue(Option_Packing field_0) {
-    ControlFlow_ErrResidual_SheetError_Option_Packing it;
-    it.tag = 0u;
-    it.is.Continue.field_0 = field_0;
-    return it;
-}
-
-MAKER ControlFlow_ErrResidual_SheetError_Option_Packing new_ControlFlow_ErrResidual_SheetError_Option_Packing_Break(ErrResidual_SheetError field_0) {
-    ControlFlow_ErrResidual_SheetError_Option_Packing it;
-    it.tag = 1u;
-    it.is.Break.field_0 = field_0;
-    return it;
-}
-
-MAKER Result_SimpleAtlasAllocator_SheetError new_Result_SimpleAtlasAllocator_SheetError_Ok(guillotiere_SimpleAtlasAllocator field_0) {
-    Result_SimpleAtlasAllocator_SheetError it;
-    it.tag = 0u;
-    it.is.Ok.field_0 = field_0;
-    return it;
-}
-
-MAKER ControlFlow_ErrResidual_SheetError_SimpleAtlasAllocator new_ControlFlow_ErrResidual_SheetError_SimpleAtlasAllocator_Continue(guillotiere_SimpleAtlasAllocator field_0) {
-    ControlFlow_ErrResidual_SheetError_SimpleAtlasAllocator it;
-    it.tag = 0u;
-    it.is.Continue.field_0 = field_0;
-    return it;
-}
-
-MAKER ControlFlow_ErrResidual_SheetError_SimpleAtlasAllocator new_ControlFlow_ErrResidual_SheetError_SimpleAtlasAllocator_Break(ErrResidual_SheetError field_0) {
-    ControlFlow_ErrResidual_SheetError_SimpleAtlasAllocator it;
-    it.tag = 1u;
-    it.is.Break.field_0 = field_0;
-    return it;
-}
-
 MAKER slice_Option_Rectangle_2 new_slice_Option_Rectangle_2(Option_Rectangle *at, uint64_t len) {
     slice_Option_Rectangle_2 it;
     it.at = at;
@@ -9492,13 +8521,6 @@ MAKER slice_bool_2 new_slice_bool_2(const bool *at, uint64_t len) {
     return it;
 }
 
-MAKER Result_Chosen_SheetError new_Result_Chosen_SheetError_Err(atlas_sheet_SheetError field_0) {
-    Result_Chosen_SheetError it;
-    it.tag = 1u;
-    it.is.Err.field_0 = field_0;
-    return it;
-}
-
 MAKER Result_u64_SheetError new_Result_u64_SheetError_Ok(uint64_t field_0) {
     Result_u64_SheetError it;
     it.tag = 0u;
@@ -9609,19 +8631,6 @@ MAKER slice_Trial new_slice_Trial(const atlas_sheet_Trial *at, uint64_t len) {
     return it;
 }
 
-MAKER Result_Option_Packing_SheetError new_Result_Option_Packing_SheetError_Ok(Option_Packing field_0) {
-    Result_Option_Packing_SheetError it;
-    it.tag = 0u;
-    it.is.Ok.field_0 = field_0;
-    return it;
-}
-
-MAKER Option_Packing new_Option_Packing_None(void) {
-    Option_Packing it;
-    it.tag = 0u;
-    return it;
-}
-
 MAKER ByKey_sort_by_key_Self_ref_Key_Reverse_u64 new_ByKey_sort_by_key_Self_ref_Key_Reverse_u64(atlas_sheet_sort_by_key_Self_ref_Key f) {
     ByKey_sort_by_key_Self_ref_Key_Reverse_u64 it;
     it.f = f;
@@ -9638,27 +8647,6 @@ MAKER Result_Option_Rectangle new_Result_Option_Rectangle_Ok(Option_Rectangle fi
 MAKER Result_Option_Rectangle new_Result_Option_Rectangle_Err(void) {
     Result_Option_Rectangle it;
     it.tag = 1u;
-    return it;
-}
-
-MAKER ControlFlow_ErrResidual_AtlasError_SimpleAtlasAllocator new_ControlFlow_ErrResidual_AtlasError_SimpleAtlasAllocator_Continue(guillotiere_SimpleAtlasAllocator field_0) {
-    ControlFlow_ErrResidual_AtlasError_SimpleAtlasAllocator it;
-    it.tag = 0u;
-    it.is.Continue.field_0 = field_0;
-    return it;
-}
-
-MAKER ControlFlow_ErrResidual_AtlasError_SimpleAtlasAllocator new_ControlFlow_ErrResidual_AtlasError_SimpleAtlasAllocator_Break(ErrResidual_AtlasError field_0) {
-    ControlFlow_ErrResidual_AtlasError_SimpleAtlasAllocator it;
-    it.tag = 1u;
-    it.is.Break.field_0 = field_0;
-    return it;
-}
-
-MAKER Result_SimpleAtlasAllocator_SheetError new_Result_SimpleAtlasAllocator_SheetError_Err(atlas_sheet_SheetError field_0) {
-    Result_SimpleAtlasAllocator_SheetError it;
-    it.tag = 1u;
-    it.is.Err.field_0 = field_0;
     return it;
 }
 
@@ -9883,13 +8871,6 @@ MAKER ControlFlow_ref_PlainSize new_ControlFlow_ref_PlainSize_Break(void) {
     return it;
 }
 
-MAKER Result_Option_Packing_SheetError new_Result_Option_Packing_SheetError_Err(atlas_sheet_SheetError field_0) {
-    Result_Option_Packing_SheetError it;
-    it.tag = 1u;
-    it.is.Err.field_0 = field_0;
-    return it;
-}
-
 MAKER Iter_Rectangle new_Iter_Rectangle(slice_Rectangle rest) {
     Iter_Rectangle it;
     it.rest = rest;
@@ -10043,13 +9024,6 @@ MAKER atlas_sheet_Packing new_atlas_sheet_Packing(atlas_model_Size size, atlas_s
     it.way = way;
     it.order = order;
     it.places = places;
-    return it;
-}
-
-MAKER Option_Packing new_Option_Packing_Some(atlas_sheet_Packing field_0) {
-    Option_Packing it;
-    it.tag = 1u;
-    it.Some.field_0 = field_0;
     return it;
 }
 
@@ -10256,13 +9230,6 @@ MAKER tuple_Slots_tuple_u64_Size_Sorter_tuple_u64_Size_tuple_u64_u64 new_tuple_S
 
 MAKER tuple_slice_u64_slice_u64 new_tuple_slice_u64_slice_u64(slice_u64_2 field_0, slice_u64_2 field_1) {
     tuple_slice_u64_slice_u64 it;
-    it.field_0 = field_0;
-    it.field_1 = field_1;
-    return it;
-}
-
-MAKER tuple_Change_Change new_tuple_Change_Change(atlas_model_Change field_0, atlas_model_Change field_1) {
-    tuple_Change_Change it;
     it.field_0 = field_0;
     it.field_1 = field_1;
     return it;
@@ -10482,7 +9449,7 @@ SMALL void std_alloc_boxed_Box_drop_AtlasAllocator(Box_AtlasAllocator given_1);
 SMALL bool guillotiere_c_atlas_handle_AtlasReader_holds(const guillotiere_atlas *self);
 SMALL const atlas_allocator_AtlasAllocator *guillotiere_c_atlas_handle_AtlasReader_lent(const guillotiere_atlas *self);
 SMALL Result_AtlasAllocator_AtlasError atlas_allocator_atlas_AtlasAllocator_clone(const atlas_allocator_AtlasAllocator *self);
-SMALL Result_Box_AtlasAllocator_AllocFailed_AtlasAllocator std_alloc_boxed_Box_new_AtlasAllocator(atlas_allocator_AtlasAllocator x);
+SMALL Result_Box_AtlasAllocator_AllocFailed_AtlasAllocator std_alloc_boxed_Box_new_AtlasAllocator(const atlas_allocator_AtlasAllocator x);
 SMALL void guillotiere_c_atlas_handle_AtlasHandle_put(guillotiere_atlas *self, Box_AtlasAllocator atlas);
 SMALL void std_alloc_vec_Vec_drop_Slot(Vec_Slot given_1);
 SMALL void std_alloc_vec_Vec_drop_Link(Vec_Slot given_1);
@@ -10537,7 +9504,7 @@ SMALL Result_Vec_Allocation_AtlasError guillotiere_c_atlas_lists_ids_of(slice_u3
 SMALL slice_AllocId std_alloc_vec_derefs_VecDerefSlice_deref_AllocId(const Vec_Slot *self);
 SMALL Result_AtlasError atlas_allocator_atlas_AtlasAllocator_deallocate_all(atlas_allocator_AtlasAllocator *self, slice_AllocId ids);
 SMALL void std_alloc_vec_Vec_drop_AllocId(Vec_Slot given_1);
-PART uint32_t guillotiere_c_simple_start(uint32_t width, uint32_t height, const atlas_model_AllocatorOptions *options,
+SMALL uint32_t guillotiere_c_simple_start(uint32_t width, uint32_t height, const atlas_model_AllocatorOptions *options,
         guillotiere_simple *simple);
 SMALL bool guillotiere_c_simple_handle_SimpleHandle_holds(guillotiere_simple *self);
 SMALL Box_AtlasAllocator guillotiere_c_simple_handle_SimpleHandle_take(guillotiere_simple *self);
@@ -10563,11 +9530,11 @@ SMALL bool guillotiere_c_cache_handle_CacheHandle_holds(guillotiere_cache *self)
 SMALL atlas_cache_CacheOptions guillotiere_c_plain_cache_cache_options_for(const guillotiere_cache_options *options);
 SMALL Result_FollowedCache_OptionsError guillotiere_c_followed_FollowedCache_new(atlas_cache_CacheOptions options);
 SMALL uint32_t guillotiere_c_plain_cache_status_of_options_error(atlas_cache_OptionsError error);
-SMALL Result_Box_FollowedCache_AllocFailed_FollowedCache std_alloc_boxed_Box_new_FollowedCache(guillotiere_c_FollowedCache x);
+SMALL Result_Box_FollowedCache_AllocFailed_FollowedCache std_alloc_boxed_Box_new_FollowedCache(const guillotiere_c_FollowedCache x);
 SMALL void guillotiere_c_cache_handle_CacheHandle_put(guillotiere_cache *self, Box_AtlasAllocator cache);
 SMALL void std_alloc_vec_Vec_drop_AtlasAllocator(Vec_Slot given_1);
 SMALL void std_alloc_vec_Vec_drop_Refusals(Vec_Slot given_1);
-SMALL void std_collections_hash_map_HashMap_drop_u64_u32_BuildHasherDefault_FoldHasher_FoldHasher(std_collections_HashMap_u64_u32_BuildHasherDefault_FoldHasher_FoldHasher given_1);
+SMALL void std_collections_hash_map_HashMap_drop_u64_u32_BuildHasherDefault_FoldHasher_FoldHasher(const std_collections_HashMap_u64_u32_BuildHasherDefault_FoldHasher_FoldHasher given_1);
 SMALL void std_alloc_vec_Vec_drop_Link_2(Vec_Slot given_1);
 SMALL void std_alloc_vec_Vec_drop_Entry_u64(Vec_Slot given_1);
 SMALL void std_alloc_vec_Vec_drop_Vec_bool(Vec_Slot given_1);
@@ -10587,7 +9554,7 @@ SMALL Result_Inserted_CacheError guillotiere_c_followed_FollowedCache_insert(gui
 SMALL uint32_t guillotiere_c_cache_write_inserted(Result_Inserted_CacheError answer, guillotiere_place *place);
 SMALL Option_Place guillotiere_c_followed_FollowedCache_remove(guillotiere_c_FollowedCache *self, uint64_t key);
 SMALL Option_CacheChange_u64 guillotiere_c_followed_FollowedCache_next_change(guillotiere_c_FollowedCache *self);
-SMALL guillotiere_cache_change guillotiere_c_plain_cache_plain_cache_change(atlas_cache_CacheChange_u64 change);
+SMALL guillotiere_cache_change guillotiere_c_plain_cache_plain_cache_change(const atlas_cache_CacheChange_u64 change);
 SMALL void guillotiere_c_followed_FollowedCache_clear(guillotiere_c_FollowedCache *self);
 SMALL Result_CacheError guillotiere_c_followed_FollowedCache_trim(guillotiere_c_FollowedCache *self, uint64_t frames);
 SMALL uint32_t guillotiere_c_plain_cache_status_of_cache_error(atlas_entries_CacheError error);
@@ -10646,13 +9613,13 @@ SMALL guillotiere_c_Held_AtlasAllocator guillotiere_c_atlas_handle_AtlasHandle_o
 SMALL Box_AtlasAllocator guillotiere_c_held_release_AtlasAllocator(guillotiere_c_Held_AtlasAllocator held);
 SMALL tuple_AtlasAllocator_Vacant_AtlasAllocator std_alloc_boxed_Box_take_value_AtlasAllocator(Box_AtlasAllocator b);
 SMALL void std_alloc_room_vacant_Vacant_free_AtlasAllocator(Vacant_AtlasAllocator self);
-SMALL void core_mem_drop_AtlasAllocator(atlas_allocator_AtlasAllocator x);
+SMALL void core_mem_drop_AtlasAllocator(const atlas_allocator_AtlasAllocator x);
 SMALL void core_mem_drop(void);
 SMALL Result_Store atlas_store_store_Store_copy(const atlas_store_Store *self);
-SMALL ControlFlow_Store core_result_ResultTry_branch_Store(Result_Store self);
+SMALL ControlFlow_Store core_result_ResultTry_branch_Store(const Result_Store self);
 SMALL Result_AtlasAllocator_AtlasError core_result_ResultFromResidualErrResidual_from_residual_AtlasAllocator_AtlasError(void);
 SMALL Result_Vacant_AtlasAllocator std_alloc_room_vacant_Vacant_take_AtlasAllocator(void);
-SMALL Box_AtlasAllocator std_alloc_boxed_Box_write_into_AtlasAllocator(Vacant_AtlasAllocator room, atlas_allocator_AtlasAllocator x);
+SMALL Box_AtlasAllocator std_alloc_boxed_Box_write_into_AtlasAllocator(Vacant_AtlasAllocator room, const atlas_allocator_AtlasAllocator x);
 SMALL void guillotiere_c_Destruct_none_drop(void);
 SMALL void atlas_allocator_atlas_AtlasAllocator_prove_sound(const atlas_allocator_AtlasAllocator *self);
 SMALL guillotiere_c_Held_AtlasAllocator guillotiere_c_held_hold_AtlasAllocator(Box_AtlasAllocator whole);
@@ -10709,13 +9676,14 @@ SMALL void std_alloc_vec_Vec_destroy_empty_Change(Vec_Slot self);
 SMALL Result_Vec_Allocation_AtlasError atlas_allocator_atlas_AtlasAllocator_refit_order(const atlas_allocator_AtlasAllocator *self);
 SMALL ControlFlow_ErrResidual_AtlasError_Vec_Allocation core_result_ResultTry_branch_Vec_Allocation_AtlasError(Result_Vec_Allocation_AtlasError self);
 SMALL Result_ChangeList_AtlasError core_result_ResultFromResidualErrResidual_from_residual_ChangeList_AtlasError_AtlasError(ErrResidual_AtlasError residual);
-SMALL ControlFlow_ErrResidual_AtlasError_AtlasAllocator core_result_ResultTry_branch_AtlasAllocator_AtlasError(Result_AtlasAllocator_AtlasError self);
+SMALL ControlFlow_ErrResidual_AtlasError_AtlasAllocator core_result_ResultTry_branch_AtlasAllocator_AtlasError(const Result_AtlasAllocator_AtlasError self);
 SMALL void std_alloc_vec_Vec_drop_Allocation_2(Vec_Slot given_1);
 SMALL Result_ChangeList_AtlasError atlas_allocator_atlas_rearranging_refit(atlas_allocator_AtlasAllocator *atlas, Vec_Slot order);
 SMALL ControlFlow_ErrResidual_AtlasError_ChangeList core_result_ResultTry_branch_ChangeList_AtlasError(Result_ChangeList_AtlasError self);
 SMALL void std_alloc_vec_Vec_drop_Slot_2(Vec_Slot given_1);
 SMALL void std_alloc_vec_Vec_drop_Link_3(Vec_Slot given_1);
-SMALL void atlas_allocator_atlas_AtlasAllocator_become_like(atlas_allocator_AtlasAllocator *self, atlas_allocator_AtlasAllocator other);
+SMALL void atlas_allocator_atlas_AtlasAllocator_become_like(atlas_allocator_AtlasAllocator *self,
+        const atlas_allocator_AtlasAllocator other);
 SMALL Result_Vec_AllocId std_alloc_vec_Vec_with_capacity_AllocId(uint64_t capacity);
 SMALL ControlFlow_Vec_AllocId core_result_ResultTry_branch_Vec_AllocId(Result_Vec_AllocId self);
 SMALL Result_Vec_Allocation_AtlasError core_result_ResultFromResidualErrResidual_from_residual_Vec_AllocId_AtlasError(void);
@@ -10724,16 +9692,16 @@ SMALL slice_AllocId std_alloc_vec_Vec_as_slice_AllocId(const Vec_Slot *self);
 SMALL bool atlas_allocator_atlas_AtlasAllocator_are_live_once(atlas_allocator_AtlasAllocator *self, slice_AllocId ids);
 SMALL void std_alloc_vec_Vec_clear_AllocId(Vec_Slot *self);
 SMALL void std_alloc_vec_Vec_destroy_empty_AllocId(Vec_Slot self);
-SMALL Result_SimpleAtlasAllocator_AtlasError guillotiere_simple_SimpleAtlasAllocator_with_options(atlas_model_Size size,
+PART Result_SimpleAtlasAllocator_AtlasError guillotiere_simple_SimpleAtlasAllocator_with_options(atlas_model_Size size,
         const atlas_model_AllocatorOptions *options);
-SMALL Result_Box_SimpleAtlasAllocator_AllocFailed_SimpleAtlasAllocator std_alloc_boxed_Box_new_SimpleAtlasAllocator(guillotiere_SimpleAtlasAllocator x);
+SMALL Result_Box_SimpleAtlasAllocator_AllocFailed_SimpleAtlasAllocator std_alloc_boxed_Box_new_SimpleAtlasAllocator(const guillotiere_SimpleAtlasAllocator x);
 SMALL void std_alloc_vec_Vec_drop_FreeBox(Vec_Slot given_1);
 SMALL guillotiere_simple guillotiere_c_simple_handle_SimpleHandle_none(void);
 SMALL guillotiere_simple core_mem_replace_SimpleHandle(guillotiere_simple *dest, guillotiere_simple src);
 SMALL guillotiere_c_Held_AtlasAllocator guillotiere_c_simple_handle_SimpleHandle_open(guillotiere_simple handle);
 SMALL tuple_SimpleAtlasAllocator_Vacant_SimpleAtlasAllocator std_alloc_boxed_Box_take_value_SimpleAtlasAllocator(Box_AtlasAllocator b);
 SMALL void std_alloc_room_vacant_Vacant_free_SimpleAtlasAllocator(Vacant_AtlasAllocator self);
-SMALL void core_mem_drop_SimpleAtlasAllocator(guillotiere_SimpleAtlasAllocator x);
+SMALL void core_mem_drop_SimpleAtlasAllocator(const guillotiere_SimpleAtlasAllocator x);
 PART Result_Option_Rectangle_AtlasError guillotiere_simple_SimpleAtlasAllocator_allocate(guillotiere_SimpleAtlasAllocator *self,
         atlas_model_Size requested_size);
 SMALL guillotiere_simple guillotiere_c_simple_handle_SimpleHandle_close(guillotiere_c_Held_AtlasAllocator held);
@@ -10751,7 +9719,7 @@ SMALL const atlas_store_Store *atlas_allocator_atlas_store_of(const atlas_alloca
 SMALL atlas_search_Scale atlas_store_store_Store_scale(const atlas_store_Store *self);
 SMALL const void *std_alloc_vec_Vec_allocator_FreeBox(const Vec_Slot *self);
 SMALL Result_FreeBoxes_AtlasError guillotiere_simple_boxes_FreeBoxes_new(void);
-SMALL ControlFlow_ErrResidual_AtlasError_FreeBoxes core_result_ResultTry_branch_FreeBoxes_AtlasError(Result_FreeBoxes_AtlasError self);
+SMALL ControlFlow_ErrResidual_AtlasError_FreeBoxes core_result_ResultTry_branch_FreeBoxes_AtlasError(const Result_FreeBoxes_AtlasError self);
 SMALL Result_AtlasError guillotiere_simple_changes_file_free(guillotiere_FreeBoxes *boxes, slice_Slot slots,
         const atlas_search_Scale *options);
 SMALL void std_alloc_vec_Vec_drop_FreeBox_2(Vec_Slot given_1);
@@ -10759,11 +9727,11 @@ SMALL void std_alloc_vec_Vec_drop_Link_4(Vec_Slot given_1);
 SMALL slice_FreeBox std_alloc_vec_derefs_VecDerefSlice_deref_FreeBox(const Vec_Slot *self);
 SMALL bool guillotiere_simple_is_listed(slice_FreeBox entries, const atlas_model_Rectangle *rectangle);
 SMALL Result_TextureCache_u64_BuildHasherDefault_FoldHasher_FoldHasher_OptionsError atlas_cache_cache_TextureCache_K_DefaultHasher_A_new_u64(atlas_cache_CacheOptions options);
-SMALL ControlFlow_ErrResidual_OptionsError_TextureCache_u64_BuildHasherDefault_FoldHasher_FoldHasher core_result_ResultTry_branch_TextureCache_u64_BuildHasherDefault_FoldHasher_FoldHasher_OptionsError(Result_TextureCache_u64_BuildHasherDefault_FoldHasher_FoldHasher_OptionsError self);
+SMALL ControlFlow_ErrResidual_OptionsError_TextureCache_u64_BuildHasherDefault_FoldHasher_FoldHasher core_result_ResultTry_branch_TextureCache_u64_BuildHasherDefault_FoldHasher_FoldHasher_OptionsError(const Result_TextureCache_u64_BuildHasherDefault_FoldHasher_FoldHasher_OptionsError self);
 SMALL Result_FollowedCache_OptionsError core_result_ResultFromResidualErrResidual_from_residual_FollowedCache_OptionsError_OptionsError(ErrResidual_OptionsError residual);
 SMALL Vec_Slot std_alloc_vec_Vec_new_CacheChange_u64(void);
 SMALL Result_Vacant_AtlasAllocator std_alloc_room_vacant_Vacant_take_FollowedCache(void);
-SMALL Box_AtlasAllocator std_alloc_boxed_Box_write_into_FollowedCache(Vacant_AtlasAllocator room, guillotiere_c_FollowedCache x);
+SMALL Box_AtlasAllocator std_alloc_boxed_Box_write_into_FollowedCache(Vacant_AtlasAllocator room, const guillotiere_c_FollowedCache x);
 SMALL void guillotiere_c_followed_FollowedCache_prove_kept(const guillotiere_c_FollowedCache *self);
 SMALL guillotiere_cache guillotiere_c_cache_handle_CacheHandle_close(guillotiere_c_Held_AtlasAllocator held);
 SMALL guillotiere_cache core_mem_replace_CacheHandle(guillotiere_cache *dest, guillotiere_cache src);
@@ -10773,7 +9741,7 @@ SMALL void std_alloc_vec_Vec_destroy_empty_AtlasAllocator(Vec_Slot self);
 SMALL void std_alloc_vec_Vec_clear_Refusals(Vec_Slot *self);
 SMALL void std_alloc_vec_Vec_destroy_empty_Refusals(Vec_Slot self);
 SMALL void std_collections_columns_Columns_drop_u64_u32(std_collections_Columns_u64_u32 given_1);
-SMALL void std_collections_index_table_IndexTable_drop(std_collections_IndexTable given_1);
+SMALL void std_collections_index_table_IndexTable_drop(const std_collections_IndexTable given_1);
 SMALL void core_mem_drop_BuildHasherDefault_FoldHasher(BuildHasherDefault_FoldHasher x);
 SMALL void std_alloc_vec_Vec_clear_Link_2(Vec_Slot *self);
 SMALL void std_alloc_vec_Vec_destroy_empty_Link_2(Vec_Slot self);
@@ -10787,7 +9755,7 @@ SMALL guillotiere_cache guillotiere_c_cache_handle_CacheHandle_none(void);
 SMALL guillotiere_c_Held_AtlasAllocator guillotiere_c_cache_handle_CacheHandle_open(guillotiere_cache handle);
 SMALL tuple_FollowedCache_Vacant_FollowedCache std_alloc_boxed_Box_take_value_FollowedCache(Box_AtlasAllocator b);
 SMALL void std_alloc_room_vacant_Vacant_free_FollowedCache(Vacant_AtlasAllocator self);
-SMALL void core_mem_drop_FollowedCache(guillotiere_c_FollowedCache x);
+SMALL void core_mem_drop_FollowedCache(const guillotiere_c_FollowedCache x);
 SMALL void atlas_cache_cache_TextureCache_begin_frame_u64_BuildHasherDefault_FoldHasher_FoldHasher(atlas_cache_TextureCache_u64_BuildHasherDefault_FoldHasher_FoldHasher *self);
 SMALL Option_Place atlas_cache_cache_TextureCache_get_u64_BuildHasherDefault_FoldHasher_FoldHasher(atlas_cache_TextureCache_u64_BuildHasherDefault_FoldHasher_FoldHasher *self, const uint64_t *key);
 SMALL guillotiere_place guillotiere_c_plain_cache_plain_place(atlas_cache_Place place);
@@ -10808,7 +9776,7 @@ SMALL const guillotiere_c_FollowedCache *std_alloc_boxed_Box_as_ref_FollowedCach
 SMALL uint32_t atlas_cache_rooms_Rooms_len(const atlas_cache_Rooms *self);
 SMALL Result_bool_CacheError atlas_cache_cache_TextureCache_repack_keeping_all_u64_BuildHasherDefault_FoldHasher_FoldHasher(atlas_cache_TextureCache_u64_BuildHasherDefault_FoldHasher_FoldHasher *self, uint32_t page, Vec_Slot *changes);
 SMALL Result_TextureCache_u64_BuildHasherDefault_FoldHasher_FoldHasher atlas_cache_cache_TextureCache_clone_u64_BuildHasherDefault_FoldHasher_FoldHasher(const atlas_cache_TextureCache_u64_BuildHasherDefault_FoldHasher_FoldHasher *self);
-SMALL ControlFlow_TextureCache_u64_BuildHasherDefault_FoldHasher_FoldHasher core_result_ResultTry_branch_TextureCache_u64_BuildHasherDefault_FoldHasher_FoldHasher(Result_TextureCache_u64_BuildHasherDefault_FoldHasher_FoldHasher self);
+SMALL ControlFlow_TextureCache_u64_BuildHasherDefault_FoldHasher_FoldHasher core_result_ResultTry_branch_TextureCache_u64_BuildHasherDefault_FoldHasher_FoldHasher(const Result_TextureCache_u64_BuildHasherDefault_FoldHasher_FoldHasher self);
 SMALL Result_FollowedCache core_result_ResultFromResidualErrResidual_from_residual_FollowedCache(void);
 SMALL slice_CacheChange_u64 std_alloc_vec_derefs_VecDerefSlice_deref_CacheChange_u64(const Vec_Slot *self);
 SMALL Result_Vec_AllocId std_alloc_vec_Vec_from_slice_CacheChange_u64(slice_CacheChange_u64 items);
@@ -10837,7 +9805,7 @@ SMALL Result_Vec_Size_SheetError guillotiere_c_sheet_sizes_of(slice_PlainSize nu
 SMALL ControlFlow_ErrResidual_SheetError_Vec_Size core_result_ResultTry_branch_Vec_Size_SheetError(Result_Vec_Size_SheetError self);
 SMALL Result_Option_Sheet_SheetError core_result_ResultFromResidualErrResidual_from_residual_Option_Sheet_SheetError_SheetError(ErrResidual_SheetError residual);
 PART Result_Option_Sheet_SheetError atlas_sheet_sheets_pack(slice_Size sprites, const atlas_sheet_SheetOptions *options);
-SMALL ControlFlow_ErrResidual_SheetError_Option_Sheet core_result_ResultTry_branch_Option_Sheet_SheetError(Result_Option_Sheet_SheetError self);
+SMALL ControlFlow_ErrResidual_SheetError_Option_Sheet core_result_ResultTry_branch_Option_Sheet_SheetError(const Result_Option_Sheet_SheetError self);
 SMALL slice_Placed std_alloc_vec_Vec_as_slice_Placed(const Vec_Slot *self);
 SMALL guillotiere_placed guillotiere_c_plain_sheet_plain_placed(atlas_sheet_Placed placed);
 SMALL void std_alloc_vec_Vec_clear_Placed(Vec_Slot *self);
@@ -10862,7 +9830,7 @@ SMALL Result_Option_Pages_SheetError atlas_sheet_groups_pack_groups(slice_Size s
 SMALL void std_alloc_vec_Vec_drop_Option_u64(Vec_Slot given_1);
 SMALL Result_Filled_SheetError core_result_ResultFromResidualErrResidual_from_residual_Filled_SheetError_SheetError(ErrResidual_SheetError residual);
 SMALL Result_Filled_SheetError atlas_sheet_sheets_fill(slice_Size sprites, const atlas_sheet_SheetOptions *options);
-SMALL ControlFlow_ErrResidual_SheetError_Filled core_result_ResultTry_branch_Filled_SheetError(Result_Filled_SheetError self);
+SMALL ControlFlow_ErrResidual_SheetError_Filled core_result_ResultTry_branch_Filled_SheetError(const Result_Filled_SheetError self);
 SMALL slice_Option_Placed std_alloc_vec_Vec_as_slice_Option_Placed(const Vec_Slot *self);
 SMALL guillotiere_maybe_placed guillotiere_c_plain_sheet_plain_maybe_placed(Option_Placed place);
 SMALL bool core_option_Option_is_none_Placed(const Option_Placed *self);
@@ -10871,12 +9839,12 @@ SMALL void std_alloc_vec_Vec_destroy_empty_Option_Placed(Vec_Slot self);
 SMALL Result_Store atlas_store_store_Store_new(atlas_model_Size size, const atlas_model_AllocatorOptions *options);
 SMALL Box_AtlasAllocator std_alloc_boxed_Box_from_raw_AtlasAllocator(void *ptr);
 SMALL void std_heap_GlobalAllocator_deallocate(const void *self, void *ptr, uint64_t _size, uint64_t _align);
-SMALL void guillotiere_c_atlas_allocator_atlas_AtlasAllocator_Destruct_drop(atlas_allocator_AtlasAllocator given_1);
+SMALL void guillotiere_c_atlas_allocator_atlas_AtlasAllocator_Destruct_drop(const atlas_allocator_AtlasAllocator given_1);
 SMALL slice_Slot std_alloc_vec_derefs_VecDerefSlice_deref_Slot(const Vec_Slot *self);
 SMALL Result_Vec_AllocId std_alloc_vec_Vec_from_slice_Slot(slice_Slot items);
 SMALL Result_Store core_result_ResultFromResidualErrResidual_from_residual_Store(void);
 SMALL Result_Table atlas_search_table_Table_copy(const atlas_search_Table *self);
-SMALL ControlFlow_Table core_result_ResultTry_branch_Table(Result_Table self);
+SMALL ControlFlow_Table core_result_ResultTry_branch_Table(const Result_Table self);
 SMALL void std_alloc_vec_Vec_drop_Slot_3(Vec_Slot given_1);
 SMALL atlas_search_Scale atlas_search_bands_Scale_copy(const atlas_search_Scale *self);
 SMALL void atlas_store_store_turns_Turns_new(void);
@@ -10952,7 +9920,7 @@ SMALL void std_alloc_vec_Vec_clear_Slot_2(Vec_Slot *self);
 SMALL void std_alloc_vec_Vec_destroy_empty_Slot_2(Vec_Slot self);
 SMALL void std_alloc_vec_Vec_clear_Link_3(Vec_Slot *self);
 SMALL void std_alloc_vec_Vec_destroy_empty_Link_3(Vec_Slot self);
-SMALL void atlas_store_store_Store_replace(atlas_store_Store *self, atlas_store_Store other);
+SMALL void atlas_store_store_Store_replace(atlas_store_Store *self, const atlas_store_Store other);
 SMALL bool std_alloc_vec_Vec_move_to_AllocId(Vec_Slot *self, uint64_t cap);
 SMALL void std_alloc_vec_Vec_put_AllocId(Vec_Slot *self, atlas_model_AllocId x);
 SMALL bool atlas_store_store_Store_are_named_once(atlas_store_Store *self, slice_AllocId ids);
@@ -10962,10 +9930,10 @@ SMALL Result_SimpleAtlasAllocator_AtlasError core_result_ResultFromResidualErrRe
 SMALL atlas_search_Scale atlas_search_bands_Scale_new(const atlas_model_AllocatorOptions *options);
 SMALL Result_Vacant_AtlasAllocator std_alloc_room_vacant_Vacant_take_SimpleAtlasAllocator(void);
 SMALL Box_AtlasAllocator std_alloc_boxed_Box_write_into_SimpleAtlasAllocator(Vacant_AtlasAllocator room,
-        guillotiere_SimpleAtlasAllocator x);
+        const guillotiere_SimpleAtlasAllocator x);
 SMALL void std_alloc_vec_Vec_clear_FreeBox(Vec_Slot *self);
 SMALL void std_alloc_vec_Vec_destroy_empty_FreeBox(Vec_Slot self);
-SMALL void guillotiere_c_guillotiere_simple_SimpleAtlasAllocator_Destruct_drop(guillotiere_SimpleAtlasAllocator given_1);
+SMALL void guillotiere_c_guillotiere_simple_SimpleAtlasAllocator_Destruct_drop(const guillotiere_SimpleAtlasAllocator given_1);
 SMALL Result_Option_Rectangle_AtlasError guillotiere_simple_grant(guillotiere_FreeBoxes *boxes, atlas_model_Size requested_size,
         const atlas_search_Scale *options);
 SMALL bool core_cmp_numbers_I32PartialEq_eq(const uint32_t *given_1, const uint32_t *given_2);
@@ -11011,7 +9979,7 @@ SMALL void std_alloc_vec_Vec_truncate_Vec_bool(Vec_Slot *self, uint64_t n);
 SMALL void std_alloc_vec_Vec_free_block_Vec_bool(Vec_Slot self);
 SMALL void std_alloc_vec_Vec_truncate_CacheChange_u64(Vec_Slot *self, uint64_t n);
 SMALL void std_alloc_vec_Vec_free_block_CacheChange_u64(Vec_Slot self);
-SMALL void guillotiere_c_guillotiere_c_followed_FollowedCache_Destruct_drop(guillotiere_c_FollowedCache given_1);
+SMALL void guillotiere_c_guillotiere_c_followed_FollowedCache_Destruct_drop(const guillotiere_c_FollowedCache given_1);
 SMALL uint64_t atlas_cache_counts_count(uint64_t number);
 SMALL void atlas_entries_entries_Entries_prove_kept_u64_BuildHasherDefault_FoldHasher_FoldHasher(const atlas_entries_Entries_u64_BuildHasherDefault_FoldHasher_FoldHasher *self);
 SMALL void atlas_entries_entries_Entries_touch_u64_BuildHasherDefault_FoldHasher_FoldHasher(atlas_entries_Entries_u64_BuildHasherDefault_FoldHasher_FoldHasher *self, uint32_t number, uint64_t frame);
@@ -11043,10 +10011,10 @@ SMALL Result_u64_CacheError atlas_cache_cache_compacting_visit_all_u64_BuildHash
 PART Result_bool_CacheError atlas_cache_cache_TextureCache_repack_page_u64_BuildHasherDefault_FoldHasher_FoldHasher(atlas_cache_TextureCache_u64_BuildHasherDefault_FoldHasher_FoldHasher *self, uint32_t page, bool whole, Vec_Slot *changes);
 SMALL uint32_t atlas_cache_rooms_number(uint64_t page, uint32_t most);
 SMALL Result_Rooms atlas_cache_rooms_Rooms_copy(const atlas_cache_Rooms *self);
-SMALL ControlFlow_Rooms core_result_ResultTry_branch_Rooms(Result_Rooms self);
+SMALL ControlFlow_Rooms core_result_ResultTry_branch_Rooms(const Result_Rooms self);
 SMALL Result_TextureCache_u64_BuildHasherDefault_FoldHasher_FoldHasher core_result_ResultFromResidualErrResidual_from_residual_TextureCache_u64_BuildHasherDefault_FoldHasher_FoldHasher(void);
 SMALL Result_Entries_u64_BuildHasherDefault_FoldHasher_FoldHasher atlas_entries_entries_Entries_copy_u64_BuildHasherDefault_FoldHasher_FoldHasher(const atlas_entries_Entries_u64_BuildHasherDefault_FoldHasher_FoldHasher *self);
-SMALL ControlFlow_Entries_u64_BuildHasherDefault_FoldHasher_FoldHasher core_result_ResultTry_branch_Entries_u64_BuildHasherDefault_FoldHasher_FoldHasher(Result_Entries_u64_BuildHasherDefault_FoldHasher_FoldHasher self);
+SMALL ControlFlow_Entries_u64_BuildHasherDefault_FoldHasher_FoldHasher core_result_ResultTry_branch_Entries_u64_BuildHasherDefault_FoldHasher_FoldHasher(const Result_Entries_u64_BuildHasherDefault_FoldHasher_FoldHasher self);
 SMALL void std_alloc_vec_Vec_drop_AtlasAllocator_2(Vec_Slot given_1);
 SMALL void std_alloc_vec_Vec_drop_Refusals_2(Vec_Slot given_1);
 SMALL void core_convert_AnyFrom_from(void);
@@ -11085,7 +10053,7 @@ SMALL void std_alloc_vec_Vec_free_block_u64(Vec_Slot self);
 SMALL Result_SheetError atlas_sheet_sheets_check_all(slice_Size sprites, const atlas_sheet_SheetOptions *options);
 SMALL ControlFlow_ErrResidual_SheetError core_result_ResultTry_branch_SheetError(Result_SheetError self);
 SMALL Result_Option_Sheet_SheetError atlas_sheet_dense_denser(slice_Size sprites, const atlas_sheet_SheetOptions *options,
-        Option_Sheet first);
+        const Option_Sheet first);
 SMALL Result_Option_Pages_SheetError atlas_sheet_paging_paged(slice_Size sprites, const atlas_sheet_SheetOptions *options);
 SMALL void std_alloc_vec_Vec_truncate_Size(Vec_Slot *self, uint64_t n);
 SMALL void std_alloc_vec_Vec_free_block_Size(Vec_Slot self);
@@ -11102,7 +10070,7 @@ SMALL void std_alloc_vec_Vec_drop_Option_u64_2(Vec_Slot given_1);
 SMALL void std_alloc_vec_Vec_clear_Option_u64(Vec_Slot *self);
 SMALL void std_alloc_vec_Vec_destroy_empty_Option_u64(Vec_Slot self);
 PART Result_Arrangement_SheetError atlas_sheet_sheets_best_filled(slice_Size sprites, const atlas_sheet_SheetOptions *options);
-SMALL ControlFlow_ErrResidual_SheetError_Arrangement core_result_ResultTry_branch_Arrangement_SheetError(Result_Arrangement_SheetError self);
+SMALL ControlFlow_ErrResidual_SheetError_Arrangement core_result_ResultTry_branch_Arrangement_SheetError(const Result_Arrangement_SheetError self);
 PART Result_Filled_SheetError atlas_sheet_sheets_filled_of(slice_Size sprites, const atlas_sheet_SheetOptions *options,
         const atlas_sheet_Arrangement *arrangement);
 SMALL void std_alloc_vec_Vec_drop_Size_2(Vec_Slot given_1);
@@ -11112,7 +10080,7 @@ SMALL void std_alloc_vec_Vec_truncate_Option_Placed(Vec_Slot *self, uint64_t n);
 SMALL void std_alloc_vec_Vec_free_block_Option_Placed(Vec_Slot self);
 SMALL Result_Vec_AllocId std_alloc_vec_Vec_with_capacity_Slot(uint64_t capacity);
 SMALL Result_Table atlas_search_table_Table_new_2(void);
-SMALL void guillotiere_c_atlas_store_store_Store_Destruct_drop(atlas_store_Store given_1);
+SMALL void guillotiere_c_atlas_store_store_Store_Destruct_drop(const atlas_store_Store given_1);
 SMALL slice_Slot std_alloc_vec_Vec_as_slice_Slot(const Vec_Slot *self);
 SMALL Result std_alloc_vec_Vec_extend_from_slice_Slot(Vec_Slot *self, slice_Slot other);
 SMALL void std_alloc_vec_Vec_drop_Slot_4(Vec_Slot given_1);
@@ -11198,7 +10166,7 @@ SMALL atlas_search_Borders atlas_search_bands_borders_for(const atlas_model_Allo
 SMALL bool atlas_search_bands_are_usual(const atlas_model_AllocatorOptions *options);
 SMALL void std_alloc_vec_Vec_truncate_FreeBox(Vec_Slot *self, uint64_t n);
 SMALL void std_alloc_vec_Vec_free_block_FreeBox(Vec_Slot self);
-SMALL void guillotiere_c_guillotiere_simple_boxes_FreeBoxes_Destruct_drop(guillotiere_FreeBoxes given_1);
+SMALL void guillotiere_c_guillotiere_simple_boxes_FreeBoxes_Destruct_drop(const guillotiere_FreeBoxes given_1);
 SMALL Option_Found atlas_search_search_pick_FreeBox(slice_FreeBox entries, const atlas_search_Table *table,
         const atlas_search_Scale *options, atlas_model_Size size);
 SMALL atlas_model_Rectangle atlas_search_cut_granted(atlas_model_Rectangle chosen, atlas_model_Size size);
@@ -11247,7 +10215,7 @@ SMALL void std_alloc_vec_Vec_truncate_within_Link_2(Vec_Slot *self, uint64_t n);
 SMALL void std_alloc_vec_Vec_truncate_within_Entry_u64(Vec_Slot *self, uint64_t n);
 SMALL void std_alloc_vec_Vec_truncate_within_Vec_bool(Vec_Slot *self, uint64_t n);
 SMALL void std_alloc_vec_Vec_truncate_within_CacheChange_u64(Vec_Slot *self, uint64_t n);
-SMALL void guillotiere_c_atlas_cache_cache_TextureCache_Destruct_drop_u64_BuildHasherDefault_FoldHasher_FoldHasher(atlas_cache_TextureCache_u64_BuildHasherDefault_FoldHasher_FoldHasher given_1);
+SMALL void guillotiere_c_atlas_cache_cache_TextureCache_Destruct_drop_u64_BuildHasherDefault_FoldHasher_FoldHasher(const atlas_cache_TextureCache_u64_BuildHasherDefault_FoldHasher_FoldHasher given_1);
 SMALL uint64_t core_int_u64_saturating_add(uint64_t self, uint64_t second);
 SMALL void atlas_entries_recency_Recency_prove_kept(const atlas_entries_Recency *self);
 SMALL void atlas_entries_entries_unmark(const atlas_entries_Recency *recency, uint32_t *mark, uint32_t number);
@@ -11307,10 +10275,10 @@ SMALL Result_BuildHasherDefault_FoldHasher core_hash_build_BuildHasherDefaultClo
 SMALL ControlFlow_BuildHasherDefault_FoldHasher core_result_ResultTry_branch_BuildHasherDefault_FoldHasher(Result_BuildHasherDefault_FoldHasher self);
 SMALL Result_Entries_u64_BuildHasherDefault_FoldHasher_FoldHasher core_result_ResultFromResidualErrResidual_from_residual_Entries_u64_BuildHasherDefault_FoldHasher_FoldHasher(void);
 SMALL Result_HashMap_u64_u32_BuildHasherDefault_FoldHasher_FoldHasher atlas_entries_entries_copying_copied_map_u64_BuildHasherDefault_FoldHasher_FoldHasher(const std_collections_HashMap_u64_u32_BuildHasherDefault_FoldHasher_FoldHasher *map, BuildHasherDefault_FoldHasher hasher);
-SMALL ControlFlow_HashMap_u64_u32_BuildHasherDefault_FoldHasher_FoldHasher core_result_ResultTry_branch_HashMap_u64_u32_BuildHasherDefault_FoldHasher_FoldHasher(Result_HashMap_u64_u32_BuildHasherDefault_FoldHasher_FoldHasher self);
+SMALL ControlFlow_HashMap_u64_u32_BuildHasherDefault_FoldHasher_FoldHasher core_result_ResultTry_branch_HashMap_u64_u32_BuildHasherDefault_FoldHasher_FoldHasher(const Result_HashMap_u64_u32_BuildHasherDefault_FoldHasher_FoldHasher self);
 SMALL Result_Recency atlas_entries_recency_Recency_copy(const atlas_entries_Recency *self);
 SMALL ControlFlow_Recency core_result_ResultTry_branch_Recency(Result_Recency self);
-SMALL void std_collections_hash_map_HashMap_drop_u64_u32_BuildHasherDefault_FoldHasher_FoldHasher_2(std_collections_HashMap_u64_u32_BuildHasherDefault_FoldHasher_FoldHasher given_1);
+SMALL void std_collections_hash_map_HashMap_drop_u64_u32_BuildHasherDefault_FoldHasher_FoldHasher_2(const std_collections_HashMap_u64_u32_BuildHasherDefault_FoldHasher_FoldHasher given_1);
 SMALL slice_Entry_u64 std_alloc_vec_derefs_VecDerefSlice_deref_Entry_u64(const Vec_Slot *self);
 SMALL Result_Vec_AllocId std_alloc_vec_Vec_from_slice_Entry_u64(slice_Entry_u64 items);
 SMALL void std_alloc_vec_Vec_drop_Link_6(Vec_Slot given_1);
@@ -11344,9 +10312,9 @@ SMALL Result_Vec_AllocId std_alloc_vec_collects_VecFromIterator_from_iter_Size_M
 SMALL atlas_sheet_SheetError atlas_sheet_error_SheetErrorFromAllocError_from(void);
 SMALL void atlas_sheet_Destruct_none_drop(void);
 SMALL Result_Option_Arrangement_SheetError atlas_sheet_packing_packed(slice_Size given_2, const atlas_sheet_SheetOptions *given_3);
-SMALL ControlFlow_ErrResidual_SheetError_Option_Arrangement core_result_ResultTry_branch_Option_Arrangement_SheetError(Result_Option_Arrangement_SheetError self);
-SMALL Result_Sheet_SheetError atlas_sheet_sheets_sheet_of(atlas_sheet_Filled filled);
-SMALL ControlFlow_ErrResidual_SheetError_Sheet core_result_ResultTry_branch_Sheet_SheetError(Result_Sheet_SheetError self);
+SMALL ControlFlow_ErrResidual_SheetError_Option_Arrangement core_result_ResultTry_branch_Option_Arrangement_SheetError(const Result_Option_Arrangement_SheetError self);
+SMALL Result_Sheet_SheetError atlas_sheet_sheets_sheet_of(const atlas_sheet_Filled filled);
+SMALL ControlFlow_ErrResidual_SheetError_Sheet core_result_ResultTry_branch_Sheet_SheetError(const Result_Sheet_SheetError self);
 SMALL void std_alloc_vec_Vec_truncate_within_Placed(Vec_Slot *self, uint64_t n);
 SMALL void std_alloc_vec_Vec_truncate_within_u64(Vec_Slot *self, uint64_t n);
 SMALL Result_SheetError atlas_sheet_allowed_check_allowed(atlas_sheet_Allowed allowed);
@@ -11358,9 +10326,9 @@ SMALL void std_alloc_vec_Vec_drop_Placed_2(Vec_Slot given_1);
 SMALL void std_alloc_vec_Vec_drop_u64_2(Vec_Slot given_1);
 SMALL slice_tuple_u64_Size std_alloc_vec_derefs_VecDerefSlice_deref_tuple_u64_Size(const Vec_Slot *self);
 SMALL Result_Option_Sheet_SheetError atlas_sheet_dense_denser_powers(slice_Size sprites, const atlas_sheet_SheetOptions *options,
-        slice_tuple_u64_Size order, Option_Sheet first);
+        slice_tuple_u64_Size order, const Option_Sheet first);
 SMALL Result_Option_Sheet_SheetError atlas_sheet_dense_denser_in_row(slice_Size sprites, const atlas_sheet_SheetOptions *options,
-        slice_tuple_u64_Size order, Option_Sheet first);
+        slice_tuple_u64_Size order, const Option_Sheet first);
 SMALL Result_Vec_AllocId std_alloc_vec_Vec_from_elem_Option_OnPage(Option_OnPage elem, uint64_t n);
 SMALL Result_Option_Pages_SheetError core_result_ResultFromResidualErrResidual_from_residual_Option_Pages_SheetError(void);
 PART Result_Vec_AllocId std_alloc_vec_Vec_from_slice_Size(slice_Size items);
@@ -11385,10 +10353,10 @@ SMALL Result_Vec_Size_SheetError atlas_sheet_groups_kept_groups(slice_Size sprit
         const atlas_sheet_SheetOptions *options);
 SMALL Result_SoFar_SheetError atlas_sheet_groups_begun(slice_Size sprites, slice_Option_u64 groups,
         const atlas_sheet_SheetOptions *options, Vec_Slot kept);
-SMALL ControlFlow_ErrResidual_SheetError_SoFar core_result_ResultTry_branch_SoFar_SheetError(Result_SoFar_SheetError self);
+SMALL ControlFlow_ErrResidual_SheetError_SoFar core_result_ResultTry_branch_SoFar_SheetError(const Result_SoFar_SheetError self);
 SMALL Result_Option_SoFar_SheetError atlas_sheet_groups_step(slice_Size sprites, slice_Option_u64 groups,
-        const atlas_sheet_SheetOptions *options, atlas_sheet_SoFar so_far);
-SMALL ControlFlow_ErrResidual_SheetError_Option_SoFar core_result_ResultTry_branch_Option_SoFar_SheetError(Result_Option_SoFar_SheetError self);
+        const atlas_sheet_SheetOptions *options, const atlas_sheet_SoFar so_far);
+SMALL ControlFlow_ErrResidual_SheetError_Option_SoFar core_result_ResultTry_branch_Option_SoFar_SheetError(const Result_Option_SoFar_SheetError self);
 SMALL void std_alloc_vec_Vec_clear_Option_u64_2(Vec_Slot *self);
 SMALL void std_alloc_vec_Vec_destroy_empty_Option_u64_2(Vec_Slot self);
 SMALL void std_alloc_vec_Vec_truncate_Option_u64(Vec_Slot *self, uint64_t n);
@@ -11397,7 +10365,7 @@ SMALL Result_Arrangement_SheetError atlas_sheet_sheets_first_filled(slice_Size s
 SMALL Result_Arrangement_SheetError core_result_ResultFromResidualErrResidual_from_residual_Arrangement_SheetError_SheetError(ErrResidual_SheetError residual);
 SMALL atlas_sheet_Random atlas_sheet_random_Random_new(uint64_t seed);
 PART Result_Arrangement_SheetError atlas_sheet_climbing_improve(const atlas_sheet_SheetOptions *options, atlas_sheet_Random *random,
-        uint32_t *tries, atlas_sheet_Arrangement first);
+        uint32_t *tries, const atlas_sheet_Arrangement first);
 SMALL slice_Option_Rectangle std_alloc_vec_derefs_VecDerefSlice_deref_Option_Rectangle(const Vec_Slot *self);
 SMALL wide_number atlas_sheet_filling_used_area(slice_Option_Rectangle places);
 PART Result_Vec_Size_SheetError atlas_sheet_sheets_numbers_of(slice_tuple_u64_Size order);
@@ -11412,7 +10380,7 @@ SMALL void std_alloc_vec_Vec_destroy_empty_Option_Rectangle(Vec_Slot self);
 SMALL void std_alloc_vec_Vec_truncate_within_Option_Placed(Vec_Slot *self, uint64_t n);
 SMALL bool std_alloc_vec_Vec_move_to_Slot(Vec_Slot *self, uint64_t cap);
 SMALL Result_Vec_AllocId std_alloc_vec_Vec_from_elem_Link_2(atlas_search_Link elem, uint64_t n);
-SMALL void guillotiere_c_atlas_search_table_Table_Destruct_drop(atlas_search_Table given_1);
+SMALL void guillotiere_c_atlas_search_table_Table_Destruct_drop(const atlas_search_Table given_1);
 SMALL void core_slots_Slots_copy_in_Slot(Slots_CacheChange_u64 *self, uint64_t to, slice_Slot src);
 SMALL void std_alloc_vec_Vec_clear_Slot_4(Vec_Slot *self);
 SMALL slice_Link std_alloc_vec_Vec_as_slice_Link(const Vec_Slot *self);
@@ -11425,7 +10393,7 @@ SMALL void std_alloc_vec_opened_drop_run_Link(Slots_CacheChange_u64 *row, uint64
 SMALL bool atlas_search_cut_OrientationPartialEq_eq(const atlas_search_Orientation *given_1, const atlas_search_Orientation *given_2);
 SMALL tuple_u32_u32 atlas_tree_requests_along_and_across(atlas_model_Size size, atlas_search_Orientation axis);
 SMALL void atlas_store_slots_lists_unlist(slice_Slot_2 slots, atlas_search_Table *lists, atlas_store_Recent *recent, atlas_search_Link at);
-PART atlas_store_Parts atlas_store_store_Store_place(atlas_store_Store *self, atlas_search_Link at, atlas_store_Plan plan);
+SMALL atlas_store_Parts atlas_store_store_Store_place(atlas_store_Store *self, atlas_search_Link at, atlas_store_Plan plan);
 SMALL atlas_search_Link atlas_tree_requests_strip_along(atlas_store_Store *store, atlas_search_Link at, uint32_t along);
 SMALL atlas_search_Link atlas_tree_requests_corner_along(atlas_store_Store *store, atlas_search_Link at, uint32_t along, uint32_t across);
 SMALL atlas_search_Link atlas_tree_requests_strip_across(atlas_store_Store *store, atlas_search_Link at, uint32_t across);
@@ -11538,8 +10506,8 @@ SMALL void std_alloc_vec_opened_drop_run_Link_2(Slots_CacheChange_u64 *row, uint
 SMALL void std_alloc_vec_opened_drop_run_Entry_u64(Slots_CacheChange_u64 *row, uint64_t from, uint64_t to);
 SMALL void std_alloc_vec_opened_drop_run_Vec_bool(Slots_CacheChange_u64 *row, uint64_t from, uint64_t to);
 SMALL void std_alloc_vec_opened_drop_run_CacheChange_u64(Slots_CacheChange_u64 *row, uint64_t from, uint64_t to);
-SMALL void guillotiere_c_atlas_cache_rooms_Rooms_Destruct_drop(atlas_cache_Rooms given_1);
-SMALL void guillotiere_c_atlas_entries_entries_Entries_Destruct_drop_u64_BuildHasherDefault_FoldHasher_FoldHasher(atlas_entries_Entries_u64_BuildHasherDefault_FoldHasher_FoldHasher given_1);
+SMALL void guillotiere_c_atlas_cache_rooms_Rooms_Destruct_drop(const atlas_cache_Rooms given_1);
+SMALL void guillotiere_c_atlas_entries_entries_Entries_Destruct_drop_u64_BuildHasherDefault_FoldHasher_FoldHasher(const atlas_entries_Entries_u64_BuildHasherDefault_FoldHasher_FoldHasher given_1);
 SMALL uint32_t core_option_Option_unwrap_or_u32(Option_u32 self, uint32_t default_);
 SMALL slice_Link_3 std_alloc_vec_lends_VecDerefSliceMut_deref_mut_Link_3(Vec_Slot *self);
 SMALL void atlas_entries_recency_move_to_front(slice_Link_3 links, atlas_entries_Link *ends, uint32_t at);
@@ -11553,13 +10521,13 @@ SMALL slice_CacheChange_u64_2 std_alloc_vec_lends_run_mut_CacheChange_u64(Vec_Sl
 SMALL void core_slice_edits_slice_T_rotate_left_CacheChange_u64(slice_CacheChange_u64_2 given_1, uint64_t given_2);
 SMALL void core_slice_edits_slice_T_reverse_CacheChange_u64(slice_CacheChange_u64_2 given_1);
 SMALL atlas_cache_CacheChange_u64 std_alloc_vec_Vec_take_last_CacheChange_u64(Vec_Slot *self);
-SMALL void core_mem_drop_CacheChange_u64(atlas_cache_CacheChange_u64 x);
+SMALL void core_mem_drop_CacheChange_u64(const atlas_cache_CacheChange_u64 x);
 PART Result_u32_CacheError atlas_entries_entries_Entries_push_u64_BuildHasherDefault_FoldHasher_FoldHasher(atlas_entries_Entries_u64_BuildHasherDefault_FoldHasher_FoldHasher *self, atlas_entries_Entry_u64 entry);
 SMALL ControlFlow_ErrResidual_CacheError_u32 core_result_ResultTry_branch_u32_CacheError(Result_u32_CacheError self);
 SMALL Result_Entry_u64_CacheError core_result_ResultFromResidualErrResidual_from_residual_Entry_u64_CacheError_CacheError(ErrResidual_CacheError residual);
 SMALL Option_u32 atlas_cache_options_asked_side(uint32_t side, uint32_t padding, uint32_t alignment, uint32_t most);
 SMALL Result_Option_Entry_u64_CacheError atlas_cache_cache_holding_grant_u64_BuildHasherDefault_FoldHasher_FoldHasher(atlas_cache_Rooms *rooms, atlas_entries_Entries_u64_BuildHasherDefault_FoldHasher_FoldHasher *entries, uint64_t key, atlas_model_Size size, atlas_model_Size asked, uint64_t frame, uint64_t from, uint64_t to);
-SMALL ControlFlow_ErrResidual_CacheError_Option_Entry_u64 core_result_ResultTry_branch_Option_Entry_u64_CacheError(Result_Option_Entry_u64_CacheError self);
+SMALL ControlFlow_ErrResidual_CacheError_Option_Entry_u64 core_result_ResultTry_branch_Option_Entry_u64_CacheError(const Result_Option_Entry_u64_CacheError self);
 SMALL Result_Option_Place_CacheError core_result_ResultFromResidualErrResidual_from_residual_Option_Place_CacheError_CacheError(ErrResidual_CacheError residual);
 SMALL bool atlas_cache_rooms_Rooms_are_full(const atlas_cache_Rooms *self);
 SMALL Result_Vacated_CacheError atlas_cache_cache_TextureCache_vacate_u64_BuildHasherDefault_FoldHasher_FoldHasher(atlas_cache_TextureCache_u64_BuildHasherDefault_FoldHasher_FoldHasher *self, atlas_model_Size asked, Vec_Slot *changes);
@@ -11569,7 +10537,7 @@ SMALL Result_Option_u32_CacheError core_result_ResultFromResidualErrResidual_fro
 SMALL Result_Option_tuple_u32_Size_CacheError atlas_cache_rooms_Rooms_grow_page(atlas_cache_Rooms *self);
 SMALL ControlFlow_ErrResidual_CacheError_Option_tuple_u32_Size core_result_ResultTry_branch_Option_tuple_u32_Size_CacheError(Result_Option_tuple_u32_Size_CacheError self);
 SMALL Result_Option_u32_CacheError core_result_ResultFromResidualErrResidual_from_residual_Option_u32_CacheError_CacheError(ErrResidual_CacheError residual);
-SMALL void std_alloc_vec_Vec_push_reserved_CacheChange_u64(Vec_Slot *self, atlas_cache_CacheChange_u64 value);
+SMALL void std_alloc_vec_Vec_push_reserved_CacheChange_u64(Vec_Slot *self, const atlas_cache_CacheChange_u64 value);
 SMALL Result_Option_tuple_u32_Size_CacheError atlas_cache_rooms_Rooms_add_page(atlas_cache_Rooms *self);
 SMALL Option_u32 atlas_cache_cache_TextureCache_evict_u64_BuildHasherDefault_FoldHasher_FoldHasher(atlas_cache_TextureCache_u64_BuildHasherDefault_FoldHasher_FoldHasher *self, Vec_Slot *changes);
 SMALL void atlas_entries_recency_Recency_remove(atlas_entries_Recency *self, uint32_t number);
@@ -11601,9 +10569,9 @@ SMALL void std_alloc_vec_Vec_destroy_empty_Change_3(Vec_Slot self);
 SMALL void std_alloc_vec_Vec_clear_Allocation_4(Vec_Slot *self);
 SMALL void std_alloc_vec_Vec_destroy_empty_Allocation_3(Vec_Slot self);
 SMALL Result_Vec_AllocId std_alloc_vec_Vec_with_capacity_AtlasAllocator(uint64_t capacity);
-SMALL Result_AllocFailed_AtlasAllocator std_alloc_vec_Vec_push_AtlasAllocator(Vec_Slot *self, atlas_allocator_AtlasAllocator value);
-SMALL ControlFlow_ErrResidual_AllocFailed_AtlasAllocator core_result_ResultTry_branch_AllocFailed_AtlasAllocator(Result_AllocFailed_AtlasAllocator self);
-SMALL Result_Vec_AllocId core_result_ResultFromResidualErrResidual_from_residual_Vec_AtlasAllocator_AllocFailed_AtlasAllocator(ErrResidual_AllocFailed_AtlasAllocator residual);
+SMALL Result_AllocFailed_AtlasAllocator std_alloc_vec_Vec_push_AtlasAllocator(Vec_Slot *self, const atlas_allocator_AtlasAllocator value);
+SMALL ControlFlow_ErrResidual_AllocFailed_AtlasAllocator core_result_ResultTry_branch_AllocFailed_AtlasAllocator(const Result_AllocFailed_AtlasAllocator self);
+SMALL Result_Vec_AllocId core_result_ResultFromResidualErrResidual_from_residual_Vec_AtlasAllocator_AllocFailed_AtlasAllocator(const ErrResidual_AllocFailed_AtlasAllocator residual);
 SMALL slice_Refusals std_alloc_vec_Vec_as_slice_Refusals(const Vec_Slot *self);
 SMALL Result_Vec_AllocId std_alloc_vec_Vec_with_capacity_Refusals(uint64_t capacity);
 SMALL Result std_alloc_vec_Vec_extend_from_slice_Refusals(Vec_Slot *self, slice_Refusals other);
@@ -11620,7 +10588,7 @@ SMALL slice_Link_4 std_alloc_vec_derefs_VecDerefSlice_deref_Link_2(const Vec_Slo
 SMALL Result_Vec_AllocId std_alloc_vec_Vec_from_slice_Link_2(slice_Link_4 items);
 SMALL Result_Recency core_result_ResultFromResidualErrResidual_from_residual_Recency(void);
 SMALL void std_collections_columns_Columns_drop_u64_u32_2(std_collections_Columns_u64_u32 given_1);
-SMALL void std_collections_index_table_IndexTable_drop_2(std_collections_IndexTable given_1);
+SMALL void std_collections_index_table_IndexTable_drop_2(const std_collections_IndexTable given_1);
 SMALL Result_Vec_AllocId std_alloc_vec_Vec_with_capacity_Entry_u64(uint64_t capacity);
 SMALL Result std_alloc_vec_Vec_extend_from_slice_Entry_u64(Vec_Slot *self, slice_Entry_u64 other);
 SMALL void std_alloc_vec_Vec_drop_Entry_u64_2(Vec_Slot given_1);
@@ -11655,7 +10623,7 @@ PART Result_Option_Arrangement_SheetError atlas_sheet_packing_first_whole(slice_
 SMALL Result_Option_Arrangement_SheetError core_result_ResultFromResidualErrResidual_from_residual_Option_Arrangement_SheetError_SheetError(ErrResidual_SheetError residual);
 SMALL void atlas_sheet_sheets_fn_pack_pack_telling_FnMut_call_mut(void *given_1, atlas_model_Size given_2);
 SMALL Result_Arrangement_SheetError atlas_sheet_packing_descend(const atlas_sheet_SheetOptions *given_2, atlas_sheet_Random *given_3,
-        uint32_t *given_4, atlas_sheet_Arrangement given_5);
+        uint32_t *given_4, const atlas_sheet_Arrangement given_5);
 SMALL Result_Vec_Size_SheetError atlas_sheet_placed_whole(slice_Option_Placed places);
 SMALL Result_Sheet_SheetError core_result_ResultFromResidualErrResidual_from_residual_Sheet_SheetError_SheetError(ErrResidual_SheetError residual);
 SMALL void std_alloc_vec_opened_drop_run_Placed(Slots_CacheChange_u64 *row, uint64_t from, uint64_t to);
@@ -11677,7 +10645,7 @@ PART Result_Option_Sheet_SheetError atlas_sheet_dense_denser_at(slice_Size sprit
 SMALL bool core_option_Option_is_none_Sheet(const Option_Sheet *self);
 SMALL uint32_t atlas_sheet_allowed_Allowed_count(atlas_sheet_Allowed self);
 SMALL atlas_model_Size atlas_sheet_allowed_Allowed_nth(atlas_sheet_Allowed self, uint32_t number);
-SMALL Option_Sheet atlas_sheet_dense_newer(Option_Sheet found, Option_Sheet best);
+SMALL Option_Sheet atlas_sheet_dense_newer(const Option_Sheet found, const Option_Sheet best);
 SMALL bool atlas_sheet_dense_is_smaller(atlas_model_Size size, const Option_Sheet *best);
 SMALL Result_Vec_AllocId std_alloc_vec_Vec_with_capacity_Option_OnPage(uint64_t capacity);
 SMALL void atlas_sheet_Destruct_none_drop_Option_OnPage(Option_OnPage given_1);
@@ -11729,15 +10697,15 @@ SMALL Result_Vec_Size_SheetError atlas_sheet_groups_waiting(slice_Option_u64 gro
 SMALL Result_Option_SoFar_SheetError core_result_ResultFromResidualErrResidual_from_residual_Option_SoFar_SheetError_SheetError(ErrResidual_SheetError residual);
 SMALL Option_u64 atlas_sheet_choosing_first_group(slice_Option_u64 groups);
 SMALL Result_SoFar_SheetError atlas_sheet_groups_group_step(slice_Size sprites, slice_Option_u64 groups,
-        const atlas_sheet_SheetOptions *options, atlas_sheet_SoFar so_far, slice_Option_u64 numbers, uint64_t group);
+        const atlas_sheet_SheetOptions *options, const atlas_sheet_SoFar so_far, slice_Option_u64 numbers, uint64_t group);
 SMALL Result_Option_SoFar_SheetError atlas_sheet_groups_plain_step(slice_Size sprites, slice_Option_u64 groups,
-        const atlas_sheet_SheetOptions *options, atlas_sheet_SoFar so_far);
+        const atlas_sheet_SheetOptions *options, const atlas_sheet_SoFar so_far);
 SMALL void std_alloc_vec_Vec_truncate_Option_u64_3(Vec_Slot *self, uint64_t n);
 SMALL void std_alloc_vec_Vec_truncate_within_Option_u64(Vec_Slot *self, uint64_t n);
 SMALL atlas_model_Size atlas_sheet_search_greatest_sheet(atlas_sheet_Allowed allowed);
 PART Result_Arrangement_SheetError atlas_sheet_sheets_filled_so(slice_Size sprites, const atlas_sheet_SheetOptions *options,
         atlas_model_Size size, atlas_sheet_Turning how);
-SMALL atlas_sheet_Arrangement atlas_sheet_sheets_fuller(atlas_sheet_Arrangement one, atlas_sheet_Arrangement other);
+SMALL atlas_sheet_Arrangement atlas_sheet_sheets_fuller(const atlas_sheet_Arrangement one, const atlas_sheet_Arrangement other);
 SMALL Result_Arrangement_SheetError atlas_sheet_climbing_changed(const atlas_sheet_SheetOptions *options, atlas_sheet_Random *random,
         const atlas_sheet_Arrangement *from);
 SMALL slice_Option_Rectangle std_alloc_vec_Vec_as_slice_Option_Rectangle(const Vec_Slot *self);
@@ -11887,7 +10855,7 @@ SMALL void core_slots_lends_with_slots_CacheChange_u64_tuple_u64_u64(slice_Cache
 SMALL void core_slice_edits_trade_CacheChange_u64(slice_CacheChange_u64_2 s, uint64_t at, uint64_t n);
 SMALL void core_slice_edits_reverse_between_CacheChange_u64(slice_CacheChange_u64_2 s, uint64_t low, uint64_t high);
 SMALL atlas_cache_CacheChange_u64 std_alloc_vec_Vec_read_last_CacheChange_u64(Vec_Slot *self);
-SMALL void guillotiere_c_Destruct_none_drop_CacheChange_u64(atlas_cache_CacheChange_u64 given_1);
+SMALL void guillotiere_c_Destruct_none_drop_CacheChange_u64(const atlas_cache_CacheChange_u64 given_1);
 SMALL Result_u32_CacheError core_result_ResultFromResidualErrResidual_from_residual_u32_CacheError(void);
 SMALL Result_CacheError atlas_entries_entries_make_room_u64(Vec_Slot *items, uint64_t count);
 SMALL Result_u32_CacheError core_result_ResultFromResidualErrResidual_from_residual_u32_CacheError_CacheError(ErrResidual_CacheError residual);
@@ -11907,10 +10875,10 @@ SMALL void atlas_cache_cache_vacating_clear_u64_BuildHasherDefault_FoldHasher_Fo
         atlas_entries_Entries_u64_BuildHasherDefault_FoldHasher_FoldHasher *entries, atlas_cache_Counts *counts, uint64_t frame,
         const atlas_cache_Vacancy *vacancy, Vec_Slot *changes);
 SMALL atlas_model_Size atlas_cache_rooms_grown(atlas_model_Size size, atlas_model_Size largest);
-SMALL void std_alloc_vec_Vec_put_CacheChange_u64(Vec_Slot *self, atlas_cache_CacheChange_u64 x);
+SMALL void std_alloc_vec_Vec_put_CacheChange_u64(Vec_Slot *self, const atlas_cache_CacheChange_u64 x);
 SMALL Result std_alloc_vec_Vec_reserve_Refusals(Vec_Slot *self, uint64_t additional);
 SMALL Result_Option_tuple_u32_Size_CacheError core_result_ResultFromResidualErrResidual_from_residual_Option_tuple_u32_Size_CacheError(void);
-SMALL Result_Option_tuple_u32_Size_CacheError core_result_ResultFromResidualErrResidual_from_residual_Option_tuple_u32_Size_AllocFailed_AtlasAllocator_CacheError(ErrResidual_AllocFailed_AtlasAllocator residual);
+SMALL Result_Option_tuple_u32_Size_CacheError core_result_ResultFromResidualErrResidual_from_residual_Option_tuple_u32_Size_AllocFailed_AtlasAllocator_CacheError(const ErrResidual_AllocFailed_AtlasAllocator residual);
 SMALL void std_alloc_vec_Vec_push_reserved_Refusals(Vec_Slot *self, atlas_cache_Refusals value);
 SMALL void atlas_entries_recency_give_back(slice_Link_3 links, atlas_entries_Link *ends, uint32_t at, uint32_t unused);
 SMALL Option_tuple_u64_u32 std_collections_hash_map_HashMap_remove_entry_u64_u32_BuildHasherDefault_FoldHasher_FoldHasher_ref_u64(std_collections_HashMap_u64_u32_BuildHasherDefault_FoldHasher_FoldHasher *self, const uint64_t *key);
@@ -11942,8 +10910,8 @@ SMALL Option_Change atlas_cache_cache_repacking_change_for(slice_Change changes,
 SMALL void std_alloc_vec_Vec_truncate_Change_3(Vec_Slot *self, uint64_t n);
 SMALL bool std_alloc_vec_Vec_move_to_AtlasAllocator(Vec_Slot *self, uint64_t cap);
 SMALL bool std_alloc_vec_Vec_grow_AtlasAllocator(Vec_Slot *self, uint64_t additional);
-SMALL void std_alloc_vec_Vec_put_AtlasAllocator(Vec_Slot *self, atlas_allocator_AtlasAllocator x);
-SMALL void std_alloc_room_AllocErrorFromAllocFailed_from_AtlasAllocator(AllocFailed_AtlasAllocator given_1);
+SMALL void std_alloc_vec_Vec_put_AtlasAllocator(Vec_Slot *self, const atlas_allocator_AtlasAllocator x);
+SMALL void std_alloc_room_AllocErrorFromAllocFailed_from_AtlasAllocator(const AllocFailed_AtlasAllocator given_1);
 SMALL bool std_alloc_vec_Vec_move_to_Refusals(Vec_Slot *self, uint64_t cap);
 SMALL bool std_alloc_vec_Vec_grow_Refusals(Vec_Slot *self, uint64_t additional);
 SMALL void core_slots_Slots_copy_in_Refusals(Slots_CacheChange_u64 *self, uint64_t to, slice_Refusals src);
@@ -12029,7 +10997,7 @@ SMALL Iter_Option_Rectangle core_iter_slices_slice_T_iter_Option_Rectangle(slice
 SMALL bool core_iter_base_Iterator_all_Iter_Option_Rectangle_ref_Option_Rectangle(Iter_Option_Rectangle *given_1);
 SMALL void atlas_sheet_paging_fn_next_page_packed_FnMut_call_mut(void *given_1, atlas_model_Size given_2);
 SMALL Result_Arrangement_SheetError atlas_sheet_packing_descend_2(const atlas_sheet_SheetOptions *given_2, atlas_sheet_Random *given_3,
-        uint32_t *given_4, atlas_sheet_Arrangement given_5);
+        uint32_t *given_4, const atlas_sheet_Arrangement given_5);
 SMALL Option_ref_Option_Placed core_iter_slices_IterIterator_next_Option_Placed(Iter_Option_Placed *self);
 SMALL bool atlas_sheet_paging_fn_is_bare_all_FnMut_call_mut(void *given_1, const Option_Placed *given_2);
 SMALL void std_alloc_vec_Vec_truncate_Option_Placed_2(Vec_Slot *self, uint64_t n);
@@ -12067,7 +11035,7 @@ SMALL void std_alloc_vec_Vec_clear_bool_2(Vec_Slot *self);
 SMALL void std_alloc_vec_Vec_destroy_empty_bool(Vec_Slot self);
 PART Result_Option_Chosen_SheetError atlas_sheet_choosing_opened(slice_Size sprites, slice_Option_u64 groups,
         const atlas_sheet_SheetOptions *options, uint64_t group);
-SMALL ControlFlow_ErrResidual_SheetError_Option_Chosen core_result_ResultTry_branch_Option_Chosen_SheetError(Result_Option_Chosen_SheetError self);
+SMALL ControlFlow_ErrResidual_SheetError_Option_Chosen core_result_ResultTry_branch_Option_Chosen_SheetError(const Result_Option_Chosen_SheetError self);
 SMALL bool core_option_Option_is_some_Chosen(const Option_Chosen *self);
 PART Result_Vec_Size_SheetError atlas_sheet_groups_without(uint64_t group, slice_Option_u64 groups);
 SMALL Result_Option_OneSheet_SheetError atlas_sheet_choosing_group_sheet(slice_Size sprites, slice_Option_u64 groups,
@@ -12075,9 +11043,9 @@ SMALL Result_Option_OneSheet_SheetError atlas_sheet_choosing_group_sheet(slice_S
 SMALL ControlFlow_ErrResidual_SheetError_Option_OneSheet core_result_ResultTry_branch_Option_OneSheet_SheetError(Result_Option_OneSheet_SheetError self);
 SMALL Result_SoFar_SheetError core_result_ResultFromResidualErrResidual_from_residual_SoFar_SheetError_SheetError(ErrResidual_SheetError residual);
 PART Result_SoFar_SheetError atlas_sheet_groups_after_sheet(slice_Size sprites, slice_Option_u64 groups,
-        const atlas_sheet_SheetOptions *options, atlas_sheet_SoFar so_far, atlas_sheet_OneSheet sheet);
+        const atlas_sheet_SheetOptions *options, const atlas_sheet_SoFar so_far, atlas_sheet_OneSheet sheet);
 SMALL Result_SoFar_SheetError atlas_sheet_groups_after_group(slice_Size sprites, slice_Option_u64 groups,
-        const atlas_sheet_SheetOptions *options, atlas_sheet_SoFar so_far, uint64_t group);
+        const atlas_sheet_SheetOptions *options, const atlas_sheet_SoFar so_far, uint64_t group);
 SMALL Result_Option_OneSheet_SheetError atlas_sheet_groups_plain_sheet(slice_Size sprites, const atlas_sheet_SheetOptions *options);
 SMALL void std_alloc_vec_Vec_truncate_within_Option_u64_3(Vec_Slot *self, uint64_t n);
 SMALL void std_alloc_vec_opened_drop_run_Option_u64(Slots_CacheChange_u64 *row, uint64_t from, uint64_t to);
@@ -12087,7 +11055,7 @@ PART Result_Vec_Size_SheetError atlas_sheet_turnings_laid(slice_Size sprites, co
 SMALL uint64_t atlas_sheet_ways_ways_tried(uint64_t sprites);
 SMALL Result_Filling_SheetError atlas_sheet_filling_fill_by(slice_Size sprites, atlas_model_Size size, atlas_sheet_Spacing spacing,
         slice_Way ways);
-SMALL ControlFlow_ErrResidual_SheetError_Filling core_result_ResultTry_branch_Filling_SheetError(Result_Filling_SheetError self);
+SMALL ControlFlow_ErrResidual_SheetError_Filling core_result_ResultTry_branch_Filling_SheetError(const Result_Filling_SheetError self);
 SMALL Result_Asking_SheetError atlas_sheet_changes_change_of(atlas_sheet_Random *random, bool turn, slice_Size from_lying,
         slice_tuple_u64_Size from_order);
 SMALL ControlFlow_ErrResidual_SheetError_Asking core_result_ResultTry_branch_Asking_SheetError(Result_Asking_SheetError self);
@@ -12234,7 +11202,7 @@ SMALL void atlas_cache_cache_vacating_clear_one_u64_BuildHasherDefault_FoldHashe
         atlas_entries_Entries_u64_BuildHasherDefault_FoldHasher_FoldHasher *entries, atlas_cache_Counts *counts, uint32_t number,
         const atlas_cache_Vacancy *vacancy, Vec_Slot *changes);
 SMALL uint32_t atlas_cache_rooms_doubled(uint32_t side, uint32_t most);
-SMALL atlas_entries_CacheError atlas_entries_error_CacheErrorFromAllocFailed_from_AtlasAllocator(AllocFailed_AtlasAllocator _error);
+SMALL atlas_entries_CacheError atlas_entries_error_CacheErrorFromAllocFailed_from_AtlasAllocator(const AllocFailed_AtlasAllocator _error);
 SMALL void std_alloc_vec_Vec_put_Refusals(Vec_Slot *self, atlas_cache_Refusals x);
 SMALL Option_tuple_u64_tuple_u64_u32 std_collections_hash_map_HashMap_take_u64_u32_BuildHasherDefault_FoldHasher_FoldHasher_ref_u64(std_collections_HashMap_u64_u32_BuildHasherDefault_FoldHasher_FoldHasher *self, const uint64_t *key);
 SMALL std_collections_Group std_collections_index_table_group_Group_empty(void);
@@ -12257,7 +11225,7 @@ SMALL void std_alloc_vec_Vec_truncate_within_Change_3(Vec_Slot *self, uint64_t n
 SMALL bool std_alloc_room_may_hold_AtlasAllocator(uint64_t n);
 SMALL Result_ptr std_alloc_vec_resize_AtlasAllocator(const void *alloc, void *ptr, uint64_t len, uint64_t old_cap, uint64_t new_cap);
 SMALL bool std_alloc_vec_Vec_grow_amortized_AtlasAllocator(Vec_Slot *self, uint64_t additional);
-SMALL void atlas_cache_atlas_allocator_atlas_AtlasAllocator_Destruct_drop(atlas_allocator_AtlasAllocator given_1);
+SMALL void atlas_cache_atlas_allocator_atlas_AtlasAllocator_Destruct_drop(const atlas_allocator_AtlasAllocator given_1);
 SMALL bool std_alloc_room_may_hold_Refusals(uint64_t n);
 SMALL Result_ptr std_alloc_vec_resize_Refusals(const void *alloc, void *ptr, uint64_t len, uint64_t old_cap, uint64_t new_cap);
 SMALL bool std_alloc_vec_Vec_grow_amortized_Refusals(Vec_Slot *self, uint64_t additional);
@@ -12307,7 +11275,7 @@ SMALL void guillotiere_c_Destruct_none_drop_Size(atlas_model_Size given_1);
 SMALL atlas_model_Size std_alloc_vec_copies_AnyIntoElement_into_element_Size(atlas_model_Size given_1);
 PART Result_Option_Arrangement_SheetError atlas_sheet_packing_first_so(slice_Size sprites, const atlas_sheet_SheetOptions *options,
         atlas_sheet_Turning how);
-SMALL Option_Arrangement atlas_sheet_packing_smaller_of(Option_Arrangement one, Option_Arrangement other);
+SMALL Option_Arrangement atlas_sheet_packing_smaller_of(const Option_Arrangement one, const Option_Arrangement other);
 PART Result_Vec_Size_SheetError atlas_sheet_orders_greatest_first(slice_Size sprites, atlas_sheet_Key key);
 SMALL Option_Size atlas_sheet_search_smaller_square(atlas_model_Size size, atlas_model_Size least);
 SMALL Option_Size atlas_sheet_search_lower(atlas_model_Size size);
@@ -12385,14 +11353,14 @@ SMALL Map_Iter_Option_u64_map_Self_ref_u64 core_iter_base_Iterator_map_Iter_Opti
 SMALL Result std_alloc_vec_collects_VecExtend_extend_Option_u64_Map_Iter_Option_u64_map_Self_ref_u64_Map_Iter_Option_u64_map_Self_ref_u64(Vec_Slot *self, Map_Iter_Option_u64_map_Self_ref_u64 iter);
 SMALL Result_Option_OneSheet_SheetError core_result_ResultFromResidualErrResidual_from_residual_Option_OneSheet_SheetError_SheetError(ErrResidual_SheetError residual);
 SMALL Result_Chosen_SheetError atlas_sheet_choosing_with_groups(slice_Size sprites, slice_Option_u64 groups,
-        const atlas_sheet_SheetOptions *options, atlas_sheet_Chosen first);
-SMALL ControlFlow_ErrResidual_SheetError_Chosen core_result_ResultTry_branch_Chosen_SheetError(Result_Chosen_SheetError self);
+        const atlas_sheet_SheetOptions *options, const atlas_sheet_Chosen first);
+SMALL ControlFlow_ErrResidual_SheetError_Chosen core_result_ResultTry_branch_Chosen_SheetError(const Result_Chosen_SheetError self);
 SMALL Result_Chosen_SheetError atlas_sheet_choosing_with_singles(slice_Size sprites, slice_Option_u64 groups,
-        const atlas_sheet_SheetOptions *options, atlas_sheet_Chosen first);
+        const atlas_sheet_SheetOptions *options, const atlas_sheet_Chosen first);
 SMALL Result_OneSheet_SheetError atlas_sheet_choosing_sheet_of_chosen(slice_Size sprites, slice_Option_u64 groups,
-        const atlas_sheet_SheetOptions *options, atlas_sheet_Chosen chosen);
+        const atlas_sheet_SheetOptions *options, const atlas_sheet_Chosen chosen);
 SMALL ControlFlow_ErrResidual_SheetError_OneSheet core_result_ResultTry_branch_OneSheet_SheetError(Result_OneSheet_SheetError self);
-SMALL Result_SoFar_SheetError atlas_sheet_groups_with_sheet(slice_Size sprites, atlas_sheet_SoFar so_far, atlas_sheet_OneSheet sheet);
+SMALL Result_SoFar_SheetError atlas_sheet_groups_with_sheet(slice_Size sprites, const atlas_sheet_SoFar so_far, atlas_sheet_OneSheet sheet);
 SMALL void std_alloc_vec_opened_drop_run_Option_u64_3(Slots_CacheChange_u64 *row, uint64_t from, uint64_t to);
 SMALL Option_u64 core_slots_Slots_take_Option_u64(Slots_CacheChange_u64 *self, uint64_t i);
 SMALL void core_mem_drop_Option_u64(Option_u64 x);
@@ -12549,7 +11517,7 @@ SMALL void std_alloc_vec_opened_drop_run_Change_3(Slots_CacheChange_u64 *row, ui
 SMALL Result_ptr std_heap_GlobalAllocator_grow_AtlasAllocator(const void *self, void *ptr, uint64_t len, uint64_t _old_cap,
         uint64_t new_cap);
 SMALL uint64_t std_alloc_vec_least_capacity_AtlasAllocator(void);
-SMALL void atlas_cache_atlas_store_store_Store_Destruct_drop(atlas_store_Store given_1);
+SMALL void atlas_cache_atlas_store_store_Store_Destruct_drop(const atlas_store_Store given_1);
 SMALL Result_ptr std_heap_GlobalAllocator_grow_Refusals(const void *self, void *ptr, uint64_t len, uint64_t _old_cap, uint64_t new_cap);
 SMALL uint64_t std_alloc_vec_least_capacity_Refusals(void);
 SMALL void std_alloc_vec_Vec_truncate_within_Refusals_3(Vec_Slot *self, uint64_t n);
@@ -12569,9 +11537,9 @@ SMALL void std_alloc_vec_Vec_truncate_Link_11(Vec_Slot *self, uint64_t n);
 SMALL void std_collections_std_collections_later_Later_Destruct_drop_2(std_collections_Later given_1);
 SMALL Result_ptr std_heap_GlobalAllocator_grow_Entry_u64(const void *self, void *ptr, uint64_t len, uint64_t _old_cap, uint64_t new_cap);
 SMALL void std_alloc_vec_Vec_truncate_within_Entry_u64_3(Vec_Slot *self, uint64_t n);
-SMALL void core_mem_drop_AtlasAllocator_2(atlas_allocator_AtlasAllocator x);
+SMALL void core_mem_drop_AtlasAllocator_2(const atlas_allocator_AtlasAllocator x);
 SMALL void core_mem_drop_Refusals_2(atlas_cache_Refusals x);
-SMALL void core_mem_drop_CacheChange_u64_2(atlas_cache_CacheChange_u64 x);
+SMALL void core_mem_drop_CacheChange_u64_2(const atlas_cache_CacheChange_u64 x);
 SMALL slice_Bucket_2 std_alloc_vec_Vec_as_mut_slice_Bucket_Later(Vec_u64_Later *self);
 SMALL uint64_t std_collections_index_table_probe_rehash_in_place(slice_Group groups, slice_Bucket_2 buckets);
 SMALL uint64_t std_collections_index_table_probe_capacity_to_groups(uint64_t capacity);
@@ -12598,7 +11566,7 @@ SMALL Result_Vec_Size_SheetError atlas_sheet_trials_trials_of(slice_Size sprites
 SMALL slice_Trial std_alloc_vec_derefs_VecDerefSlice_deref_Trial(const Vec_Slot *self);
 SMALL Result_Option_Packing_SheetError atlas_sheet_search_smallest(slice_Size sprites, slice_Trial trials, atlas_sheet_Allowed allowed,
         atlas_sheet_Spacing spacing);
-SMALL ControlFlow_ErrResidual_SheetError_Option_Packing core_result_ResultTry_branch_Option_Packing_SheetError(Result_Option_Packing_SheetError self);
+SMALL ControlFlow_ErrResidual_SheetError_Option_Packing core_result_ResultTry_branch_Option_Packing_SheetError(const Result_Option_Packing_SheetError self);
 SMALL void std_alloc_vec_Vec_drop_Trial(Vec_Slot given_1);
 SMALL Result_Arrangement_SheetError atlas_sheet_packing_arrangement_of(const atlas_sheet_SheetOptions *options, Vec_Slot lying,
         atlas_sheet_Packing packing);
@@ -12610,7 +11578,7 @@ SMALL uint32_t atlas_sheet_search_half(uint32_t side);
 SMALL Result_Vec_AllocId std_alloc_vec_Vec_from_elem_Option_Rectangle(Option_Rectangle elem, uint64_t n);
 SMALL Result_SimpleAtlasAllocator_SheetError atlas_sheet_places_start(atlas_model_Size sheet, atlas_sheet_Spacing spacing,
         atlas_sheet_Choice choice);
-SMALL ControlFlow_ErrResidual_SheetError_SimpleAtlasAllocator core_result_ResultTry_branch_SimpleAtlasAllocator_SheetError(Result_SimpleAtlasAllocator_SheetError self);
+SMALL ControlFlow_ErrResidual_SheetError_SimpleAtlasAllocator core_result_ResultTry_branch_SimpleAtlasAllocator_SheetError(const Result_SimpleAtlasAllocator_SheetError self);
 SMALL slice_Option_Rectangle_2 std_alloc_vec_lends_VecDerefSliceMut_deref_mut_Option_Rectangle(Vec_Slot *self);
 SMALL Result_SheetError atlas_sheet_places_find_in(guillotiere_SimpleAtlasAllocator *packer, slice_tuple_u64_Size order,
         atlas_sheet_Spacing spacing, slice_Option_Rectangle_2 places);
@@ -12695,14 +11663,14 @@ SMALL ControlFlow_ErrResidual_SheetError_u64 core_result_ResultTry_branch_u64_Sh
 SMALL const bool *std_alloc_vec_derefs_VecIndexUsize_index_bool(const Vec_Slot *self, uint64_t index);
 SMALL bool atlas_sheet_slots_is_open(slice_bool asked, Option_u64 slot, bool is_chosen, slice_u64 pixels, uint64_t room);
 SMALL Result_Chosen_SheetError atlas_sheet_choosing_with_group(slice_Size sprites, slice_Option_u64 groups,
-        const atlas_sheet_SheetOptions *options, uint64_t group, atlas_sheet_Chosen chosen);
+        const atlas_sheet_SheetOptions *options, uint64_t group, const atlas_sheet_Chosen chosen);
 SMALL Result_Vec_AllocId std_alloc_vec_Vec_from_slice_bool(slice_bool_2 items);
 SMALL uint64_t atlas_sheet_choosing_single_count(slice_Option_u64 groups);
 SMALL Result_Vec_Size_SheetError atlas_sheet_picking_row_with_single(slice_bool_2 row, uint64_t many, slice_Option_u64 groups);
 PART Result_Option_Chosen_SheetError atlas_sheet_choosing_all_of(Vec_Slot row, slice_Size sprites, const atlas_sheet_SheetOptions *options);
 SMALL Result_OneSheet_SheetError core_result_ResultFromResidualErrResidual_from_residual_OneSheet_SheetError_SheetError(ErrResidual_SheetError residual);
 SMALL Result_Filled_SheetError atlas_sheet_choosing_shown_smallest(slice_Size sprites, const atlas_sheet_SheetOptions *options,
-        atlas_sheet_Arrangement page);
+        const atlas_sheet_Arrangement page);
 SMALL Result_Vec_Size_SheetError atlas_sheet_picking_spread(slice_bool_2 row, slice_Option_Placed found);
 SMALL Result_SoFar_SheetError core_result_ResultFromResidualErrResidual_from_residual_SoFar_AllocFailed_Size_SheetError(ErrResidual_AllocFailed_Size residual);
 SMALL void core_mem_drop_Option_u64_3(Option_u64 x);
@@ -12777,7 +11745,8 @@ SMALL uint8_t std_collections_index_table_group_overflow_bit(uint32_t hash);
 SMALL uint64_t core_mem_sizes_bytes_of_CacheChange_u64(slice_CacheChange_u64 s);
 SMALL uint64_t core_slots_Slots_len_CacheChange_u64(const Slots_CacheChange_u64 *self);
 SMALL void core_slots_Slots_move_within_CacheChange_u64(Slots_CacheChange_u64 *self, uint64_t from, uint64_t to, uint64_t count);
-SMALL void core_slots_Slots_put_CacheChange_u64(Slots_CacheChange_u64 *given_1, uint64_t given_2, atlas_cache_CacheChange_u64 given_3);
+SMALL void core_slots_Slots_put_CacheChange_u64(Slots_CacheChange_u64 *given_1, uint64_t given_2,
+        const atlas_cache_CacheChange_u64 given_3);
 SMALL Slots_CacheChange_u64 core_slots_rooms_with_room_CacheChange_u64_tuple_Slots_CacheChange_u64_u64_Slots_CacheChange_u64(uint64_t given_1, tuple_Slots_CacheChange_u64_u64 given_2);
 SMALL void std_alloc_vec_Vec_put_Link_3(Vec_Slot *self, atlas_entries_Link x);
 SMALL atlas_entries_CacheError atlas_entries_error_CacheErrorFromAllocFailed_from_Link(AllocFailed_Link _error);
@@ -12816,7 +11785,7 @@ SMALL void core_slice_sort_unstable_small_sort_Change(slice_Change_2 s, uint64_t
 SMALL void core_slice_edits_reverse_between_Change(slice_Change_2 s, uint64_t low, uint64_t high);
 SMALL uint32_t atlas_cache_cache_repacking_fn_change_for_binary_search_by_key(void *given_1, const atlas_model_Change *given_2);
 SMALL void core_mem_drop_Change_3(atlas_model_Change x);
-SMALL void atlas_cache_atlas_search_table_Table_Destruct_drop(atlas_search_Table given_1);
+SMALL void atlas_cache_atlas_search_table_Table_Destruct_drop(const atlas_search_Table given_1);
 SMALL void std_alloc_vec_opened_drop_run_Refusals_3(Slots_CacheChange_u64 *row, uint64_t from, uint64_t to);
 SMALL Iter_u64 core_iter_slices_slice_T_iter_u64(slice_u64 given_1);
 SMALL void std_collections_index_table_group_Group_insert(std_collections_Group *self, uint64_t lane, uint32_t hash, uint32_t index);
@@ -12829,7 +11798,7 @@ SMALL void std_alloc_vec_Vec_truncate_within_Link_11(Vec_Slot *self, uint64_t n)
 SMALL void std_collections_core_option_Option_Destruct_drop_2(Option given_1);
 SMALL void std_alloc_vec_opened_drop_run_Entry_u64_3(Slots_CacheChange_u64 *row, uint64_t from, uint64_t to);
 SMALL void atlas_cache_Destruct_none_drop_Refusals(atlas_cache_Refusals given_1);
-SMALL void std_alloc_Destruct_none_drop_CacheChange_u64(atlas_cache_CacheChange_u64 given_1);
+SMALL void std_alloc_Destruct_none_drop_CacheChange_u64(const atlas_cache_CacheChange_u64 given_1);
 SMALL void std_collections_index_table_probe_insert_all(slice_Group groups, slice_Bucket_2 buckets);
 SMALL Result std_alloc_vec_Vec_resize_Group_Later(Vec_u64_Later *self, uint64_t n, std_collections_Group value);
 SMALL Result std_collections_columns_methods_reserve_column_Bucket(const void *alloc, Vec_u64_Later *column, uint64_t additional);
@@ -12861,7 +11830,7 @@ SMALL Result_Option_Rectangle core_option_OptionClone_clone_Rectangle(const Opti
 SMALL void std_alloc_vec_Vec_put_Option_Rectangle(Vec_Slot *self, Option_Rectangle x);
 SMALL atlas_model_Size atlas_sheet_places_inner(atlas_model_Size sheet, atlas_sheet_Spacing spacing);
 SMALL atlas_model_AllocatorOptions atlas_sheet_ways_Choice_options(atlas_sheet_Choice self, atlas_sheet_Spacing spacing);
-SMALL ControlFlow_ErrResidual_AtlasError_SimpleAtlasAllocator core_result_ResultTry_branch_SimpleAtlasAllocator_AtlasError(Result_SimpleAtlasAllocator_AtlasError self);
+SMALL ControlFlow_ErrResidual_AtlasError_SimpleAtlasAllocator core_result_ResultTry_branch_SimpleAtlasAllocator_AtlasError(const Result_SimpleAtlasAllocator_AtlasError self);
 SMALL Result_SimpleAtlasAllocator_SheetError core_result_ResultFromResidualErrResidual_from_residual_SimpleAtlasAllocator_AtlasError_SheetError(ErrResidual_AtlasError residual);
 SMALL Result_Option_Rectangle_SheetError atlas_sheet_places_place_unless(guillotiere_SimpleAtlasAllocator *packer, atlas_model_Size sprite,
         atlas_sheet_Spacing spacing, Option_Size refused);
@@ -12932,7 +11901,7 @@ SMALL void std_alloc_vec_opened_drop_run_bool_2(Slots_CacheChange_u64 *row, uint
 SMALL Result std_alloc_vec_copies_extend_items_bool_bool_Map_Iter_Option_u64_map_Self_ref_u64_Map_Iter_Option_u64_map_Self_ref_u64(Vec_Slot *to, Map_Iter_Option_u64_map_Self_ref_u64_2 iter);
 SMALL void atlas_sheet_choosing_fn_plainly_packed_packed_FnMut_call_mut(void *given_1, atlas_model_Size given_2);
 SMALL Result_Arrangement_SheetError atlas_sheet_packing_descend_3(const atlas_sheet_SheetOptions *given_2, atlas_sheet_Random *given_3,
-        uint32_t *given_4, atlas_sheet_Arrangement given_5);
+        uint32_t *given_4, const atlas_sheet_Arrangement given_5);
 SMALL Map_Iter_Option_u64_map_Self_ref_u64 core_iter_traits_AnyIntoIterator_into_iter_Map_Iter_Option_u64_map_Self_ref_u64_Option_u64(Map_Iter_Option_u64_map_Self_ref_u64 given_1);
 SMALL tuple_Map_Iter_Option_u64_map_Self_ref_u64_Option_Option_u64 std_alloc_vec_Vec_fill_up_Option_u64_Option_u64_Map_Iter_Option_u64_map_Self_ref_u64(Vec_Slot *self, Map_Iter_Option_u64_map_Self_ref_u64 rest);
 SMALL void atlas_sheet_Destruct_none_drop_Map_Iter_Option_u64_map_Self_ref_u64(Map_Iter_Option_u64_map_Self_ref_u64 given_1);
@@ -12954,7 +11923,7 @@ SMALL Result_Vec_Size_SheetError core_result_ResultFromResidualErrResidual_from_
 SMALL uint64_t atlas_sheet_picking_room_left(uint64_t room, bool is_chosen, bool chosen);
 SMALL Result_Arrangement_SheetError atlas_sheet_choosing_plainly_filled(slice_Size sprites, const atlas_sheet_SheetOptions *options);
 SMALL Result_Arrangement_SheetError atlas_sheet_choosing_smallest(slice_Size sprites, const atlas_sheet_SheetOptions *options,
-        atlas_sheet_Arrangement page);
+        const atlas_sheet_Arrangement page);
 SMALL uint32_t core_int_u32_ilog2(uint32_t given_1);
 SMALL atlas_model_Size atlas_sheet_changes_flipped(atlas_model_Size size);
 SMALL bool atlas_sheet_turnings_has_room(atlas_model_Size sheet, atlas_sheet_Spacing spacing, atlas_model_Size lying);
@@ -13321,7 +12290,7 @@ SMALL Option_ref_Option_u64 core_iter_slices_IterIterator_next_Option_u64(Iter_O
 SMALL bool atlas_sheet_choosing_fn_single_count_filter_FnMut_call_mut(void *given_1, const Option_u64 **given_2);
 SMALL void atlas_sheet_choosing_fn_smallest_packed_FnMut_call_mut(void *given_1, atlas_model_Size given_2);
 SMALL Result_Arrangement_SheetError atlas_sheet_packing_descend_4(const atlas_sheet_SheetOptions *given_2, atlas_sheet_Random *given_3,
-        uint32_t *given_4, atlas_sheet_Arrangement given_5);
+        uint32_t *given_4, const atlas_sheet_Arrangement given_5);
 SMALL uint64_t core_mem_sizes_size_of_val_slice_tuple_u64_Size(slice_tuple_u64_Size val);
 SMALL tuple_Slots_CacheChange_u64 core_core_slice_edits_first_to_last_FnOnce_call_once_tuple_u64_Size(Slots_CacheChange_u64 given_2);
 SMALL tuple_Slots_CacheChange_u64 core_core_slice_edits_last_to_first_FnOnce_call_once_tuple_u64_Size(Slots_CacheChange_u64 given_2);
@@ -16005,6 +14974,7 @@ SMALL const atlas_allocator_AtlasAllocator *guillotiere_c_atlas_handle_AtlasRead
  * crates/atlas_allocator/src/atlas.rt
  */
 SMALL Result_AtlasAllocator_AtlasError atlas_allocator_atlas_AtlasAllocator_clone(const atlas_allocator_AtlasAllocator *self) {
+    Result_AtlasAllocator_AtlasError result;
     ControlFlow_Store controlflow_6;
     Result_Store result_7;
     atlas_store_Store store_9;
@@ -16015,12 +14985,17 @@ SMALL Result_AtlasAllocator_AtlasError atlas_allocator_atlas_AtlasAllocator_clon
     } else {
         return core_result_ResultFromResidualErrResidual_from_residual_AtlasAllocator_AtlasError();
     }
-    return new_Result_AtlasAllocator_AtlasError_Ok(new_atlas_allocator_AtlasAllocator(store_9, self->first, self->used, self->size,
-            self->limit));
+    result.tag = 0u;
+    result.is.Ok.field_0.store = store_9;
+    result.is.Ok.field_0.first = self->first;
+    result.is.Ok.field_0.used = self->used;
+    result.is.Ok.field_0.size = self->size;
+    result.is.Ok.field_0.limit = self->limit;
+    return result;
 }
 
 /* std_alloc/src/boxed/methods.rt */
-SMALL Result_Box_AtlasAllocator_AllocFailed_AtlasAllocator std_alloc_boxed_Box_new_AtlasAllocator(atlas_allocator_AtlasAllocator x) {
+SMALL Result_Box_AtlasAllocator_AllocFailed_AtlasAllocator std_alloc_boxed_Box_new_AtlasAllocator(const atlas_allocator_AtlasAllocator x) {
     Result_Box_AtlasAllocator_AllocFailed_AtlasAllocator result;
     Result_Vacant_AtlasAllocator result_4;
     Box_AtlasAllocator box_7;
@@ -16028,9 +15003,12 @@ SMALL Result_Box_AtlasAllocator_AllocFailed_AtlasAllocator std_alloc_boxed_Box_n
     result_4 = std_alloc_room_vacant_Vacant_take_AtlasAllocator();
     if (result_4.tag == 0u /* Ok */) {
         box_7 = std_alloc_boxed_Box_write_into_AtlasAllocator(result_4.Ok.field_0, x);
-        return new_Result_Box_AtlasAllocator_AllocFailed_AtlasAllocator_Ok(box_7);
+        result.tag = 0u;
+        result.is.Ok.field_0 = box_7;
+        return result;
     }
-    result_14 = new_Result_Box_AtlasAllocator_AllocFailed_AtlasAllocator_Err(new_AllocFailed_AtlasAllocator(x));
+    result_14.tag = 1u;
+    result_14.is.Err.field_0.value = x;
     result = result_14;
     if (result_4.tag == 1u /* Err */) {
         guillotiere_c_Destruct_none_drop();
@@ -16675,7 +15653,7 @@ SMALL void std_alloc_vec_Vec_drop_AllocId(Vec_Slot given_1) {
 /* Makes a simple allocator where the handle holds nothing.
  * crates/guillotiere_c/src/simple.rt
  */
-PART uint32_t guillotiere_c_simple_start(uint32_t width, uint32_t height, const atlas_model_AllocatorOptions *options,
+SMALL uint32_t guillotiere_c_simple_start(uint32_t width, uint32_t height, const atlas_model_AllocatorOptions *options,
         guillotiere_simple *simple) {
     uint32_t result;
     Result_SimpleAtlasAllocator_AtlasError result_6;
@@ -16978,6 +15956,7 @@ SMALL atlas_cache_CacheOptions guillotiere_c_plain_cache_cache_options_for(const
  * crates/guillotiere_c/src/followed.rt
  */
 SMALL Result_FollowedCache_OptionsError guillotiere_c_followed_FollowedCache_new(atlas_cache_CacheOptions options) {
+    Result_FollowedCache_OptionsError result;
     ControlFlow_ErrResidual_OptionsError_TextureCache_u64_BuildHasherDefault_FoldHasher_FoldHasher controlflow_6;
     Result_TextureCache_u64_BuildHasherDefault_FoldHasher_FoldHasher_OptionsError result_7;
     atlas_cache_TextureCache_u64_BuildHasherDefault_FoldHasher_FoldHasher texturecache_8;
@@ -16990,7 +15969,11 @@ SMALL Result_FollowedCache_OptionsError guillotiere_c_followed_FollowedCache_new
         return core_result_ResultFromResidualErrResidual_from_residual_FollowedCache_OptionsError_OptionsError(controlflow_6.is.Break.field_0);
     }
     vec_10 = std_alloc_vec_Vec_new_CacheChange_u64();
-    return new_Result_FollowedCache_OptionsError_Ok(new_guillotiere_c_FollowedCache(texturecache_8, vec_10, 0u));
+    result.tag = 0u;
+    result.is.Ok.field_0.cache = texturecache_8;
+    result.is.Ok.field_0.changes = vec_10;
+    result.is.Ok.field_0.taken = 0u;
+    return result;
 }
 
 /* The status of an error of options.
@@ -17015,7 +15998,7 @@ SMALL uint32_t guillotiere_c_plain_cache_status_of_options_error(atlas_cache_Opt
 }
 
 /* std_alloc/src/boxed/methods.rt */
-SMALL Result_Box_FollowedCache_AllocFailed_FollowedCache std_alloc_boxed_Box_new_FollowedCache(guillotiere_c_FollowedCache x) {
+SMALL Result_Box_FollowedCache_AllocFailed_FollowedCache std_alloc_boxed_Box_new_FollowedCache(const guillotiere_c_FollowedCache x) {
     Result_Box_FollowedCache_AllocFailed_FollowedCache result;
     Result_Vacant_AtlasAllocator result_4;
     Box_AtlasAllocator box_7;
@@ -17023,9 +16006,12 @@ SMALL Result_Box_FollowedCache_AllocFailed_FollowedCache std_alloc_boxed_Box_new
     result_4 = std_alloc_room_vacant_Vacant_take_FollowedCache();
     if (result_4.tag == 0u /* Ok */) {
         box_7 = std_alloc_boxed_Box_write_into_FollowedCache(result_4.Ok.field_0, x);
-        return new_Result_Box_FollowedCache_AllocFailed_FollowedCache_Ok(box_7);
+        result.tag = 0u;
+        result.is.Ok.field_0 = box_7;
+        return result;
     }
-    result_14 = new_Result_Box_FollowedCache_AllocFailed_FollowedCache_Err(new_AllocFailed_FollowedCache(x));
+    result_14.tag = 1u;
+    result_14.is.Err.field_0.value = x;
     result = result_14;
     if (result_4.tag == 1u /* Err */) {
         guillotiere_c_Destruct_none_drop();
@@ -17068,7 +16054,7 @@ SMALL void std_alloc_vec_Vec_drop_Refusals(Vec_Slot given_1) {
 }
 
 /* std_collections::hash_map::HashMap::drop */
-SMALL void std_collections_hash_map_HashMap_drop_u64_u32_BuildHasherDefault_FoldHasher_FoldHasher(std_collections_HashMap_u64_u32_BuildHasherDefault_FoldHasher_FoldHasher given_1) {
+SMALL void std_collections_hash_map_HashMap_drop_u64_u32_BuildHasherDefault_FoldHasher_FoldHasher(const std_collections_HashMap_u64_u32_BuildHasherDefault_FoldHasher_FoldHasher given_1) {
     std_collections_columns_Columns_drop_u64_u32(given_1.columns);
     std_collections_index_table_IndexTable_drop(given_1.table);
     core_mem_drop_BuildHasherDefault_FoldHasher(given_1.hash_builder);
@@ -17264,7 +16250,7 @@ SMALL Option_CacheChange_u64 guillotiere_c_followed_FollowedCache_next_change(gu
 /* What a cache did, as C has it.
  * crates/guillotiere_c/src/plain_cache.rt
  */
-SMALL guillotiere_cache_change guillotiere_c_plain_cache_plain_cache_change(atlas_cache_CacheChange_u64 change) {
+SMALL guillotiere_cache_change guillotiere_c_plain_cache_plain_cache_change(const atlas_cache_CacheChange_u64 change) {
     guillotiere_cache_change plaincachechange_12;
     guillotiere_size plainsize_13;
     guillotiere_cache_change plaincachechange_21;
@@ -17278,39 +16264,84 @@ SMALL guillotiere_cache_change guillotiere_c_plain_cache_plain_cache_change(atla
     guillotiere_cache_change plaincachechange_68;
     if (change.tag == 0u /* PageAdded */) {
         plainsize_13 = guillotiere_c_plain_plain_size(change.is.PageAdded.size);
-        plaincachechange_21 = new_guillotiere_cache_change(0u, 0u, new_guillotiere_size(0u, 0u), 0u, new_guillotiere_place(0u, 0u,
-                new_guillotiere_rectangle(0u, 0u, 0u, 0u), new_guillotiere_rectangle(0u, 0u, 0u, 0u)), new_guillotiere_place(0u, 0u,
-                new_guillotiere_rectangle(0u, 0u, 0u, 0u), new_guillotiere_rectangle(0u, 0u, 0u, 0u)));
-        plaincachechange_12 = new_guillotiere_cache_change(0u, change.is.PageAdded.page, plainsize_13, plaincachechange_21.key,
-                plaincachechange_21.from, plaincachechange_21.to);
+        plaincachechange_21.kind = 0u;
+        plaincachechange_21.page = 0u;
+        plaincachechange_21.size = new_guillotiere_size(0u, 0u);
+        plaincachechange_21.key = 0u;
+        plaincachechange_21.from = new_guillotiere_place(0u, 0u, new_guillotiere_rectangle(0u, 0u, 0u, 0u), new_guillotiere_rectangle(0u,
+                0u, 0u, 0u));
+        plaincachechange_21.to = new_guillotiere_place(0u, 0u, new_guillotiere_rectangle(0u, 0u, 0u, 0u), new_guillotiere_rectangle(0u, 0u,
+                0u, 0u));
+        plaincachechange_12.kind = 0u;
+        plaincachechange_12.page = change.is.PageAdded.page;
+        plaincachechange_12.size = plainsize_13;
+        plaincachechange_12.key = plaincachechange_21.key;
+        plaincachechange_12.from = plaincachechange_21.from;
+        plaincachechange_12.to = plaincachechange_21.to;
     } else if (change.tag == 1u /* PageGrown */) {
         plainsize_25 = guillotiere_c_plain_plain_size(change.is.PageGrown.size);
-        plaincachechange_33 = new_guillotiere_cache_change(0u, 0u, new_guillotiere_size(0u, 0u), 0u, new_guillotiere_place(0u, 0u,
-                new_guillotiere_rectangle(0u, 0u, 0u, 0u), new_guillotiere_rectangle(0u, 0u, 0u, 0u)), new_guillotiere_place(0u, 0u,
-                new_guillotiere_rectangle(0u, 0u, 0u, 0u), new_guillotiere_rectangle(0u, 0u, 0u, 0u)));
-        plaincachechange_12 = new_guillotiere_cache_change(1u, change.is.PageGrown.page, plainsize_25, plaincachechange_33.key,
-                plaincachechange_33.from, plaincachechange_33.to);
+        plaincachechange_33.kind = 0u;
+        plaincachechange_33.page = 0u;
+        plaincachechange_33.size = new_guillotiere_size(0u, 0u);
+        plaincachechange_33.key = 0u;
+        plaincachechange_33.from = new_guillotiere_place(0u, 0u, new_guillotiere_rectangle(0u, 0u, 0u, 0u), new_guillotiere_rectangle(0u,
+                0u, 0u, 0u));
+        plaincachechange_33.to = new_guillotiere_place(0u, 0u, new_guillotiere_rectangle(0u, 0u, 0u, 0u), new_guillotiere_rectangle(0u, 0u,
+                0u, 0u));
+        plaincachechange_12.kind = 1u;
+        plaincachechange_12.page = change.is.PageGrown.page;
+        plaincachechange_12.size = plainsize_25;
+        plaincachechange_12.key = plaincachechange_33.key;
+        plaincachechange_12.from = plaincachechange_33.from;
+        plaincachechange_12.to = plaincachechange_33.to;
     } else if (change.tag == 2u /* Evicted */) {
         plainplace_37 = guillotiere_c_plain_cache_plain_place(change.is.Evicted.place);
-        plaincachechange_45 = new_guillotiere_cache_change(0u, 0u, new_guillotiere_size(0u, 0u), 0u, new_guillotiere_place(0u, 0u,
-                new_guillotiere_rectangle(0u, 0u, 0u, 0u), new_guillotiere_rectangle(0u, 0u, 0u, 0u)), new_guillotiere_place(0u, 0u,
-                new_guillotiere_rectangle(0u, 0u, 0u, 0u), new_guillotiere_rectangle(0u, 0u, 0u, 0u)));
-        plaincachechange_12 = new_guillotiere_cache_change(2u, plaincachechange_45.page, plaincachechange_45.size, change.is.Evicted.key,
-                plainplace_37, plaincachechange_45.to);
+        plaincachechange_45.kind = 0u;
+        plaincachechange_45.page = 0u;
+        plaincachechange_45.size = new_guillotiere_size(0u, 0u);
+        plaincachechange_45.key = 0u;
+        plaincachechange_45.from = new_guillotiere_place(0u, 0u, new_guillotiere_rectangle(0u, 0u, 0u, 0u), new_guillotiere_rectangle(0u,
+                0u, 0u, 0u));
+        plaincachechange_45.to = new_guillotiere_place(0u, 0u, new_guillotiere_rectangle(0u, 0u, 0u, 0u), new_guillotiere_rectangle(0u, 0u,
+                0u, 0u));
+        plaincachechange_12.kind = 2u;
+        plaincachechange_12.page = plaincachechange_45.page;
+        plaincachechange_12.size = plaincachechange_45.size;
+        plaincachechange_12.key = change.is.Evicted.key;
+        plaincachechange_12.from = plainplace_37;
+        plaincachechange_12.to = plaincachechange_45.to;
     } else if (change.tag == 3u /* Moved */) {
         plainplace_49 = guillotiere_c_plain_cache_plain_place(change.is.Moved.from);
         plainplace_50 = guillotiere_c_plain_cache_plain_place(change.is.Moved.to);
-        plaincachechange_58 = new_guillotiere_cache_change(0u, 0u, new_guillotiere_size(0u, 0u), 0u, new_guillotiere_place(0u, 0u,
-                new_guillotiere_rectangle(0u, 0u, 0u, 0u), new_guillotiere_rectangle(0u, 0u, 0u, 0u)), new_guillotiere_place(0u, 0u,
-                new_guillotiere_rectangle(0u, 0u, 0u, 0u), new_guillotiere_rectangle(0u, 0u, 0u, 0u)));
-        plaincachechange_12 = new_guillotiere_cache_change(3u, plaincachechange_58.page, plaincachechange_58.size, change.is.Moved.key,
-                plainplace_49, plainplace_50);
+        plaincachechange_58.kind = 0u;
+        plaincachechange_58.page = 0u;
+        plaincachechange_58.size = new_guillotiere_size(0u, 0u);
+        plaincachechange_58.key = 0u;
+        plaincachechange_58.from = new_guillotiere_place(0u, 0u, new_guillotiere_rectangle(0u, 0u, 0u, 0u), new_guillotiere_rectangle(0u,
+                0u, 0u, 0u));
+        plaincachechange_58.to = new_guillotiere_place(0u, 0u, new_guillotiere_rectangle(0u, 0u, 0u, 0u), new_guillotiere_rectangle(0u, 0u,
+                0u, 0u));
+        plaincachechange_12.kind = 3u;
+        plaincachechange_12.page = plaincachechange_58.page;
+        plaincachechange_12.size = plaincachechange_58.size;
+        plaincachechange_12.key = change.is.Moved.key;
+        plaincachechange_12.from = plainplace_49;
+        plaincachechange_12.to = plainplace_50;
     } else {
-        plaincachechange_68 = new_guillotiere_cache_change(0u, 0u, new_guillotiere_size(0u, 0u), 0u, new_guillotiere_place(0u, 0u,
-                new_guillotiere_rectangle(0u, 0u, 0u, 0u), new_guillotiere_rectangle(0u, 0u, 0u, 0u)), new_guillotiere_place(0u, 0u,
-                new_guillotiere_rectangle(0u, 0u, 0u, 0u), new_guillotiere_rectangle(0u, 0u, 0u, 0u)));
-        plaincachechange_12 = new_guillotiere_cache_change(4u, change.is.PageRemoved.page, plaincachechange_68.size,
-                plaincachechange_68.key, plaincachechange_68.from, plaincachechange_68.to);
+        plaincachechange_68.kind = 0u;
+        plaincachechange_68.page = 0u;
+        plaincachechange_68.size = new_guillotiere_size(0u, 0u);
+        plaincachechange_68.key = 0u;
+        plaincachechange_68.from = new_guillotiere_place(0u, 0u, new_guillotiere_rectangle(0u, 0u, 0u, 0u), new_guillotiere_rectangle(0u,
+                0u, 0u, 0u));
+        plaincachechange_68.to = new_guillotiere_place(0u, 0u, new_guillotiere_rectangle(0u, 0u, 0u, 0u), new_guillotiere_rectangle(0u, 0u,
+                0u, 0u));
+        plaincachechange_12.kind = 4u;
+        plaincachechange_12.page = change.is.PageRemoved.page;
+        plaincachechange_12.size = plaincachechange_68.size;
+        plaincachechange_12.key = plaincachechange_68.key;
+        plaincachechange_12.from = plaincachechange_68.from;
+        plaincachechange_12.to = plaincachechange_68.to;
     }
     return plaincachechange_12;
 }
@@ -17444,7 +16475,11 @@ SMALL Result_FollowedCache guillotiere_c_followed_FollowedCache_clone(const guil
         std_alloc_vec_Vec_drop_Vec_bool(texturecache_2.marks);
         return result;
     }
-    return new_Result_FollowedCache_Ok(new_guillotiere_c_FollowedCache(texturecache_2, vec_25, 0u));
+    result.tag = 0u;
+    result.Ok.field_0.cache = texturecache_2;
+    result.Ok.field_0.changes = vec_25;
+    result.Ok.field_0.taken = 0u;
+    return result;
 }
 
 /* The most recently used key, and its place; None if there is none. It doesn't count as a use.
@@ -17745,7 +16780,8 @@ SMALL Result_Option_Sheet_SheetError guillotiere_c_sheet_found(slice_PlainSize s
         std_alloc_vec_Vec_drop_Size(vec_4);
         return result;
     }
-    result = new_Result_Option_Sheet_SheetError_Ok(option_18);
+    result.tag = 0u;
+    result.is.Ok.field_0 = option_18;
     std_alloc_vec_Vec_drop_Size(vec_4);
     return result;
 }
@@ -17844,7 +16880,8 @@ SMALL Result_Option_Sheet_SheetError guillotiere_c_dense_found(slice_PlainSize s
         std_alloc_vec_Vec_drop_Size(vec_4);
         return result;
     }
-    result = new_Result_Option_Sheet_SheetError_Ok(option_18);
+    result.tag = 0u;
+    result.is.Ok.field_0 = option_18;
     std_alloc_vec_Vec_drop_Size(vec_4);
     return result;
 }
@@ -18035,7 +17072,8 @@ SMALL Result_Filled_SheetError guillotiere_c_filled_filled(slice_PlainSize sprit
         std_alloc_vec_Vec_drop_Size(vec_4);
         return result;
     }
-    result = new_Result_Filled_SheetError_Ok(filled_18);
+    result.tag = 0u;
+    result.is.Ok.field_0 = filled_18;
     std_alloc_vec_Vec_drop_Size(vec_4);
     return result;
 }
@@ -18102,6 +17140,7 @@ SMALL void std_alloc_vec_Vec_drop_Option_Placed(Vec_Slot given_1) {
  */
 SMALL Result_AtlasAllocator_AtlasError atlas_allocator_atlas_AtlasAllocator_with_slot_limit(atlas_model_Size size,
         const atlas_model_AllocatorOptions *options, uint32_t limit) {
+    Result_AtlasAllocator_AtlasError result;
     ControlFlow_Store controlflow_8;
     Result_Store result_9;
     atlas_store_Store store_10;
@@ -18112,8 +17151,13 @@ SMALL Result_AtlasAllocator_AtlasError atlas_allocator_atlas_AtlasAllocator_with
     } else {
         return core_result_ResultFromResidualErrResidual_from_residual_AtlasAllocator_AtlasError();
     }
-    return new_Result_AtlasAllocator_AtlasError_Ok(new_atlas_allocator_AtlasAllocator(store_10, new_atlas_search_Link(0u), 1u, size,
-            limit));
+    result.tag = 0u;
+    result.is.Ok.field_0.store = store_10;
+    result.is.Ok.field_0.first = new_atlas_search_Link(0u);
+    result.is.Ok.field_0.used = 1u;
+    result.is.Ok.field_0.size = size;
+    result.is.Ok.field_0.limit = limit;
+    return result;
 }
 
 /* A handle that holds nothing.
@@ -18155,11 +17199,14 @@ SMALL Box_AtlasAllocator guillotiere_c_held_release_AtlasAllocator(guillotiere_c
 
 /* std_alloc/src/boxed/methods.rt */
 SMALL tuple_AtlasAllocator_Vacant_AtlasAllocator std_alloc_boxed_Box_take_value_AtlasAllocator(Box_AtlasAllocator b) {
+    tuple_AtlasAllocator_Vacant_AtlasAllocator result;
     atlas_allocator_AtlasAllocator *at_4;
     atlas_allocator_AtlasAllocator atlasallocator_6;
     at_4 = (atlas_allocator_AtlasAllocator *)b.ptr;
     atlasallocator_6 = *at_4;
-    return new_tuple_AtlasAllocator_Vacant_AtlasAllocator(atlasallocator_6, new_Vacant_AtlasAllocator((void *)at_4));
+    result.field_0 = atlasallocator_6;
+    result.field_1 = new_Vacant_AtlasAllocator((void *)at_4);
+    return result;
 }
 
 /* std_alloc/src/room/vacant.rt */
@@ -18170,7 +17217,7 @@ SMALL void std_alloc_room_vacant_Vacant_free_AtlasAllocator(Vacant_AtlasAllocato
 }
 
 /* core/src/mem.rt */
-SMALL void core_mem_drop_AtlasAllocator(atlas_allocator_AtlasAllocator x) {
+SMALL void core_mem_drop_AtlasAllocator(const atlas_allocator_AtlasAllocator x) {
     guillotiere_c_atlas_allocator_atlas_AtlasAllocator_Destruct_drop(x);
 }
 
@@ -18216,25 +17263,35 @@ SMALL Result_Store atlas_store_store_Store_copy(const atlas_store_Store *self) {
     link_23 = self->unused;
     scale_24 = atlas_search_bands_Scale_copy(&self->options);
     atlas_store_store_turns_Turns_new();
-    return new_Result_Store_Ok(new_atlas_store_Store(vec_2, table_20, link_23, scale_24, self->recent));
+    result.tag = 0u;
+    result.Ok.field_0.slots = vec_2;
+    result.Ok.field_0.lists = table_20;
+    result.Ok.field_0.unused = link_23;
+    result.Ok.field_0.options = scale_24;
+    result.Ok.field_0.recent = self->recent;
+    return result;
 }
 
 /* core/src/result.rt */
-SMALL ControlFlow_Store core_result_ResultTry_branch_Store(Result_Store self) {
+SMALL ControlFlow_Store core_result_ResultTry_branch_Store(const Result_Store self) {
     ControlFlow_Store controlflow_4;
     if (self.tag == 0u /* Ok */) {
-        controlflow_4 = new_ControlFlow_Store_Continue(self.Ok.field_0);
+        controlflow_4.tag = 0u;
+        controlflow_4.Continue.field_0 = self.Ok.field_0;
     } else {
-        controlflow_4 = new_ControlFlow_Store_Break();
+        controlflow_4.tag = 1u;
     }
     return controlflow_4;
 }
 
 /* core/src/result.rt */
 SMALL Result_AtlasAllocator_AtlasError core_result_ResultFromResidualErrResidual_from_residual_AtlasAllocator_AtlasError(void) {
+    Result_AtlasAllocator_AtlasError result;
     atlas_model_AtlasError atlaserror_2;
     atlaserror_2 = atlas_model_error_AtlasErrorFromAllocError_from();
-    return new_Result_AtlasAllocator_AtlasError_Err(atlaserror_2);
+    result.tag = 1u;
+    result.is.Err.field_0 = atlaserror_2;
+    return result;
 }
 
 /* The handle comes back where there was no memory.
@@ -18253,7 +17310,7 @@ SMALL Result_Vacant_AtlasAllocator std_alloc_room_vacant_Vacant_take_AtlasAlloca
 }
 
 /* std_alloc/src/boxed/methods.rt */
-SMALL Box_AtlasAllocator std_alloc_boxed_Box_write_into_AtlasAllocator(Vacant_AtlasAllocator room, atlas_allocator_AtlasAllocator x) {
+SMALL Box_AtlasAllocator std_alloc_boxed_Box_write_into_AtlasAllocator(Vacant_AtlasAllocator room, const atlas_allocator_AtlasAllocator x) {
     atlas_allocator_AtlasAllocator *at_3;
     at_3 = (atlas_allocator_AtlasAllocator *)room.ptr;
     *at_3 = x;
@@ -18958,12 +18015,14 @@ SMALL Result_ChangeList_AtlasError core_result_ResultFromResidualErrResidual_fro
 }
 
 /* core/src/result.rt */
-SMALL ControlFlow_ErrResidual_AtlasError_AtlasAllocator core_result_ResultTry_branch_AtlasAllocator_AtlasError(Result_AtlasAllocator_AtlasError self) {
+SMALL ControlFlow_ErrResidual_AtlasError_AtlasAllocator core_result_ResultTry_branch_AtlasAllocator_AtlasError(const Result_AtlasAllocator_AtlasError self) {
     ControlFlow_ErrResidual_AtlasError_AtlasAllocator controlflow_4;
     if (self.tag == 0u /* Ok */) {
-        controlflow_4 = new_ControlFlow_ErrResidual_AtlasError_AtlasAllocator_Continue(self.is.Ok.field_0);
+        controlflow_4.tag = 0u;
+        controlflow_4.is.Continue.field_0 = self.is.Ok.field_0;
     } else {
-        controlflow_4 = new_ControlFlow_ErrResidual_AtlasError_AtlasAllocator_Break(new_ErrResidual_AtlasError(self.is.Err.field_0));
+        controlflow_4.tag = 1u;
+        controlflow_4.is.Break.field_0 = new_ErrResidual_AtlasError(self.is.Err.field_0);
     }
     return controlflow_4;
 }
@@ -19072,7 +18131,8 @@ SMALL void std_alloc_vec_Vec_drop_Link_3(Vec_Slot given_1) {
 /* Stores what another atlas stores. The turns stay.
  * crates/atlas_allocator/src/atlas.rt
  */
-SMALL void atlas_allocator_atlas_AtlasAllocator_become_like(atlas_allocator_AtlasAllocator *self, atlas_allocator_AtlasAllocator other) {
+SMALL void atlas_allocator_atlas_AtlasAllocator_become_like(atlas_allocator_AtlasAllocator *self,
+        const atlas_allocator_AtlasAllocator other) {
     atlas_search_Link link_4;
     uint32_t n_5;
     atlas_model_Size size_6;
@@ -19159,8 +18219,9 @@ SMALL void std_alloc_vec_Vec_destroy_empty_AllocId(Vec_Slot self) {
  * options. The only error is `Memory`.
  * crates/guillotiere/src/simple.rt
  */
-SMALL Result_SimpleAtlasAllocator_AtlasError guillotiere_simple_SimpleAtlasAllocator_with_options(atlas_model_Size size,
+PART Result_SimpleAtlasAllocator_AtlasError guillotiere_simple_SimpleAtlasAllocator_with_options(atlas_model_Size size,
         const atlas_model_AllocatorOptions *options) {
+    Result_SimpleAtlasAllocator_AtlasError result;
     guillotiere_FreeBoxes freeboxes_4;
     atlas_search_Scale scale_7;
     ControlFlow_ErrResidual_AtlasError_FreeBoxes controlflow_8;
@@ -19178,11 +18239,15 @@ SMALL Result_SimpleAtlasAllocator_AtlasError guillotiere_simple_SimpleAtlasAlloc
     scale_7 = atlas_search_bands_Scale_new(options);
     rectangle_14 = atlas_model_geometry_RectangleFromSize_from(size);
     guillotiere_simple_boxes_FreeBoxes_restart(&freeboxes_4, rectangle_14, &scale_7);
-    return new_Result_SimpleAtlasAllocator_AtlasError_Ok(new_guillotiere_SimpleAtlasAllocator(freeboxes_4, size, scale_7));
+    result.tag = 0u;
+    result.is.Ok.field_0.boxes = freeboxes_4;
+    result.is.Ok.field_0.size = size;
+    result.is.Ok.field_0.options = scale_7;
+    return result;
 }
 
 /* std_alloc/src/boxed/methods.rt */
-SMALL Result_Box_SimpleAtlasAllocator_AllocFailed_SimpleAtlasAllocator std_alloc_boxed_Box_new_SimpleAtlasAllocator(guillotiere_SimpleAtlasAllocator x) {
+SMALL Result_Box_SimpleAtlasAllocator_AllocFailed_SimpleAtlasAllocator std_alloc_boxed_Box_new_SimpleAtlasAllocator(const guillotiere_SimpleAtlasAllocator x) {
     Result_Box_SimpleAtlasAllocator_AllocFailed_SimpleAtlasAllocator result;
     Result_Vacant_AtlasAllocator result_4;
     Box_AtlasAllocator box_7;
@@ -19190,9 +18255,12 @@ SMALL Result_Box_SimpleAtlasAllocator_AllocFailed_SimpleAtlasAllocator std_alloc
     result_4 = std_alloc_room_vacant_Vacant_take_SimpleAtlasAllocator();
     if (result_4.tag == 0u /* Ok */) {
         box_7 = std_alloc_boxed_Box_write_into_SimpleAtlasAllocator(result_4.Ok.field_0, x);
-        return new_Result_Box_SimpleAtlasAllocator_AllocFailed_SimpleAtlasAllocator_Ok(box_7);
+        result.tag = 0u;
+        result.is.Ok.field_0 = box_7;
+        return result;
     }
-    result_14 = new_Result_Box_SimpleAtlasAllocator_AllocFailed_SimpleAtlasAllocator_Err(new_AllocFailed_SimpleAtlasAllocator(x));
+    result_14.tag = 1u;
+    result_14.is.Err.field_0.value = x;
     result = result_14;
     if (result_4.tag == 1u /* Err */) {
         guillotiere_c_Destruct_none_drop();
@@ -19236,11 +18304,14 @@ SMALL guillotiere_c_Held_AtlasAllocator guillotiere_c_simple_handle_SimpleHandle
 
 /* std_alloc/src/boxed/methods.rt */
 SMALL tuple_SimpleAtlasAllocator_Vacant_SimpleAtlasAllocator std_alloc_boxed_Box_take_value_SimpleAtlasAllocator(Box_AtlasAllocator b) {
+    tuple_SimpleAtlasAllocator_Vacant_SimpleAtlasAllocator result;
     guillotiere_SimpleAtlasAllocator *at_4;
     guillotiere_SimpleAtlasAllocator simpleatlasallocator_6;
     at_4 = (guillotiere_SimpleAtlasAllocator *)b.ptr;
     simpleatlasallocator_6 = *at_4;
-    return new_tuple_SimpleAtlasAllocator_Vacant_SimpleAtlasAllocator(simpleatlasallocator_6, new_Vacant_AtlasAllocator((void *)at_4));
+    result.field_0 = simpleatlasallocator_6;
+    result.field_1 = new_Vacant_AtlasAllocator((void *)at_4);
+    return result;
 }
 
 /* std_alloc/src/room/vacant.rt */
@@ -19251,7 +18322,7 @@ SMALL void std_alloc_room_vacant_Vacant_free_SimpleAtlasAllocator(Vacant_AtlasAl
 }
 
 /* core/src/mem.rt */
-SMALL void core_mem_drop_SimpleAtlasAllocator(guillotiere_SimpleAtlasAllocator x) {
+SMALL void core_mem_drop_SimpleAtlasAllocator(const guillotiere_SimpleAtlasAllocator x) {
     guillotiere_c_guillotiere_simple_SimpleAtlasAllocator_Destruct_drop(x);
 }
 
@@ -19409,16 +18480,23 @@ SMALL Result_FreeBoxes_AtlasError guillotiere_simple_boxes_FreeBoxes_new(void) {
         std_alloc_vec_Vec_drop_FreeBox_2(vec_2);
         return result;
     }
-    return new_Result_FreeBoxes_AtlasError_Ok(new_guillotiere_FreeBoxes(vec_2, new_atlas_search_Link(4294967295u), 0u, table_13));
+    result.tag = 0u;
+    result.is.Ok.field_0.entries = vec_2;
+    result.is.Ok.field_0.unused = new_atlas_search_Link(4294967295u);
+    result.is.Ok.field_0.used = 0u;
+    result.is.Ok.field_0.table = table_13;
+    return result;
 }
 
 /* core/src/result.rt */
-SMALL ControlFlow_ErrResidual_AtlasError_FreeBoxes core_result_ResultTry_branch_FreeBoxes_AtlasError(Result_FreeBoxes_AtlasError self) {
+SMALL ControlFlow_ErrResidual_AtlasError_FreeBoxes core_result_ResultTry_branch_FreeBoxes_AtlasError(const Result_FreeBoxes_AtlasError self) {
     ControlFlow_ErrResidual_AtlasError_FreeBoxes controlflow_4;
     if (self.tag == 0u /* Ok */) {
-        controlflow_4 = new_ControlFlow_ErrResidual_AtlasError_FreeBoxes_Continue(self.is.Ok.field_0);
+        controlflow_4.tag = 0u;
+        controlflow_4.is.Continue.field_0 = self.is.Ok.field_0;
     } else {
-        controlflow_4 = new_ControlFlow_ErrResidual_AtlasError_FreeBoxes_Break(new_ErrResidual_AtlasError(self.is.Err.field_0));
+        controlflow_4.tag = 1u;
+        controlflow_4.is.Break.field_0 = new_ErrResidual_AtlasError(self.is.Err.field_0);
     }
     return controlflow_4;
 }
@@ -19507,21 +18585,26 @@ SMALL Result_TextureCache_u64_BuildHasherDefault_FoldHasher_FoldHasher_OptionsEr
 }
 
 /* core/src/result.rt */
-SMALL ControlFlow_ErrResidual_OptionsError_TextureCache_u64_BuildHasherDefault_FoldHasher_FoldHasher core_result_ResultTry_branch_TextureCache_u64_BuildHasherDefault_FoldHasher_FoldHasher_OptionsError(Result_TextureCache_u64_BuildHasherDefault_FoldHasher_FoldHasher_OptionsError self) {
+SMALL ControlFlow_ErrResidual_OptionsError_TextureCache_u64_BuildHasherDefault_FoldHasher_FoldHasher core_result_ResultTry_branch_TextureCache_u64_BuildHasherDefault_FoldHasher_FoldHasher_OptionsError(const Result_TextureCache_u64_BuildHasherDefault_FoldHasher_FoldHasher_OptionsError self) {
     ControlFlow_ErrResidual_OptionsError_TextureCache_u64_BuildHasherDefault_FoldHasher_FoldHasher controlflow_4;
     if (self.tag == 0u /* Ok */) {
-        controlflow_4 = new_ControlFlow_ErrResidual_OptionsError_TextureCache_u64_BuildHasherDefault_FoldHasher_FoldHasher_Continue(self.is.Ok.field_0);
+        controlflow_4.tag = 0u;
+        controlflow_4.is.Continue.field_0 = self.is.Ok.field_0;
     } else {
-        controlflow_4 = new_ControlFlow_ErrResidual_OptionsError_TextureCache_u64_BuildHasherDefault_FoldHasher_FoldHasher_Break(new_ErrResidual_OptionsError(self.is.Err.field_0));
+        controlflow_4.tag = 1u;
+        controlflow_4.is.Break.field_0 = new_ErrResidual_OptionsError(self.is.Err.field_0);
     }
     return controlflow_4;
 }
 
 /* core/src/result.rt */
 SMALL Result_FollowedCache_OptionsError core_result_ResultFromResidualErrResidual_from_residual_FollowedCache_OptionsError_OptionsError(ErrResidual_OptionsError residual) {
+    Result_FollowedCache_OptionsError result;
     atlas_cache_OptionsError optionserror_2;
     optionserror_2 = core_convert_AnyFrom_from_OptionsError(residual.field_0);
-    return new_Result_FollowedCache_OptionsError_Err(optionserror_2);
+    result.tag = 1u;
+    result.is.Err.field_0 = optionserror_2;
+    return result;
 }
 
 /* Allocates nothing. `ptr` dangles: at capacity 0 nothing reads through it.
@@ -19547,7 +18630,7 @@ SMALL Result_Vacant_AtlasAllocator std_alloc_room_vacant_Vacant_take_FollowedCac
 }
 
 /* std_alloc/src/boxed/methods.rt */
-SMALL Box_AtlasAllocator std_alloc_boxed_Box_write_into_FollowedCache(Vacant_AtlasAllocator room, guillotiere_c_FollowedCache x) {
+SMALL Box_AtlasAllocator std_alloc_boxed_Box_write_into_FollowedCache(Vacant_AtlasAllocator room, const guillotiere_c_FollowedCache x) {
     guillotiere_c_FollowedCache *at_3;
     at_3 = (guillotiere_c_FollowedCache *)room.ptr;
     *at_3 = x;
@@ -19621,7 +18704,7 @@ SMALL void std_collections_columns_Columns_drop_u64_u32(std_collections_Columns_
 }
 
 /* std_collections::index_table::IndexTable::drop */
-SMALL void std_collections_index_table_IndexTable_drop(std_collections_IndexTable given_1) {
+SMALL void std_collections_index_table_IndexTable_drop(const std_collections_IndexTable given_1) {
     std_alloc_vec_Vec_drop_Group_Later(given_1.groups);
     std_alloc_vec_Vec_drop_Bucket_Later(given_1.buckets);
 }
@@ -19699,11 +18782,14 @@ SMALL guillotiere_c_Held_AtlasAllocator guillotiere_c_cache_handle_CacheHandle_o
 
 /* std_alloc/src/boxed/methods.rt */
 SMALL tuple_FollowedCache_Vacant_FollowedCache std_alloc_boxed_Box_take_value_FollowedCache(Box_AtlasAllocator b) {
+    tuple_FollowedCache_Vacant_FollowedCache result;
     guillotiere_c_FollowedCache *at_4;
     guillotiere_c_FollowedCache followedcache_6;
     at_4 = (guillotiere_c_FollowedCache *)b.ptr;
     followedcache_6 = *at_4;
-    return new_tuple_FollowedCache_Vacant_FollowedCache(followedcache_6, new_Vacant_AtlasAllocator((void *)at_4));
+    result.field_0 = followedcache_6;
+    result.field_1 = new_Vacant_AtlasAllocator((void *)at_4);
+    return result;
 }
 
 /* std_alloc/src/room/vacant.rt */
@@ -19714,7 +18800,7 @@ SMALL void std_alloc_room_vacant_Vacant_free_FollowedCache(Vacant_AtlasAllocator
 }
 
 /* core/src/mem.rt */
-SMALL void core_mem_drop_FollowedCache(guillotiere_c_FollowedCache x) {
+SMALL void core_mem_drop_FollowedCache(const guillotiere_c_FollowedCache x) {
     guillotiere_c_guillotiere_c_followed_FollowedCache_Destruct_drop(x);
 }
 
@@ -19773,6 +18859,7 @@ SMALL guillotiere_place guillotiere_c_plain_cache_plain_place(atlas_cache_Place 
  * crates/atlas_cache/src/cache/holding.rt
  */
 SMALL Option_tuple_u32_Entry_u64 atlas_cache_cache_holding_look_up_u64_BuildHasherDefault_FoldHasher_FoldHasher(const atlas_entries_Entries_u64_BuildHasherDefault_FoldHasher_FoldHasher *entries, const uint64_t *key) {
+    Option_tuple_u32_Entry_u64 result;
     uint32_t n_3;
     ControlFlow_u32 controlflow_7;
     Option_u32 option_8;
@@ -19788,7 +18875,9 @@ SMALL Option_tuple_u32_Entry_u64 atlas_cache_cache_holding_look_up_u64_BuildHash
     }
     n_3 = n_9;
     entry_10 = atlas_entries_entries_Entries_entry_u64_BuildHasherDefault_FoldHasher_FoldHasher(entries, n_3);
-    return new_Option_tuple_u32_Entry_u64_Some(new_tuple_u32_Entry_u64(n_3, entry_10));
+    result.tag = 1u;
+    result.Some.field_0 = new_tuple_u32_Entry_u64(n_3, entry_10);
+    return result;
 }
 
 /* How the cache was made.
@@ -19928,6 +19017,7 @@ SMALL Option_Place atlas_cache_cache_TextureCache_remove_u64_BuildHasherDefault_
  * crates/guillotiere_c/src/followed.rt
  */
 SMALL Option_CacheChange_u64 guillotiere_c_followed_take_first(Vec_Slot *changes, uint64_t *taken) {
+    Option_CacheChange_u64 result;
     atlas_cache_CacheChange_u64 cachechange_3;
     uint64_t n_4;
     uint64_t n_5;
@@ -19937,7 +19027,8 @@ SMALL Option_CacheChange_u64 guillotiere_c_followed_take_first(Vec_Slot *changes
     n_4 = *taken;
     n_5 = std_alloc_vec_Vec_len_Allocation(changes);
     if (n_5 <= n_4) {
-        return new_Option_CacheChange_u64_None();
+        result.tag = 0u;
+        return result;
     }
     at_8 = std_alloc_vec_derefs_VecIndexUsize_index_CacheChange_u64(changes, *taken);
     cachechange_3 = *at_8;
@@ -19947,7 +19038,9 @@ SMALL Option_CacheChange_u64 guillotiere_c_followed_take_first(Vec_Slot *changes
     if (n_17 == n_18) {
         guillotiere_c_followed_drop_taken(changes, taken);
     }
-    return new_Option_CacheChange_u64_Some(cachechange_3);
+    result.tag = 1u;
+    result.Some.field_0 = cachechange_3;
+    return result;
 }
 
 /* Removes all keys. The pages stay, with their sizes and with nothing on them, and so do the frame and the counts. No
@@ -20136,24 +19229,33 @@ SMALL Result_TextureCache_u64_BuildHasherDefault_FoldHasher_FoldHasher atlas_cac
     counts_19 = self->counts;
     (void)std_alloc_vec_Vec_allocator_FreeBox(&self->marks);
     vec_20 = std_alloc_vec_Vec_new_CacheChange_u64();
-    return new_Result_TextureCache_u64_BuildHasherDefault_FoldHasher_FoldHasher_Ok(new_atlas_cache_TextureCache_u64_BuildHasherDefault_FoldHasher_FoldHasher(rooms_2, entries_15, n_18, counts_19, vec_20));
+    result.tag = 0u;
+    result.Ok.field_0.rooms = rooms_2;
+    result.Ok.field_0.entries = entries_15;
+    result.Ok.field_0.frame = n_18;
+    result.Ok.field_0.counts = counts_19;
+    result.Ok.field_0.marks = vec_20;
+    return result;
 }
 
 /* core/src/result.rt */
-SMALL ControlFlow_TextureCache_u64_BuildHasherDefault_FoldHasher_FoldHasher core_result_ResultTry_branch_TextureCache_u64_BuildHasherDefault_FoldHasher_FoldHasher(Result_TextureCache_u64_BuildHasherDefault_FoldHasher_FoldHasher self) {
+SMALL ControlFlow_TextureCache_u64_BuildHasherDefault_FoldHasher_FoldHasher core_result_ResultTry_branch_TextureCache_u64_BuildHasherDefault_FoldHasher_FoldHasher(const Result_TextureCache_u64_BuildHasherDefault_FoldHasher_FoldHasher self) {
     ControlFlow_TextureCache_u64_BuildHasherDefault_FoldHasher_FoldHasher controlflow_4;
     if (self.tag == 0u /* Ok */) {
-        controlflow_4 = new_ControlFlow_TextureCache_u64_BuildHasherDefault_FoldHasher_FoldHasher_Continue(self.Ok.field_0);
+        controlflow_4.tag = 0u;
+        controlflow_4.Continue.field_0 = self.Ok.field_0;
     } else {
-        controlflow_4 = new_ControlFlow_TextureCache_u64_BuildHasherDefault_FoldHasher_FoldHasher_Break();
+        controlflow_4.tag = 1u;
     }
     return controlflow_4;
 }
 
 /* core/src/result.rt */
 SMALL Result_FollowedCache core_result_ResultFromResidualErrResidual_from_residual_FollowedCache(void) {
+    Result_FollowedCache result;
     core_convert_AnyFrom_from();
-    return new_Result_FollowedCache_Err();
+    result.tag = 1u;
+    return result;
 }
 
 /* std_alloc/src/vec/derefs.rt */
@@ -20193,6 +19295,7 @@ SMALL Result_Vec_AllocId std_alloc_vec_Vec_from_slice_CacheChange_u64(slice_Cach
  * crates/atlas_cache/src/cache/walking.rt
  */
 SMALL Option_tuple_u32_Entry_u64 atlas_cache_cache_walking_newest_u64_BuildHasherDefault_FoldHasher_FoldHasher(const atlas_entries_Entries_u64_BuildHasherDefault_FoldHasher_FoldHasher *entries) {
+    Option_tuple_u32_Entry_u64 result;
     uint32_t n_2;
     Option_u32 option_3;
     atlas_entries_Entry_u64 entry_4;
@@ -20200,16 +19303,20 @@ SMALL Option_tuple_u32_Entry_u64 atlas_cache_cache_walking_newest_u64_BuildHashe
     if (option_3.tag == 1u /* Some */) {
         n_2 = option_3.Some.field_0;
     } else {
-        return new_Option_tuple_u32_Entry_u64_None();
+        result.tag = 0u;
+        return result;
     }
     entry_4 = atlas_entries_entries_Entries_entry_u64_BuildHasherDefault_FoldHasher_FoldHasher(entries, n_2);
-    return new_Option_tuple_u32_Entry_u64_Some(new_tuple_u32_Entry_u64(n_2, entry_4));
+    result.tag = 1u;
+    result.Some.field_0 = new_tuple_u32_Entry_u64(n_2, entry_4);
+    return result;
 }
 
 /* The least recently used entry with its number; None if there is none.
  * crates/atlas_cache/src/cache/holding.rt
  */
 SMALL Option_tuple_u32_Entry_u64 atlas_cache_cache_holding_oldest_u64_BuildHasherDefault_FoldHasher_FoldHasher(const atlas_entries_Entries_u64_BuildHasherDefault_FoldHasher_FoldHasher *entries) {
+    Option_tuple_u32_Entry_u64 result;
     uint32_t n_2;
     ControlFlow_u32 controlflow_6;
     Option_u32 option_7;
@@ -20225,13 +19332,16 @@ SMALL Option_tuple_u32_Entry_u64 atlas_cache_cache_holding_oldest_u64_BuildHashe
     }
     n_2 = n_8;
     entry_9 = atlas_entries_entries_Entries_entry_u64_BuildHasherDefault_FoldHasher_FoldHasher(entries, n_2);
-    return new_Option_tuple_u32_Entry_u64_Some(new_tuple_u32_Entry_u64(n_2, entry_9));
+    result.tag = 1u;
+    result.Some.field_0 = new_tuple_u32_Entry_u64(n_2, entry_9);
+    return result;
 }
 
 /* The entry that was used next before another one, with its number; None if that is the least recently used.
  * crates/atlas_cache/src/cache/walking.rt
  */
 SMALL Option_tuple_u32_Entry_u64 atlas_cache_cache_walking_older_u64_BuildHasherDefault_FoldHasher_FoldHasher(const atlas_entries_Entries_u64_BuildHasherDefault_FoldHasher_FoldHasher *entries, uint32_t number) {
+    Option_tuple_u32_Entry_u64 result;
     uint32_t n_3;
     Option_u32 option_5;
     atlas_entries_Entry_u64 entry_6;
@@ -20240,10 +19350,13 @@ SMALL Option_tuple_u32_Entry_u64 atlas_cache_cache_walking_older_u64_BuildHasher
     if (option_5.tag == 1u /* Some */) {
         n_3 = option_5.Some.field_0;
     } else {
-        return new_Option_tuple_u32_Entry_u64_None();
+        result.tag = 0u;
+        return result;
     }
     entry_6 = atlas_entries_entries_Entries_entry_u64_BuildHasherDefault_FoldHasher_FoldHasher(entries, n_3);
-    return new_Option_tuple_u32_Entry_u64_Some(new_tuple_u32_Entry_u64(n_3, entry_6));
+    result.tag = 1u;
+    result.Some.field_0 = new_tuple_u32_Entry_u64(n_3, entry_6);
+    return result;
 }
 
 /* Makes sure that at least this many entries are in reserve: the insertions that follow ask for memory only for pages, for
@@ -20472,9 +19585,12 @@ SMALL ControlFlow_ErrResidual_SheetError_Vec_Size core_result_ResultTry_branch_V
 
 /* core/src/result.rt */
 SMALL Result_Option_Sheet_SheetError core_result_ResultFromResidualErrResidual_from_residual_Option_Sheet_SheetError_SheetError(ErrResidual_SheetError residual) {
+    Result_Option_Sheet_SheetError result;
     atlas_sheet_SheetError sheeterror_2;
     sheeterror_2 = core_convert_AnyFrom_from_SheetError(residual.field_0);
-    return new_Result_Option_Sheet_SheetError_Err(sheeterror_2);
+    result.tag = 1u;
+    result.is.Err.field_0 = sheeterror_2;
+    return result;
 }
 
 /* Places all sprites in a sheet that is as small as the search finds. Without effort the first of `WAYS` that packs them
@@ -20495,12 +19611,14 @@ PART Result_Option_Sheet_SheetError atlas_sheet_sheets_pack(slice_Size sprites, 
 }
 
 /* core/src/result.rt */
-SMALL ControlFlow_ErrResidual_SheetError_Option_Sheet core_result_ResultTry_branch_Option_Sheet_SheetError(Result_Option_Sheet_SheetError self) {
+SMALL ControlFlow_ErrResidual_SheetError_Option_Sheet core_result_ResultTry_branch_Option_Sheet_SheetError(const Result_Option_Sheet_SheetError self) {
     ControlFlow_ErrResidual_SheetError_Option_Sheet controlflow_4;
     if (self.tag == 0u /* Ok */) {
-        controlflow_4 = new_ControlFlow_ErrResidual_SheetError_Option_Sheet_Continue(self.is.Ok.field_0);
+        controlflow_4.tag = 0u;
+        controlflow_4.is.Continue.field_0 = self.is.Ok.field_0;
     } else {
-        controlflow_4 = new_ControlFlow_ErrResidual_SheetError_Option_Sheet_Break(new_ErrResidual_SheetError(self.is.Err.field_0));
+        controlflow_4.tag = 1u;
+        controlflow_4.is.Break.field_0 = new_ErrResidual_SheetError(self.is.Err.field_0);
     }
     return controlflow_4;
 }
@@ -20562,6 +19680,7 @@ SMALL void std_alloc_vec_Vec_destroy_empty_u64(Vec_Slot self) {
  * crates/atlas_sheet/src/dense.rt
  */
 SMALL Result_Option_Sheet_SheetError atlas_sheet_dense_pack_dense(slice_Size sprites, const atlas_sheet_SheetOptions *options) {
+    Result_Option_Sheet_SheetError result;
     ControlFlow_ErrResidual_SheetError controlflow_12;
     Result_SheetError result_13;
     ControlFlow_ErrResidual_SheetError_Option_Sheet controlflow_14;
@@ -20589,7 +19708,9 @@ SMALL Result_Option_Sheet_SheetError atlas_sheet_dense_pack_dense(slice_Size spr
     } else {
         return core_result_ResultFromResidualErrResidual_from_residual_Option_Sheet_SheetError_SheetError(controlflow_17.is.Break.field_0);
     }
-    return new_Result_Option_Sheet_SheetError_Ok(option_20);
+    result.tag = 0u;
+    result.is.Ok.field_0 = option_20;
+    return result;
 }
 
 /* core/src/result.rt */
@@ -20784,9 +19905,12 @@ SMALL void std_alloc_vec_Vec_drop_Option_u64(Vec_Slot given_1) {
 
 /* core/src/result.rt */
 SMALL Result_Filled_SheetError core_result_ResultFromResidualErrResidual_from_residual_Filled_SheetError_SheetError(ErrResidual_SheetError residual) {
+    Result_Filled_SheetError result;
     atlas_sheet_SheetError sheeterror_2;
     sheeterror_2 = core_convert_AnyFrom_from_SheetError(residual.field_0);
-    return new_Result_Filled_SheetError_Err(sheeterror_2);
+    result.tag = 1u;
+    result.is.Err.field_0 = sheeterror_2;
+    return result;
 }
 
 /* Places sprites in the greatest sheet that is allowed. The places have no fewer pixels than those that any of the
@@ -20835,7 +19959,8 @@ SMALL Result_Filled_SheetError atlas_sheet_sheets_fill(slice_Size sprites, const
         std_alloc_vec_Vec_drop_Option_Rectangle(arrangement_6.places);
         return result;
     }
-    result = new_Result_Filled_SheetError_Ok(filled_20);
+    result.tag = 0u;
+    result.is.Ok.field_0 = filled_20;
     std_alloc_vec_Vec_drop_Size_2(arrangement_6.lying);
     std_alloc_vec_Vec_drop_tuple_u64_Size(arrangement_6.order);
     std_alloc_vec_Vec_drop_Option_Rectangle(arrangement_6.places);
@@ -20843,12 +19968,14 @@ SMALL Result_Filled_SheetError atlas_sheet_sheets_fill(slice_Size sprites, const
 }
 
 /* core/src/result.rt */
-SMALL ControlFlow_ErrResidual_SheetError_Filled core_result_ResultTry_branch_Filled_SheetError(Result_Filled_SheetError self) {
+SMALL ControlFlow_ErrResidual_SheetError_Filled core_result_ResultTry_branch_Filled_SheetError(const Result_Filled_SheetError self) {
     ControlFlow_ErrResidual_SheetError_Filled controlflow_4;
     if (self.tag == 0u /* Ok */) {
-        controlflow_4 = new_ControlFlow_ErrResidual_SheetError_Filled_Continue(self.is.Ok.field_0);
+        controlflow_4.tag = 0u;
+        controlflow_4.is.Continue.field_0 = self.is.Ok.field_0;
     } else {
-        controlflow_4 = new_ControlFlow_ErrResidual_SheetError_Filled_Break(new_ErrResidual_SheetError(self.is.Err.field_0));
+        controlflow_4.tag = 1u;
+        controlflow_4.is.Break.field_0 = new_ErrResidual_SheetError(self.is.Err.field_0);
     }
     return controlflow_4;
 }
@@ -20935,7 +20062,9 @@ SMALL Result_Store atlas_store_store_Store_new(atlas_model_Size size, const atla
     store_4 = new_atlas_store_Store(vec_9, table_19, new_atlas_search_Link(4294967295u), scale_22,
             new_atlas_store_Recent(new_atlas_search_Link(4294967295u), 0u));
     atlas_store_store_Store_start(&store_4, size, options);
-    return new_Result_Store_Ok(store_4);
+    result.tag = 0u;
+    result.Ok.field_0 = store_4;
+    return result;
 }
 
 /* std_alloc/src/boxed/raw.rt */
@@ -20952,7 +20081,7 @@ SMALL void std_heap_GlobalAllocator_deallocate(const void *self, void *ptr, uint
 }
 
 /* guillotiere_c::atlas_allocator++atlas++AtlasAllocator+Destruct::drop */
-SMALL void guillotiere_c_atlas_allocator_atlas_AtlasAllocator_Destruct_drop(atlas_allocator_AtlasAllocator given_1) {
+SMALL void guillotiere_c_atlas_allocator_atlas_AtlasAllocator_Destruct_drop(const atlas_allocator_AtlasAllocator given_1) {
     guillotiere_c_atlas_store_store_Store_Destruct_drop(given_1.store);
 }
 
@@ -20991,14 +20120,17 @@ SMALL Result_Vec_AllocId std_alloc_vec_Vec_from_slice_Slot(slice_Slot items) {
 
 /* core/src/result.rt */
 SMALL Result_Store core_result_ResultFromResidualErrResidual_from_residual_Store(void) {
+    Result_Store result;
     core_convert_AnyFrom_from();
-    return new_Result_Store_Err();
+    result.tag = 1u;
+    return result;
 }
 
 /* A copy, in new memory of the same allocator.
  * crates/atlas_search/src/table.rt
  */
 SMALL Result_Table atlas_search_table_Table_copy(const atlas_search_Table *self) {
+    Result_Table result;
     ControlFlow_Vec_AllocId controlflow_5;
     Result_Vec_AllocId result_6;
     slice_Link slice_10;
@@ -21014,16 +20146,21 @@ SMALL Result_Table atlas_search_table_Table_copy(const atlas_search_Table *self)
         return core_result_ResultFromResidualErrResidual_from_residual_Table();
     }
     marks_15 = atlas_search_marks_Marks_copy(&self->marks);
-    return new_Result_Table_Ok(new_atlas_search_Table(vec_13, marks_15, self->emptied));
+    result.tag = 0u;
+    result.Ok.field_0.heads = vec_13;
+    result.Ok.field_0.marks = marks_15;
+    result.Ok.field_0.emptied = self->emptied;
+    return result;
 }
 
 /* core/src/result.rt */
-SMALL ControlFlow_Table core_result_ResultTry_branch_Table(Result_Table self) {
+SMALL ControlFlow_Table core_result_ResultTry_branch_Table(const Result_Table self) {
     ControlFlow_Table controlflow_4;
     if (self.tag == 0u /* Ok */) {
-        controlflow_4 = new_ControlFlow_Table_Continue(self.Ok.field_0);
+        controlflow_4.tag = 0u;
+        controlflow_4.Continue.field_0 = self.Ok.field_0;
     } else {
-        controlflow_4 = new_ControlFlow_Table_Break();
+        controlflow_4.tag = 1u;
     }
     return controlflow_4;
 }
@@ -21856,7 +20993,7 @@ SMALL void std_alloc_vec_Vec_destroy_empty_Link_3(Vec_Slot self) {
 /* Holds what another store holds, in the memory of that one. The turns stay.
  * crates/atlas_store/src/store/start.rt
  */
-SMALL void atlas_store_store_Store_replace(atlas_store_Store *self, atlas_store_Store other) {
+SMALL void atlas_store_store_Store_replace(atlas_store_Store *self, const atlas_store_Store other) {
     Vec_Slot vec_8;
     atlas_search_Table table_10;
     vec_8 = self->slots;
@@ -21936,9 +21073,12 @@ SMALL void std_alloc_vec_Vec_free_block_AllocId(Vec_Slot self) {
 
 /* core/src/result.rt */
 SMALL Result_SimpleAtlasAllocator_AtlasError core_result_ResultFromResidualErrResidual_from_residual_SimpleAtlasAllocator_AtlasError_AtlasError(ErrResidual_AtlasError residual) {
+    Result_SimpleAtlasAllocator_AtlasError result;
     atlas_model_AtlasError atlaserror_2;
     atlaserror_2 = core_convert_AnyFrom_from_AtlasError(residual.field_0);
-    return new_Result_SimpleAtlasAllocator_AtlasError_Err(atlaserror_2);
+    result.tag = 1u;
+    result.is.Err.field_0 = atlaserror_2;
+    return result;
 }
 
 /* That of these options.
@@ -21971,7 +21111,7 @@ SMALL Result_Vacant_AtlasAllocator std_alloc_room_vacant_Vacant_take_SimpleAtlas
 
 /* std_alloc/src/boxed/methods.rt */
 SMALL Box_AtlasAllocator std_alloc_boxed_Box_write_into_SimpleAtlasAllocator(Vacant_AtlasAllocator room,
-        guillotiere_SimpleAtlasAllocator x) {
+        const guillotiere_SimpleAtlasAllocator x) {
     guillotiere_SimpleAtlasAllocator *at_3;
     at_3 = (guillotiere_SimpleAtlasAllocator *)room.ptr;
     *at_3 = x;
@@ -21992,7 +21132,7 @@ SMALL void std_alloc_vec_Vec_destroy_empty_FreeBox(Vec_Slot self) {
 }
 
 /* guillotiere_c::guillotiere++simple++SimpleAtlasAllocator+Destruct::drop */
-SMALL void guillotiere_c_guillotiere_simple_SimpleAtlasAllocator_Destruct_drop(guillotiere_SimpleAtlasAllocator given_1) {
+SMALL void guillotiere_c_guillotiere_simple_SimpleAtlasAllocator_Destruct_drop(const guillotiere_SimpleAtlasAllocator given_1) {
     guillotiere_c_guillotiere_simple_boxes_FreeBoxes_Destruct_drop(given_1.boxes);
 }
 
@@ -22177,15 +21317,19 @@ SMALL Result_Vec_AllocId std_alloc_vec_Vec_with_capacity_FreeBox(uint64_t capaci
 
 /* core/src/result.rt */
 SMALL Result_FreeBoxes_AtlasError core_result_ResultFromResidualErrResidual_from_residual_FreeBoxes_AtlasError(void) {
+    Result_FreeBoxes_AtlasError result;
     atlas_model_AtlasError atlaserror_2;
     atlaserror_2 = atlas_model_error_AtlasErrorFromAllocError_from();
-    return new_Result_FreeBoxes_AtlasError_Err(atlaserror_2);
+    result.tag = 1u;
+    result.is.Err.field_0 = atlaserror_2;
+    return result;
 }
 
 /* A table of empty lists.
  * crates/atlas_search/src/table.rt
  */
 SMALL Result_Table atlas_search_table_Table_new(void) {
+    Result_Table result;
     ControlFlow_Vec_AllocId controlflow_5;
     Result_Vec_AllocId result_6;
     Vec_Slot vec_9;
@@ -22198,7 +21342,11 @@ SMALL Result_Table atlas_search_table_Table_new(void) {
         return core_result_ResultFromResidualErrResidual_from_residual_Table();
     }
     marks_11 = atlas_search_marks_Marks_none();
-    return new_Result_Table_Ok(new_atlas_search_Table(vec_9, marks_11, 2704u));
+    result.tag = 0u;
+    result.Ok.field_0.heads = vec_9;
+    result.Ok.field_0.marks = marks_11;
+    result.Ok.field_0.emptied = 2704u;
+    return result;
 }
 
 /* Adds a rectangle, and room for it.
@@ -22281,7 +21429,13 @@ SMALL Result_TextureCache_u64_BuildHasherDefault_FoldHasher_FoldHasher_OptionsEr
     rooms_10 = atlas_cache_rooms_Rooms_new(cacheoptions_4);
     entries_12 = atlas_entries_entries_Entries_with_hasher_u64_BuildHasherDefault_FoldHasher_FoldHasher(hasher);
     vec_15 = std_alloc_vec_Vec_new_CacheChange_u64();
-    return new_Result_TextureCache_u64_BuildHasherDefault_FoldHasher_FoldHasher_OptionsError_Ok(new_atlas_cache_TextureCache_u64_BuildHasherDefault_FoldHasher_FoldHasher(rooms_10, entries_12, 0u, new_atlas_cache_Counts(0u, 0u, 0u), vec_15));
+    result.tag = 0u;
+    result.is.Ok.field_0.rooms = rooms_10;
+    result.is.Ok.field_0.entries = entries_12;
+    result.is.Ok.field_0.frame = 0u;
+    result.is.Ok.field_0.counts = new_atlas_cache_Counts(0u, 0u, 0u);
+    result.is.Ok.field_0.marks = vec_15;
+    return result;
 }
 
 /* core::convert::AnyFrom::from */
@@ -22463,7 +21617,7 @@ SMALL void std_alloc_vec_Vec_free_block_CacheChange_u64(Vec_Slot self) {
 }
 
 /* guillotiere_c::guillotiere_c++followed++FollowedCache+Destruct::drop */
-SMALL void guillotiere_c_guillotiere_c_followed_FollowedCache_Destruct_drop(guillotiere_c_FollowedCache given_1) {
+SMALL void guillotiere_c_guillotiere_c_followed_FollowedCache_Destruct_drop(const guillotiere_c_FollowedCache given_1) {
     guillotiere_c_atlas_cache_cache_TextureCache_Destruct_drop_u64_BuildHasherDefault_FoldHasher_FoldHasher(given_1.cache);
     std_alloc_vec_Vec_drop_CacheChange_u64(given_1.changes);
 }
@@ -22516,7 +21670,9 @@ SMALL ControlFlow_u32 core_option_OptionTry_branch_u32(Option_u32 self) {
 
 /* core/src/option.rt */
 SMALL Option_tuple_u32_Entry_u64 core_option_OptionFromResidualNoValue_from_residual_tuple_u32_Entry_u64(void) {
-    return new_Option_tuple_u32_Entry_u64_None();
+    Option_tuple_u32_Entry_u64 result;
+    result.tag = 0u;
+    return result;
 }
 
 /* The entry of a number.
@@ -22965,24 +22121,31 @@ SMALL Result_Rooms atlas_cache_rooms_Rooms_copy(const atlas_cache_Rooms *self) {
         std_alloc_vec_Vec_drop_AtlasAllocator_2(vec_3);
         return result;
     }
-    return new_Result_Rooms_Ok(new_atlas_cache_Rooms(vec_3, vec_22, self->options));
+    result.tag = 0u;
+    result.Ok.field_0.pages = vec_3;
+    result.Ok.field_0.refused = vec_22;
+    result.Ok.field_0.options = self->options;
+    return result;
 }
 
 /* core/src/result.rt */
-SMALL ControlFlow_Rooms core_result_ResultTry_branch_Rooms(Result_Rooms self) {
+SMALL ControlFlow_Rooms core_result_ResultTry_branch_Rooms(const Result_Rooms self) {
     ControlFlow_Rooms controlflow_4;
     if (self.tag == 0u /* Ok */) {
-        controlflow_4 = new_ControlFlow_Rooms_Continue(self.Ok.field_0);
+        controlflow_4.tag = 0u;
+        controlflow_4.Continue.field_0 = self.Ok.field_0;
     } else {
-        controlflow_4 = new_ControlFlow_Rooms_Break();
+        controlflow_4.tag = 1u;
     }
     return controlflow_4;
 }
 
 /* core/src/result.rt */
 SMALL Result_TextureCache_u64_BuildHasherDefault_FoldHasher_FoldHasher core_result_ResultFromResidualErrResidual_from_residual_TextureCache_u64_BuildHasherDefault_FoldHasher_FoldHasher(void) {
+    Result_TextureCache_u64_BuildHasherDefault_FoldHasher_FoldHasher result;
     core_convert_AnyFrom_from();
-    return new_Result_TextureCache_u64_BuildHasherDefault_FoldHasher_FoldHasher_Err();
+    result.tag = 1u;
+    return result;
 }
 
 /* A copy, in new memory of the same allocator: the same entries under the same numbers and keys, in the same order. None are in
@@ -23045,16 +22208,22 @@ SMALL Result_Entries_u64_BuildHasherDefault_FoldHasher_FoldHasher atlas_entries_
         std_collections_hash_map_HashMap_drop_u64_u32_BuildHasherDefault_FoldHasher_FoldHasher_2(hashmap_6);
         return result;
     }
-    return new_Result_Entries_u64_BuildHasherDefault_FoldHasher_FoldHasher_Ok(new_atlas_entries_Entries_u64_BuildHasherDefault_FoldHasher_FoldHasher(hashmap_6, recency_9, vec_36, self->mark));
+    result.tag = 0u;
+    result.Ok.field_0.map = hashmap_6;
+    result.Ok.field_0.recency = recency_9;
+    result.Ok.field_0.items = vec_36;
+    result.Ok.field_0.mark = self->mark;
+    return result;
 }
 
 /* core/src/result.rt */
-SMALL ControlFlow_Entries_u64_BuildHasherDefault_FoldHasher_FoldHasher core_result_ResultTry_branch_Entries_u64_BuildHasherDefault_FoldHasher_FoldHasher(Result_Entries_u64_BuildHasherDefault_FoldHasher_FoldHasher self) {
+SMALL ControlFlow_Entries_u64_BuildHasherDefault_FoldHasher_FoldHasher core_result_ResultTry_branch_Entries_u64_BuildHasherDefault_FoldHasher_FoldHasher(const Result_Entries_u64_BuildHasherDefault_FoldHasher_FoldHasher self) {
     ControlFlow_Entries_u64_BuildHasherDefault_FoldHasher_FoldHasher controlflow_4;
     if (self.tag == 0u /* Ok */) {
-        controlflow_4 = new_ControlFlow_Entries_u64_BuildHasherDefault_FoldHasher_FoldHasher_Continue(self.Ok.field_0);
+        controlflow_4.tag = 0u;
+        controlflow_4.Continue.field_0 = self.Ok.field_0;
     } else {
-        controlflow_4 = new_ControlFlow_Entries_u64_BuildHasherDefault_FoldHasher_FoldHasher_Break();
+        controlflow_4.tag = 1u;
     }
     return controlflow_4;
 }
@@ -23415,7 +22584,9 @@ SMALL Result_Option_Sheet_SheetError atlas_sheet_sheets_pack_telling(slice_Size 
     if (option_7.tag == 1u /* Some */) {
         arrangement_10 = option_7.Some.field_0;
     } else {
-        return new_Result_Option_Sheet_SheetError_Ok(new_Option_Sheet_None());
+        result.tag = 0u;
+        result.is.Ok.field_0.tag = 0u;
+        return result;
     }
     result_25 = atlas_sheet_sheets_filled_of(given_2, given_3, &arrangement_10);
     controlflow_24 = core_result_ResultTry_branch_Filled_SheetError(result_25);
@@ -23439,7 +22610,9 @@ SMALL Result_Option_Sheet_SheetError atlas_sheet_sheets_pack_telling(slice_Size 
         std_alloc_vec_Vec_drop_Option_Rectangle(arrangement_10.places);
         return result;
     }
-    result = new_Result_Option_Sheet_SheetError_Ok(new_Option_Sheet_Some(sheet_31));
+    result.tag = 0u;
+    result.is.Ok.field_0.tag = 1u;
+    result.is.Ok.field_0.Some.field_0 = sheet_31;
     std_alloc_vec_Vec_drop_Size_2(arrangement_10.lying);
     std_alloc_vec_Vec_drop_tuple_u64_Size(arrangement_10.order);
     std_alloc_vec_Vec_drop_Option_Rectangle(arrangement_10.places);
@@ -23524,7 +22697,7 @@ SMALL ControlFlow_ErrResidual_SheetError core_result_ResultTry_branch_SheetError
  * crates/atlas_sheet/src/dense.rt
  */
 SMALL Result_Option_Sheet_SheetError atlas_sheet_dense_denser(slice_Size sprites, const atlas_sheet_SheetOptions *options,
-        Option_Sheet first) {
+        const Option_Sheet first) {
     Result_Option_Sheet_SheetError result;
     Vec_Slot vec_5;
     ControlFlow_ErrResidual_SheetError_Vec_Size controlflow_8;
@@ -23948,6 +23121,7 @@ SMALL void std_alloc_vec_Vec_destroy_empty_Option_u64(Vec_Slot self) {
  * crates/atlas_sheet/src/sheets.rt
  */
 PART Result_Arrangement_SheetError atlas_sheet_sheets_best_filled(slice_Size sprites, const atlas_sheet_SheetOptions *options) {
+    Result_Arrangement_SheetError result;
     atlas_sheet_Arrangement arrangement_4;
     uint32_t n_7;
     atlas_sheet_Random random_8;
@@ -23966,7 +23140,9 @@ PART Result_Arrangement_SheetError atlas_sheet_sheets_best_filled(slice_Size spr
     }
     arrangement_4 = arrangement_14;
     if (options->effort == 0u) {
-        return new_Result_Arrangement_SheetError_Ok(arrangement_4);
+        result.tag = 0u;
+        result.is.Ok.field_0 = arrangement_4;
+        return result;
     }
     n_7 = options->effort;
     random_8 = atlas_sheet_random_Random_new(options->seed);
@@ -23977,16 +23153,20 @@ PART Result_Arrangement_SheetError atlas_sheet_sheets_best_filled(slice_Size spr
     } else {
         return core_result_ResultFromResidualErrResidual_from_residual_Arrangement_SheetError_SheetError(controlflow_20.is.Break.field_0);
     }
-    return new_Result_Arrangement_SheetError_Ok(arrangement_25);
+    result.tag = 0u;
+    result.is.Ok.field_0 = arrangement_25;
+    return result;
 }
 
 /* core/src/result.rt */
-SMALL ControlFlow_ErrResidual_SheetError_Arrangement core_result_ResultTry_branch_Arrangement_SheetError(Result_Arrangement_SheetError self) {
+SMALL ControlFlow_ErrResidual_SheetError_Arrangement core_result_ResultTry_branch_Arrangement_SheetError(const Result_Arrangement_SheetError self) {
     ControlFlow_ErrResidual_SheetError_Arrangement controlflow_4;
     if (self.tag == 0u /* Ok */) {
-        controlflow_4 = new_ControlFlow_ErrResidual_SheetError_Arrangement_Continue(self.is.Ok.field_0);
+        controlflow_4.tag = 0u;
+        controlflow_4.is.Continue.field_0 = self.is.Ok.field_0;
     } else {
-        controlflow_4 = new_ControlFlow_ErrResidual_SheetError_Arrangement_Break(new_ErrResidual_SheetError(self.is.Err.field_0));
+        controlflow_4.tag = 1u;
+        controlflow_4.is.Break.field_0 = new_ErrResidual_SheetError(self.is.Err.field_0);
     }
     return controlflow_4;
 }
@@ -24027,7 +23207,12 @@ PART Result_Filled_SheetError atlas_sheet_sheets_filled_of(slice_Size sprites, c
         std_alloc_vec_Vec_drop_u64_2(vec_6);
         return result;
     }
-    return new_Result_Filled_SheetError_Ok(new_atlas_sheet_Filled(arrangement->size, vec_23, n_5, vec_6));
+    result.tag = 0u;
+    result.is.Ok.field_0.size = arrangement->size;
+    result.is.Ok.field_0.places = vec_23;
+    result.is.Ok.field_0.used_area = n_5;
+    result.is.Ok.field_0.order = vec_6;
+    return result;
 }
 
 /* std_alloc::vec::Vec::drop */
@@ -24094,6 +23279,7 @@ SMALL Result_Vec_AllocId std_alloc_vec_Vec_with_capacity_Slot(uint64_t capacity)
  * crates/atlas_search/src/table.rt
  */
 SMALL Result_Table atlas_search_table_Table_new_2(void) {
+    Result_Table result;
     ControlFlow_Vec_AllocId controlflow_5;
     Result_Vec_AllocId result_6;
     Vec_Slot vec_9;
@@ -24106,11 +23292,15 @@ SMALL Result_Table atlas_search_table_Table_new_2(void) {
         return core_result_ResultFromResidualErrResidual_from_residual_Table();
     }
     marks_11 = atlas_search_marks_Marks_none();
-    return new_Result_Table_Ok(new_atlas_search_Table(vec_9, marks_11, 2704u));
+    result.tag = 0u;
+    result.Ok.field_0.heads = vec_9;
+    result.Ok.field_0.marks = marks_11;
+    result.Ok.field_0.emptied = 2704u;
+    return result;
 }
 
 /* guillotiere_c::atlas_store++store++Store+Destruct::drop */
-SMALL void guillotiere_c_atlas_store_store_Store_Destruct_drop(atlas_store_Store given_1) {
+SMALL void guillotiere_c_atlas_store_store_Store_Destruct_drop(const atlas_store_Store given_1) {
     std_alloc_vec_Vec_drop_Slot(given_1.slots);
     guillotiere_c_atlas_search_table_Table_Destruct_drop(given_1.lists);
 }
@@ -24183,15 +23373,21 @@ SMALL Result_Vec_AllocId std_alloc_vec_Vec_from_slice_Link(slice_Link items) {
 
 /* core/src/result.rt */
 SMALL Result_Table core_result_ResultFromResidualErrResidual_from_residual_Table(void) {
+    Result_Table result;
     core_convert_AnyFrom_from();
-    return new_Result_Table_Err();
+    result.tag = 1u;
+    return result;
 }
 
 /* A copy of the marks.
  * crates/atlas_search/src/marks.rt
  */
 SMALL atlas_search_Marks atlas_search_marks_Marks_copy(const atlas_search_Marks *self) {
-    return new_atlas_search_Marks(self->rows, self->columns, self->used);
+    atlas_search_Marks result;
+    result.rows = self->rows;
+    result.columns = self->columns;
+    result.used = self->used;
+    return result;
 }
 
 /* std_alloc/src/vec/ends.rt */
@@ -25038,7 +24234,7 @@ SMALL void std_alloc_vec_Vec_free_block_FreeBox(Vec_Slot self) {
 }
 
 /* guillotiere_c::guillotiere++simple++boxes++FreeBoxes+Destruct::drop */
-SMALL void guillotiere_c_guillotiere_simple_boxes_FreeBoxes_Destruct_drop(guillotiere_FreeBoxes given_1) {
+SMALL void guillotiere_c_guillotiere_simple_boxes_FreeBoxes_Destruct_drop(const guillotiere_FreeBoxes given_1) {
     std_alloc_vec_Vec_drop_FreeBox(given_1.entries);
     guillotiere_c_atlas_search_table_Table_Destruct_drop(given_1.table);
 }
@@ -25266,9 +24462,13 @@ SMALL void atlas_search_table_blank_marked(slice_Link_2 heads, const atlas_searc
  * crates/atlas_search/src/marks.rt
  */
 SMALL atlas_search_Marks atlas_search_marks_Marks_none(void) {
+    atlas_search_Marks result;
     atlas_search_Mask mask_1;
     mask_1 = atlas_search_masks_Mask_none();
-    return new_atlas_search_Marks(all_array_Mask_52(mask_1), all_array_Mask_52(mask_1), mask_1);
+    result.rows = all_array_Mask_52(mask_1);
+    result.columns = all_array_Mask_52(mask_1);
+    result.used = mask_1;
+    return result;
 }
 
 /* Takes the first of the unused entries, or else a new one, for which there is room.
@@ -25475,9 +24675,12 @@ SMALL ControlFlow_ErrResidual_OptionsError core_result_ResultTry_branch_OptionsE
 
 /* core/src/result.rt */
 SMALL Result_TextureCache_u64_BuildHasherDefault_FoldHasher_FoldHasher_OptionsError core_result_ResultFromResidualErrResidual_from_residual_TextureCache_u64_BuildHasherDefault_FoldHasher_FoldHasher_OptionsError_OptionsError(ErrResidual_OptionsError residual) {
+    Result_TextureCache_u64_BuildHasherDefault_FoldHasher_FoldHasher_OptionsError result;
     atlas_cache_OptionsError optionserror_2;
     optionserror_2 = core_convert_AnyFrom_from_OptionsError(residual.field_0);
-    return new_Result_TextureCache_u64_BuildHasherDefault_FoldHasher_FoldHasher_OptionsError_Err(optionserror_2);
+    result.tag = 1u;
+    result.is.Err.field_0 = optionserror_2;
+    return result;
 }
 
 /* atlas_cache::Destruct++none::drop */
@@ -25489,24 +24692,33 @@ SMALL void atlas_cache_Destruct_none_drop_BuildHasherDefault_FoldHasher(BuildHas
  * crates/atlas_cache/src/rooms.rt
  */
 SMALL atlas_cache_Rooms atlas_cache_rooms_Rooms_new(atlas_cache_CacheOptions options) {
+    atlas_cache_Rooms result;
     Vec_Slot vec_3;
     Vec_Slot vec_4;
     vec_3 = std_alloc_vec_Vec_new_CacheChange_u64();
     vec_4 = std_alloc_vec_Vec_new_CacheChange_u64();
-    return new_atlas_cache_Rooms(vec_3, vec_4, options);
+    result.pages = vec_3;
+    result.refused = vec_4;
+    result.options = options;
+    return result;
 }
 
 /* No entries, with a hasher for the keys. Takes no memory.
  * crates/atlas_entries/src/entries.rt
  */
 SMALL atlas_entries_Entries_u64_BuildHasherDefault_FoldHasher_FoldHasher atlas_entries_entries_Entries_with_hasher_u64_BuildHasherDefault_FoldHasher_FoldHasher(BuildHasherDefault_FoldHasher hasher) {
+    atlas_entries_Entries_u64_BuildHasherDefault_FoldHasher_FoldHasher result;
     std_collections_HashMap_u64_u32_BuildHasherDefault_FoldHasher_FoldHasher hashmap_3;
     atlas_entries_Recency recency_5;
     Vec_Slot vec_6;
     hashmap_3 = std_collections_hash_map_HashMap_with_hasher_u64_u32_BuildHasherDefault_FoldHasher_FoldHasher(hasher);
     recency_5 = atlas_entries_recency_Recency_new();
     vec_6 = std_alloc_vec_Vec_new_CacheChange_u64();
-    return new_atlas_entries_Entries_u64_BuildHasherDefault_FoldHasher_FoldHasher(hashmap_3, recency_5, vec_6, 4294967295u);
+    result.map = hashmap_3;
+    result.recency = recency_5;
+    result.items = vec_6;
+    result.mark = 4294967295u;
+    return result;
 }
 
 /* States what always holds of the pages, and does nothing: each has the options of the cache, the greatest limit on slots and a
@@ -25659,7 +24871,7 @@ SMALL void std_alloc_vec_Vec_truncate_within_CacheChange_u64(Vec_Slot *self, uin
 }
 
 /* guillotiere_c::atlas_cache++cache++TextureCache+Destruct::drop */
-SMALL void guillotiere_c_atlas_cache_cache_TextureCache_Destruct_drop_u64_BuildHasherDefault_FoldHasher_FoldHasher(atlas_cache_TextureCache_u64_BuildHasherDefault_FoldHasher_FoldHasher given_1) {
+SMALL void guillotiere_c_atlas_cache_cache_TextureCache_Destruct_drop_u64_BuildHasherDefault_FoldHasher_FoldHasher(const atlas_cache_TextureCache_u64_BuildHasherDefault_FoldHasher_FoldHasher given_1) {
     guillotiere_c_atlas_cache_rooms_Rooms_Destruct_drop(given_1.rooms);
     guillotiere_c_atlas_entries_entries_Entries_Destruct_drop_u64_BuildHasherDefault_FoldHasher_FoldHasher(given_1.entries);
     std_alloc_vec_Vec_drop_Vec_bool(given_1.marks);
@@ -26547,8 +25759,10 @@ SMALL Result_Vec_AllocId atlas_cache_rooms_copying_copied_pages(slice_AtlasAlloc
 
 /* core/src/result.rt */
 SMALL Result_Rooms core_result_ResultFromResidualErrResidual_from_residual_Rooms(void) {
+    Result_Rooms result;
     core_convert_AnyFrom_from();
-    return new_Result_Rooms_Err();
+    result.tag = 1u;
+    return result;
 }
 
 /* std_alloc/src/vec/derefs.rt */
@@ -26615,8 +25829,10 @@ SMALL ControlFlow_BuildHasherDefault_FoldHasher core_result_ResultTry_branch_Bui
 
 /* core/src/result.rt */
 SMALL Result_Entries_u64_BuildHasherDefault_FoldHasher_FoldHasher core_result_ResultFromResidualErrResidual_from_residual_Entries_u64_BuildHasherDefault_FoldHasher_FoldHasher(void) {
+    Result_Entries_u64_BuildHasherDefault_FoldHasher_FoldHasher result;
     core_convert_AnyFrom_from();
-    return new_Result_Entries_u64_BuildHasherDefault_FoldHasher_FoldHasher_Err();
+    result.tag = 1u;
+    return result;
 }
 
 /* A map with the same keys and numbers, with another hasher.
@@ -26661,16 +25877,19 @@ SMALL Result_HashMap_u64_u32_BuildHasherDefault_FoldHasher_FoldHasher atlas_entr
             return result;
         }
     }
-    return new_Result_HashMap_u64_u32_BuildHasherDefault_FoldHasher_FoldHasher_Ok(hashmap_4);
+    result.tag = 0u;
+    result.Ok.field_0 = hashmap_4;
+    return result;
 }
 
 /* core/src/result.rt */
-SMALL ControlFlow_HashMap_u64_u32_BuildHasherDefault_FoldHasher_FoldHasher core_result_ResultTry_branch_HashMap_u64_u32_BuildHasherDefault_FoldHasher_FoldHasher(Result_HashMap_u64_u32_BuildHasherDefault_FoldHasher_FoldHasher self) {
+SMALL ControlFlow_HashMap_u64_u32_BuildHasherDefault_FoldHasher_FoldHasher core_result_ResultTry_branch_HashMap_u64_u32_BuildHasherDefault_FoldHasher_FoldHasher(const Result_HashMap_u64_u32_BuildHasherDefault_FoldHasher_FoldHasher self) {
     ControlFlow_HashMap_u64_u32_BuildHasherDefault_FoldHasher_FoldHasher controlflow_4;
     if (self.tag == 0u /* Ok */) {
-        controlflow_4 = new_ControlFlow_HashMap_u64_u32_BuildHasherDefault_FoldHasher_FoldHasher_Continue(self.Ok.field_0);
+        controlflow_4.tag = 0u;
+        controlflow_4.Continue.field_0 = self.Ok.field_0;
     } else {
-        controlflow_4 = new_ControlFlow_HashMap_u64_u32_BuildHasherDefault_FoldHasher_FoldHasher_Break();
+        controlflow_4.tag = 1u;
     }
     return controlflow_4;
 }
@@ -26707,7 +25926,7 @@ SMALL ControlFlow_Recency core_result_ResultTry_branch_Recency(Result_Recency se
 }
 
 /* std_collections::hash_map::HashMap::drop */
-SMALL void std_collections_hash_map_HashMap_drop_u64_u32_BuildHasherDefault_FoldHasher_FoldHasher_2(std_collections_HashMap_u64_u32_BuildHasherDefault_FoldHasher_FoldHasher given_1) {
+SMALL void std_collections_hash_map_HashMap_drop_u64_u32_BuildHasherDefault_FoldHasher_FoldHasher_2(const std_collections_HashMap_u64_u32_BuildHasherDefault_FoldHasher_FoldHasher given_1) {
     std_collections_columns_Columns_drop_u64_u32_2(given_1.columns);
     std_collections_index_table_IndexTable_drop_2(given_1.table);
     core_mem_drop_BuildHasherDefault_FoldHasher(given_1.hash_builder);
@@ -27105,13 +26324,16 @@ SMALL Result_Option_Arrangement_SheetError atlas_sheet_packing_packed(slice_Size
     if (option_8.tag == 1u /* Some */) {
         arrangement_11 = option_8.Some.field_0;
     } else {
-        result = new_Result_Option_Arrangement_SheetError_Ok(new_Option_Arrangement_None());
+        result.tag = 0u;
+        result.is.Ok.field_0.tag = 0u;
         atlas_sheet_Destruct_none_drop();
         return result;
     }
     if (given_3->effort == 0u) {
         atlas_sheet_sheets_fn_pack_pack_telling_FnMut_call_mut((void *)&nothing, arrangement_11.size);
-        result = new_Result_Option_Arrangement_SheetError_Ok(new_Option_Arrangement_Some(arrangement_11));
+        result.tag = 0u;
+        result.is.Ok.field_0.tag = 1u;
+        result.is.Ok.field_0.Some.field_0 = arrangement_11;
         atlas_sheet_Destruct_none_drop();
         return result;
     }
@@ -27122,16 +26344,21 @@ SMALL Result_Option_Arrangement_SheetError atlas_sheet_packing_packed(slice_Size
     } else {
         return core_result_ResultFromResidualErrResidual_from_residual_Option_Arrangement_SheetError_SheetError(controlflow_30.is.Break.field_0);
     }
-    return new_Result_Option_Arrangement_SheetError_Ok(new_Option_Arrangement_Some(arrangement_36));
+    result.tag = 0u;
+    result.is.Ok.field_0.tag = 1u;
+    result.is.Ok.field_0.Some.field_0 = arrangement_36;
+    return result;
 }
 
 /* core/src/result.rt */
-SMALL ControlFlow_ErrResidual_SheetError_Option_Arrangement core_result_ResultTry_branch_Option_Arrangement_SheetError(Result_Option_Arrangement_SheetError self) {
+SMALL ControlFlow_ErrResidual_SheetError_Option_Arrangement core_result_ResultTry_branch_Option_Arrangement_SheetError(const Result_Option_Arrangement_SheetError self) {
     ControlFlow_ErrResidual_SheetError_Option_Arrangement controlflow_4;
     if (self.tag == 0u /* Ok */) {
-        controlflow_4 = new_ControlFlow_ErrResidual_SheetError_Option_Arrangement_Continue(self.is.Ok.field_0);
+        controlflow_4.tag = 0u;
+        controlflow_4.is.Continue.field_0 = self.is.Ok.field_0;
     } else {
-        controlflow_4 = new_ControlFlow_ErrResidual_SheetError_Option_Arrangement_Break(new_ErrResidual_SheetError(self.is.Err.field_0));
+        controlflow_4.tag = 1u;
+        controlflow_4.is.Break.field_0 = new_ErrResidual_SheetError(self.is.Err.field_0);
     }
     return controlflow_4;
 }
@@ -27139,7 +26366,7 @@ SMALL ControlFlow_ErrResidual_SheetError_Option_Arrangement core_result_ResultTr
 /* A filled sheet in which each sprite has a place.
  * crates/atlas_sheet/src/sheets.rt
  */
-SMALL Result_Sheet_SheetError atlas_sheet_sheets_sheet_of(atlas_sheet_Filled filled) {
+SMALL Result_Sheet_SheetError atlas_sheet_sheets_sheet_of(const atlas_sheet_Filled filled) {
     Result_Sheet_SheetError result;
     atlas_sheet_Filled filled_3;
     atlas_model_Size size_6;
@@ -27160,18 +26387,24 @@ SMALL Result_Sheet_SheetError atlas_sheet_sheets_sheet_of(atlas_sheet_Filled fil
         std_alloc_vec_Vec_drop_u64_2(filled_3.order);
         return result;
     }
-    result = new_Result_Sheet_SheetError_Ok(new_atlas_sheet_Sheet(size_6, vec_14, filled_3.used_area, filled_3.order));
+    result.tag = 0u;
+    result.is.Ok.field_0.size = size_6;
+    result.is.Ok.field_0.places = vec_14;
+    result.is.Ok.field_0.used_area = filled_3.used_area;
+    result.is.Ok.field_0.order = filled_3.order;
     std_alloc_vec_Vec_drop_Option_Placed_2(filled_3.places);
     return result;
 }
 
 /* core/src/result.rt */
-SMALL ControlFlow_ErrResidual_SheetError_Sheet core_result_ResultTry_branch_Sheet_SheetError(Result_Sheet_SheetError self) {
+SMALL ControlFlow_ErrResidual_SheetError_Sheet core_result_ResultTry_branch_Sheet_SheetError(const Result_Sheet_SheetError self) {
     ControlFlow_ErrResidual_SheetError_Sheet controlflow_4;
     if (self.tag == 0u /* Ok */) {
-        controlflow_4 = new_ControlFlow_ErrResidual_SheetError_Sheet_Continue(self.is.Ok.field_0);
+        controlflow_4.tag = 0u;
+        controlflow_4.is.Continue.field_0 = self.is.Ok.field_0;
     } else {
-        controlflow_4 = new_ControlFlow_ErrResidual_SheetError_Sheet_Break(new_ErrResidual_SheetError(self.is.Err.field_0));
+        controlflow_4.tag = 1u;
+        controlflow_4.is.Break.field_0 = new_ErrResidual_SheetError(self.is.Err.field_0);
     }
     return controlflow_4;
 }
@@ -27317,7 +26550,7 @@ SMALL slice_tuple_u64_Size std_alloc_vec_derefs_VecDerefSlice_deref_tuple_u64_Si
  * crates/atlas_sheet/src/dense.rt
  */
 SMALL Result_Option_Sheet_SheetError atlas_sheet_dense_denser_powers(slice_Size sprites, const atlas_sheet_SheetOptions *options,
-        slice_tuple_u64_Size order, Option_Sheet first) {
+        slice_tuple_u64_Size order, const Option_Sheet first) {
     Result_Option_Sheet_SheetError result;
     Option_Sheet option_6;
     Option_Size option_7;
@@ -27348,7 +26581,8 @@ SMALL Result_Option_Sheet_SheetError atlas_sheet_dense_denser_powers(slice_Size 
             }
             option_9 = option_17;
             if (core_option_Option_is_none_Sheet(&option_9)) {
-                result = new_Result_Option_Sheet_SheetError_Ok(option_6);
+                result.tag = 0u;
+                result.is.Ok.field_0 = option_6;
                 if (option_9.tag == 1u /* Some */) {
                     sheet_28 = option_9.Some.field_0;
                     std_alloc_vec_Vec_drop_Placed_2(sheet_28.places);
@@ -27368,14 +26602,16 @@ SMALL Result_Option_Sheet_SheetError atlas_sheet_dense_denser_powers(slice_Size 
             break;
         }
     }
-    return new_Result_Option_Sheet_SheetError_Ok(option_6);
+    result.tag = 0u;
+    result.is.Ok.field_0 = option_6;
+    return result;
 }
 
 /* The smallest sheet of a row that is found by bisection, or the first.
  * crates/atlas_sheet/src/dense.rt
  */
 SMALL Result_Option_Sheet_SheetError atlas_sheet_dense_denser_in_row(slice_Size sprites, const atlas_sheet_SheetOptions *options,
-        slice_tuple_u64_Size order, Option_Sheet first) {
+        slice_tuple_u64_Size order, const Option_Sheet first) {
     Result_Option_Sheet_SheetError result;
     uint32_t n_6;
     uint32_t n_7;
@@ -27415,7 +26651,9 @@ SMALL Result_Option_Sheet_SheetError atlas_sheet_dense_denser_in_row(slice_Size 
             n_7 = n_9;
         }
     }
-    return new_Result_Option_Sheet_SheetError_Ok(option_8);
+    result.tag = 0u;
+    result.is.Ok.field_0 = option_8;
+    return result;
 }
 
 /* What `vec![in alloc; x; n]` calls. The last element is x itself.
@@ -27537,7 +26775,9 @@ PART Result_Arrangement_SheetError atlas_sheet_paging_next_page(slice_Size left,
     arrangement_4 = arrangement_13;
     is_14 = atlas_sheet_climbing_is_whole(&arrangement_4);
     if (!is_14) {
-        return new_Result_Arrangement_SheetError_Ok(arrangement_4);
+        result.tag = 0u;
+        result.is.Ok.field_0 = arrangement_4;
+        return result;
     }
     result_19 = atlas_sheet_packing_packed_2(left, options);
     controlflow_18 = core_result_ResultTry_branch_Option_Arrangement_SheetError(result_19);
@@ -27552,12 +26792,14 @@ PART Result_Arrangement_SheetError atlas_sheet_paging_next_page(slice_Size left,
     }
     option_7 = option_21;
     if (option_7.tag == 1u /* Some */) {
-        result_22 = new_Result_Arrangement_SheetError_Ok(option_7.Some.field_0);
+        result_22.tag = 0u;
+        result_22.is.Ok.field_0 = option_7.Some.field_0;
         std_alloc_vec_Vec_drop_Size_2(arrangement_4.lying);
         std_alloc_vec_Vec_drop_tuple_u64_Size(arrangement_4.order);
         std_alloc_vec_Vec_drop_Option_Rectangle(arrangement_4.places);
     } else {
-        result_22 = new_Result_Arrangement_SheetError_Ok(arrangement_4);
+        result_22.tag = 0u;
+        result_22.is.Ok.field_0 = arrangement_4;
     }
     return result_22;
 }
@@ -27938,16 +27180,23 @@ SMALL Result_SoFar_SheetError atlas_sheet_groups_begun(slice_Size sprites, slice
         return result;
     }
     vec_21 = std_alloc_vec_Vec_new_CacheChange_u64();
-    return new_Result_SoFar_SheetError_Ok(new_atlas_sheet_SoFar(vec_21, vec_6, vec_20, kept));
+    result.tag = 0u;
+    result.is.Ok.field_0.sizes = vec_21;
+    result.is.Ok.field_0.places = vec_6;
+    result.is.Ok.field_0.left = vec_20;
+    result.is.Ok.field_0.kept = kept;
+    return result;
 }
 
 /* core/src/result.rt */
-SMALL ControlFlow_ErrResidual_SheetError_SoFar core_result_ResultTry_branch_SoFar_SheetError(Result_SoFar_SheetError self) {
+SMALL ControlFlow_ErrResidual_SheetError_SoFar core_result_ResultTry_branch_SoFar_SheetError(const Result_SoFar_SheetError self) {
     ControlFlow_ErrResidual_SheetError_SoFar controlflow_4;
     if (self.tag == 0u /* Ok */) {
-        controlflow_4 = new_ControlFlow_ErrResidual_SheetError_SoFar_Continue(self.is.Ok.field_0);
+        controlflow_4.tag = 0u;
+        controlflow_4.is.Continue.field_0 = self.is.Ok.field_0;
     } else {
-        controlflow_4 = new_ControlFlow_ErrResidual_SheetError_SoFar_Break(new_ErrResidual_SheetError(self.is.Err.field_0));
+        controlflow_4.tag = 1u;
+        controlflow_4.is.Break.field_0 = new_ErrResidual_SheetError(self.is.Err.field_0);
     }
     return controlflow_4;
 }
@@ -27956,7 +27205,7 @@ SMALL ControlFlow_ErrResidual_SheetError_SoFar core_result_ResultTry_branch_SoFa
  * crates/atlas_sheet/src/groups.rt
  */
 SMALL Result_Option_SoFar_SheetError atlas_sheet_groups_step(slice_Size sprites, slice_Option_u64 groups,
-        const atlas_sheet_SheetOptions *options, atlas_sheet_SoFar so_far) {
+        const atlas_sheet_SheetOptions *options, const atlas_sheet_SoFar so_far) {
     Result_Option_SoFar_SheetError result;
     atlas_sheet_SoFar sofar_6;
     Vec_Slot vec_7;
@@ -28003,7 +27252,9 @@ SMALL Result_Option_SoFar_SheetError atlas_sheet_groups_step(slice_Size sprites,
             std_alloc_vec_Vec_drop_Option_u64_2(vec_7);
             return result;
         }
-        result = new_Result_Option_SoFar_SheetError_Ok(new_Option_SoFar_Some(sofar_34));
+        result.tag = 0u;
+        result.is.Ok.field_0.tag = 1u;
+        result.is.Ok.field_0.Some.field_0 = sofar_34;
         std_alloc_vec_Vec_drop_Option_u64_2(vec_7);
         return result;
     }
@@ -28014,12 +27265,14 @@ SMALL Result_Option_SoFar_SheetError atlas_sheet_groups_step(slice_Size sprites,
 }
 
 /* core/src/result.rt */
-SMALL ControlFlow_ErrResidual_SheetError_Option_SoFar core_result_ResultTry_branch_Option_SoFar_SheetError(Result_Option_SoFar_SheetError self) {
+SMALL ControlFlow_ErrResidual_SheetError_Option_SoFar core_result_ResultTry_branch_Option_SoFar_SheetError(const Result_Option_SoFar_SheetError self) {
     ControlFlow_ErrResidual_SheetError_Option_SoFar controlflow_4;
     if (self.tag == 0u /* Ok */) {
-        controlflow_4 = new_ControlFlow_ErrResidual_SheetError_Option_SoFar_Continue(self.is.Ok.field_0);
+        controlflow_4.tag = 0u;
+        controlflow_4.is.Continue.field_0 = self.is.Ok.field_0;
     } else {
-        controlflow_4 = new_ControlFlow_ErrResidual_SheetError_Option_SoFar_Break(new_ErrResidual_SheetError(self.is.Err.field_0));
+        controlflow_4.tag = 1u;
+        controlflow_4.is.Break.field_0 = new_ErrResidual_SheetError(self.is.Err.field_0);
     }
     return controlflow_4;
 }
@@ -28087,7 +27340,9 @@ SMALL Result_Arrangement_SheetError atlas_sheet_sheets_first_filled(slice_Size s
     }
     arrangement_5 = arrangement_18;
     if (!options->turn) {
-        return new_Result_Arrangement_SheetError_Ok(arrangement_5);
+        result.tag = 0u;
+        result.is.Ok.field_0 = arrangement_5;
+        return result;
     }
     result_23 = atlas_sheet_sheets_filled_so(sprites, options, size_4, new_atlas_sheet_Turning_Wide());
     controlflow_22 = core_result_ResultTry_branch_Arrangement_SheetError(result_23);
@@ -28117,14 +27372,19 @@ SMALL Result_Arrangement_SheetError atlas_sheet_sheets_first_filled(slice_Size s
     }
     arrangement_30 = atlas_sheet_sheets_fuller(arrangement_8, arrangement_27);
     arrangement_28 = atlas_sheet_sheets_fuller(arrangement_5, arrangement_30);
-    return new_Result_Arrangement_SheetError_Ok(arrangement_28);
+    result.tag = 0u;
+    result.is.Ok.field_0 = arrangement_28;
+    return result;
 }
 
 /* core/src/result.rt */
 SMALL Result_Arrangement_SheetError core_result_ResultFromResidualErrResidual_from_residual_Arrangement_SheetError_SheetError(ErrResidual_SheetError residual) {
+    Result_Arrangement_SheetError result;
     atlas_sheet_SheetError sheeterror_2;
     sheeterror_2 = core_convert_AnyFrom_from_SheetError(residual.field_0);
-    return new_Result_Arrangement_SheetError_Err(sheeterror_2);
+    result.tag = 1u;
+    result.is.Err.field_0 = sheeterror_2;
+    return result;
 }
 
 /* The row that begins at this seed.
@@ -28139,7 +27399,7 @@ SMALL atlas_sheet_Random atlas_sheet_random_Random_new(uint64_t seed) {
  * crates/atlas_sheet/src/climbing.rt
  */
 PART Result_Arrangement_SheetError atlas_sheet_climbing_improve(const atlas_sheet_SheetOptions *options, atlas_sheet_Random *random,
-        uint32_t *tries, atlas_sheet_Arrangement first) {
+        uint32_t *tries, const atlas_sheet_Arrangement first) {
     Result_Arrangement_SheetError result;
     atlas_sheet_Arrangement arrangement_6;
     wide_number n_7;
@@ -28192,7 +27452,9 @@ PART Result_Arrangement_SheetError atlas_sheet_climbing_improve(const atlas_shee
             std_alloc_vec_Vec_drop_Option_Rectangle(arrangement_8.places);
         }
     }
-    return new_Result_Arrangement_SheetError_Ok(arrangement_6);
+    result.tag = 0u;
+    result.is.Ok.field_0 = arrangement_6;
+    return result;
 }
 
 /* std_alloc/src/vec/derefs.rt */
@@ -28423,7 +27685,7 @@ SMALL Result_Vec_AllocId std_alloc_vec_Vec_from_elem_Link_2(atlas_search_Link el
 }
 
 /* guillotiere_c::atlas_search++table++Table+Destruct::drop */
-SMALL void guillotiere_c_atlas_search_table_Table_Destruct_drop(atlas_search_Table given_1) {
+SMALL void guillotiere_c_atlas_search_table_Table_Destruct_drop(const atlas_search_Table given_1) {
     std_alloc_vec_Vec_drop_Link(given_1.heads);
 }
 
@@ -28571,7 +27833,7 @@ SMALL void atlas_store_slots_lists_unlist(slice_Slot_2 slots, atlas_search_Table
 /* A detached leaf gives way to what a plan says, for which there are slots. What is left free is detached.
  * crates/atlas_store/src/store.rt
  */
-PART atlas_store_Parts atlas_store_store_Store_place(atlas_store_Store *self, atlas_search_Link at, atlas_store_Plan plan) {
+SMALL atlas_store_Parts atlas_store_store_Store_place(atlas_store_Store *self, atlas_search_Link at, atlas_store_Plan plan) {
     atlas_store_Parts parts_4;
     slice_Slot_2 slice_7;
     parts_4 = atlas_store_store_Store_take_for(self, plan);
@@ -29682,11 +28944,15 @@ SMALL bool core_option_Option_is_none_Size(const Option_Size *self) {
 
 /* std_collections/src/hash_map/places.rt */
 SMALL std_collections_HashMap_u64_u32_BuildHasherDefault_FoldHasher_FoldHasher std_collections_hash_map_HashMap_with_hasher_u64_u32_BuildHasherDefault_FoldHasher_FoldHasher(BuildHasherDefault_FoldHasher hash_builder) {
+    std_collections_HashMap_u64_u32_BuildHasherDefault_FoldHasher_FoldHasher result;
     std_collections_Columns_u64_u32 columns_3;
     std_collections_IndexTable indextable_5;
     columns_3 = std_collections_columns_Columns_new_u64_u32();
     indextable_5 = std_collections_index_table_IndexTable_new();
-    return new_std_collections_HashMap_u64_u32_BuildHasherDefault_FoldHasher_FoldHasher(columns_3, indextable_5, hash_builder);
+    result.columns = columns_3;
+    result.table = indextable_5;
+    result.hash_builder = hash_builder;
+    return result;
 }
 
 /* No entries. Takes no memory.
@@ -29903,13 +29169,13 @@ SMALL void std_alloc_vec_opened_drop_run_CacheChange_u64(Slots_CacheChange_u64 *
 }
 
 /* guillotiere_c::atlas_cache++rooms++Rooms+Destruct::drop */
-SMALL void guillotiere_c_atlas_cache_rooms_Rooms_Destruct_drop(atlas_cache_Rooms given_1) {
+SMALL void guillotiere_c_atlas_cache_rooms_Rooms_Destruct_drop(const atlas_cache_Rooms given_1) {
     std_alloc_vec_Vec_drop_AtlasAllocator(given_1.pages);
     std_alloc_vec_Vec_drop_Refusals(given_1.refused);
 }
 
 /* guillotiere_c::atlas_entries++entries++Entries+Destruct::drop */
-SMALL void guillotiere_c_atlas_entries_entries_Entries_Destruct_drop_u64_BuildHasherDefault_FoldHasher_FoldHasher(atlas_entries_Entries_u64_BuildHasherDefault_FoldHasher_FoldHasher given_1) {
+SMALL void guillotiere_c_atlas_entries_entries_Entries_Destruct_drop_u64_BuildHasherDefault_FoldHasher_FoldHasher(const atlas_entries_Entries_u64_BuildHasherDefault_FoldHasher_FoldHasher given_1) {
     std_collections_hash_map_HashMap_drop_u64_u32_BuildHasherDefault_FoldHasher_FoldHasher(given_1.map);
     guillotiere_c_atlas_entries_recency_Recency_Destruct_drop(given_1.recency);
     std_alloc_vec_Vec_drop_Entry_u64(given_1.items);
@@ -30092,7 +29358,7 @@ SMALL atlas_cache_CacheChange_u64 std_alloc_vec_Vec_take_last_CacheChange_u64(Ve
 }
 
 /* core/src/mem.rt */
-SMALL void core_mem_drop_CacheChange_u64(atlas_cache_CacheChange_u64 x) {
+SMALL void core_mem_drop_CacheChange_u64(const atlas_cache_CacheChange_u64 x) {
     guillotiere_c_Destruct_none_drop_CacheChange_u64(x);
 }
 
@@ -30180,6 +29446,7 @@ SMALL Option_u32 atlas_cache_options_asked_side(uint32_t side, uint32_t padding,
  * crates/atlas_cache/src/cache/holding.rt
  */
 SMALL Result_Option_Entry_u64_CacheError atlas_cache_cache_holding_grant_u64_BuildHasherDefault_FoldHasher_FoldHasher(atlas_cache_Rooms *rooms, atlas_entries_Entries_u64_BuildHasherDefault_FoldHasher_FoldHasher *entries, uint64_t key, atlas_model_Size size, atlas_model_Size asked, uint64_t frame, uint64_t from, uint64_t to) {
+    Result_Option_Entry_u64_CacheError result;
     uint32_t n_9;
     atlas_model_Allocation allocation_10;
     atlas_entries_Entry_u64 entry_13;
@@ -30201,27 +29468,33 @@ SMALL Result_Option_Entry_u64_CacheError atlas_cache_cache_holding_grant_u64_Bui
         n_9 = option_16.Some.field_0.field_0;
         allocation_10 = option_16.Some.field_0.field_1;
     } else {
-        return new_Result_Option_Entry_u64_CacheError_Ok(new_Option_Entry_u64_None());
+        result.tag = 0u;
+        result.is.Ok.field_0 = new_Option_Entry_u64_None();
+        return result;
     }
     entry_13 = new_atlas_entries_Entry_u64(key, size, n_9, allocation_10.id, allocation_10.rectangle, 0u, frame);
     result_24 = atlas_entries_entries_Entries_push_u64_BuildHasherDefault_FoldHasher_FoldHasher(entries, entry_13);
     if (result_24.tag == 0u /* Ok */) {
-        result_27 = new_Result_Option_Entry_u64_CacheError_Ok(new_Option_Entry_u64_Some(new_atlas_entries_Entry_u64(entry_13.key,
-                entry_13.size, entry_13.page, entry_13.id, entry_13.rectangle, result_24.is.Ok.field_0, entry_13.frame)));
+        result_27.tag = 0u;
+        result_27.is.Ok.field_0 = new_Option_Entry_u64_Some(new_atlas_entries_Entry_u64(entry_13.key, entry_13.size, entry_13.page,
+                entry_13.id, entry_13.rectangle, result_24.is.Ok.field_0, entry_13.frame));
     } else {
         atlas_cache_rooms_Rooms_free(rooms, n_9, allocation_10.id);
-        result_27 = new_Result_Option_Entry_u64_CacheError_Err(result_24.is.Err.field_0);
+        result_27.tag = 1u;
+        result_27.is.Err.field_0 = result_24.is.Err.field_0;
     }
     return result_27;
 }
 
 /* core/src/result.rt */
-SMALL ControlFlow_ErrResidual_CacheError_Option_Entry_u64 core_result_ResultTry_branch_Option_Entry_u64_CacheError(Result_Option_Entry_u64_CacheError self) {
+SMALL ControlFlow_ErrResidual_CacheError_Option_Entry_u64 core_result_ResultTry_branch_Option_Entry_u64_CacheError(const Result_Option_Entry_u64_CacheError self) {
     ControlFlow_ErrResidual_CacheError_Option_Entry_u64 controlflow_4;
     if (self.tag == 0u /* Ok */) {
-        controlflow_4 = new_ControlFlow_ErrResidual_CacheError_Option_Entry_u64_Continue(self.is.Ok.field_0);
+        controlflow_4.tag = 0u;
+        controlflow_4.is.Continue.field_0 = self.is.Ok.field_0;
     } else {
-        controlflow_4 = new_ControlFlow_ErrResidual_CacheError_Option_Entry_u64_Break(new_ErrResidual_CacheError(self.is.Err.field_0));
+        controlflow_4.tag = 1u;
+        controlflow_4.is.Break.field_0 = new_ErrResidual_CacheError(self.is.Err.field_0);
     }
     return controlflow_4;
 }
@@ -30382,7 +29655,7 @@ SMALL Result_Option_u32_CacheError core_result_ResultFromResidualErrResidual_fro
 /* A push that cannot fail, since there is spare capacity.
  * std_alloc/src/vec/methods.rt
  */
-SMALL void std_alloc_vec_Vec_push_reserved_CacheChange_u64(Vec_Slot *self, atlas_cache_CacheChange_u64 value) {
+SMALL void std_alloc_vec_Vec_push_reserved_CacheChange_u64(Vec_Slot *self, const atlas_cache_CacheChange_u64 value) {
     std_alloc_vec_Vec_put_CacheChange_u64(self, value);
 }
 
@@ -30819,29 +30092,34 @@ SMALL Result_Vec_AllocId std_alloc_vec_Vec_with_capacity_AtlasAllocator(uint64_t
 }
 
 /* std_alloc/src/vec/methods.rt */
-SMALL Result_AllocFailed_AtlasAllocator std_alloc_vec_Vec_push_AtlasAllocator(Vec_Slot *self, atlas_allocator_AtlasAllocator value) {
+SMALL Result_AllocFailed_AtlasAllocator std_alloc_vec_Vec_push_AtlasAllocator(Vec_Slot *self, const atlas_allocator_AtlasAllocator value) {
+    Result_AllocFailed_AtlasAllocator result;
     bool is_3;
     is_3 = std_alloc_vec_Vec_grow_AtlasAllocator(self, 1u);
     if (!is_3) {
-        return new_Result_AllocFailed_AtlasAllocator_Err(new_AllocFailed_AtlasAllocator(value));
+        result.tag = 1u;
+        result.Err.field_0.value = value;
+        return result;
     }
     std_alloc_vec_Vec_put_AtlasAllocator(self, value);
-    return new_Result_AllocFailed_AtlasAllocator_Ok();
+    result.tag = 0u;
+    return result;
 }
 
 /* core/src/result.rt */
-SMALL ControlFlow_ErrResidual_AllocFailed_AtlasAllocator core_result_ResultTry_branch_AllocFailed_AtlasAllocator(Result_AllocFailed_AtlasAllocator self) {
+SMALL ControlFlow_ErrResidual_AllocFailed_AtlasAllocator core_result_ResultTry_branch_AllocFailed_AtlasAllocator(const Result_AllocFailed_AtlasAllocator self) {
     ControlFlow_ErrResidual_AllocFailed_AtlasAllocator controlflow_4;
     if (self.tag == 0u /* Ok */) {
-        controlflow_4 = new_ControlFlow_ErrResidual_AllocFailed_AtlasAllocator_Continue();
+        controlflow_4.tag = 0u;
     } else {
-        controlflow_4 = new_ControlFlow_ErrResidual_AllocFailed_AtlasAllocator_Break(new_ErrResidual_AllocFailed_AtlasAllocator(self.Err.field_0));
+        controlflow_4.tag = 1u;
+        controlflow_4.Break.field_0.field_0 = self.Err.field_0;
     }
     return controlflow_4;
 }
 
 /* core/src/result.rt */
-SMALL Result_Vec_AllocId core_result_ResultFromResidualErrResidual_from_residual_Vec_AtlasAllocator_AllocFailed_AtlasAllocator(ErrResidual_AllocFailed_AtlasAllocator residual) {
+SMALL Result_Vec_AllocId core_result_ResultFromResidualErrResidual_from_residual_Vec_AtlasAllocator_AllocFailed_AtlasAllocator(const ErrResidual_AllocFailed_AtlasAllocator residual) {
     std_alloc_room_AllocErrorFromAllocFailed_from_AtlasAllocator(residual.field_0);
     return new_Result_Vec_AllocId_Err();
 }
@@ -30906,8 +30184,10 @@ SMALL uint64_t std_collections_hash_map_HashMap_len_u64_u32_BuildHasherDefault_F
 
 /* core/src/result.rt */
 SMALL Result_HashMap_u64_u32_BuildHasherDefault_FoldHasher_FoldHasher core_result_ResultFromResidualErrResidual_from_residual_HashMap_u64_u32_BuildHasherDefault_FoldHasher_FoldHasher(void) {
+    Result_HashMap_u64_u32_BuildHasherDefault_FoldHasher_FoldHasher result;
     core_convert_AnyFrom_from();
-    return new_Result_HashMap_u64_u32_BuildHasherDefault_FoldHasher_FoldHasher_Err();
+    result.tag = 1u;
+    return result;
 }
 
 /* std_collections::hash_map::iters::RefHashMapIntoIterator::into_iter */
@@ -30961,8 +30241,10 @@ SMALL ControlFlow_ErrResidual_AllocFailed_tuple_u64_u32_Option_u32 core_result_R
 
 /* core/src/result.rt */
 SMALL Result_HashMap_u64_u32_BuildHasherDefault_FoldHasher_FoldHasher core_result_ResultFromResidualErrResidual_from_residual_HashMap_u64_u32_BuildHasherDefault_FoldHasher_FoldHasher_AllocFailed_tuple_u64_u32(ErrResidual_AllocFailed_tuple_u64_u32 residual) {
+    Result_HashMap_u64_u32_BuildHasherDefault_FoldHasher_FoldHasher result;
     std_alloc_room_AllocErrorFromAllocFailed_from_tuple_u64_u32(residual.field_0);
-    return new_Result_HashMap_u64_u32_BuildHasherDefault_FoldHasher_FoldHasher_Err();
+    result.tag = 1u;
+    return result;
 }
 
 /* std_alloc/src/vec/derefs.rt */
@@ -31012,7 +30294,7 @@ SMALL void std_collections_columns_Columns_drop_u64_u32_2(std_collections_Column
 }
 
 /* std_collections::index_table::IndexTable::drop */
-SMALL void std_collections_index_table_IndexTable_drop_2(std_collections_IndexTable given_1) {
+SMALL void std_collections_index_table_IndexTable_drop_2(const std_collections_IndexTable given_1) {
     std_alloc_vec_Vec_drop_Group_Later_2(given_1.groups);
     std_alloc_vec_Vec_drop_Bucket_Later_2(given_1.buckets);
 }
@@ -31391,18 +30673,24 @@ PART Result_Option_Arrangement_SheetError atlas_sheet_packing_first_whole(slice_
         } else {
             return core_result_ResultFromResidualErrResidual_from_residual_Option_Arrangement_SheetError_SheetError(controlflow_17.is.Break.field_0);
         }
-        result_16 = new_Result_Option_Arrangement_SheetError_Ok(option_21);
+        result_16.tag = 0u;
+        result_16.is.Ok.field_0 = option_21;
     } else {
-        result_16 = new_Result_Option_Arrangement_SheetError_Ok(new_Option_Arrangement_Some(option_6.Some.field_0));
+        result_16.tag = 0u;
+        result_16.is.Ok.field_0.tag = 1u;
+        result_16.is.Ok.field_0.Some.field_0 = option_6.Some.field_0;
     }
     return result_16;
 }
 
 /* core/src/result.rt */
 SMALL Result_Option_Arrangement_SheetError core_result_ResultFromResidualErrResidual_from_residual_Option_Arrangement_SheetError_SheetError(ErrResidual_SheetError residual) {
+    Result_Option_Arrangement_SheetError result;
     atlas_sheet_SheetError sheeterror_2;
     sheeterror_2 = core_convert_AnyFrom_from_SheetError(residual.field_0);
-    return new_Result_Option_Arrangement_SheetError_Err(sheeterror_2);
+    result.tag = 1u;
+    result.is.Err.field_0 = sheeterror_2;
+    return result;
 }
 
 /* atlas_sheet::sheets::fn::pack::pack_telling+FnMut::call_mut */
@@ -31413,7 +30701,7 @@ SMALL void atlas_sheet_sheets_fn_pack_pack_telling_FnMut_call_mut(void *given_1,
 
 /* atlas_sheet::packing::descend */
 SMALL Result_Arrangement_SheetError atlas_sheet_packing_descend(const atlas_sheet_SheetOptions *given_2, atlas_sheet_Random *given_3,
-        uint32_t *given_4, atlas_sheet_Arrangement given_5) {
+        uint32_t *given_4, const atlas_sheet_Arrangement given_5) {
     Result_Arrangement_SheetError result;
     atlas_sheet_Arrangement arrangement_8;
     atlas_model_Size size_9;
@@ -31485,7 +30773,8 @@ SMALL Result_Arrangement_SheetError atlas_sheet_packing_descend(const atlas_shee
         std_alloc_vec_Vec_drop_Option_Rectangle(arrangement_8.places);
         arrangement_8 = arrangement_46;
     }
-    result = new_Result_Arrangement_SheetError_Ok(arrangement_8);
+    result.tag = 0u;
+    result.is.Ok.field_0 = arrangement_8;
     atlas_sheet_Destruct_none_drop();
     return result;
 }
@@ -31525,9 +30814,12 @@ SMALL Result_Vec_Size_SheetError atlas_sheet_placed_whole(slice_Option_Placed pl
 
 /* core/src/result.rt */
 SMALL Result_Sheet_SheetError core_result_ResultFromResidualErrResidual_from_residual_Sheet_SheetError_SheetError(ErrResidual_SheetError residual) {
+    Result_Sheet_SheetError result;
     atlas_sheet_SheetError sheeterror_2;
     sheeterror_2 = core_convert_AnyFrom_from_SheetError(residual.field_0);
-    return new_Result_Sheet_SheetError_Err(sheeterror_2);
+    result.tag = 1u;
+    result.is.Err.field_0 = sheeterror_2;
+    return result;
 }
 
 /* Drops the values from `from` up to `to`, in that order.
@@ -31736,18 +31028,22 @@ SMALL Option_Size atlas_sheet_dense_next_size(const atlas_sheet_SheetOptions *op
  */
 PART Result_Option_Sheet_SheetError atlas_sheet_dense_denser_at(slice_Size sprites, const atlas_sheet_SheetOptions *options,
         slice_tuple_u64_Size order, atlas_model_Size size, const Option_Sheet *best) {
+    Result_Option_Sheet_SheetError result;
     uint64_t n_7;
     uint64_t n_8;
     Result_Option_Sheet_SheetError result_12;
     n_7 = atlas_sheet_dense_pixels_of(size);
     n_8 = atlas_sheet_dense_sprite_pixels(sprites);
     if (n_7 < n_8) {
-        return new_Result_Option_Sheet_SheetError_Ok(new_Option_Sheet_None());
+        result.tag = 0u;
+        result.is.Ok.field_0.tag = 0u;
+        return result;
     }
     if (atlas_sheet_dense_is_smaller(size, best)) {
         result_12 = atlas_sheet_dense_dense_at(sprites, options, order, size);
     } else {
-        result_12 = new_Result_Option_Sheet_SheetError_Ok(new_Option_Sheet_None());
+        result_12.tag = 0u;
+        result_12.is.Ok.field_0.tag = 0u;
     }
     return result_12;
 }
@@ -31794,11 +31090,12 @@ SMALL atlas_model_Size atlas_sheet_allowed_Allowed_nth(atlas_sheet_Allowed self,
 /* What was found, or else the best one.
  * crates/atlas_sheet/src/dense.rt
  */
-SMALL Option_Sheet atlas_sheet_dense_newer(Option_Sheet found, Option_Sheet best) {
+SMALL Option_Sheet atlas_sheet_dense_newer(const Option_Sheet found, const Option_Sheet best) {
     Option_Sheet option_4;
     atlas_sheet_Sheet sheet_6;
     if (found.tag == 1u /* Some */) {
-        option_4 = new_Option_Sheet_Some(found.Some.field_0);
+        option_4.tag = 1u;
+        option_4.Some.field_0 = found.Some.field_0;
         if (best.tag == 1u /* Some */) {
             sheet_6 = best.Some.field_0;
             std_alloc_vec_Vec_drop_Placed_2(sheet_6.places);
@@ -31969,13 +31266,16 @@ SMALL Result_Option_Arrangement_SheetError atlas_sheet_packing_packed_2(slice_Si
     if (option_8.tag == 1u /* Some */) {
         arrangement_11 = option_8.Some.field_0;
     } else {
-        result = new_Result_Option_Arrangement_SheetError_Ok(new_Option_Arrangement_None());
+        result.tag = 0u;
+        result.is.Ok.field_0.tag = 0u;
         atlas_sheet_Destruct_none_drop();
         return result;
     }
     if (given_3->effort == 0u) {
         atlas_sheet_paging_fn_next_page_packed_FnMut_call_mut((void *)&nothing, arrangement_11.size);
-        result = new_Result_Option_Arrangement_SheetError_Ok(new_Option_Arrangement_Some(arrangement_11));
+        result.tag = 0u;
+        result.is.Ok.field_0.tag = 1u;
+        result.is.Ok.field_0.Some.field_0 = arrangement_11;
         atlas_sheet_Destruct_none_drop();
         return result;
     }
@@ -31986,7 +31286,10 @@ SMALL Result_Option_Arrangement_SheetError atlas_sheet_packing_packed_2(slice_Si
     } else {
         return core_result_ResultFromResidualErrResidual_from_residual_Option_Arrangement_SheetError_SheetError(controlflow_30.is.Break.field_0);
     }
-    return new_Result_Option_Arrangement_SheetError_Ok(new_Option_Arrangement_Some(arrangement_36));
+    result.tag = 0u;
+    result.is.Ok.field_0.tag = 1u;
+    result.is.Ok.field_0.Some.field_0 = arrangement_36;
+    return result;
 }
 
 /* core::iter::slices::slice+T::iter */
@@ -32492,9 +31795,12 @@ SMALL Result_Vec_Size_SheetError atlas_sheet_groups_kept_unless_lost(slice_Size 
 
 /* core/src/result.rt */
 SMALL Result_SoFar_SheetError core_result_ResultFromResidualErrResidual_from_residual_SoFar_SheetError(void) {
+    Result_SoFar_SheetError result;
     atlas_sheet_SheetError sheeterror_2;
     sheeterror_2 = atlas_sheet_error_SheetErrorFromAllocError_from();
-    return new_Result_SoFar_SheetError_Err(sheeterror_2);
+    result.tag = 1u;
+    result.is.Err.field_0 = sheeterror_2;
+    return result;
 }
 
 /* The numbers of the sprites that have no place.
@@ -32532,9 +31838,12 @@ SMALL Result_Vec_Size_SheetError atlas_sheet_groups_waiting(slice_Option_u64 gro
 
 /* core/src/result.rt */
 SMALL Result_Option_SoFar_SheetError core_result_ResultFromResidualErrResidual_from_residual_Option_SoFar_SheetError_SheetError(ErrResidual_SheetError residual) {
+    Result_Option_SoFar_SheetError result;
     atlas_sheet_SheetError sheeterror_2;
     sheeterror_2 = core_convert_AnyFrom_from_SheetError(residual.field_0);
-    return new_Result_Option_SoFar_SheetError_Err(sheeterror_2);
+    result.tag = 1u;
+    result.is.Err.field_0 = sheeterror_2;
+    return result;
 }
 
 /* The first group of a sprite.
@@ -32563,7 +31872,7 @@ SMALL Option_u64 atlas_sheet_choosing_first_group(slice_Option_u64 groups) {
  * crates/atlas_sheet/src/groups.rt
  */
 SMALL Result_SoFar_SheetError atlas_sheet_groups_group_step(slice_Size sprites, slice_Option_u64 groups,
-        const atlas_sheet_SheetOptions *options, atlas_sheet_SoFar so_far, slice_Option_u64 numbers, uint64_t group) {
+        const atlas_sheet_SheetOptions *options, const atlas_sheet_SoFar so_far, slice_Option_u64 numbers, uint64_t group) {
     Result_SoFar_SheetError result;
     atlas_sheet_SoFar sofar_8;
     Option_OneSheet option_9;
@@ -32599,7 +31908,7 @@ SMALL Result_SoFar_SheetError atlas_sheet_groups_group_step(slice_Size sprites, 
  * crates/atlas_sheet/src/groups.rt
  */
 SMALL Result_Option_SoFar_SheetError atlas_sheet_groups_plain_step(slice_Size sprites, slice_Option_u64 groups,
-        const atlas_sheet_SheetOptions *options, atlas_sheet_SoFar so_far) {
+        const atlas_sheet_SheetOptions *options, const atlas_sheet_SoFar so_far) {
     Result_Option_SoFar_SheetError result;
     atlas_sheet_SoFar sofar_6;
     Option_OneSheet option_7;
@@ -32634,9 +31943,12 @@ SMALL Result_Option_SoFar_SheetError atlas_sheet_groups_plain_step(slice_Size sp
         } else {
             return core_result_ResultFromResidualErrResidual_from_residual_Option_SoFar_SheetError_SheetError(controlflow_21.is.Break.field_0);
         }
-        result_20 = new_Result_Option_SoFar_SheetError_Ok(new_Option_SoFar_Some(sofar_25));
+        result_20.tag = 0u;
+        result_20.is.Ok.field_0.tag = 1u;
+        result_20.is.Ok.field_0.Some.field_0 = sofar_25;
     } else {
-        result_20 = new_Result_Option_SoFar_SheetError_Ok(new_Option_SoFar_None());
+        result_20.tag = 0u;
+        result_20.is.Ok.field_0.tag = 0u;
         std_alloc_vec_Vec_drop_Size_2(sofar_6.sizes);
         std_alloc_vec_Vec_drop_Option_OnPage(sofar_6.places);
         std_alloc_vec_Vec_drop_Size_2(sofar_6.left);
@@ -32720,14 +32032,19 @@ PART Result_Arrangement_SheetError atlas_sheet_sheets_filled_so(slice_Size sprit
         return result;
     }
     filling_10 = filling_26;
-    return new_Result_Arrangement_SheetError_Ok(new_atlas_sheet_Arrangement(size, filling_10.way.choice, vec_6, filling_10.found.order,
-            filling_10.found.places));
+    result.tag = 0u;
+    result.is.Ok.field_0.size = size;
+    result.is.Ok.field_0.choice = filling_10.way.choice;
+    result.is.Ok.field_0.lying = vec_6;
+    result.is.Ok.field_0.order = filling_10.found.order;
+    result.is.Ok.field_0.places = filling_10.found.places;
+    return result;
 }
 
 /* The arrangement with more pixels of sprites; of two with as many the first.
  * crates/atlas_sheet/src/sheets.rt
  */
-SMALL atlas_sheet_Arrangement atlas_sheet_sheets_fuller(atlas_sheet_Arrangement one, atlas_sheet_Arrangement other) {
+SMALL atlas_sheet_Arrangement atlas_sheet_sheets_fuller(const atlas_sheet_Arrangement one, const atlas_sheet_Arrangement other) {
     atlas_sheet_Arrangement arrangement_3;
     atlas_sheet_Arrangement arrangement_4;
     wide_number n_5;
@@ -32800,7 +32117,8 @@ SMALL Result_Arrangement_SheetError atlas_sheet_climbing_changed(const atlas_she
         std_alloc_vec_Vec_drop_tuple_u64_Size(asking_5.order);
         return result;
     }
-    result = new_Result_Arrangement_SheetError_Ok(arrangement_32);
+    result.tag = 0u;
+    result.is.Ok.field_0 = arrangement_32;
     std_alloc_vec_Vec_drop_Size_2(asking_5.lying);
     std_alloc_vec_Vec_drop_tuple_u64_Size(asking_5.order);
     return result;
@@ -34176,6 +33494,7 @@ SMALL std_collections_Columns_u64_u32 std_collections_columns_Columns_new_u64_u3
 
 /* std_collections/src/index_table/methods.rt */
 SMALL std_collections_IndexTable std_collections_index_table_IndexTable_new(void) {
+    std_collections_IndexTable result;
     Vec_u64_Later vec_1;
     std_collections_Later later_2;
     Vec_u64_Later vec_3;
@@ -34184,7 +33503,10 @@ SMALL std_collections_IndexTable std_collections_index_table_IndexTable_new(void
     vec_1 = std_alloc_vec_Vec_new_u64_Later(later_2);
     later_4 = std_collections_later_Later_none();
     vec_3 = std_alloc_vec_Vec_new_u64_Later(later_4);
-    return new_std_collections_IndexTable(vec_1, vec_3, 0u);
+    result.groups = vec_1;
+    result.buckets = vec_3;
+    result.growth_left = 0u;
+    return result;
 }
 
 /* core/src/slots/moves.rt */
@@ -34523,7 +33845,7 @@ SMALL atlas_cache_CacheChange_u64 std_alloc_vec_Vec_read_last_CacheChange_u64(Ve
 }
 
 /* guillotiere_c::Destruct++none::drop */
-SMALL void guillotiere_c_Destruct_none_drop_CacheChange_u64(atlas_cache_CacheChange_u64 given_1) {
+SMALL void guillotiere_c_Destruct_none_drop_CacheChange_u64(const atlas_cache_CacheChange_u64 given_1) {
     (void)given_1;
 }
 
@@ -34620,9 +33942,12 @@ SMALL Result_Option_tuple_u32_Allocation_CacheError atlas_cache_rooms_Rooms_plac
 
 /* core/src/result.rt */
 SMALL Result_Option_Entry_u64_CacheError core_result_ResultFromResidualErrResidual_from_residual_Option_Entry_u64_CacheError_CacheError(ErrResidual_CacheError residual) {
+    Result_Option_Entry_u64_CacheError result;
     atlas_entries_CacheError cacheerror_2;
     cacheerror_2 = core_convert_AnyFrom_from_CacheError(residual.field_0);
-    return new_Result_Option_Entry_u64_CacheError_Err(cacheerror_2);
+    result.tag = 1u;
+    result.is.Err.field_0 = cacheerror_2;
+    return result;
 }
 
 /* The first page that isn't at its largest, and its size.
@@ -34665,6 +33990,7 @@ SMALL bool core_option_Option_is_none_tuple_u64_Size(const Option_tuple_u64_Size
  * crates/atlas_cache/src/cache/holding.rt
  */
 SMALL Option_tuple_u32_Entry_u64 atlas_cache_cache_holding_oldest_lying_u64_BuildHasherDefault_FoldHasher_FoldHasher(atlas_entries_Entries_u64_BuildHasherDefault_FoldHasher_FoldHasher *entries) {
+    Option_tuple_u32_Entry_u64 result;
     Option_u32 option_2;
     uint32_t n_3;
     atlas_entries_Entry_u64 entry_4;
@@ -34682,18 +34008,22 @@ SMALL Option_tuple_u32_Entry_u64 atlas_cache_cache_holding_oldest_lying_u64_Buil
         if (option_2.tag == 1u /* Some */) {
             n_3 = option_2.Some.field_0;
         } else {
-            return new_Option_tuple_u32_Entry_u64_None();
+            result.tag = 0u;
+            return result;
         }
         entry_4 = atlas_entries_entries_Entries_entry_u64_BuildHasherDefault_FoldHasher_FoldHasher(entries, n_3);
         is_21 = atlas_entries_entries_Entry_is_blank_u64(&entry_4);
         if (!is_21) {
-            return new_Option_tuple_u32_Entry_u64_Some(new_tuple_u32_Entry_u64(n_3, entry_4));
+            result.tag = 1u;
+            result.Some.field_0 = new_tuple_u32_Entry_u64(n_3, entry_4);
+            return result;
         }
         atlas_entries_entries_Entries_pass_u64_BuildHasherDefault_FoldHasher_FoldHasher(entries, n_3);
         option_2 = atlas_entries_entries_Entries_newer_u64_BuildHasherDefault_FoldHasher_FoldHasher(entries, n_3);
         n_8 = n_8 + 1u;
     }
-    return new_Option_tuple_u32_Entry_u64_None();
+    result.tag = 0u;
+    return result;
 }
 
 /* The same, with nothing shown before. An error is a refusal of memory for marks of slots.
@@ -34809,7 +34139,7 @@ after_1:;
 /* Appends x. There is spare capacity.
  * std_alloc/src/vec/methods.rt
  */
-SMALL void std_alloc_vec_Vec_put_CacheChange_u64(Vec_Slot *self, atlas_cache_CacheChange_u64 x) {
+SMALL void std_alloc_vec_Vec_put_CacheChange_u64(Vec_Slot *self, const atlas_cache_CacheChange_u64 x) {
     uint64_t n_3;
     n_3 = self->len;
     *((atlas_cache_CacheChange_u64 *)self->ptr + n_3) = x;
@@ -34834,7 +34164,7 @@ SMALL Result_Option_tuple_u32_Size_CacheError core_result_ResultFromResidualErrR
 }
 
 /* core/src/result.rt */
-SMALL Result_Option_tuple_u32_Size_CacheError core_result_ResultFromResidualErrResidual_from_residual_Option_tuple_u32_Size_AllocFailed_AtlasAllocator_CacheError(ErrResidual_AllocFailed_AtlasAllocator residual) {
+SMALL Result_Option_tuple_u32_Size_CacheError core_result_ResultFromResidualErrResidual_from_residual_Option_tuple_u32_Size_AllocFailed_AtlasAllocator_CacheError(const ErrResidual_AllocFailed_AtlasAllocator residual) {
     atlas_entries_CacheError cacheerror_2;
     cacheerror_2 = atlas_entries_error_CacheErrorFromAllocFailed_from_AtlasAllocator(residual.field_0);
     return new_Result_Option_tuple_u32_Size_CacheError_Err(cacheerror_2);
@@ -35153,7 +34483,7 @@ SMALL bool std_alloc_vec_Vec_grow_AtlasAllocator(Vec_Slot *self, uint64_t additi
 /* Appends x. There is spare capacity.
  * std_alloc/src/vec/methods.rt
  */
-SMALL void std_alloc_vec_Vec_put_AtlasAllocator(Vec_Slot *self, atlas_allocator_AtlasAllocator x) {
+SMALL void std_alloc_vec_Vec_put_AtlasAllocator(Vec_Slot *self, const atlas_allocator_AtlasAllocator x) {
     uint64_t n_3;
     n_3 = self->len;
     *((atlas_allocator_AtlasAllocator *)self->ptr + n_3) = x;
@@ -35161,7 +34491,7 @@ SMALL void std_alloc_vec_Vec_put_AtlasAllocator(Vec_Slot *self, atlas_allocator_
 }
 
 /* std_alloc::room::AllocErrorFromAllocFailed::from */
-SMALL void std_alloc_room_AllocErrorFromAllocFailed_from_AtlasAllocator(AllocFailed_AtlasAllocator given_1) {
+SMALL void std_alloc_room_AllocErrorFromAllocFailed_from_AtlasAllocator(const AllocFailed_AtlasAllocator given_1) {
     atlas_cache_atlas_allocator_atlas_AtlasAllocator_Destruct_drop(given_1.value);
 }
 
@@ -35685,7 +35015,9 @@ SMALL Result_Option_Arrangement_SheetError atlas_sheet_packing_first_found(slice
     }
     option_4 = option_16;
     if (!options->turn) {
-        return new_Result_Option_Arrangement_SheetError_Ok(option_4);
+        result.tag = 0u;
+        result.is.Ok.field_0 = option_4;
+        return result;
     }
     result_21 = atlas_sheet_packing_first_so(sprites, options, new_atlas_sheet_Turning_Wide());
     controlflow_20 = core_result_ResultTry_branch_Option_Arrangement_SheetError(result_21);
@@ -35724,7 +35056,9 @@ SMALL Result_Option_Arrangement_SheetError atlas_sheet_packing_first_found(slice
     }
     option_28 = atlas_sheet_packing_smaller_of(option_7, option_25);
     option_26 = atlas_sheet_packing_smaller_of(option_4, option_28);
-    return new_Result_Option_Arrangement_SheetError_Ok(option_26);
+    result.tag = 0u;
+    result.is.Ok.field_0 = option_26;
+    return result;
 }
 
 /* Sprites that none of the ways packs, in the greatest sheet by the first way, and the changes of its order.
@@ -35756,7 +35090,9 @@ SMALL Result_Option_Arrangement_SheetError atlas_sheet_packing_squeeze(slice_Siz
     atlas_sheet_Arrangement arrangement_84;
     bool is_107;
     if (*tries == 0u) {
-        return new_Result_Option_Arrangement_SheetError_Ok(new_Option_Arrangement_None());
+        result.tag = 0u;
+        result.is.Ok.field_0.tag = 0u;
+        return result;
     }
     size_6 = atlas_sheet_search_greatest_sheet(options->allowed);
     array_24 = new_array_Way_10(new_atlas_sheet_Way(new_atlas_sheet_Key_Area(), new_atlas_sheet_Choice_Roomiest()),
@@ -35814,7 +35150,8 @@ SMALL Result_Option_Arrangement_SheetError atlas_sheet_packing_squeeze(slice_Siz
     arrangement_17 = arrangement_84;
     is_107 = atlas_sheet_climbing_is_whole(&arrangement_17);
     if (!is_107) {
-        result = new_Result_Option_Arrangement_SheetError_Ok(new_Option_Arrangement_None());
+        result.tag = 0u;
+        result.is.Ok.field_0.tag = 0u;
         std_alloc_vec_Vec_drop_Size_2(arrangement_17.lying);
         std_alloc_vec_Vec_drop_tuple_u64_Size(arrangement_17.order);
         std_alloc_vec_Vec_drop_Option_Rectangle(arrangement_17.places);
@@ -35822,7 +35159,9 @@ SMALL Result_Option_Arrangement_SheetError atlas_sheet_packing_squeeze(slice_Siz
         std_alloc_vec_Vec_drop_Size_2(vec_8);
         return result;
     }
-    result = new_Result_Option_Arrangement_SheetError_Ok(new_Option_Arrangement_Some(arrangement_17));
+    result.tag = 0u;
+    result.is.Ok.field_0.tag = 1u;
+    result.is.Ok.field_0.Some.field_0 = arrangement_17;
     std_alloc_vec_Vec_drop_tuple_u64_Size(vec_11);
     std_alloc_vec_Vec_drop_Size_2(vec_8);
     return result;
@@ -35900,7 +35239,13 @@ PART Result_Arrangement_SheetError atlas_sheet_climbing_asked_in(const atlas_she
         std_alloc_vec_Vec_drop_Option_Rectangle(vec_7);
         return result;
     }
-    return new_Result_Arrangement_SheetError_Ok(new_atlas_sheet_Arrangement(size, choice, vec_10, vec_25, vec_7));
+    result.tag = 0u;
+    result.is.Ok.field_0.size = size;
+    result.is.Ok.field_0.choice = choice;
+    result.is.Ok.field_0.lying = vec_10;
+    result.is.Ok.field_0.order = vec_25;
+    result.is.Ok.field_0.places = vec_7;
+    return result;
 }
 
 /* std_alloc/src/vec/methods.rt */
@@ -36099,7 +35444,8 @@ SMALL Result_Option_Sheet_SheetError atlas_sheet_dense_dense_at(slice_Size sprit
     }
     option_12 = option_15;
     if (option_12.tag == 0u /* None */) {
-        result_16 = new_Result_Option_Sheet_SheetError_Ok(new_Option_Sheet_None());
+        result_16.tag = 0u;
+        result_16.is.Ok.field_0.tag = 0u;
     } else {
         vec_8 = option_12.Some.field_0;
         slice_20 = std_alloc_vec_derefs_VecDerefSlice_deref_Option_Placed(&vec_8);
@@ -36112,7 +35458,9 @@ SMALL Result_Option_Sheet_SheetError atlas_sheet_dense_dense_at(slice_Size sprit
             std_alloc_vec_Vec_drop_Option_Placed_2(vec_8);
             return result;
         }
-        result_16 = new_Result_Option_Sheet_SheetError_Ok(new_Option_Sheet_Some(sheet_23));
+        result_16.tag = 0u;
+        result_16.is.Ok.field_0.tag = 1u;
+        result_16.is.Ok.field_0.Some.field_0 = sheet_23;
         std_alloc_vec_Vec_drop_Option_Placed_2(vec_8);
     }
     return result_16;
@@ -36238,7 +35586,7 @@ SMALL void atlas_sheet_paging_fn_next_page_packed_FnMut_call_mut(void *given_1, 
 
 /* atlas_sheet::packing::descend */
 SMALL Result_Arrangement_SheetError atlas_sheet_packing_descend_2(const atlas_sheet_SheetOptions *given_2, atlas_sheet_Random *given_3,
-        uint32_t *given_4, atlas_sheet_Arrangement given_5) {
+        uint32_t *given_4, const atlas_sheet_Arrangement given_5) {
     Result_Arrangement_SheetError result;
     atlas_sheet_Arrangement arrangement_8;
     atlas_model_Size size_9;
@@ -36310,7 +35658,8 @@ SMALL Result_Arrangement_SheetError atlas_sheet_packing_descend_2(const atlas_sh
         std_alloc_vec_Vec_drop_Option_Rectangle(arrangement_8.places);
         arrangement_8 = arrangement_46;
     }
-    result = new_Result_Arrangement_SheetError_Ok(arrangement_8);
+    result.tag = 0u;
+    result.is.Ok.field_0 = arrangement_8;
     atlas_sheet_Destruct_none_drop();
     return result;
 }
@@ -36755,10 +36104,14 @@ PART Result_Option_Chosen_SheetError atlas_sheet_choosing_opened(slice_Size spri
     }
     option_12 = option_30;
     if (option_12.tag == 1u /* Some */) {
-        result_31 = new_Result_Option_Chosen_SheetError_Ok(new_Option_Chosen_Some(new_atlas_sheet_Chosen(vec_6, option_12.Some.field_0)));
+        result_31.tag = 0u;
+        result_31.is.Ok.field_0.tag = 1u;
+        result_31.is.Ok.field_0.Some.field_0.row = vec_6;
+        result_31.is.Ok.field_0.Some.field_0.page = option_12.Some.field_0;
         std_alloc_vec_Vec_drop_Size_2(vec_9);
     } else {
-        result_31 = new_Result_Option_Chosen_SheetError_Ok(new_Option_Chosen_None());
+        result_31.tag = 0u;
+        result_31.is.Ok.field_0.tag = 0u;
         std_alloc_vec_Vec_drop_Size_2(vec_9);
         std_alloc_vec_Vec_drop_bool(vec_6);
     }
@@ -36766,12 +36119,14 @@ PART Result_Option_Chosen_SheetError atlas_sheet_choosing_opened(slice_Size spri
 }
 
 /* core/src/result.rt */
-SMALL ControlFlow_ErrResidual_SheetError_Option_Chosen core_result_ResultTry_branch_Option_Chosen_SheetError(Result_Option_Chosen_SheetError self) {
+SMALL ControlFlow_ErrResidual_SheetError_Option_Chosen core_result_ResultTry_branch_Option_Chosen_SheetError(const Result_Option_Chosen_SheetError self) {
     ControlFlow_ErrResidual_SheetError_Option_Chosen controlflow_4;
     if (self.tag == 0u /* Ok */) {
-        controlflow_4 = new_ControlFlow_ErrResidual_SheetError_Option_Chosen_Continue(self.is.Ok.field_0);
+        controlflow_4.tag = 0u;
+        controlflow_4.is.Continue.field_0 = self.is.Ok.field_0;
     } else {
-        controlflow_4 = new_ControlFlow_ErrResidual_SheetError_Option_Chosen_Break(new_ErrResidual_SheetError(self.is.Err.field_0));
+        controlflow_4.tag = 1u;
+        controlflow_4.is.Break.field_0 = new_ErrResidual_SheetError(self.is.Err.field_0);
     }
     return controlflow_4;
 }
@@ -36892,16 +36247,20 @@ SMALL ControlFlow_ErrResidual_SheetError_Option_OneSheet core_result_ResultTry_b
 
 /* core/src/result.rt */
 SMALL Result_SoFar_SheetError core_result_ResultFromResidualErrResidual_from_residual_SoFar_SheetError_SheetError(ErrResidual_SheetError residual) {
+    Result_SoFar_SheetError result;
     atlas_sheet_SheetError sheeterror_2;
     sheeterror_2 = core_convert_AnyFrom_from_SheetError(residual.field_0);
-    return new_Result_SoFar_SheetError_Err(sheeterror_2);
+    result.tag = 1u;
+    result.is.Err.field_0 = sheeterror_2;
+    return result;
 }
 
 /* After a sheet on which a group lies whole or not at all.
  * crates/atlas_sheet/src/groups.rt
  */
 PART Result_SoFar_SheetError atlas_sheet_groups_after_sheet(slice_Size sprites, slice_Option_u64 groups,
-        const atlas_sheet_SheetOptions *options, atlas_sheet_SoFar so_far, atlas_sheet_OneSheet sheet) {
+        const atlas_sheet_SheetOptions *options, const atlas_sheet_SoFar so_far, atlas_sheet_OneSheet sheet) {
+    Result_SoFar_SheetError result;
     ControlFlow_ErrResidual_SheetError_SoFar controlflow_10;
     Result_SoFar_SheetError result_11;
     atlas_sheet_SoFar sofar_14;
@@ -36914,14 +36273,16 @@ PART Result_SoFar_SheetError atlas_sheet_groups_after_sheet(slice_Size sprites, 
     } else {
         return core_result_ResultFromResidualErrResidual_from_residual_SoFar_SheetError_SheetError(controlflow_10.is.Break.field_0);
     }
-    return new_Result_SoFar_SheetError_Ok(sofar_14);
+    result.tag = 0u;
+    result.is.Ok.field_0 = sofar_14;
+    return result;
 }
 
 /* A group that was kept and that no way packs is given up, and the sheets begin anew.
  * crates/atlas_sheet/src/groups.rt
  */
 SMALL Result_SoFar_SheetError atlas_sheet_groups_after_group(slice_Size sprites, slice_Option_u64 groups,
-        const atlas_sheet_SheetOptions *options, atlas_sheet_SoFar so_far, uint64_t group) {
+        const atlas_sheet_SheetOptions *options, const atlas_sheet_SoFar so_far, uint64_t group) {
     Result_SoFar_SheetError result;
     atlas_sheet_SoFar sofar_7;
     ControlFlow_ErrResidual_SheetError_Vec_Size controlflow_14;
@@ -36957,7 +36318,8 @@ SMALL Result_SoFar_SheetError atlas_sheet_groups_after_group(slice_Size sprites,
         std_alloc_vec_Vec_drop_Option_u64_2(sofar_7.kept);
         return result;
     }
-    result = new_Result_SoFar_SheetError_Ok(sofar_23);
+    result.tag = 0u;
+    result.is.Ok.field_0 = sofar_23;
     std_alloc_vec_Vec_drop_Size_2(sofar_7.sizes);
     std_alloc_vec_Vec_drop_Option_OnPage(sofar_7.places);
     std_alloc_vec_Vec_drop_Size_2(sofar_7.left);
@@ -37185,16 +36547,22 @@ SMALL Result_Filling_SheetError atlas_sheet_filling_fill_by(slice_Size sprites, 
         }
         n_9 = n_9 + 1u;
     }
-    return new_Result_Filling_SheetError_Ok(new_atlas_sheet_Filling(way_7, found_6, n_8));
+    result.tag = 0u;
+    result.is.Ok.field_0.way = way_7;
+    result.is.Ok.field_0.found = found_6;
+    result.is.Ok.field_0.used_area = n_8;
+    return result;
 }
 
 /* core/src/result.rt */
-SMALL ControlFlow_ErrResidual_SheetError_Filling core_result_ResultTry_branch_Filling_SheetError(Result_Filling_SheetError self) {
+SMALL ControlFlow_ErrResidual_SheetError_Filling core_result_ResultTry_branch_Filling_SheetError(const Result_Filling_SheetError self) {
     ControlFlow_ErrResidual_SheetError_Filling controlflow_4;
     if (self.tag == 0u /* Ok */) {
-        controlflow_4 = new_ControlFlow_ErrResidual_SheetError_Filling_Continue(self.is.Ok.field_0);
+        controlflow_4.tag = 0u;
+        controlflow_4.is.Continue.field_0 = self.is.Ok.field_0;
     } else {
-        controlflow_4 = new_ControlFlow_ErrResidual_SheetError_Filling_Break(new_ErrResidual_SheetError(self.is.Err.field_0));
+        controlflow_4.tag = 1u;
+        controlflow_4.is.Break.field_0 = new_ErrResidual_SheetError(self.is.Err.field_0);
     }
     return controlflow_4;
 }
@@ -39005,7 +38373,7 @@ SMALL uint32_t atlas_cache_rooms_doubled(uint32_t side, uint32_t most) {
 /* `Memory`, whatever was asked for.
  * crates/atlas_entries/src/error.rt
  */
-SMALL atlas_entries_CacheError atlas_entries_error_CacheErrorFromAllocFailed_from_AtlasAllocator(AllocFailed_AtlasAllocator _error) {
+SMALL atlas_entries_CacheError atlas_entries_error_CacheErrorFromAllocFailed_from_AtlasAllocator(const AllocFailed_AtlasAllocator _error) {
     atlas_entries_CacheError result;
     result = new_atlas_entries_CacheError_Memory();
     atlas_cache_atlas_allocator_atlas_AtlasAllocator_Destruct_drop(_error.value);
@@ -39348,7 +38716,7 @@ SMALL bool std_alloc_vec_Vec_grow_amortized_AtlasAllocator(Vec_Slot *self, uint6
 }
 
 /* atlas_cache::atlas_allocator++atlas++AtlasAllocator+Destruct::drop */
-SMALL void atlas_cache_atlas_allocator_atlas_AtlasAllocator_Destruct_drop(atlas_allocator_AtlasAllocator given_1) {
+SMALL void atlas_cache_atlas_allocator_atlas_AtlasAllocator_Destruct_drop(const atlas_allocator_AtlasAllocator given_1) {
     atlas_cache_atlas_store_store_Store_Destruct_drop(given_1.store);
 }
 
@@ -40053,7 +39421,8 @@ PART Result_Option_Arrangement_SheetError atlas_sheet_packing_first_so(slice_Siz
     }
     option_11 = option_40;
     if (option_11.tag == 0u /* None */) {
-        result_41 = new_Result_Option_Arrangement_SheetError_Ok(new_Option_Arrangement_None());
+        result_41.tag = 0u;
+        result_41.is.Ok.field_0.tag = 0u;
         std_alloc_vec_Vec_drop_Trial(vec_8);
         std_alloc_vec_Vec_drop_Size_2(vec_5);
     } else {
@@ -40066,7 +39435,9 @@ PART Result_Option_Arrangement_SheetError atlas_sheet_packing_first_so(slice_Siz
             std_alloc_vec_Vec_drop_Trial(vec_8);
             return result;
         }
-        result_41 = new_Result_Option_Arrangement_SheetError_Ok(new_Option_Arrangement_Some(arrangement_47));
+        result_41.tag = 0u;
+        result_41.is.Ok.field_0.tag = 1u;
+        result_41.is.Ok.field_0.Some.field_0 = arrangement_47;
         std_alloc_vec_Vec_drop_Trial(vec_8);
     }
     return result_41;
@@ -40075,7 +39446,8 @@ PART Result_Option_Arrangement_SheetError atlas_sheet_packing_first_so(slice_Siz
 /* The arrangement in the smaller sheet, if there is one; of two with as many pixels the first.
  * crates/atlas_sheet/src/packing.rt
  */
-SMALL Option_Arrangement atlas_sheet_packing_smaller_of(Option_Arrangement one, Option_Arrangement other) {
+SMALL Option_Arrangement atlas_sheet_packing_smaller_of(const Option_Arrangement one, const Option_Arrangement other) {
+    Option_Arrangement result;
     atlas_sheet_Arrangement arrangement_3;
     atlas_sheet_Arrangement arrangement_4;
     uint64_t n_6;
@@ -40089,17 +39461,21 @@ SMALL Option_Arrangement atlas_sheet_packing_smaller_of(Option_Arrangement one, 
     if (other.tag == 1u /* Some */) {
         arrangement_4 = other.Some.field_0;
     } else {
-        return new_Option_Arrangement_Some(arrangement_3);
+        result.tag = 1u;
+        result.Some.field_0 = arrangement_3;
+        return result;
     }
     n_6 = atlas_sheet_packing_pixels(arrangement_4.size);
     n_8 = atlas_sheet_packing_pixels(arrangement_3.size);
     if (n_6 < n_8) {
-        option_11 = new_Option_Arrangement_Some(arrangement_4);
+        option_11.tag = 1u;
+        option_11.Some.field_0 = arrangement_4;
         std_alloc_vec_Vec_drop_Size_2(arrangement_3.lying);
         std_alloc_vec_Vec_drop_tuple_u64_Size(arrangement_3.order);
         std_alloc_vec_Vec_drop_Option_Rectangle(arrangement_3.places);
     } else {
-        option_11 = new_Option_Arrangement_Some(arrangement_3);
+        option_11.tag = 1u;
+        option_11.Some.field_0 = arrangement_3;
         std_alloc_vec_Vec_drop_Size_2(arrangement_4.lying);
         std_alloc_vec_Vec_drop_tuple_u64_Size(arrangement_4.order);
         std_alloc_vec_Vec_drop_Option_Rectangle(arrangement_4.places);
@@ -40249,9 +39625,12 @@ PART Result_Vec_Size_SheetError atlas_sheet_places_find_places(slice_Size sprite
 
 /* core/src/result.rt */
 SMALL Result_Arrangement_SheetError core_result_ResultFromResidualErrResidual_from_residual_Arrangement_SheetError(void) {
+    Result_Arrangement_SheetError result;
     atlas_sheet_SheetError sheeterror_2;
     sheeterror_2 = atlas_sheet_error_SheetErrorFromAllocError_from();
-    return new_Result_Arrangement_SheetError_Err(sheeterror_2);
+    result.tag = 1u;
+    result.is.Err.field_0 = sheeterror_2;
+    return result;
 }
 
 /* Rust's `to_vec`, where the elements are `Copy`. A stand-in for specialization, beside `from_clones`.
@@ -40626,7 +40005,11 @@ SMALL Result_Sheet_SheetError atlas_sheet_dense_sheet_of(slice_Size sprites, con
     }
     slice_26 = std_alloc_vec_derefs_VecDerefSlice_deref_Option_Rectangle(&vec_7);
     n_16 = atlas_sheet_filling_used_area(slice_26);
-    result = new_Result_Sheet_SheetError_Ok(new_atlas_sheet_Sheet(size, vec_10, n_16, vec_25));
+    result.tag = 0u;
+    result.is.Ok.field_0.size = size;
+    result.is.Ok.field_0.places = vec_10;
+    result.is.Ok.field_0.used_area = n_16;
+    result.is.Ok.field_0.order = vec_25;
     std_alloc_vec_Vec_drop_Option_Rectangle(vec_7);
     return result;
 }
@@ -41201,9 +40584,12 @@ SMALL Result_Vec_Size_SheetError atlas_sheet_picking_row_of(uint64_t group, slic
 
 /* core/src/result.rt */
 SMALL Result_Option_Chosen_SheetError core_result_ResultFromResidualErrResidual_from_residual_Option_Chosen_SheetError_SheetError(ErrResidual_SheetError residual) {
+    Result_Option_Chosen_SheetError result;
     atlas_sheet_SheetError sheeterror_2;
     sheeterror_2 = core_convert_AnyFrom_from_SheetError(residual.field_0);
-    return new_Result_Option_Chosen_SheetError_Err(sheeterror_2);
+    result.tag = 1u;
+    result.is.Err.field_0 = sheeterror_2;
+    return result;
 }
 
 /* std_alloc/src/vec/derefs.rt */
@@ -41249,6 +40635,7 @@ PART Result_Vec_Size_SheetError atlas_sheet_picking_picked(slice_bool_2 row, sli
  */
 SMALL Result_Option_Arrangement_SheetError atlas_sheet_choosing_plainly_packed(slice_Size sprites,
         const atlas_sheet_SheetOptions *options) {
+    Result_Option_Arrangement_SheetError result;
     atlas_sheet_SheetOptions sheetoptions_4;
     ControlFlow_ErrResidual_SheetError_Option_Arrangement controlflow_13;
     Result_Option_Arrangement_SheetError result_14;
@@ -41261,7 +40648,9 @@ SMALL Result_Option_Arrangement_SheetError atlas_sheet_choosing_plainly_packed(s
     } else {
         return core_result_ResultFromResidualErrResidual_from_residual_Option_Arrangement_SheetError_SheetError(controlflow_13.is.Break.field_0);
     }
-    return new_Result_Option_Arrangement_SheetError_Ok(option_17);
+    result.tag = 0u;
+    result.is.Ok.field_0 = option_17;
+    return result;
 }
 
 /* core::iter::slices::slice+T::iter */
@@ -41291,7 +40680,7 @@ SMALL Result_Option_OneSheet_SheetError core_result_ResultFromResidualErrResidua
  * crates/atlas_sheet/src/choosing.rt
  */
 SMALL Result_Chosen_SheetError atlas_sheet_choosing_with_groups(slice_Size sprites, slice_Option_u64 groups,
-        const atlas_sheet_SheetOptions *options, atlas_sheet_Chosen first) {
+        const atlas_sheet_SheetOptions *options, const atlas_sheet_Chosen first) {
     Result_Chosen_SheetError result;
     atlas_sheet_Chosen chosen_6;
     Vec_Slot vec_7;
@@ -41453,7 +40842,8 @@ SMALL Result_Chosen_SheetError atlas_sheet_choosing_with_groups(slice_Size sprit
         }
         n_20 = n_20 + 1u;
     }
-    result = new_Result_Chosen_SheetError_Ok(chosen_19);
+    result.tag = 0u;
+    result.is.Ok.field_0 = chosen_19;
     std_alloc_vec_Vec_drop_bool(vec_13);
     std_alloc_vec_Vec_drop_u64_2(vec_10);
     std_alloc_vec_Vec_drop_Option_u64_2(vec_7);
@@ -41461,12 +40851,14 @@ SMALL Result_Chosen_SheetError atlas_sheet_choosing_with_groups(slice_Size sprit
 }
 
 /* core/src/result.rt */
-SMALL ControlFlow_ErrResidual_SheetError_Chosen core_result_ResultTry_branch_Chosen_SheetError(Result_Chosen_SheetError self) {
+SMALL ControlFlow_ErrResidual_SheetError_Chosen core_result_ResultTry_branch_Chosen_SheetError(const Result_Chosen_SheetError self) {
     ControlFlow_ErrResidual_SheetError_Chosen controlflow_4;
     if (self.tag == 0u /* Ok */) {
-        controlflow_4 = new_ControlFlow_ErrResidual_SheetError_Chosen_Continue(self.is.Ok.field_0);
+        controlflow_4.tag = 0u;
+        controlflow_4.is.Continue.field_0 = self.is.Ok.field_0;
     } else {
-        controlflow_4 = new_ControlFlow_ErrResidual_SheetError_Chosen_Break(new_ErrResidual_SheetError(self.is.Err.field_0));
+        controlflow_4.tag = 1u;
+        controlflow_4.is.Break.field_0 = new_ErrResidual_SheetError(self.is.Err.field_0);
     }
     return controlflow_4;
 }
@@ -41475,7 +40867,7 @@ SMALL ControlFlow_ErrResidual_SheetError_Chosen core_result_ResultTry_branch_Cho
  * crates/atlas_sheet/src/choosing.rt
  */
 SMALL Result_Chosen_SheetError atlas_sheet_choosing_with_singles(slice_Size sprites, slice_Option_u64 groups,
-        const atlas_sheet_SheetOptions *options, atlas_sheet_Chosen first) {
+        const atlas_sheet_SheetOptions *options, const atlas_sheet_Chosen first) {
     Result_Chosen_SheetError result;
     atlas_sheet_Chosen chosen_6;
     Vec_Slot vec_7;
@@ -41567,7 +40959,8 @@ SMALL Result_Chosen_SheetError atlas_sheet_choosing_with_singles(slice_Size spri
             n_12 = n_13;
         }
     }
-    result = new_Result_Chosen_SheetError_Ok(chosen_10);
+    result.tag = 0u;
+    result.is.Ok.field_0 = chosen_10;
     std_alloc_vec_Vec_drop_bool(vec_7);
     return result;
 }
@@ -41576,7 +40969,7 @@ SMALL Result_Chosen_SheetError atlas_sheet_choosing_with_singles(slice_Size spri
  * crates/atlas_sheet/src/choosing.rt
  */
 SMALL Result_OneSheet_SheetError atlas_sheet_choosing_sheet_of_chosen(slice_Size sprites, slice_Option_u64 groups,
-        const atlas_sheet_SheetOptions *options, atlas_sheet_Chosen chosen) {
+        const atlas_sheet_SheetOptions *options, const atlas_sheet_Chosen chosen) {
     Result_OneSheet_SheetError result;
     atlas_sheet_Chosen chosen_6;
     Vec_Slot vec_7;
@@ -41660,7 +41053,8 @@ SMALL ControlFlow_ErrResidual_SheetError_OneSheet core_result_ResultTry_branch_O
 /* One sheet more.
  * crates/atlas_sheet/src/groups.rt
  */
-SMALL Result_SoFar_SheetError atlas_sheet_groups_with_sheet(slice_Size sprites, atlas_sheet_SoFar so_far, atlas_sheet_OneSheet sheet) {
+SMALL Result_SoFar_SheetError atlas_sheet_groups_with_sheet(slice_Size sprites, const atlas_sheet_SoFar so_far,
+        atlas_sheet_OneSheet sheet) {
     Result_SoFar_SheetError result;
     atlas_sheet_SoFar sofar_5;
     atlas_sheet_OneSheet onesheet_6;
@@ -41728,7 +41122,11 @@ SMALL Result_SoFar_SheetError atlas_sheet_groups_with_sheet(slice_Size sprites, 
         std_alloc_vec_Vec_drop_Option_u64_2(sofar_5.kept);
         return result;
     }
-    result = new_Result_SoFar_SheetError_Ok(new_atlas_sheet_SoFar(vec_13, vec_7, vec_10, sofar_5.kept));
+    result.tag = 0u;
+    result.is.Ok.field_0.sizes = vec_13;
+    result.is.Ok.field_0.places = vec_7;
+    result.is.Ok.field_0.left = vec_10;
+    result.is.Ok.field_0.kept = sofar_5.kept;
     std_alloc_vec_Vec_drop_Option_Placed_2(onesheet_6.places);
     std_alloc_vec_Vec_drop_Option_OnPage(sofar_5.places);
     std_alloc_vec_Vec_drop_Size_2(sofar_5.left);
@@ -41857,9 +41255,12 @@ SMALL ControlFlow_ErrResidual_SheetError_Found core_result_ResultTry_branch_Foun
 
 /* core/src/result.rt */
 SMALL Result_Filling_SheetError core_result_ResultFromResidualErrResidual_from_residual_Filling_SheetError_SheetError(ErrResidual_SheetError residual) {
+    Result_Filling_SheetError result;
     atlas_sheet_SheetError sheeterror_2;
     sheeterror_2 = core_convert_AnyFrom_from_SheetError(residual.field_0);
-    return new_Result_Filling_SheetError_Err(sheeterror_2);
+    result.tag = 1u;
+    result.is.Err.field_0 = sheeterror_2;
+    return result;
 }
 
 /* core/src/result.rt */
@@ -43573,7 +42974,7 @@ SMALL uint64_t std_alloc_vec_least_capacity_AtlasAllocator(void) {
 }
 
 /* atlas_cache::atlas_store++store++Store+Destruct::drop */
-SMALL void atlas_cache_atlas_store_store_Store_Destruct_drop(atlas_store_Store given_1) {
+SMALL void atlas_cache_atlas_store_store_Store_Destruct_drop(const atlas_store_Store given_1) {
     std_alloc_vec_Vec_drop_Slot_5(given_1.slots);
     atlas_cache_atlas_search_table_Table_Destruct_drop(given_1.lists);
 }
@@ -43813,7 +43214,7 @@ SMALL void std_alloc_vec_Vec_truncate_within_Entry_u64_3(Vec_Slot *self, uint64_
 }
 
 /* core/src/mem.rt */
-SMALL void core_mem_drop_AtlasAllocator_2(atlas_allocator_AtlasAllocator x) {
+SMALL void core_mem_drop_AtlasAllocator_2(const atlas_allocator_AtlasAllocator x) {
     atlas_cache_atlas_allocator_atlas_AtlasAllocator_Destruct_drop(x);
 }
 
@@ -43823,7 +43224,7 @@ SMALL void core_mem_drop_Refusals_2(atlas_cache_Refusals x) {
 }
 
 /* core/src/mem.rt */
-SMALL void core_mem_drop_CacheChange_u64_2(atlas_cache_CacheChange_u64 x) {
+SMALL void core_mem_drop_CacheChange_u64_2(const atlas_cache_CacheChange_u64 x) {
     std_alloc_Destruct_none_drop_CacheChange_u64(x);
 }
 
@@ -44201,12 +43602,14 @@ SMALL Result_Option_Packing_SheetError atlas_sheet_search_smallest(slice_Size sp
 }
 
 /* core/src/result.rt */
-SMALL ControlFlow_ErrResidual_SheetError_Option_Packing core_result_ResultTry_branch_Option_Packing_SheetError(Result_Option_Packing_SheetError self) {
+SMALL ControlFlow_ErrResidual_SheetError_Option_Packing core_result_ResultTry_branch_Option_Packing_SheetError(const Result_Option_Packing_SheetError self) {
     ControlFlow_ErrResidual_SheetError_Option_Packing controlflow_4;
     if (self.tag == 0u /* Ok */) {
-        controlflow_4 = new_ControlFlow_ErrResidual_SheetError_Option_Packing_Continue(self.is.Ok.field_0);
+        controlflow_4.tag = 0u;
+        controlflow_4.is.Continue.field_0 = self.is.Ok.field_0;
     } else {
-        controlflow_4 = new_ControlFlow_ErrResidual_SheetError_Option_Packing_Break(new_ErrResidual_SheetError(self.is.Err.field_0));
+        controlflow_4.tag = 1u;
+        controlflow_4.is.Break.field_0 = new_ErrResidual_SheetError(self.is.Err.field_0);
     }
     return controlflow_4;
 }
@@ -44244,8 +43647,12 @@ SMALL Result_Arrangement_SheetError atlas_sheet_packing_arrangement_of(const atl
         std_alloc_vec_Vec_drop_Size_2(lying);
         return result;
     }
-    result = new_Result_Arrangement_SheetError_Ok(new_atlas_sheet_Arrangement(packing_5.size, packing_5.way.choice, lying, packing_5.order,
-            vec_14));
+    result.tag = 0u;
+    result.is.Ok.field_0.size = packing_5.size;
+    result.is.Ok.field_0.choice = packing_5.way.choice;
+    result.is.Ok.field_0.lying = lying;
+    result.is.Ok.field_0.order = packing_5.order;
+    result.is.Ok.field_0.places = vec_14;
     std_alloc_vec_Vec_drop_Rectangle_4(packing_5.places);
     return result;
 }
@@ -44336,6 +43743,7 @@ SMALL Result_Vec_AllocId std_alloc_vec_Vec_from_elem_Option_Rectangle(Option_Rec
  */
 SMALL Result_SimpleAtlasAllocator_SheetError atlas_sheet_places_start(atlas_model_Size sheet, atlas_sheet_Spacing spacing,
         atlas_sheet_Choice choice) {
+    Result_SimpleAtlasAllocator_SheetError result;
     ControlFlow_ErrResidual_AtlasError_SimpleAtlasAllocator controlflow_8;
     Result_SimpleAtlasAllocator_AtlasError result_9;
     atlas_model_Size size_11;
@@ -44350,16 +43758,20 @@ SMALL Result_SimpleAtlasAllocator_SheetError atlas_sheet_places_start(atlas_mode
     } else {
         return core_result_ResultFromResidualErrResidual_from_residual_SimpleAtlasAllocator_AtlasError_SheetError(controlflow_8.is.Break.field_0);
     }
-    return new_Result_SimpleAtlasAllocator_SheetError_Ok(simpleatlasallocator_19);
+    result.tag = 0u;
+    result.is.Ok.field_0 = simpleatlasallocator_19;
+    return result;
 }
 
 /* core/src/result.rt */
-SMALL ControlFlow_ErrResidual_SheetError_SimpleAtlasAllocator core_result_ResultTry_branch_SimpleAtlasAllocator_SheetError(Result_SimpleAtlasAllocator_SheetError self) {
+SMALL ControlFlow_ErrResidual_SheetError_SimpleAtlasAllocator core_result_ResultTry_branch_SimpleAtlasAllocator_SheetError(const Result_SimpleAtlasAllocator_SheetError self) {
     ControlFlow_ErrResidual_SheetError_SimpleAtlasAllocator controlflow_4;
     if (self.tag == 0u /* Ok */) {
-        controlflow_4 = new_ControlFlow_ErrResidual_SheetError_SimpleAtlasAllocator_Continue(self.is.Ok.field_0);
+        controlflow_4.tag = 0u;
+        controlflow_4.is.Continue.field_0 = self.is.Ok.field_0;
     } else {
-        controlflow_4 = new_ControlFlow_ErrResidual_SheetError_SimpleAtlasAllocator_Break(new_ErrResidual_SheetError(self.is.Err.field_0));
+        controlflow_4.tag = 1u;
+        controlflow_4.is.Break.field_0 = new_ErrResidual_SheetError(self.is.Err.field_0);
     }
     return controlflow_4;
 }
@@ -45305,13 +44717,16 @@ SMALL Result_Option_Arrangement_SheetError atlas_sheet_packing_packed_3(slice_Si
     if (option_8.tag == 1u /* Some */) {
         arrangement_11 = option_8.Some.field_0;
     } else {
-        result = new_Result_Option_Arrangement_SheetError_Ok(new_Option_Arrangement_None());
+        result.tag = 0u;
+        result.is.Ok.field_0.tag = 0u;
         atlas_sheet_Destruct_none_drop();
         return result;
     }
     if (given_3->effort == 0u) {
         atlas_sheet_choosing_fn_plainly_packed_packed_FnMut_call_mut((void *)&nothing, arrangement_11.size);
-        result = new_Result_Option_Arrangement_SheetError_Ok(new_Option_Arrangement_Some(arrangement_11));
+        result.tag = 0u;
+        result.is.Ok.field_0.tag = 1u;
+        result.is.Ok.field_0.Some.field_0 = arrangement_11;
         atlas_sheet_Destruct_none_drop();
         return result;
     }
@@ -45322,7 +44737,10 @@ SMALL Result_Option_Arrangement_SheetError atlas_sheet_packing_packed_3(slice_Si
     } else {
         return core_result_ResultFromResidualErrResidual_from_residual_Option_Arrangement_SheetError_SheetError(controlflow_30.is.Break.field_0);
     }
-    return new_Result_Option_Arrangement_SheetError_Ok(new_Option_Arrangement_Some(arrangement_36));
+    result.tag = 0u;
+    result.is.Ok.field_0.tag = 1u;
+    result.is.Ok.field_0.Some.field_0 = arrangement_36;
+    return result;
 }
 
 /* std_alloc/src/vec/copies.rt */
@@ -45363,9 +44781,12 @@ SMALL Result std_alloc_vec_copies_extend_items_Option_u64_Option_u64_Map_Iter_Op
 
 /* core/src/result.rt */
 SMALL Result_Chosen_SheetError core_result_ResultFromResidualErrResidual_from_residual_Chosen_SheetError_SheetError(ErrResidual_SheetError residual) {
+    Result_Chosen_SheetError result;
     atlas_sheet_SheetError sheeterror_2;
     sheeterror_2 = core_convert_AnyFrom_from_SheetError(residual.field_0);
-    return new_Result_Chosen_SheetError_Err(sheeterror_2);
+    result.tag = 1u;
+    result.is.Err.field_0 = sheeterror_2;
+    return result;
 }
 
 /* How many pixels the sprites of each slot have together, but at most 2^64 - 1.
@@ -45404,9 +44825,12 @@ SMALL Result_Vec_Size_SheetError atlas_sheet_slots_slot_pixels(slice_Option_u64 
 
 /* core/src/result.rt */
 SMALL Result_Chosen_SheetError core_result_ResultFromResidualErrResidual_from_residual_Chosen_SheetError(void) {
+    Result_Chosen_SheetError result;
     atlas_sheet_SheetError sheeterror_2;
     sheeterror_2 = atlas_sheet_error_SheetErrorFromAllocError_from();
-    return new_Result_Chosen_SheetError_Err(sheeterror_2);
+    result.tag = 1u;
+    result.is.Err.field_0 = sheeterror_2;
+    return result;
 }
 
 /* How many pixels of the greatest sheet the sprites don't take where the row says so.
@@ -45484,7 +44908,7 @@ SMALL bool atlas_sheet_slots_is_open(slice_bool asked, Option_u64 slot, bool is_
  * crates/atlas_sheet/src/choosing.rt
  */
 SMALL Result_Chosen_SheetError atlas_sheet_choosing_with_group(slice_Size sprites, slice_Option_u64 groups,
-        const atlas_sheet_SheetOptions *options, uint64_t group, atlas_sheet_Chosen chosen) {
+        const atlas_sheet_SheetOptions *options, uint64_t group, const atlas_sheet_Chosen chosen) {
     Result_Chosen_SheetError result;
     atlas_sheet_Chosen chosen_7;
     ControlFlow_ErrResidual_SheetError_Vec_Size controlflow_14;
@@ -45529,14 +44953,16 @@ SMALL Result_Chosen_SheetError atlas_sheet_choosing_with_group(slice_Size sprite
     }
     option_20 = option_24;
     if (option_20.tag == 1u /* Some */) {
-        result_25 = new_Result_Chosen_SheetError_Ok(option_20.Some.field_0);
+        result_25.tag = 0u;
+        result_25.is.Ok.field_0 = option_20.Some.field_0;
         std_alloc_vec_Vec_drop_bool(chosen_7.row);
         arrangement_51 = chosen_7.page;
         std_alloc_vec_Vec_drop_Size_2(arrangement_51.lying);
         std_alloc_vec_Vec_drop_tuple_u64_Size(arrangement_51.order);
         std_alloc_vec_Vec_drop_Option_Rectangle(arrangement_51.places);
     } else {
-        result_25 = new_Result_Chosen_SheetError_Ok(chosen_7);
+        result_25.tag = 0u;
+        result_25.is.Ok.field_0 = chosen_7;
     }
     return result_25;
 }
@@ -45655,7 +45081,8 @@ PART Result_Option_Chosen_SheetError atlas_sheet_choosing_all_of(Vec_Slot row, s
     slice_22 = std_alloc_vec_derefs_VecDerefSlice_deref_Size(&vec_6);
     n_21 = atlas_sheet_dense_sprite_pixels(slice_22);
     if (n_18 < n_21) {
-        result = new_Result_Option_Chosen_SheetError_Ok(new_Option_Chosen_None());
+        result.tag = 0u;
+        result.is.Ok.field_0.tag = 0u;
         std_alloc_vec_Vec_drop_Size_2(vec_6);
         std_alloc_vec_Vec_drop_bool(vec_5);
         return result;
@@ -45673,10 +45100,14 @@ PART Result_Option_Chosen_SheetError atlas_sheet_choosing_all_of(Vec_Slot row, s
     }
     arrangement_9 = arrangement_32;
     if (atlas_sheet_climbing_is_whole(&arrangement_9)) {
-        result_35 = new_Result_Option_Chosen_SheetError_Ok(new_Option_Chosen_Some(new_atlas_sheet_Chosen(vec_5, arrangement_9)));
+        result_35.tag = 0u;
+        result_35.is.Ok.field_0.tag = 1u;
+        result_35.is.Ok.field_0.Some.field_0.row = vec_5;
+        result_35.is.Ok.field_0.Some.field_0.page = arrangement_9;
         std_alloc_vec_Vec_drop_Size_2(vec_6);
     } else {
-        result_35 = new_Result_Option_Chosen_SheetError_Ok(new_Option_Chosen_None());
+        result_35.tag = 0u;
+        result_35.is.Ok.field_0.tag = 0u;
         std_alloc_vec_Vec_drop_Size_2(arrangement_9.lying);
         std_alloc_vec_Vec_drop_tuple_u64_Size(arrangement_9.order);
         std_alloc_vec_Vec_drop_Option_Rectangle(arrangement_9.places);
@@ -45697,7 +45128,7 @@ SMALL Result_OneSheet_SheetError core_result_ResultFromResidualErrResidual_from_
  * crates/atlas_sheet/src/choosing.rt
  */
 SMALL Result_Filled_SheetError atlas_sheet_choosing_shown_smallest(slice_Size sprites, const atlas_sheet_SheetOptions *options,
-        atlas_sheet_Arrangement page) {
+        const atlas_sheet_Arrangement page) {
     Result_Filled_SheetError result;
     atlas_sheet_Arrangement arrangement_5;
     ControlFlow_ErrResidual_SheetError_Arrangement controlflow_11;
@@ -45725,7 +45156,8 @@ SMALL Result_Filled_SheetError atlas_sheet_choosing_shown_smallest(slice_Size sp
         std_alloc_vec_Vec_drop_Option_Rectangle(arrangement_5.places);
         return result;
     }
-    result = new_Result_Filled_SheetError_Ok(filled_18);
+    result.tag = 0u;
+    result.is.Ok.field_0 = filled_18;
     std_alloc_vec_Vec_drop_Size_2(arrangement_5.lying);
     std_alloc_vec_Vec_drop_tuple_u64_Size(arrangement_5.order);
     std_alloc_vec_Vec_drop_Option_Rectangle(arrangement_5.places);
@@ -45780,9 +45212,12 @@ SMALL Result_Vec_Size_SheetError atlas_sheet_picking_spread(slice_bool_2 row, sl
 
 /* core/src/result.rt */
 SMALL Result_SoFar_SheetError core_result_ResultFromResidualErrResidual_from_residual_SoFar_AllocFailed_Size_SheetError(ErrResidual_AllocFailed_Size residual) {
+    Result_SoFar_SheetError result;
     atlas_sheet_SheetError sheeterror_2;
     sheeterror_2 = atlas_sheet_error_SheetErrorFromAllocFailed_from_Size(residual.field_0);
-    return new_Result_SoFar_SheetError_Err(sheeterror_2);
+    result.tag = 1u;
+    result.is.Err.field_0 = sheeterror_2;
+    return result;
 }
 
 /* core/src/mem.rt */
@@ -46594,7 +46029,8 @@ SMALL void core_slots_Slots_move_within_CacheChange_u64(Slots_CacheChange_u64 *s
 }
 
 /* core::slots::Slots::put */
-SMALL void core_slots_Slots_put_CacheChange_u64(Slots_CacheChange_u64 *given_1, uint64_t given_2, atlas_cache_CacheChange_u64 given_3) {
+SMALL void core_slots_Slots_put_CacheChange_u64(Slots_CacheChange_u64 *given_1, uint64_t given_2,
+        const atlas_cache_CacheChange_u64 given_3) {
     *((atlas_cache_CacheChange_u64 *)given_1->ptr + given_2) = given_3;
 }
 
@@ -47090,7 +46526,7 @@ SMALL void core_mem_drop_Change_3(atlas_model_Change x) {
 }
 
 /* atlas_cache::atlas_search++table++Table+Destruct::drop */
-SMALL void atlas_cache_atlas_search_table_Table_Destruct_drop(atlas_search_Table given_1) {
+SMALL void atlas_cache_atlas_search_table_Table_Destruct_drop(const atlas_search_Table given_1) {
     std_alloc_vec_Vec_drop_Link_9(given_1.heads);
 }
 
@@ -47233,7 +46669,7 @@ SMALL void atlas_cache_Destruct_none_drop_Refusals(atlas_cache_Refusals given_1)
 }
 
 /* std_alloc::Destruct++none::drop */
-SMALL void std_alloc_Destruct_none_drop_CacheChange_u64(atlas_cache_CacheChange_u64 given_1) {
+SMALL void std_alloc_Destruct_none_drop_CacheChange_u64(const atlas_cache_CacheChange_u64 given_1) {
     (void)given_1;
 }
 
@@ -47458,6 +46894,7 @@ SMALL slice_Trial std_alloc_vec_Vec_as_slice_Trial(const Vec_Slot *self) {
  */
 SMALL Result_Option_Packing_SheetError atlas_sheet_search_scan(slice_Size sprites, slice_Trial trials, uint32_t greatest,
         atlas_sheet_Spacing spacing) {
+    Result_Option_Packing_SheetError result;
     uint32_t n_6;
     uint32_t n_7;
     Option_Packing option_8;
@@ -47482,7 +46919,9 @@ SMALL Result_Option_Packing_SheetError atlas_sheet_search_scan(slice_Size sprite
         }
         option_8 = option_16;
         if (core_option_Option_is_some_Packing(&option_8)) {
-            return new_Result_Option_Packing_SheetError_Ok(option_8);
+            result.tag = 0u;
+            result.is.Ok.field_0 = option_8;
+            return result;
         }
         if (option_8.tag == 1u /* Some */) {
             packing_21 = option_8.Some.field_0;
@@ -47491,7 +46930,9 @@ SMALL Result_Option_Packing_SheetError atlas_sheet_search_scan(slice_Size sprite
         }
         n_7 = n_7 + 1u;
     }
-    return new_Result_Option_Packing_SheetError_Ok(new_Option_Packing_None());
+    result.tag = 0u;
+    result.is.Ok.field_0.tag = 0u;
+    return result;
 }
 
 /* The smallest sheet of a row, by bisection.
@@ -47524,7 +46965,7 @@ SMALL Result_Option_Packing_SheetError atlas_sheet_search_bisect(slice_Size spri
     n_8 = 0u;
     n_9 = n_6;
     n_10 = (n_7 / 64u) + 1u;
-    option_11 = new_Option_Packing_None();
+    option_11.tag = 0u;
     for (;;) {
         if (!(n_8 < n_9)) {
             break;
@@ -47568,7 +47009,9 @@ SMALL Result_Option_Packing_SheetError atlas_sheet_search_bisect(slice_Size spri
             }
         }
     }
-    return new_Result_Option_Packing_SheetError_Ok(option_11);
+    result.tag = 0u;
+    result.is.Ok.field_0 = option_11;
+    return result;
 }
 
 /* std_alloc/src/vec/ends.rt */
@@ -47696,21 +47139,26 @@ SMALL atlas_model_AllocatorOptions atlas_sheet_ways_Choice_options(atlas_sheet_C
 }
 
 /* core/src/result.rt */
-SMALL ControlFlow_ErrResidual_AtlasError_SimpleAtlasAllocator core_result_ResultTry_branch_SimpleAtlasAllocator_AtlasError(Result_SimpleAtlasAllocator_AtlasError self) {
+SMALL ControlFlow_ErrResidual_AtlasError_SimpleAtlasAllocator core_result_ResultTry_branch_SimpleAtlasAllocator_AtlasError(const Result_SimpleAtlasAllocator_AtlasError self) {
     ControlFlow_ErrResidual_AtlasError_SimpleAtlasAllocator controlflow_4;
     if (self.tag == 0u /* Ok */) {
-        controlflow_4 = new_ControlFlow_ErrResidual_AtlasError_SimpleAtlasAllocator_Continue(self.is.Ok.field_0);
+        controlflow_4.tag = 0u;
+        controlflow_4.is.Continue.field_0 = self.is.Ok.field_0;
     } else {
-        controlflow_4 = new_ControlFlow_ErrResidual_AtlasError_SimpleAtlasAllocator_Break(new_ErrResidual_AtlasError(self.is.Err.field_0));
+        controlflow_4.tag = 1u;
+        controlflow_4.is.Break.field_0 = new_ErrResidual_AtlasError(self.is.Err.field_0);
     }
     return controlflow_4;
 }
 
 /* core/src/result.rt */
 SMALL Result_SimpleAtlasAllocator_SheetError core_result_ResultFromResidualErrResidual_from_residual_SimpleAtlasAllocator_AtlasError_SheetError(ErrResidual_AtlasError residual) {
+    Result_SimpleAtlasAllocator_SheetError result;
     atlas_sheet_SheetError sheeterror_2;
     sheeterror_2 = atlas_sheet_error_SheetErrorFromAtlasError_from(residual.field_0);
-    return new_Result_SimpleAtlasAllocator_SheetError_Err(sheeterror_2);
+    result.tag = 1u;
+    result.is.Err.field_0 = sheeterror_2;
+    return result;
 }
 
 /* Asks for a place for a sprite, if it hasn't the size that found none just before.
@@ -48550,7 +47998,7 @@ SMALL void atlas_sheet_choosing_fn_plainly_packed_packed_FnMut_call_mut(void *gi
 
 /* atlas_sheet::packing::descend */
 SMALL Result_Arrangement_SheetError atlas_sheet_packing_descend_3(const atlas_sheet_SheetOptions *given_2, atlas_sheet_Random *given_3,
-        uint32_t *given_4, atlas_sheet_Arrangement given_5) {
+        uint32_t *given_4, const atlas_sheet_Arrangement given_5) {
     Result_Arrangement_SheetError result;
     atlas_sheet_Arrangement arrangement_8;
     atlas_model_Size size_9;
@@ -48622,7 +48070,8 @@ SMALL Result_Arrangement_SheetError atlas_sheet_packing_descend_3(const atlas_sh
         std_alloc_vec_Vec_drop_Option_Rectangle(arrangement_8.places);
         arrangement_8 = arrangement_46;
     }
-    result = new_Result_Arrangement_SheetError_Ok(arrangement_8);
+    result.tag = 0u;
+    result.is.Ok.field_0 = arrangement_8;
     atlas_sheet_Destruct_none_drop();
     return result;
 }
@@ -48918,6 +48367,7 @@ SMALL uint64_t atlas_sheet_picking_room_left(uint64_t room, bool is_chosen, bool
  * crates/atlas_sheet/src/choosing.rt
  */
 SMALL Result_Arrangement_SheetError atlas_sheet_choosing_plainly_filled(slice_Size sprites, const atlas_sheet_SheetOptions *options) {
+    Result_Arrangement_SheetError result;
     atlas_sheet_SheetOptions sheetoptions_4;
     ControlFlow_ErrResidual_SheetError_Arrangement controlflow_13;
     Result_Arrangement_SheetError result_14;
@@ -48930,14 +48380,16 @@ SMALL Result_Arrangement_SheetError atlas_sheet_choosing_plainly_filled(slice_Si
     } else {
         return core_result_ResultFromResidualErrResidual_from_residual_Arrangement_SheetError_SheetError(controlflow_13.is.Break.field_0);
     }
-    return new_Result_Arrangement_SheetError_Ok(arrangement_16);
+    result.tag = 0u;
+    result.is.Ok.field_0 = arrangement_16;
+    return result;
 }
 
 /* The chosen sprites in the smallest sheet that is found for them, or else as they lie.
  * crates/atlas_sheet/src/choosing.rt
  */
 SMALL Result_Arrangement_SheetError atlas_sheet_choosing_smallest(slice_Size sprites, const atlas_sheet_SheetOptions *options,
-        atlas_sheet_Arrangement page) {
+        const atlas_sheet_Arrangement page) {
     Result_Arrangement_SheetError result;
     Option_Arrangement option_5;
     ControlFlow_ErrResidual_SheetError_Option_Arrangement controlflow_9;
@@ -48957,12 +48409,14 @@ SMALL Result_Arrangement_SheetError atlas_sheet_choosing_smallest(slice_Size spr
     }
     option_5 = option_12;
     if (option_5.tag == 1u /* Some */) {
-        result_13 = new_Result_Arrangement_SheetError_Ok(option_5.Some.field_0);
+        result_13.tag = 0u;
+        result_13.is.Ok.field_0 = option_5.Some.field_0;
         std_alloc_vec_Vec_drop_Size_2(page.lying);
         std_alloc_vec_Vec_drop_tuple_u64_Size(page.order);
         std_alloc_vec_Vec_drop_Option_Rectangle(page.places);
     } else {
-        result_13 = new_Result_Arrangement_SheetError_Ok(page);
+        result_13.tag = 0u;
+        result_13.is.Ok.field_0 = page;
     }
     return result_13;
 }
@@ -50146,7 +49600,9 @@ SMALL Result_Option_Packing_SheetError atlas_sheet_search_try_shapes(slice_Size 
         n_8 = (sum / 2u) - n_7;
         n_9 = sum - n_8;
         if (most < n_9) {
-            return new_Result_Option_Packing_SheetError_Ok(new_Option_Packing_None());
+            result.tag = 0u;
+            result.is.Ok.field_0.tag = 0u;
+            return result;
         }
         size_23 = atlas_sheet_search_power_size(n_9, n_8);
         result_22 = atlas_sheet_trials_try_size(sprites, trials, size_23, spacing);
@@ -50158,7 +49614,9 @@ SMALL Result_Option_Packing_SheetError atlas_sheet_search_try_shapes(slice_Size 
         }
         option_10 = option_24;
         if (core_option_Option_is_some_Packing(&option_10)) {
-            return new_Result_Option_Packing_SheetError_Ok(option_10);
+            result.tag = 0u;
+            result.is.Ok.field_0 = option_10;
+            return result;
         }
         size_49 = atlas_sheet_search_power_size(n_8, n_9);
         result_29 = atlas_sheet_trials_try_size(sprites, trials, size_49, spacing);
@@ -50176,7 +49634,8 @@ SMALL Result_Option_Packing_SheetError atlas_sheet_search_try_shapes(slice_Size 
         }
         option_13 = option_30;
         if (core_option_Option_is_some_Packing(&option_13)) {
-            result = new_Result_Option_Packing_SheetError_Ok(option_13);
+            result.tag = 0u;
+            result.is.Ok.field_0 = option_13;
             if (option_10.tag == 1u /* Some */) {
                 packing_39 = option_10.Some.field_0;
                 std_alloc_vec_Vec_drop_tuple_u64_Size(packing_39.order);
@@ -50196,14 +49655,19 @@ SMALL Result_Option_Packing_SheetError atlas_sheet_search_try_shapes(slice_Size 
         }
         n_7 = n_7 + 1u;
     }
-    return new_Result_Option_Packing_SheetError_Ok(new_Option_Packing_None());
+    result.tag = 0u;
+    result.is.Ok.field_0.tag = 0u;
+    return result;
 }
 
 /* core/src/result.rt */
 SMALL Result_Option_Packing_SheetError core_result_ResultFromResidualErrResidual_from_residual_Option_Packing_SheetError_SheetError(ErrResidual_SheetError residual) {
+    Result_Option_Packing_SheetError result;
     atlas_sheet_SheetError sheeterror_2;
     sheeterror_2 = core_convert_AnyFrom_from_SheetError(residual.field_0);
-    return new_Result_Option_Packing_SheetError_Err(sheeterror_2);
+    result.tag = 1u;
+    result.is.Err.field_0 = sheeterror_2;
+    return result;
 }
 
 /* core/src/option.rt */
@@ -50312,6 +49776,7 @@ after_1:;
  */
 PART Result_Option_Packing_SheetError atlas_sheet_trials_try_size(slice_Size sprites, slice_Trial trials, atlas_model_Size size,
         atlas_sheet_Spacing spacing) {
+    Result_Option_Packing_SheetError result;
     uint64_t n_6;
     const atlas_sheet_Trial *at_7;
     Option_Packing option_8;
@@ -50336,7 +49801,9 @@ PART Result_Option_Packing_SheetError atlas_sheet_trials_try_size(slice_Size spr
         }
         option_8 = option_17;
         if (core_option_Option_is_some_Packing(&option_8)) {
-            return new_Result_Option_Packing_SheetError_Ok(option_8);
+            result.tag = 0u;
+            result.is.Ok.field_0 = option_8;
+            return result;
         }
         if (option_8.tag == 1u /* Some */) {
             packing_22 = option_8.Some.field_0;
@@ -50345,7 +49812,9 @@ PART Result_Option_Packing_SheetError atlas_sheet_trials_try_size(slice_Size spr
         }
         n_6 = n_6 + 1u;
     }
-    return new_Result_Option_Packing_SheetError_Ok(new_Option_Packing_None());
+    result.tag = 0u;
+    result.is.Ok.field_0.tag = 0u;
+    return result;
 }
 
 /* core::int::u32::saturating_mul */
@@ -51503,13 +50972,16 @@ SMALL Result_Option_Arrangement_SheetError atlas_sheet_packing_packed_4(slice_Si
     if (option_8.tag == 1u /* Some */) {
         arrangement_11 = option_8.Some.field_0;
     } else {
-        result = new_Result_Option_Arrangement_SheetError_Ok(new_Option_Arrangement_None());
+        result.tag = 0u;
+        result.is.Ok.field_0.tag = 0u;
         atlas_sheet_Destruct_none_drop();
         return result;
     }
     if (given_3->effort == 0u) {
         atlas_sheet_choosing_fn_smallest_packed_FnMut_call_mut((void *)&nothing, arrangement_11.size);
-        result = new_Result_Option_Arrangement_SheetError_Ok(new_Option_Arrangement_Some(arrangement_11));
+        result.tag = 0u;
+        result.is.Ok.field_0.tag = 1u;
+        result.is.Ok.field_0.Some.field_0 = arrangement_11;
         atlas_sheet_Destruct_none_drop();
         return result;
     }
@@ -51520,7 +50992,10 @@ SMALL Result_Option_Arrangement_SheetError atlas_sheet_packing_packed_4(slice_Si
     } else {
         return core_result_ResultFromResidualErrResidual_from_residual_Option_Arrangement_SheetError_SheetError(controlflow_30.is.Break.field_0);
     }
-    return new_Result_Option_Arrangement_SheetError_Ok(new_Option_Arrangement_Some(arrangement_36));
+    result.tag = 0u;
+    result.is.Ok.field_0.tag = 1u;
+    result.is.Ok.field_0.Some.field_0 = arrangement_36;
+    return result;
 }
 
 /* Whether a side with its padding, rounded up to the alignment, is within another.
@@ -52482,7 +51957,9 @@ SMALL Result_Option_Packing_SheetError atlas_sheet_trials_try_trial(slice_Size s
     if (option_7.tag == 1u /* Some */) {
         vec_10 = option_7.Some.field_0;
     } else {
-        return new_Result_Option_Packing_SheetError_Ok(new_Option_Packing_None());
+        result.tag = 0u;
+        result.is.Ok.field_0.tag = 0u;
+        return result;
     }
     slice_24 = std_alloc_vec_derefs_VecDerefSlice_deref_tuple_u64_Size(&trial->order);
     result_23 = std_alloc_vec_Vec_from_slice_tuple_u64_Size(slice_24);
@@ -52494,7 +51971,10 @@ SMALL Result_Option_Packing_SheetError atlas_sheet_trials_try_trial(slice_Size s
         std_alloc_vec_Vec_drop_Rectangle_4(vec_10);
         return result;
     }
-    return new_Result_Option_Packing_SheetError_Ok(new_Option_Packing_Some(new_atlas_sheet_Packing(size, way_6, vec_27, vec_10)));
+    result.tag = 0u;
+    result.is.Ok.field_0.tag = 1u;
+    result.is.Ok.field_0.Some.field_0 = new_atlas_sheet_Packing(size, way_6, vec_27, vec_10);
+    return result;
 }
 
 /* std_alloc/src/vec/ends.rt */
@@ -53481,7 +52961,7 @@ SMALL void atlas_sheet_choosing_fn_smallest_packed_FnMut_call_mut(void *given_1,
 
 /* atlas_sheet::packing::descend */
 SMALL Result_Arrangement_SheetError atlas_sheet_packing_descend_4(const atlas_sheet_SheetOptions *given_2, atlas_sheet_Random *given_3,
-        uint32_t *given_4, atlas_sheet_Arrangement given_5) {
+        uint32_t *given_4, const atlas_sheet_Arrangement given_5) {
     Result_Arrangement_SheetError result;
     atlas_sheet_Arrangement arrangement_8;
     atlas_model_Size size_9;
@@ -53553,7 +53033,8 @@ SMALL Result_Arrangement_SheetError atlas_sheet_packing_descend_4(const atlas_sh
         std_alloc_vec_Vec_drop_Option_Rectangle(arrangement_8.places);
         arrangement_8 = arrangement_46;
     }
-    result = new_Result_Arrangement_SheetError_Ok(arrangement_8);
+    result.tag = 0u;
+    result.is.Ok.field_0 = arrangement_8;
     atlas_sheet_Destruct_none_drop();
     return result;
 }
@@ -54588,9 +54069,12 @@ SMALL Result_Option_Vec_Option_Placed_SheetError atlas_sheet_places_find_all(sli
 
 /* core/src/result.rt */
 SMALL Result_Option_Packing_SheetError core_result_ResultFromResidualErrResidual_from_residual_Option_Packing_SheetError(void) {
+    Result_Option_Packing_SheetError result;
     atlas_sheet_SheetError sheeterror_2;
     sheeterror_2 = atlas_sheet_error_SheetErrorFromAllocError_from();
-    return new_Result_Option_Packing_SheetError_Err(sheeterror_2);
+    result.tag = 1u;
+    result.is.Err.field_0 = sheeterror_2;
+    return result;
 }
 
 /* Drops the values from `from` up to `to`, in that order.
@@ -57374,9 +56858,11 @@ SMALL void core_slice_sort_small_order_pair_Change(Slots_CacheChange_u64 *row, u
     change_5 = core_slots_Slots_take_Change(row, i);
     change_6 = core_slots_Slots_take_Change(row, j);
     if (core_slice_sort_order_ByKeyOrder_less_Change_u32((void *)&nothing, &change_6, &change_5)) {
-        tuple_18 = new_tuple_Change_Change(change_6, change_5);
+        tuple_18.field_0 = change_6;
+        tuple_18.field_1 = change_5;
     } else {
-        tuple_18 = new_tuple_Change_Change(change_5, change_6);
+        tuple_18.field_0 = change_5;
+        tuple_18.field_1 = change_6;
     }
     tuple_13 = tuple_18;
     core_slots_Slots_put_Change(row, i, tuple_13.field_0);

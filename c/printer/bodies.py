@@ -46,8 +46,10 @@ class Body(Values):
 
     def head(self):
         result = self.kinds[0]
-        given = ['%s' % declaration(self.shapes.c(self.kinds[each]), self.name(each)) for each in range(1, self.count + 1)
-                 if not self.shapes.is_empty(self.kinds[each])]
+        changed = self.uses.changed | self.lent
+        given = [(declaration(self.shapes.c(self.kinds[each]), self.name(each)) if each in changed
+                  else self.shapes.fixed(self.kinds[each], self.name(each)))
+                 for each in range(1, self.count + 1) if not self.shapes.is_empty(self.kinds[each])]
         kind = 'void' if self.shapes.is_empty(result) else self.shapes.c(result)
         return '%s(%s)' % (declaration(kind, self.printer.name(self.key)), ', '.join(given) or 'void')
 
@@ -87,8 +89,14 @@ class Body(Values):
         for local, value in list(self.pending.items()):
             if spoiled is None or value.reads & spoiled:
                 del self.pending[local]
-                lines.append('%s%s = %s;' % (STEP * depth, self.name(local), value.text))
+                lines += self.assigned(depth, local, value)
         return lines
+
+    def assigned(self, depth, local, value):
+        """Sets a local. A large struct, made of what doesn't read it, is filled where it stands: it would be made beside, and copied."""
+        if value.fills and local not in value.reads and local not in self.lent:
+            return ['%s%s.%s = %s;' % (STEP * depth, self.name(local), path, text) for path, text in value.fills]
+        return ['%s%s = %s;' % (STEP * depth, self.name(local), value.text)]
 
     def give_up_call(self, depth):
         if self.held is None:
@@ -213,7 +221,7 @@ class Body(Values):
                 self.pending.update({} if is_call else {local: value})
                 return []
             lines = self.flush(depth, self.written(place))
-            return lines + ['%s%s = %s;' % (STEP * depth, self.name(local), value.text)]
+            return lines + self.assigned(depth, local, value)
         at = self.place(place)
         value = self.right(right, at.kind)
         if self.shapes.is_empty(at.kind):
@@ -297,8 +305,25 @@ class Body(Values):
                 parts = parts[variant]
         if len(parts) != len(values):
             raise Unknown('%d parts of %s' % (len(values), self.shapes.c(kind)))
-        words = [self.as_kind(value, part).text for value, part in zip(values, parts) if not self.shapes.is_empty(part)]
-        return Value('%s(%s)' % (self.printer.maker(kind, variant), ', '.join(words)), 0, kind, reads)
+        given = [(index, self.as_kind(value, part)) for index, (value, part) in enumerate(zip(values, parts))
+                 if not self.shapes.is_empty(part)]
+        text = '%s(%s)' % (self.printer.maker(kind, variant), ', '.join(value.text for _, value in given))
+        return Value(text, 0, kind, reads, fills=self.fills(kind, variant, given))
+
+    def fills(self, kind, variant, given):
+        """The paths to parts of a large struct, each with what it is set to."""
+        if kind[0] == 'Array' or not self.shapes.is_large(kind):
+            return []
+        fills = [] if variant is None else [('tag', '%du' % variant)]
+        for index, value in given:
+            path = self.shapes.path(kind, variant, index if variant is None else index + 1)
+            outer = self.shapes.outer(kind, index) if variant is None else None
+            if value.fills:
+                fills += [('%s.%s' % (path, inner), text) for inner, text in value.fills]
+            else:
+                cast = '(%s)' % outer if outer and value.kind[0] == 'Int' and outer != self.shapes.c(value.kind) else ''
+                fills.append((path, cast + value.operand() if cast else value.text))
+        return fills
 
     def right_Repeat(self, held, kind):
         value = self.operand(held[0])

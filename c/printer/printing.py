@@ -5,14 +5,14 @@ import re
 
 import border
 from bodies import Body
-from merging import Calls, Piece, merged
+from merging import WORD, Calls, Piece, merged
 from mir import Unknown, only
 from shapes import Shapes, declaration, is_library, word
 
 HERE = os.path.dirname(os.path.abspath(__file__))
 Key = collections.namedtuple('Key', ['name', 'types', 'methods'])
 # Of functions that are put where they are called: how many lines one has, how many all copies but one, and how many with all in it.
-SMALL = (12, 300, 600)
+SMALL = (12, 300, 620)
 LONGEST = 140
 # What has no body: it stands in heap.c.
 FOREIGN = {'libc::heap::rattle_alloc', 'libc::heap::rattle_realloc', 'libc::heap::rattle_dealloc'}
@@ -114,7 +114,7 @@ class Printer:
             given = [(part, self.shapes.field(kind, variant, index + first), self.shapes.path(kind, variant, index + first),
                       self.shapes.outer(kind, index) if variant is None else None)
                      for index, part in enumerate(parts) if not self.shapes.is_empty(part)]
-        words = ', '.join(declaration(self.shapes.c(part), field) for part, field, _, _ in given) or 'void'
+        words = ', '.join(self.shapes.fixed(part, field) for part, field, _, _ in given) or 'void'
         lines = ['MAKER %s %s(%s) {' % (self.shapes.c(kind), name, words), '    %s it;' % self.shapes.c(kind)]
         if variant is not None:
             lines.append('    it.tag = %du;' % variant)
@@ -127,9 +127,9 @@ class Printer:
         """The function that makes an array of equal elements."""
         name = 'all_' + self.shapes.name(kind)
         if (kind, 'all') not in self.makers:
-            of = self.shapes.c(kind[1])
-            lines = ['MAKER %s %s(%s) {' % (self.shapes.c(kind), name, declaration(of, 'each')), '    %s it;' % self.shapes.c(kind),
-                     '    uint64_t i;', '    for (i = 0; i < %d; i++) it.at[i] = each;' % kind[2], '    return it;', '}', '']
+            head = 'MAKER %s %s(%s) {' % (self.shapes.c(kind), name, self.shapes.fixed(kind[1], 'each'))
+            lines = [head, '    %s it;' % self.shapes.c(kind), '    uint64_t i;',
+                     '    for (i = 0; i < %d; i++) it.at[i] = each;' % kind[2], '    return it;', '}', '']
             self.makers[kind, 'all'] = (name, lines)
         return name
 
@@ -201,7 +201,8 @@ class Printer:
         statics, sizes, wrappers = parted(others)
         self.count = len(groups[2])
         inner = (support('heap.c') if self.foreign else []) + (support('lanes.c') if self.shapes.has_lanes else []) + ['']
-        made = [line for piece in groups[1] for line in piece.lines]
+        called = set(WORD.findall('\n'.join([line for piece in groups[2] for line in piece.lines] + wrappers)))
+        made = [line for piece in groups[1] if piece.name in called for line in piece.lines]
         parts = [support('support.c'), ['', *typed(groups[0], told)], asserted(sizes), inner, made, statics, [''],
                  written(groups[2], notes, wrappers), wrappers]
         return '\n'.join(each for part in parts for line in part for each in folded(line)).rstrip('\n') + '\n'

@@ -11,6 +11,8 @@ WORDS = set('''auto break case char const continue default do double else enum e
 return short signed sizeof static struct switch typedef union unsigned void volatile while bool true false class new delete this template
 typename operator public private protected namespace using try catch throw friend virtual explicit mutable export and or not xor asm near
 far small min max tag is nothing result it NULL final override import module concept requires'''.split())
+# A struct of more bytes is large: GCC makes each copy of one that is written.
+LARGE = 64
 LIBRARIES = ('core', 'std', 'std_alloc', 'std_heap', 'libc', 'os')
 
 
@@ -114,6 +116,13 @@ class Shapes:
         rows = [self.in_row(one) for one in parts]
         to = max(1, *(row[1] for row in rows))
         return up(up(1, to) + max(row[0] for row in rows), to), to
+
+    def is_large(self, kind):
+        return kind[0] in ('Named', 'Struct', 'Array') and self.sized(kind)[0] > LARGE
+
+    def fixed(self, kind, name):
+        """The declaration of a parameter that isn't changed. What is put in place reads a large one where it lies, as it is const."""
+        return ('const ' if self.is_large(kind) else '') + declaration(self.c(kind), name)
 
     def in_row(self, parts):
         at, most = 0, 1

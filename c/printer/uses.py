@@ -11,8 +11,8 @@ def places(node):
             yield node, False
             return
         for kind, held in node.items():
-            for place, _ in places(held):
-                yield place, kind == 'AddrOf'
+            for place, is_lent in places(held):
+                yield place, is_lent or kind == 'AddrOf'
     elif isinstance(node, (list, tuple)):
         for each in node:
             yield from places(each)
@@ -23,7 +23,8 @@ def is_through_pointer(place):
 
 
 class Uses:
-    """Of each local: how often it is set whole, how often it is read, and whether its address is taken. What has no bytes isn't read."""
+    """Of each local: how often it is set whole, how often it is read, whether it or a part of it is set, and whether its address is taken.
+    What has no bytes isn't read."""
 
     def __init__(self, tree, is_nothing=lambda place: False):
         self.is_nothing, self.dead = is_nothing, set()
@@ -34,7 +35,7 @@ class Uses:
     def count(self, tree):
         """Counts all, but for what gives a value to a local that isn't read; gives whether there are more of these than were known."""
         self.set, self.read = collections.Counter(), collections.Counter()
-        self.lent, self.products, self.offsets = set(), {}, collections.Counter()
+        self.lent, self.changed, self.products, self.offsets = set(), set(), {}, collections.Counter()
         self.behind = collections.defaultdict(list)
         self.visit(tree)
         dead = {local for local in self.set if local and not self.read[local] and local not in self.lent}
@@ -60,6 +61,8 @@ class Uses:
         self.looks_behind(place)
         if self.is_nothing(place):
             return
+        if not is_through_pointer(place):
+            self.changed.add(place['local'])
         if place['steps']:
             self.read[place['local']] += 1 if only(place['steps'][0])[0] == 'Deref' else 2
         else:

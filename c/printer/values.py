@@ -15,12 +15,12 @@ WIDE = {'Add': ('wide_sum', ('Int', 128)), 'Mul': ('wide_product', ('Int', 128))
 
 class Value:
     """An expression: its text; 0 if it is an operand of whatever stands before or behind it, 1 of an operator of one operand, 2 else; its
-    type; what it reads. `outer` is what the header calls its type, where that differs; `stride` is (index, factor) of a product, and
-    `tag_of` the type whose tag it is."""
+    type; what it reads. `outer` is what the header calls its type, where that differs; `stride` is (index, factor) of a product,
+    `tag_of` the type whose tag it is, and `fills` the parts of a large struct, each with what it is made of."""
 
-    def __init__(self, text, level, kind, reads=frozenset(), outer=None, stride=None, number=None, tag_of=None):
+    def __init__(self, text, level, kind, reads=frozenset(), outer=None, stride=None, number=None, tag_of=None, fills=()):
         self.text, self.level, self.kind, self.reads = text, level, kind, reads
-        self.outer, self.stride, self.number, self.tag_of = outer, stride, number, tag_of
+        self.outer, self.stride, self.number, self.tag_of, self.fills = outer, stride, number, tag_of, fills
 
     def first(self):
         return self.text if self.level == 0 else '(%s)' % self.text

@@ -105,6 +105,8 @@ def shape(name, form, parts):
 
 
 PAIR, CHOICE, TWO, EMPTY, BOX = named('t::Pair'), named('t::Choice'), named('t::Two'), named('t::Empty'), named('t::Box', U32)
+EIGHT, LARGE, HELD = array(U64, 8), named('t::Large'), named('t::Held')
 SHAPES = [shape('t::Pair', 'Fields', [U32, U64]), shape('t::Choice', 'Variants', [[], [U32]]),
           shape('t::Two', 'Variants', [[U8, U32], [U64]]), shape('t::Empty', 'Fields', [UNIT]),
-          shape('t::Box', 'Fields', [param(0), EMPTY])]
+          shape('t::Box', 'Fields', [param(0), EMPTY]), shape('t::Large', 'Fields', [EIGHT, U64, U64]),
+          shape('t::Held', 'Variants', [[U8], [LARGE]])]

@@ -4,7 +4,7 @@ A case is a name, the types of the result, the parameters and the locals, the nu
 the result.
 """
 from building import *  # noqa: F401,F403
-from building import BOOL, BOX, CHOICE, EMPTY, PAIR, PTR, TWO, U8, U16, U32, U64, U128, UNIT
+from building import BOOL, BOX, CHOICE, EIGHT, EMPTY, HELD, LARGE, PAIR, PTR, TWO, U8, U16, U32, U64, U128, UNIT
 
 MOST = {8: 0xff, 16: 0xffff, 32: 0xffffffff, 64: 0xffffffffffffffff}
 ALL = MOST[64]
@@ -181,6 +181,9 @@ ORDER = [
     ('lent_before_call', [U32, U32, U32, ref(U32), U32, UNIT], 1, seq(
         put(2, opd(copy(1))), put(3, {'AddrOf': at(2)}), put(4, op2(unsigned('Add'), copy(2), num(U32, 1))), call('t::set_9', [copy(3)], 5),
         put(0, op2(unsigned('Add'), copy(4), copy(2))), 'Return'), [((5,), 15)]),
+    ('set_while_lent', [U32, U32, U32, ref(U32)], 1, seq(
+        put(2, opd(copy(1))), put(3, {'AddrOf': at(2)}), put(2, op2(unsigned('Add'), copy(1), num(U32, 1))),
+        put(0, opd(copy(3, deref(U32)))), 'Return'), [((5,), 6)]),
     ('call_before_store', [U32, U32, U32, ref(U32), U32], 1, seq(
         put(2, opd(copy(1))), put(3, {'AddrOf': at(2)}), call('t::next', [copy(2)], 4), put(at(3, deref(U32)), opd(num(U32, 1))),
         put(0, op2(unsigned('Add'), copy(4), copy(2))), 'Return'), [((5,), 7)]),
@@ -214,7 +217,40 @@ CALLS = [
     ('of_each_other', [BOOL, U32], 1, seq(call('t::is_even', [copy(1)], 0), 'Return'), [((6,), 1), ((7,), 0)]),
 ]
 
+# Structs of more than 64 bytes, which are filled where they stand.
+LARGER = [
+    ('large_result', [U64, U64, U64, LARGE], 2, seq(
+        call('t::large', [copy(1), copy(2)], 3), put(at(3, field(1)), opd(num(U64, 4))), put(0, opd(copy(3, field(2)))), 'Return'),
+     [((3, 5), 5)]),
+    ('large_in_itself', [U64, BOOL, U64, EIGHT, LARGE], 2, seq(
+        put(3, {'Repeat': [copy(2), {'Lit': 8}]}), put(4, {'Aggregate': [copy(3), copy(2), num(U64, 7)]}),
+        when(copy(1), put(4, {'Aggregate': [copy(3), copy(4, field(2)), copy(4, field(1))]})), put(0, opd(copy(4, field(2)))), 'Return'),
+     [((1, 5), 5), ((0, 5), 7)]),
+    ('large_lent', [U64, U64, EIGHT, LARGE, ref(LARGE)], 1, seq(
+        put(2, {'Repeat': [copy(1), {'Lit': 8}]}), put(3, {'Aggregate': [copy(2), copy(1), num(U64, 7)]}), put(4, {'AddrOf': at(3)}),
+        put(3, {'Aggregate': [copy(2), copy(4, deref(LARGE), field(2)), copy(4, deref(LARGE), field(1))]}),
+        put(0, opd(copy(3, field(2)))), 'Return'), [((5,), 5)]),
+    ('large_variant', [U64, BOOL, U64, HELD, HELD], 2, seq(
+        put(3, {'Aggregate': [num(U8, 0), num(U8, 9)]}), call('t::either', [copy(1), copy(2), copy(3)], 4), call('t::held', [copy(4)], 0),
+        'Return'), [((1, 5), 5), ((0, 5), 9)]),
+    ('large_changed', [U64, U64, U64, LARGE, U64], 2, seq(
+        call('t::large', [copy(1), copy(2)], 3), call('t::changed', [copy(3)], 4), put(0, op2(unsigned('Add'), copy(4), copy(3, field(2)))),
+        'Return'), [((3, 5), 14)]),
+]
+
 HELPERS = [
+    function('t::large', [LARGE, U64, U64, EIGHT], 2, seq(
+        put(3, {'Repeat': [copy(1), {'Lit': 8}]}), put(0, {'Aggregate': [copy(3), copy(1), copy(2)]}), 'Return')),
+    function('t::either', [HELD, BOOL, U64, HELD, EIGHT, LARGE], 3, seq(
+        put(0, opd(copy(3))), when(copy(1), seq(
+            put(4, {'Repeat': [num(U64, 8), {'Lit': 8}]}), put(5, {'Aggregate': [copy(4), num(U64, 6), copy(2)]}),
+            put(0, {'Aggregate': [num(U8, 1), copy(5)]}))), 'Return')),
+    function('t::held', [U64, HELD, BOOL], 1, seq(
+        put(2, op2('Eq', copy(1, variant(1), field(0)), num(U8, 1))),
+        when(copy(2), put(0, opd(copy(1, variant(1), field(1), field(2)))),
+             put(0, op1(cast('Unsigned', 'Unsigned', 64), copy(1, variant(0), field(1))))), 'Return')),
+    function('t::changed', [U64, LARGE], 1, seq(
+        put(at(1, field(2)), opd(num(U64, 9))), put(0, opd(copy(1, field(2)))), 'Return')),
     function('t::set_9', [UNIT, ref(U32)], 1, seq(put(at(1, deref(U32)), opd(num(U32, 9))), put(0, opd('Unit')), 'Return')),
     function('t::next', [U32, U32], 1, seq(put(0, op2(unsigned('Add'), copy(1), num(U32, 1))), 'Return')),
     function('t::boxed', [named('t::Box', param(0)), param(0), EMPTY], 1, seq(
@@ -235,7 +271,7 @@ HELPERS = [
     function('t::length', [U64], 0, seq(put(0, opd({'NumOf': [64, param(0)]})), 'Return'), 1),
 ]
 
-CASES = OPERATORS + NUMBERS + PARTS + CONTROL + ORDER + CALLS
+CASES = OPERATORS + NUMBERS + PARTS + CONTROL + ORDER + CALLS + LARGER
 
 
 def refused(word, kinds, body, count=0):
