@@ -157,6 +157,13 @@ typedef struct slice_AllocId slice_AllocId;
 typedef struct Result_Option_Rectangle_AtlasError Result_Option_Rectangle_AtlasError;
 typedef struct guillotiere_FreeBoxes guillotiere_FreeBoxes;
 typedef struct guillotiere_SimpleAtlasAllocator guillotiere_SimpleAtlasAllocator;
+typedef struct atlas_pages_PageAllocation atlas_pages_PageAllocation;
+typedef struct Option_PageAllocation Option_PageAllocation;
+typedef struct Result_Option_PageAllocation_AtlasError Result_Option_PageAllocation_AtlasError;
+typedef struct atlas_pages_PagedAtlas atlas_pages_PagedAtlas;
+typedef struct Option_Size Option_Size;
+typedef struct slice_AtlasAllocator slice_AtlasAllocator;
+typedef struct Option_ref_AtlasAllocator Option_ref_AtlasAllocator;
 typedef struct atlas_cache_CacheOptions atlas_cache_CacheOptions;
 typedef struct atlas_cache_Rooms atlas_cache_Rooms;
 typedef struct Option Option;
@@ -190,7 +197,6 @@ typedef struct Result_bool_CacheError Result_bool_CacheError;
 typedef struct Result_FollowedCache Result_FollowedCache;
 typedef struct tuple_u64_Place tuple_u64_Place;
 typedef struct Option_tuple_u64_Place Option_tuple_u64_Place;
-typedef struct Option_Size Option_Size;
 typedef struct Option_u64 Option_u64;
 typedef struct Result_Option_u64_CacheError Result_Option_u64_CacheError;
 typedef struct atlas_sheet_Allowed atlas_sheet_Allowed;
@@ -242,6 +248,13 @@ typedef struct ControlFlow_ErrResidual_AtlasError_FreeBoxes ControlFlow_ErrResid
 typedef struct Result_FreeBoxes_AtlasError Result_FreeBoxes_AtlasError;
 typedef struct slice_FreeBox slice_FreeBox;
 typedef struct guillotiere_FreeBox guillotiere_FreeBox;
+typedef struct atlas_pages_PagesError atlas_pages_PagesError;
+typedef struct Result_PagedAtlas_PagesError Result_PagedAtlas_PagesError;
+typedef struct AllocFailed_PagedAtlas AllocFailed_PagedAtlas;
+typedef struct Result_Box_PagedAtlas_AllocFailed_PagedAtlas Result_Box_PagedAtlas_AllocFailed_PagedAtlas;
+typedef struct tuple_PagedAtlas_Vacant_PagedAtlas tuple_PagedAtlas_Vacant_PagedAtlas;
+typedef struct Result_PagesError Result_PagesError;
+typedef struct ControlFlow_ref_AtlasAllocator ControlFlow_ref_AtlasAllocator;
 typedef struct ErrResidual_OptionsError ErrResidual_OptionsError;
 typedef struct ControlFlow_ErrResidual_OptionsError_TextureCache_u64_BuildHasherDefault_FoldHasher_FoldHasher ControlFlow_ErrResidual_OptionsError_TextureCache_u64_BuildHasherDefault_FoldHasher_FoldHasher;
 typedef struct Result_TextureCache_u64_BuildHasherDefault_FoldHasher_FoldHasher_OptionsError Result_TextureCache_u64_BuildHasherDefault_FoldHasher_FoldHasher_OptionsError;
@@ -288,6 +301,8 @@ typedef struct ErrResidual_AllocFailed_Change ErrResidual_AllocFailed_Change;
 typedef struct ControlFlow_ErrResidual_AllocFailed_Change ControlFlow_ErrResidual_AllocFailed_Change;
 typedef struct Result_AllocFailed_Change Result_AllocFailed_Change;
 typedef struct atlas_search_Rest atlas_search_Rest;
+typedef struct ErrResidual_PagesError ErrResidual_PagesError;
+typedef struct ControlFlow_ErrResidual_PagesError ControlFlow_ErrResidual_PagesError;
 typedef struct ControlFlow_u32 ControlFlow_u32;
 typedef struct Option_u32 Option_u32;
 typedef struct RangeTo_u64 RangeTo_u64;
@@ -316,6 +331,7 @@ typedef struct atlas_search_Best atlas_search_Best;
 typedef struct atlas_search_Place atlas_search_Place;
 typedef struct slice_Slot_2 slice_Slot_2;
 typedef struct slice_Link_2 slice_Link_2;
+typedef struct slice_AtlasAllocator_2 slice_AtlasAllocator_2;
 typedef struct ControlFlow_ErrResidual_OptionsError ControlFlow_ErrResidual_OptionsError;
 typedef struct Result_OptionsError Result_OptionsError;
 typedef struct atlas_cache_Refusals atlas_cache_Refusals;
@@ -335,7 +351,6 @@ typedef struct Result_Vec_Allocation_CacheError Result_Vec_Allocation_CacheError
 typedef struct Option_ChangeList Option_ChangeList;
 typedef struct ControlFlow_ErrResidual_CacheError_Option_ChangeList ControlFlow_ErrResidual_CacheError_Option_ChangeList;
 typedef struct Result_Option_ChangeList_CacheError Result_Option_ChangeList_CacheError;
-typedef struct slice_AtlasAllocator slice_AtlasAllocator;
 typedef struct slice_Refusals slice_Refusals;
 typedef struct ControlFlow_BuildHasherDefault_FoldHasher ControlFlow_BuildHasherDefault_FoldHasher;
 typedef struct Result_BuildHasherDefault_FoldHasher Result_BuildHasherDefault_FoldHasher;
@@ -373,6 +388,13 @@ typedef struct tuple_u32_u32 tuple_u32_u32;
 typedef struct slice_Allocation_2 slice_Allocation_2;
 typedef struct slice_FreeBox_2 slice_FreeBox_2;
 typedef struct Result_Link Result_Link;
+typedef struct tuple_AtlasAllocator_Allocation tuple_AtlasAllocator_Allocation;
+typedef struct Option_tuple_AtlasAllocator_Allocation Option_tuple_AtlasAllocator_Allocation;
+typedef struct ControlFlow_ErrResidual_AtlasError_Option_tuple_AtlasAllocator_Allocation ControlFlow_ErrResidual_AtlasError_Option_tuple_AtlasAllocator_Allocation;
+typedef struct Result_Option_tuple_AtlasAllocator_Allocation_AtlasError Result_Option_tuple_AtlasAllocator_Allocation_AtlasError;
+typedef struct ErrResidual_AllocFailed_AtlasAllocator ErrResidual_AllocFailed_AtlasAllocator;
+typedef struct ControlFlow_ErrResidual_AllocFailed_AtlasAllocator ControlFlow_ErrResidual_AllocFailed_AtlasAllocator;
+typedef struct Result_AllocFailed_AtlasAllocator Result_AllocFailed_AtlasAllocator;
 typedef struct slice_Link_3 slice_Link_3;
 typedef struct tuple_ref_u64_ref_u32 tuple_ref_u64_ref_u32;
 typedef struct Range_u64 Range_u64;
@@ -395,9 +417,6 @@ typedef struct ControlFlow_ErrResidual_CacheError_Option_tuple_u32_Allocation Co
 typedef struct Result_Option_tuple_u32_Allocation_CacheError Result_Option_tuple_u32_Allocation_CacheError;
 typedef struct ControlFlow_ErrResidual_CacheError_ChangeList ControlFlow_ErrResidual_CacheError_ChangeList;
 typedef struct Result_ChangeList_CacheError Result_ChangeList_CacheError;
-typedef struct ErrResidual_AllocFailed_AtlasAllocator ErrResidual_AllocFailed_AtlasAllocator;
-typedef struct ControlFlow_ErrResidual_AllocFailed_AtlasAllocator ControlFlow_ErrResidual_AllocFailed_AtlasAllocator;
-typedef struct Result_AllocFailed_AtlasAllocator Result_AllocFailed_AtlasAllocator;
 typedef struct Result_FoldHasher Result_FoldHasher;
 typedef struct slice_u64 slice_u64;
 typedef struct Iter_u64 Iter_u64;
@@ -952,6 +971,59 @@ struct guillotiere_SimpleAtlasAllocator {
     atlas_search_Scale options;
 };
 
+/* atlas_pages::paged::PageAllocation */
+struct atlas_pages_PageAllocation {
+    uint32_t page;
+    atlas_model_AllocId id;
+    atlas_model_Rectangle rectangle;
+};
+
+struct Option_PageAllocation {
+    uint8_t tag; /* 0 None, 1 Some */
+    struct {
+        atlas_pages_PageAllocation field_0;
+    } Some;
+};
+
+struct Result_Option_PageAllocation_AtlasError {
+    uint8_t tag; /* 0 Ok, 1 Err */
+    union {
+        struct {
+            Option_PageAllocation field_0;
+        } Ok;
+        struct {
+            atlas_model_AtlasError field_0;
+        } Err;
+    } is;
+};
+
+/* atlas_pages::paged::PagedAtlas */
+struct atlas_pages_PagedAtlas {
+    Vec_Slot pages;
+    atlas_model_Size page_size;
+    atlas_model_AllocatorOptions options;
+    uint32_t most;
+};
+
+struct Option_Size {
+    uint8_t tag; /* 0 None, 1 Some */
+    struct {
+        atlas_model_Size field_0;
+    } Some;
+};
+
+struct slice_AtlasAllocator {
+    const atlas_allocator_AtlasAllocator *at;
+    uint64_t len;
+};
+
+struct Option_ref_AtlasAllocator {
+    uint8_t tag; /* 0 None, 1 Some */
+    struct {
+        const atlas_allocator_AtlasAllocator *field_0;
+    } Some;
+};
+
 /* atlas_cache::options::CacheOptions */
 struct atlas_cache_CacheOptions {
     atlas_model_Size page;
@@ -1217,13 +1289,6 @@ struct Option_tuple_u64_Place {
     uint8_t tag; /* 0 None, 1 Some */
     struct {
         tuple_u64_Place field_0;
-    } Some;
-};
-
-struct Option_Size {
-    uint8_t tag; /* 0 None, 1 Some */
-    struct {
-        atlas_model_Size field_0;
     } Some;
 };
 
@@ -1644,6 +1709,61 @@ struct guillotiere_FreeBox {
     bool is_fork;
 };
 
+/* atlas_pages::error::PagesError */
+struct atlas_pages_PagesError {
+    uint8_t tag; /* 0 EmptySize, 1 Alignment, 2 Thresholds, 3 NoPage, 4 Shrinks, 5 Refused */
+    struct {
+        atlas_model_AtlasError field_0;
+    } Refused;
+};
+
+struct Result_PagedAtlas_PagesError {
+    uint8_t tag; /* 0 Ok, 1 Err */
+    union {
+        struct {
+            atlas_pages_PagedAtlas field_0;
+        } Ok;
+        struct {
+            atlas_pages_PagesError field_0;
+        } Err;
+    } is;
+};
+
+struct AllocFailed_PagedAtlas {
+    atlas_pages_PagedAtlas value;
+};
+
+struct Result_Box_PagedAtlas_AllocFailed_PagedAtlas {
+    uint8_t tag; /* 0 Ok, 1 Err */
+    union {
+        struct {
+            Box_AtlasAllocator field_0;
+        } Ok;
+        struct {
+            AllocFailed_PagedAtlas field_0;
+        } Err;
+    } is;
+};
+
+struct tuple_PagedAtlas_Vacant_PagedAtlas {
+    atlas_pages_PagedAtlas field_0;
+    Vacant_AtlasAllocator field_1;
+};
+
+struct Result_PagesError {
+    uint8_t tag; /* 0 Ok, 1 Err */
+    struct {
+        atlas_pages_PagesError field_0;
+    } Err;
+};
+
+struct ControlFlow_ref_AtlasAllocator {
+    uint8_t tag; /* 0 Continue, 1 Break */
+    struct {
+        const atlas_allocator_AtlasAllocator *field_0;
+    } Continue;
+};
+
 struct ErrResidual_OptionsError {
     atlas_cache_OptionsError field_0;
 };
@@ -1982,6 +2102,17 @@ struct atlas_search_Rest {
     atlas_model_Rectangle leftover;
 };
 
+struct ErrResidual_PagesError {
+    atlas_pages_PagesError field_0;
+};
+
+struct ControlFlow_ErrResidual_PagesError {
+    uint8_t tag; /* 0 Continue, 1 Break */
+    struct {
+        ErrResidual_PagesError field_0;
+    } Break;
+};
+
 struct ControlFlow_u32 {
     uint8_t tag; /* 0 Continue, 1 Break */
     struct {
@@ -2160,6 +2291,11 @@ struct slice_Slot_2 {
 
 struct slice_Link_2 {
     atlas_search_Link *at;
+    uint64_t len;
+};
+
+struct slice_AtlasAllocator_2 {
+    atlas_allocator_AtlasAllocator *at;
     uint64_t len;
 };
 
@@ -2351,11 +2487,6 @@ struct Result_Option_ChangeList_CacheError {
             atlas_entries_CacheError field_0;
         } Err;
     } is;
-};
-
-struct slice_AtlasAllocator {
-    const atlas_allocator_AtlasAllocator *at;
-    uint64_t len;
 };
 
 struct slice_Refusals {
@@ -2625,6 +2756,60 @@ struct Result_Link {
     } Ok;
 };
 
+struct tuple_AtlasAllocator_Allocation {
+    atlas_allocator_AtlasAllocator field_0;
+    atlas_model_Allocation field_1;
+};
+
+struct Option_tuple_AtlasAllocator_Allocation {
+    uint8_t tag; /* 0 None, 1 Some */
+    struct {
+        tuple_AtlasAllocator_Allocation field_0;
+    } Some;
+};
+
+struct ControlFlow_ErrResidual_AtlasError_Option_tuple_AtlasAllocator_Allocation {
+    uint8_t tag; /* 0 Continue, 1 Break */
+    union {
+        struct {
+            Option_tuple_AtlasAllocator_Allocation field_0;
+        } Continue;
+        struct {
+            ErrResidual_AtlasError field_0;
+        } Break;
+    } is;
+};
+
+struct Result_Option_tuple_AtlasAllocator_Allocation_AtlasError {
+    uint8_t tag; /* 0 Ok, 1 Err */
+    union {
+        struct {
+            Option_tuple_AtlasAllocator_Allocation field_0;
+        } Ok;
+        struct {
+            atlas_model_AtlasError field_0;
+        } Err;
+    } is;
+};
+
+struct ErrResidual_AllocFailed_AtlasAllocator {
+    AllocFailed_AtlasAllocator field_0;
+};
+
+struct ControlFlow_ErrResidual_AllocFailed_AtlasAllocator {
+    uint8_t tag; /* 0 Continue, 1 Break */
+    struct {
+        ErrResidual_AllocFailed_AtlasAllocator field_0;
+    } Break;
+};
+
+struct Result_AllocFailed_AtlasAllocator {
+    uint8_t tag; /* 0 Ok, 1 Err */
+    struct {
+        AllocFailed_AtlasAllocator field_0;
+    } Err;
+};
+
 struct slice_Link_3 {
     atlas_entries_Link *at;
     uint64_t len;
@@ -2826,24 +3011,6 @@ struct Result_ChangeList_CacheError {
             atlas_entries_CacheError field_0;
         } Err;
     } is;
-};
-
-struct ErrResidual_AllocFailed_AtlasAllocator {
-    AllocFailed_AtlasAllocator field_0;
-};
-
-struct ControlFlow_ErrResidual_AllocFailed_AtlasAllocator {
-    uint8_t tag; /* 0 Continue, 1 Break */
-    struct {
-        ErrResidual_AllocFailed_AtlasAllocator field_0;
-    } Break;
-};
-
-struct Result_AllocFailed_AtlasAllocator {
-    uint8_t tag; /* 0 Ok, 1 Err */
-    struct {
-        AllocFailed_AtlasAllocator field_0;
-    } Err;
 };
 
 struct Result_FoldHasher {
@@ -4518,18 +4685,20 @@ typedef char size_33[sizeof(guillotiere_counts) == 24 ? 1 : -1];
 typedef char size_34[sizeof(guillotiere_maybe_placed) == 24 ? 1 : -1];
 typedef char size_35[sizeof(guillotiere_on_page) == 32 ? 1 : -1];
 typedef char size_36[sizeof(guillotiere_options) == 16 ? 1 : -1];
-typedef char size_37[sizeof(guillotiere_place) == 40 ? 1 : -1];
-typedef char size_38[sizeof(guillotiere_placed) == 20 ? 1 : -1];
-typedef char size_39[sizeof(guillotiere_rectangle) == 16 ? 1 : -1];
-typedef char size_40[sizeof(guillotiere_sheet_options) == 48 ? 1 : -1];
-typedef char size_41[sizeof(guillotiere_simple) == 8 ? 1 : -1];
-typedef char size_42[sizeof(guillotiere_size) == 8 ? 1 : -1];
-typedef char size_43[sizeof(guillotiere_slots) == 12 ? 1 : -1];
-typedef char size_44[sizeof(std_collections_Bucket) == 8 ? 1 : -1];
-typedef char size_45[sizeof(std_collections_Group) == 64 ? 1 : -1];
-typedef char size_46[sizeof(tuple_u64_Size) == 16 ? 1 : -1];
-typedef char size_47[sizeof(uint32_t) == 4 ? 1 : -1];
-typedef char size_48[sizeof(uint64_t) == 8 ? 1 : -1];
+typedef char size_37[sizeof(guillotiere_page_allocation) == 24 ? 1 : -1];
+typedef char size_38[sizeof(guillotiere_paged) == 8 ? 1 : -1];
+typedef char size_39[sizeof(guillotiere_place) == 40 ? 1 : -1];
+typedef char size_40[sizeof(guillotiere_placed) == 20 ? 1 : -1];
+typedef char size_41[sizeof(guillotiere_rectangle) == 16 ? 1 : -1];
+typedef char size_42[sizeof(guillotiere_sheet_options) == 48 ? 1 : -1];
+typedef char size_43[sizeof(guillotiere_simple) == 8 ? 1 : -1];
+typedef char size_44[sizeof(guillotiere_size) == 8 ? 1 : -1];
+typedef char size_45[sizeof(guillotiere_slots) == 12 ? 1 : -1];
+typedef char size_46[sizeof(std_collections_Bucket) == 8 ? 1 : -1];
+typedef char size_47[sizeof(std_collections_Group) == 64 ? 1 : -1];
+typedef char size_48[sizeof(tuple_u64_Size) == 16 ? 1 : -1];
+typedef char size_49[sizeof(uint32_t) == 4 ? 1 : -1];
+typedef char size_50[sizeof(uint64_t) == 8 ? 1 : -1];
 #endif
 
 /* The heap: malloc, realloc and free, or what guillotiere_set_memory names. A block of its begins with its whole size, since the caller of
@@ -4791,6 +4960,19 @@ MAKER Result_Vec_Allocation_AtlasError new_Result_Vec_AllocId_AtlasError_Ok(Vec_
     return it;
 }
 
+MAKER Option_Rectangle new_Option_Rectangle_None(void) {
+    Option_Rectangle it;
+    it.tag = 0u;
+    return it;
+}
+
+MAKER Option_Size new_Option_Size_Some(atlas_model_Size field_0) {
+    Option_Size it;
+    it.tag = 1u;
+    it.Some.field_0 = field_0;
+    return it;
+}
+
 MAKER atlas_cache_CacheOptions new_atlas_cache_CacheOptions(atlas_model_Size page, atlas_model_Size largest_page, uint32_t pages,
         uint32_t padding, atlas_model_AllocatorOptions atlas) {
     atlas_cache_CacheOptions it;
@@ -4855,13 +5037,6 @@ MAKER Option_tuple_u64_Place new_Option_tuple_u64_Place_Some(tuple_u64_Place fie
 MAKER Result_CacheError new_Result_CacheError_Ok(void) {
     Result_CacheError it;
     it.tag = 0u;
-    return it;
-}
-
-MAKER Option_Size new_Option_Size_Some(atlas_model_Size field_0) {
-    Option_Size it;
-    it.tag = 1u;
-    it.Some.field_0 = field_0;
     return it;
 }
 
@@ -5014,12 +5189,6 @@ MAKER ControlFlow_u64 new_ControlFlow_u64_Continue(uint64_t field_0) {
 MAKER ControlFlow_u64 new_ControlFlow_u64_Break(void) {
     ControlFlow_u64 it;
     it.tag = 1u;
-    return it;
-}
-
-MAKER Option_Rectangle new_Option_Rectangle_None(void) {
-    Option_Rectangle it;
-    it.tag = 0u;
     return it;
 }
 
@@ -5184,6 +5353,91 @@ MAKER atlas_model_Rectangle new_atlas_model_Rectangle(atlas_model_Point min_, at
     atlas_model_Rectangle it;
     it.min_ = min_;
     it.max_ = max_;
+    return it;
+}
+
+MAKER atlas_pages_PagedAtlas new_atlas_pages_PagedAtlas(Vec_Slot pages, atlas_model_Size page_size, atlas_model_AllocatorOptions options,
+        uint32_t most) {
+    atlas_pages_PagedAtlas it;
+    it.pages = pages;
+    it.page_size = page_size;
+    it.options = options;
+    it.most = most;
+    return it;
+}
+
+MAKER Result_PagedAtlas_PagesError new_Result_PagedAtlas_PagesError_Ok(atlas_pages_PagedAtlas field_0) {
+    Result_PagedAtlas_PagesError it;
+    it.tag = 0u;
+    it.is.Ok.field_0 = field_0;
+    return it;
+}
+
+MAKER Result_Box_PagedAtlas_AllocFailed_PagedAtlas new_Result_Box_PagedAtlas_AllocFailed_PagedAtlas_Ok(Box_AtlasAllocator field_0) {
+    Result_Box_PagedAtlas_AllocFailed_PagedAtlas it;
+    it.tag = 0u;
+    it.is.Ok.field_0 = field_0;
+    return it;
+}
+
+MAKER AllocFailed_PagedAtlas new_AllocFailed_PagedAtlas(atlas_pages_PagedAtlas value) {
+    AllocFailed_PagedAtlas it;
+    it.value = value;
+    return it;
+}
+
+MAKER Result_Box_PagedAtlas_AllocFailed_PagedAtlas new_Result_Box_PagedAtlas_AllocFailed_PagedAtlas_Err(AllocFailed_PagedAtlas field_0) {
+    Result_Box_PagedAtlas_AllocFailed_PagedAtlas it;
+    it.tag = 1u;
+    it.is.Err.field_0 = field_0;
+    return it;
+}
+
+MAKER guillotiere_paged new_guillotiere_paged(void *at) {
+    guillotiere_paged it;
+    it.at = at;
+    return it;
+}
+
+MAKER tuple_PagedAtlas_Vacant_PagedAtlas new_tuple_PagedAtlas_Vacant_PagedAtlas(atlas_pages_PagedAtlas field_0,
+        Vacant_AtlasAllocator field_1) {
+    tuple_PagedAtlas_Vacant_PagedAtlas it;
+    it.field_0 = field_0;
+    it.field_1 = field_1;
+    return it;
+}
+
+MAKER guillotiere_page_allocation new_guillotiere_page_allocation(uint32_t page, uint32_t id, guillotiere_rectangle rectangle) {
+    guillotiere_page_allocation it;
+    it.page = page;
+    it.id = id;
+    it.rectangle = rectangle;
+    return it;
+}
+
+MAKER ControlFlow_ref_AtlasAllocator new_ControlFlow_ref_AtlasAllocator_Continue(const atlas_allocator_AtlasAllocator *field_0) {
+    ControlFlow_ref_AtlasAllocator it;
+    it.tag = 0u;
+    it.Continue.field_0 = field_0;
+    return it;
+}
+
+MAKER ControlFlow_ref_AtlasAllocator new_ControlFlow_ref_AtlasAllocator_Break(void) {
+    ControlFlow_ref_AtlasAllocator it;
+    it.tag = 1u;
+    return it;
+}
+
+MAKER Option_ref_AtlasAllocator new_Option_ref_AtlasAllocator_Some(const atlas_allocator_AtlasAllocator *field_0) {
+    Option_ref_AtlasAllocator it;
+    it.tag = 1u;
+    it.Some.field_0 = field_0;
+    return it;
+}
+
+MAKER Option_ref_AtlasAllocator new_Option_ref_AtlasAllocator_None(void) {
+    Option_ref_AtlasAllocator it;
+    it.tag = 0u;
     return it;
 }
 
@@ -5743,6 +5997,83 @@ MAKER slice_FreeBox new_slice_FreeBox(const guillotiere_FreeBox *at, uint64_t le
     return it;
 }
 
+MAKER atlas_pages_PagesError new_atlas_pages_PagesError_EmptySize(void) {
+    atlas_pages_PagesError it;
+    it.tag = 0u;
+    return it;
+}
+
+MAKER Result_PagesError new_Result_PagesError_Err(atlas_pages_PagesError field_0) {
+    Result_PagesError it;
+    it.tag = 1u;
+    it.Err.field_0 = field_0;
+    return it;
+}
+
+MAKER atlas_pages_PagesError new_atlas_pages_PagesError_Alignment(void) {
+    atlas_pages_PagesError it;
+    it.tag = 1u;
+    return it;
+}
+
+MAKER atlas_pages_PagesError new_atlas_pages_PagesError_Thresholds(void) {
+    atlas_pages_PagesError it;
+    it.tag = 2u;
+    return it;
+}
+
+MAKER Result_PagesError new_Result_PagesError_Ok(void) {
+    Result_PagesError it;
+    it.tag = 0u;
+    return it;
+}
+
+MAKER ControlFlow_ErrResidual_PagesError new_ControlFlow_ErrResidual_PagesError_Continue(void) {
+    ControlFlow_ErrResidual_PagesError it;
+    it.tag = 0u;
+    return it;
+}
+
+MAKER ErrResidual_PagesError new_ErrResidual_PagesError(atlas_pages_PagesError field_0) {
+    ErrResidual_PagesError it;
+    it.field_0 = field_0;
+    return it;
+}
+
+MAKER ControlFlow_ErrResidual_PagesError new_ControlFlow_ErrResidual_PagesError_Break(ErrResidual_PagesError field_0) {
+    ControlFlow_ErrResidual_PagesError it;
+    it.tag = 1u;
+    it.Break.field_0 = field_0;
+    return it;
+}
+
+MAKER Result_PagedAtlas_PagesError new_Result_PagedAtlas_PagesError_Err(atlas_pages_PagesError field_0) {
+    Result_PagedAtlas_PagesError it;
+    it.tag = 1u;
+    it.is.Err.field_0 = field_0;
+    return it;
+}
+
+MAKER Option_PageAllocation new_Option_PageAllocation_None(void) {
+    Option_PageAllocation it;
+    it.tag = 0u;
+    return it;
+}
+
+MAKER Result_Option_PageAllocation_AtlasError new_Result_Option_PageAllocation_AtlasError_Ok(Option_PageAllocation field_0) {
+    Result_Option_PageAllocation_AtlasError it;
+    it.tag = 0u;
+    it.is.Ok.field_0 = field_0;
+    return it;
+}
+
+MAKER slice_AtlasAllocator new_slice_AtlasAllocator(const atlas_allocator_AtlasAllocator *at, uint64_t len) {
+    slice_AtlasAllocator it;
+    it.at = at;
+    it.len = len;
+    return it;
+}
+
 MAKER BuildHasherDefault_FoldHasher new_BuildHasherDefault_FoldHasher(FoldHasher initial) {
     BuildHasherDefault_FoldHasher it;
     it.initial = initial;
@@ -6140,6 +6471,41 @@ MAKER guillotiere_FreeBox new_guillotiere_FreeBox(atlas_model_Rectangle area, at
     return it;
 }
 
+MAKER atlas_pages_PageAllocation new_atlas_pages_PageAllocation(uint32_t page, atlas_model_AllocId id, atlas_model_Rectangle rectangle) {
+    atlas_pages_PageAllocation it;
+    it.page = page;
+    it.id = id;
+    it.rectangle = rectangle;
+    return it;
+}
+
+MAKER Option_PageAllocation new_Option_PageAllocation_Some(atlas_pages_PageAllocation field_0) {
+    Option_PageAllocation it;
+    it.tag = 1u;
+    it.Some.field_0 = field_0;
+    return it;
+}
+
+MAKER Result_Option_PageAllocation_AtlasError new_Result_Option_PageAllocation_AtlasError_Err(atlas_model_AtlasError field_0) {
+    Result_Option_PageAllocation_AtlasError it;
+    it.tag = 1u;
+    it.is.Err.field_0 = field_0;
+    return it;
+}
+
+MAKER slice_AtlasAllocator_2 new_slice_AtlasAllocator_2(atlas_allocator_AtlasAllocator *at, uint64_t len) {
+    slice_AtlasAllocator_2 it;
+    it.at = at;
+    it.len = len;
+    return it;
+}
+
+MAKER atlas_pages_PagesError new_atlas_pages_PagesError_NoPage(void) {
+    atlas_pages_PagesError it;
+    it.tag = 3u;
+    return it;
+}
+
 MAKER FoldHasher new_FoldHasher(uint64_t state) {
     FoldHasher it;
     it.state = state;
@@ -6531,13 +6897,6 @@ MAKER atlas_entries_CacheError new_atlas_entries_CacheError_Slots(void) {
     return it;
 }
 
-MAKER slice_AtlasAllocator new_slice_AtlasAllocator(const atlas_allocator_AtlasAllocator *at, uint64_t len) {
-    slice_AtlasAllocator it;
-    it.at = at;
-    it.len = len;
-    return it;
-}
-
 MAKER atlas_sheet_SheetError new_atlas_sheet_SheetError_Memory(void) {
     atlas_sheet_SheetError it;
     it.tag = 0u;
@@ -6688,6 +7047,12 @@ MAKER Result_Link new_Result_Link_Ok(atlas_search_Link field_0) {
     Result_Link it;
     it.tag = 0u;
     it.Ok.field_0 = field_0;
+    return it;
+}
+
+MAKER atlas_pages_PagesError new_atlas_pages_PagesError_Shrinks(void) {
+    atlas_pages_PagesError it;
+    it.tag = 4u;
     return it;
 }
 
@@ -7820,6 +8185,13 @@ MAKER atlas_search_Halves new_atlas_search_Halves(atlas_search_Cell low, atlas_s
     atlas_search_Halves it;
     it.low = low;
     it.high = high;
+    return it;
+}
+
+MAKER atlas_pages_PagesError new_atlas_pages_PagesError_Refused(atlas_model_AtlasError field_0) {
+    atlas_pages_PagesError it;
+    it.tag = 5u;
+    it.Refused.field_0 = field_0;
     return it;
 }
 
@@ -9396,6 +9768,23 @@ SMALL uint32_t guillotiere_c_simple_guillotiere_simple_size(const guillotiere_si
 SMALL uint32_t guillotiere_c_simple_guillotiere_simple_options(const guillotiere_simple *simple, guillotiere_options *options);
 SMALL uint32_t guillotiere_c_simple_guillotiere_simple_slots(const guillotiere_simple *simple, guillotiere_slots *slots);
 SMALL bool guillotiere_c_simple_guillotiere_simple_is_empty(const guillotiere_simple *simple);
+SMALL uint32_t guillotiere_c_paged_guillotiere_paged_new(uint32_t width, uint32_t height, uint32_t most, guillotiere_paged *paged);
+SMALL uint32_t guillotiere_c_paged_guillotiere_paged_with_options(uint32_t width, uint32_t height, const guillotiere_options *options,
+        uint32_t most, guillotiere_paged *paged);
+SMALL void guillotiere_c_paged_guillotiere_paged_free(guillotiere_paged *paged);
+SMALL uint32_t guillotiere_c_paged_guillotiere_paged_allocate(guillotiere_paged *paged, uint32_t width, uint32_t height,
+        guillotiere_page_allocation *granted);
+SMALL uint32_t guillotiere_c_paged_guillotiere_paged_deallocate(guillotiere_paged *paged, uint32_t page, uint32_t id);
+SMALL uint32_t guillotiere_c_paged_guillotiere_paged_get(const guillotiere_paged *paged, uint32_t page, uint32_t id,
+        guillotiere_rectangle *found);
+SMALL uint32_t guillotiere_c_paged_guillotiere_paged_grow(guillotiere_paged *paged, uint32_t page, uint32_t width, uint32_t height);
+SMALL uint32_t guillotiere_c_paged_guillotiere_paged_shrink(guillotiere_paged *paged, uint32_t *left);
+SMALL uint32_t guillotiere_c_paged_guillotiere_paged_clear(guillotiere_paged *paged);
+SMALL uint32_t guillotiere_c_paged_guillotiere_paged_page_count(const guillotiere_paged *paged, uint32_t *pages);
+SMALL uint32_t guillotiere_c_paged_guillotiere_paged_page_size(const guillotiere_paged *paged, uint32_t page, guillotiere_size *size);
+SMALL uint32_t guillotiere_c_paged_guillotiere_paged_areas(const guillotiere_paged *paged, uint32_t page, guillotiere_areas *areas);
+SMALL uint32_t guillotiere_c_paged_guillotiere_paged_live(const guillotiere_paged *paged, uint32_t page, slice_PlainAllocation found,
+        uint64_t *count);
 SMALL uint32_t guillotiere_c_cache_guillotiere_cache_new(const guillotiere_cache_options *options, guillotiere_cache *cache);
 SMALL void guillotiere_c_cache_guillotiere_cache_free(guillotiere_cache *cache);
 SMALL uint32_t guillotiere_c_cache_guillotiere_cache_begin_frame(guillotiere_cache *cache);
@@ -9526,6 +9915,28 @@ SMALL Result_AtlasError guillotiere_simple_SimpleAtlasAllocator_init_from_alloca
 SMALL atlas_model_AllocatorOptions guillotiere_simple_SimpleAtlasAllocator_options(const guillotiere_SimpleAtlasAllocator *self);
 SMALL atlas_model_SlotCount guillotiere_simple_SimpleAtlasAllocator_slots(const guillotiere_SimpleAtlasAllocator *self);
 SMALL bool guillotiere_simple_SimpleAtlasAllocator_is_empty(const guillotiere_SimpleAtlasAllocator *self);
+SMALL uint32_t guillotiere_c_paged_start(uint32_t width, uint32_t height, const atlas_model_AllocatorOptions *options, uint32_t most,
+        guillotiere_paged *paged);
+SMALL bool guillotiere_c_paged_handle_PagedHandle_holds(guillotiere_paged *self);
+SMALL Box_AtlasAllocator guillotiere_c_paged_handle_PagedHandle_take(guillotiere_paged *self);
+SMALL void std_alloc_boxed_Box_drop_PagedAtlas(Box_AtlasAllocator given_1);
+SMALL atlas_pages_PagedAtlas *std_alloc_boxed_deref_mut_BoxDerefMut_deref_mut_PagedAtlas(Box_AtlasAllocator *self);
+SMALL Result_Option_PageAllocation_AtlasError guillotiere_c_paged_request(atlas_pages_PagedAtlas *paged, atlas_model_Size size);
+SMALL void guillotiere_c_paged_handle_PagedHandle_put(guillotiere_paged *self, Box_AtlasAllocator paged);
+SMALL uint32_t guillotiere_c_paged_write_granted(Result_Option_PageAllocation_AtlasError answer, guillotiere_page_allocation *granted);
+SMALL Result_AtlasError guillotiere_c_paged_free(atlas_pages_PagedAtlas *paged, uint32_t page, atlas_model_AllocId id);
+SMALL bool guillotiere_c_paged_handle_PagedReader_holds(const guillotiere_paged *self);
+SMALL const atlas_pages_PagedAtlas *guillotiere_c_paged_handle_PagedReader_lent(const guillotiere_paged *self);
+SMALL void atlas_pages_paged_PagedAtlas_prove_kept(const atlas_pages_PagedAtlas *self, uint32_t page);
+SMALL Option_Rectangle atlas_pages_paged_PagedAtlas_get(const atlas_pages_PagedAtlas *self, uint32_t page, atlas_model_AllocId id);
+SMALL uint32_t guillotiere_c_paged_enlarge(atlas_pages_PagedAtlas *paged, uint32_t page, atlas_model_Size size);
+SMALL uint32_t guillotiere_c_paged_shorten(atlas_pages_PagedAtlas *paged);
+SMALL void guillotiere_c_paged_free_all(atlas_pages_PagedAtlas *paged);
+SMALL uint32_t atlas_pages_paged_PagedAtlas_page_count(const atlas_pages_PagedAtlas *self);
+SMALL Option_Size atlas_pages_paged_PagedAtlas_page_size(const atlas_pages_PagedAtlas *self, uint32_t page);
+SMALL slice_AtlasAllocator atlas_pages_paged_PagedAtlas_pages(const atlas_pages_PagedAtlas *self);
+SMALL Option_ref_AtlasAllocator core_slice_slice_T_get_AtlasAllocator_u64_ref_AtlasAllocator(slice_AtlasAllocator given_1,
+        uint64_t given_2);
 SMALL bool guillotiere_c_cache_handle_CacheHandle_holds(guillotiere_cache *self);
 SMALL atlas_cache_CacheOptions guillotiere_c_plain_cache_cache_options_for(const guillotiere_cache_options *options);
 SMALL Result_FollowedCache_OptionsError guillotiere_c_followed_FollowedCache_new(atlas_cache_CacheOptions options);
@@ -9726,6 +10137,32 @@ SMALL void std_alloc_vec_Vec_drop_FreeBox_2(Vec_Slot given_1);
 SMALL void std_alloc_vec_Vec_drop_Link_4(Vec_Slot given_1);
 SMALL slice_FreeBox std_alloc_vec_derefs_VecDerefSlice_deref_FreeBox(const Vec_Slot *self);
 SMALL bool guillotiere_simple_is_listed(slice_FreeBox entries, const atlas_model_Rectangle *rectangle);
+SMALL Result_PagedAtlas_PagesError atlas_pages_paged_PagedAtlas_with_options(atlas_model_Size page_size,
+        const atlas_model_AllocatorOptions *options, uint32_t most);
+SMALL Result_Box_PagedAtlas_AllocFailed_PagedAtlas std_alloc_boxed_Box_new_PagedAtlas(atlas_pages_PagedAtlas x);
+SMALL guillotiere_paged guillotiere_c_paged_handle_PagedHandle_none(void);
+SMALL guillotiere_paged core_mem_replace_PagedHandle(guillotiere_paged *dest, guillotiere_paged src);
+SMALL guillotiere_c_Held_AtlasAllocator guillotiere_c_paged_handle_PagedHandle_open(guillotiere_paged handle);
+SMALL tuple_PagedAtlas_Vacant_PagedAtlas std_alloc_boxed_Box_take_value_PagedAtlas(Box_AtlasAllocator b);
+SMALL void std_alloc_room_vacant_Vacant_free_PagedAtlas(Vacant_AtlasAllocator self);
+SMALL void core_mem_drop_PagedAtlas(atlas_pages_PagedAtlas x);
+SMALL Result_Option_PageAllocation_AtlasError atlas_pages_paged_PagedAtlas_allocate(atlas_pages_PagedAtlas *self, atlas_model_Size size);
+SMALL const atlas_pages_PagedAtlas *std_alloc_boxed_methods_BoxDeref_deref_PagedAtlas(const Box_AtlasAllocator *self);
+SMALL guillotiere_paged guillotiere_c_paged_handle_PagedHandle_close(guillotiere_c_Held_AtlasAllocator held);
+SMALL void guillotiere_c_paged_handle_PagedHandle_forget(guillotiere_paged handle);
+SMALL guillotiere_page_allocation guillotiere_c_plain_paged_plain_page_allocation(atlas_pages_PageAllocation allocation);
+SMALL Result_AtlasError atlas_pages_paged_PagedAtlas_deallocate(atlas_pages_PagedAtlas *self, uint32_t page, atlas_model_AllocId id);
+SMALL slice_AtlasAllocator std_alloc_vec_derefs_VecDerefSlice_deref_AtlasAllocator(const Vec_Slot *self);
+SMALL void guillotiere_pages_prove_page(slice_AtlasAllocator pages, uint64_t page);
+SMALL Result_PagesError atlas_pages_paged_PagedAtlas_grow(atlas_pages_PagedAtlas *self, uint32_t page, atlas_model_Size size);
+SMALL uint32_t guillotiere_c_plain_paged_status_of_pages_error(atlas_pages_PagesError error);
+SMALL uint32_t atlas_pages_paged_PagedAtlas_shrink(atlas_pages_PagedAtlas *self);
+SMALL void atlas_pages_paged_PagedAtlas_clear(atlas_pages_PagedAtlas *self);
+SMALL uint32_t atlas_pages_paged_number(uint64_t page, uint32_t most);
+SMALL ControlFlow_ref_AtlasAllocator core_option_OptionTry_branch_ref_AtlasAllocator(Option_ref_AtlasAllocator self);
+SMALL Option_Size core_option_OptionFromResidualNoValue_from_residual_Size(void);
+SMALL Option_ref_AtlasAllocator core_slice_index_UsizeSliceIndexRefSlice_pick_AtlasAllocator(uint64_t given_1,
+        slice_AtlasAllocator given_2);
 SMALL Result_TextureCache_u64_BuildHasherDefault_FoldHasher_FoldHasher_OptionsError atlas_cache_cache_TextureCache_K_DefaultHasher_A_new_u64(atlas_cache_CacheOptions options);
 SMALL ControlFlow_ErrResidual_OptionsError_TextureCache_u64_BuildHasherDefault_FoldHasher_FoldHasher core_result_ResultTry_branch_TextureCache_u64_BuildHasherDefault_FoldHasher_FoldHasher_OptionsError(const Result_TextureCache_u64_BuildHasherDefault_FoldHasher_FoldHasher_OptionsError self);
 SMALL Result_FollowedCache_OptionsError core_result_ResultFromResidualErrResidual_from_residual_FollowedCache_OptionsError_OptionsError(ErrResidual_OptionsError residual);
@@ -9958,11 +10395,29 @@ SMALL void std_alloc_vec_Vec_clear_Link_4(Vec_Slot *self);
 SMALL void std_alloc_vec_Vec_destroy_empty_Link_4(Vec_Slot self);
 SMALL slice_FreeBox std_alloc_vec_Vec_as_slice_FreeBox(const Vec_Slot *self);
 SMALL bool atlas_model_geometry_RectanglePartialEq_eq(const atlas_model_Rectangle *given_1, const atlas_model_Rectangle *given_2);
+SMALL Result_PagesError atlas_pages_paged_steps_check_start(atlas_model_Size size, const atlas_model_AllocatorOptions *options);
+SMALL ControlFlow_ErrResidual_PagesError core_result_ResultTry_branch_PagesError(Result_PagesError self);
+SMALL Result_PagedAtlas_PagesError core_result_ResultFromResidualErrResidual_from_residual_PagedAtlas_PagesError_PagesError(ErrResidual_PagesError residual);
+SMALL Result_Vacant_AtlasAllocator std_alloc_room_vacant_Vacant_take_PagedAtlas(void);
+SMALL Box_AtlasAllocator std_alloc_boxed_Box_write_into_PagedAtlas(Vacant_AtlasAllocator room, atlas_pages_PagedAtlas x);
+SMALL void guillotiere_c_atlas_pages_paged_PagedAtlas_Destruct_drop(atlas_pages_PagedAtlas given_1);
+SMALL Option_u64 guillotiere_pages_page_with_room(slice_AtlasAllocator pages, atlas_model_Size size);
+SMALL Result_Option_PageAllocation_AtlasError atlas_pages_paged_PagedAtlas_allocate_there(atlas_pages_PagedAtlas *self, uint64_t page,
+        atlas_model_Size size);
+SMALL Result_Option_PageAllocation_AtlasError atlas_pages_paged_PagedAtlas_allocate_anew(atlas_pages_PagedAtlas *self,
+        atlas_model_Size size);
+SMALL const atlas_pages_PagedAtlas *std_alloc_boxed_Box_as_ref_PagedAtlas(const Box_AtlasAllocator *self);
+SMALL Result_AtlasError atlas_pages_paged_steps_free_at(Vec_Slot *pages, uint64_t page, atlas_model_AllocId id);
+SMALL slice_AtlasAllocator std_alloc_vec_Vec_as_slice_AtlasAllocator(const Vec_Slot *self);
+SMALL Result_PagesError atlas_pages_paged_steps_grow_at(Vec_Slot *pages, uint64_t page, atlas_model_Size size);
+SMALL uint64_t atlas_pages_paged_steps_busy_pages(slice_AtlasAllocator pages);
+SMALL void std_alloc_vec_Vec_truncate_AtlasAllocator(Vec_Slot *self, uint64_t n);
+SMALL void atlas_pages_paged_steps_clear_list(Vec_Slot *pages);
 SMALL BuildHasherDefault_FoldHasher core_hash_build_BuildHasherDefault_new_FoldHasher(void);
 SMALL Result_TextureCache_u64_BuildHasherDefault_FoldHasher_FoldHasher_OptionsError atlas_cache_cache_TextureCache_with_hasher_u64_BuildHasherDefault_FoldHasher_FoldHasher(atlas_cache_CacheOptions options, BuildHasherDefault_FoldHasher hasher);
 SMALL atlas_cache_OptionsError core_convert_AnyFrom_from_OptionsError(atlas_cache_OptionsError given_1);
 SMALL void atlas_cache_cache_TextureCache_prove_kept_u64_BuildHasherDefault_FoldHasher_FoldHasher(const atlas_cache_TextureCache_u64_BuildHasherDefault_FoldHasher_FoldHasher *self);
-SMALL void std_alloc_vec_Vec_truncate_AtlasAllocator(Vec_Slot *self, uint64_t n);
+SMALL void std_alloc_vec_Vec_truncate_AtlasAllocator_2(Vec_Slot *self, uint64_t n);
 SMALL void std_alloc_vec_Vec_free_block_AtlasAllocator(Vec_Slot self);
 SMALL void std_alloc_vec_Vec_truncate_Refusals(Vec_Slot *self, uint64_t n);
 SMALL void std_alloc_vec_Vec_free_block_Refusals(Vec_Slot self);
@@ -10108,7 +10563,6 @@ SMALL atlas_search_Link atlas_store_store_Store_append(atlas_store_Store *self, 
 SMALL tuple_Link_Link atlas_store_store_Store_nest(atlas_store_Store *self, atlas_search_Link first, atlas_model_Size inner,
         atlas_model_Size size);
 SMALL Option_u32 atlas_search_choice_rounded_side(uint32_t side, uint32_t alignment);
-SMALL Option_Size core_option_OptionFromResidualNoValue_from_residual_Size(void);
 SMALL atlas_search_Place atlas_search_bands_Scale_place_for(const atlas_search_Scale *self, atlas_model_Size size);
 SMALL uint64_t core_int_usize_max(uint64_t given_1, uint64_t given_2);
 SMALL uint64_t atlas_search_bands_Scale_large(const atlas_search_Scale *self);
@@ -10193,6 +10647,18 @@ SMALL void guillotiere_Destruct_none_drop(void);
 SMALL void std_alloc_vec_Vec_truncate_Link_4(Vec_Slot *self, uint64_t n);
 SMALL bool atlas_model_geometry_PointPartialEq_eq(const atlas_model_Point *given_1, const atlas_model_Point *given_2);
 SMALL bool core_cmp_Ordering_and_eq_Point(bool found, const atlas_model_Point *a, const atlas_model_Point *b);
+SMALL atlas_pages_PagesError core_convert_AnyFrom_from_PagesError(atlas_pages_PagesError given_1);
+SMALL bool guillotiere_pages_has_room(const atlas_allocator_AtlasAllocator *page, atlas_model_Size size);
+SMALL Result_Option_Allocation_AtlasError atlas_pages_paged_steps_grant_at(Vec_Slot *pages, uint64_t page, atlas_model_Size size);
+SMALL Result_Option_PageAllocation_AtlasError atlas_pages_paged_at_page(uint64_t page, uint32_t most,
+        Result_Option_Allocation_AtlasError answer);
+SMALL Result_Option_Allocation_AtlasError atlas_pages_paged_steps_add_page(Vec_Slot *pages, atlas_model_Size page_size,
+        const atlas_model_AllocatorOptions *options, atlas_model_Size size);
+SMALL slice_AtlasAllocator_2 std_alloc_vec_lends_VecDerefSliceMut_deref_mut_AtlasAllocator(Vec_Slot *self);
+SMALL Result_AtlasError atlas_pages_paged_steps_free_on(slice_AtlasAllocator_2 pages, uint64_t page, atlas_model_AllocId id);
+SMALL Result_PagesError atlas_pages_paged_steps_grow_on(slice_AtlasAllocator_2 pages, uint64_t page, atlas_model_Size size);
+SMALL void std_alloc_vec_Vec_truncate_within_AtlasAllocator(Vec_Slot *self, uint64_t n);
+SMALL void atlas_pages_paged_steps_clear_all(slice_AtlasAllocator_2 pages);
 SMALL FoldHasher core_hash_fold_FoldHasherDefault_default(void);
 SMALL Result_OptionsError atlas_cache_options_CacheOptions_check(const atlas_cache_CacheOptions *self);
 SMALL ControlFlow_ErrResidual_OptionsError core_result_ResultTry_branch_OptionsError(Result_OptionsError self);
@@ -10201,7 +10667,7 @@ SMALL void atlas_cache_Destruct_none_drop_BuildHasherDefault_FoldHasher(BuildHas
 SMALL atlas_cache_Rooms atlas_cache_rooms_Rooms_new(atlas_cache_CacheOptions options);
 SMALL atlas_entries_Entries_u64_BuildHasherDefault_FoldHasher_FoldHasher atlas_entries_entries_Entries_with_hasher_u64_BuildHasherDefault_FoldHasher_FoldHasher(BuildHasherDefault_FoldHasher hasher);
 SMALL void atlas_cache_rooms_Rooms_prove_kept(const atlas_cache_Rooms *self);
-SMALL void std_alloc_vec_Vec_truncate_within_AtlasAllocator(Vec_Slot *self, uint64_t n);
+SMALL void std_alloc_vec_Vec_truncate_within_AtlasAllocator_2(Vec_Slot *self, uint64_t n);
 SMALL void std_alloc_vec_Vec_truncate_within_Refusals(Vec_Slot *self, uint64_t n);
 SMALL void std_alloc_vec_Vec_clear_u64_Later(Vec_u64_Later *self);
 SMALL void std_alloc_vec_Vec_destroy_empty_u64_Later(Vec_u64_Later self);
@@ -10265,7 +10731,6 @@ SMALL void atlas_cache_cache_repacking_sort_by_id(Vec_Slot *changes);
 SMALL void atlas_cache_cache_repacking_settle_all_u64_BuildHasherDefault_FoldHasher_FoldHasher(atlas_entries_Entries_u64_BuildHasherDefault_FoldHasher_FoldHasher *entries, const atlas_cache_CacheOptions *options, slice_Change moves, uint32_t page, Vec_Slot *changes);
 SMALL void std_alloc_vec_Vec_drop_Change_3(Vec_Slot given_1);
 SMALL void std_alloc_vec_Vec_drop_Allocation_4(Vec_Slot given_1);
-SMALL slice_AtlasAllocator std_alloc_vec_derefs_VecDerefSlice_deref_AtlasAllocator(const Vec_Slot *self);
 SMALL Result_Vec_AllocId atlas_cache_rooms_copying_copied_pages(slice_AtlasAllocator pages);
 SMALL Result_Rooms core_result_ResultFromResidualErrResidual_from_residual_Rooms(void);
 SMALL slice_Refusals std_alloc_vec_derefs_VecDerefSlice_deref_Refusals(const Vec_Slot *self);
@@ -10304,7 +10769,6 @@ SMALL Vec_Slot *std_alloc_vec_lends_VecIndexMutUsize_index_mut_Vec_bool(Vec_Slot
 SMALL void std_alloc_vec_Vec_clear_bool(Vec_Slot *self);
 SMALL Result std_alloc_vec_Vec_reserve_bool(Vec_Slot *self, uint64_t additional);
 SMALL bool std_alloc_vec_Vec_grow_amortized_CacheChange_u64(Vec_Slot *self, uint64_t additional);
-SMALL slice_AtlasAllocator std_alloc_vec_Vec_as_slice_AtlasAllocator(const Vec_Slot *self);
 SMALL uint32_t core_int_i32_max(uint32_t given_1, uint32_t given_2);
 SMALL uint64_t atlas_cache_rooms_usable_unusable_sum(slice_Rectangle free, uint64_t width, uint64_t height);
 SMALL void std_alloc_vec_Vec_drop_Rectangle_3(Vec_Slot given_1);
@@ -10486,12 +10950,22 @@ SMALL Result_Link core_clone_Clone_copy_clone_Link(const atlas_search_Link *give
 SMALL void std_alloc_vec_Vec_put_Link(Vec_Slot *self, atlas_search_Link x);
 SMALL void std_alloc_vec_Vec_drop_Link_8(Vec_Slot given_1);
 SMALL void std_alloc_vec_Vec_truncate_within_Link_4(Vec_Slot *self, uint64_t n);
+SMALL Result_Option_Allocation_AtlasError atlas_pages_paged_steps_grant_on(slice_AtlasAllocator_2 pages, uint64_t page,
+        atlas_model_Size size);
+SMALL Result_Option_tuple_AtlasAllocator_Allocation_AtlasError atlas_pages_paged_steps_page_for(atlas_model_Size page_size,
+        const atlas_model_AllocatorOptions *options, atlas_model_Size size);
+SMALL ControlFlow_ErrResidual_AtlasError_Option_tuple_AtlasAllocator_Allocation core_result_ResultTry_branch_Option_tuple_AtlasAllocator_Allocation_AtlasError(const Result_Option_tuple_AtlasAllocator_Allocation_AtlasError self);
+SMALL Result_AllocFailed_AtlasAllocator std_alloc_vec_Vec_push_AtlasAllocator(Vec_Slot *self, const atlas_allocator_AtlasAllocator value);
+SMALL ControlFlow_ErrResidual_AllocFailed_AtlasAllocator core_result_ResultTry_branch_AllocFailed_AtlasAllocator(const Result_AllocFailed_AtlasAllocator self);
+SMALL Result_Option_Allocation_AtlasError core_result_ResultFromResidualErrResidual_from_residual_Option_Allocation_AllocFailed_AtlasAllocator_AtlasError(const ErrResidual_AllocFailed_AtlasAllocator residual);
+SMALL Result_PagesError atlas_pages_paged_steps_grow_page(atlas_allocator_AtlasAllocator *page, atlas_model_Size size);
+SMALL void std_alloc_vec_opened_drop_run_AtlasAllocator(Slots_CacheChange_u64 *row, uint64_t from, uint64_t to);
+SMALL void atlas_pages_paged_steps_clear_page(atlas_allocator_AtlasAllocator *page);
 SMALL bool atlas_cache_options_is_within(atlas_model_Size size, atlas_model_Size other);
 SMALL bool core_option_Option_is_none_Size(const Option_Size *self);
 SMALL std_collections_HashMap_u64_u32_BuildHasherDefault_FoldHasher_FoldHasher std_collections_hash_map_HashMap_with_hasher_u64_u32_BuildHasherDefault_FoldHasher_FoldHasher(BuildHasherDefault_FoldHasher hash_builder);
 SMALL atlas_entries_Recency atlas_entries_recency_Recency_new(void);
-SMALL void guillotiere_pages_prove_page(slice_AtlasAllocator pages, uint64_t page);
-SMALL void std_alloc_vec_opened_drop_run_AtlasAllocator(Slots_CacheChange_u64 *row, uint64_t from, uint64_t to);
+SMALL void std_alloc_vec_opened_drop_run_AtlasAllocator_2(Slots_CacheChange_u64 *row, uint64_t from, uint64_t to);
 SMALL void std_alloc_vec_opened_drop_run_Refusals(Slots_CacheChange_u64 *row, uint64_t from, uint64_t to);
 SMALL void std_alloc_vec_Vec_truncate_u64_Later(Vec_u64_Later *self, uint64_t n);
 SMALL std_collections_Later std_alloc_vec_Vec_free_block_u64_Later(Vec_u64_Later self);
@@ -10569,8 +11043,6 @@ SMALL void std_alloc_vec_Vec_destroy_empty_Change_3(Vec_Slot self);
 SMALL void std_alloc_vec_Vec_clear_Allocation_4(Vec_Slot *self);
 SMALL void std_alloc_vec_Vec_destroy_empty_Allocation_3(Vec_Slot self);
 SMALL Result_Vec_AllocId std_alloc_vec_Vec_with_capacity_AtlasAllocator(uint64_t capacity);
-SMALL Result_AllocFailed_AtlasAllocator std_alloc_vec_Vec_push_AtlasAllocator(Vec_Slot *self, const atlas_allocator_AtlasAllocator value);
-SMALL ControlFlow_ErrResidual_AllocFailed_AtlasAllocator core_result_ResultTry_branch_AllocFailed_AtlasAllocator(const Result_AllocFailed_AtlasAllocator self);
 SMALL Result_Vec_AllocId core_result_ResultFromResidualErrResidual_from_residual_Vec_AtlasAllocator_AllocFailed_AtlasAllocator(const ErrResidual_AllocFailed_AtlasAllocator residual);
 SMALL slice_Refusals std_alloc_vec_Vec_as_slice_Refusals(const Vec_Slot *self);
 SMALL Result_Vec_AllocId std_alloc_vec_Vec_with_capacity_Refusals(uint64_t capacity);
@@ -10593,7 +11065,7 @@ SMALL Result_Vec_AllocId std_alloc_vec_Vec_with_capacity_Entry_u64(uint64_t capa
 SMALL Result std_alloc_vec_Vec_extend_from_slice_Entry_u64(Vec_Slot *self, slice_Entry_u64 other);
 SMALL void std_alloc_vec_Vec_drop_Entry_u64_2(Vec_Slot given_1);
 SMALL void std_alloc_vec_Vec_destroy_empty_Link_5(Vec_Slot self);
-SMALL void std_alloc_vec_Vec_truncate_AtlasAllocator_2(Vec_Slot *self, uint64_t n);
+SMALL void std_alloc_vec_Vec_truncate_AtlasAllocator_3(Vec_Slot *self, uint64_t n);
 SMALL void atlas_cache_Destruct_none_drop(void);
 SMALL void std_alloc_vec_Vec_truncate_Refusals_2(Vec_Slot *self, uint64_t n);
 SMALL bool std_alloc_room_may_hold_CacheChange_u64(uint64_t n);
@@ -10815,9 +11287,18 @@ SMALL void atlas_search_marks_Marks_mark(atlas_search_Marks *self, atlas_search_
 SMALL Result_ptr std_heap_GlobalAllocator_grow_FreeBox(const void *self, void *ptr, uint64_t len, uint64_t _old_cap, uint64_t new_cap);
 SMALL void std_alloc_vec_Vec_clear_Link_8(Vec_Slot *self);
 SMALL void std_alloc_vec_opened_drop_run_Link_4(Slots_CacheChange_u64 *row, uint64_t from, uint64_t to);
+SMALL Result_Option_tuple_AtlasAllocator_Allocation_AtlasError core_result_ResultFromResidualErrResidual_from_residual_Option_tuple_AtlasAllocator_Allocation_AtlasError_AtlasError(ErrResidual_AtlasError residual);
+SMALL Result_Option_Allocation_AtlasError atlas_pages_paged_steps_first_on(atlas_allocator_AtlasAllocator *page, atlas_model_Size size);
+SMALL void std_alloc_vec_Vec_drop_Slot_6(Vec_Slot given_1);
+SMALL void std_alloc_vec_Vec_drop_Link_11(Vec_Slot given_1);
+SMALL bool std_alloc_vec_Vec_grow_AtlasAllocator(Vec_Slot *self, uint64_t additional);
+SMALL void std_alloc_vec_Vec_put_AtlasAllocator(Vec_Slot *self, const atlas_allocator_AtlasAllocator x);
+SMALL atlas_model_AtlasError atlas_model_error_AtlasErrorFromAllocFailed_from_AtlasAllocator(const AllocFailed_AtlasAllocator _error);
+SMALL Result_PagesError core_result_ResultFromResidualErrResidual_from_residual_AtlasError_PagesError(ErrResidual_AtlasError residual);
+SMALL atlas_allocator_AtlasAllocator core_slots_Slots_take_AtlasAllocator(Slots_CacheChange_u64 *self, uint64_t i);
+SMALL void core_mem_drop_AtlasAllocator_2(const atlas_allocator_AtlasAllocator x);
 SMALL std_collections_Columns_u64_u32 std_collections_columns_Columns_new_u64_u32(void);
 SMALL std_collections_IndexTable std_collections_index_table_IndexTable_new(void);
-SMALL atlas_allocator_AtlasAllocator core_slots_Slots_take_AtlasAllocator(Slots_CacheChange_u64 *self, uint64_t i);
 SMALL atlas_cache_Refusals core_slots_Slots_take_Refusals(Slots_CacheChange_u64 *self, uint64_t i);
 SMALL void core_mem_drop_Refusals(atlas_cache_Refusals x);
 SMALL uint64_t std_alloc_vec_Vec_len_u64_Later(const Vec_u64_Later *self);
@@ -10909,8 +11390,6 @@ SMALL void core_slice_sort_slice_T_sort_unstable_by_key_Change_u32(slice_Change_
 SMALL Option_Change atlas_cache_cache_repacking_change_for(slice_Change changes, atlas_model_AllocId id);
 SMALL void std_alloc_vec_Vec_truncate_Change_3(Vec_Slot *self, uint64_t n);
 SMALL bool std_alloc_vec_Vec_move_to_AtlasAllocator(Vec_Slot *self, uint64_t cap);
-SMALL bool std_alloc_vec_Vec_grow_AtlasAllocator(Vec_Slot *self, uint64_t additional);
-SMALL void std_alloc_vec_Vec_put_AtlasAllocator(Vec_Slot *self, const atlas_allocator_AtlasAllocator x);
 SMALL void std_alloc_room_AllocErrorFromAllocFailed_from_AtlasAllocator(const AllocFailed_AtlasAllocator given_1);
 SMALL bool std_alloc_vec_Vec_move_to_Refusals(Vec_Slot *self, uint64_t cap);
 SMALL bool std_alloc_vec_Vec_grow_Refusals(Vec_Slot *self, uint64_t additional);
@@ -10926,7 +11405,7 @@ SMALL void std_alloc_room_AllocErrorFromAllocFailed_from_tuple_u64_u32(AllocFail
 SMALL slice_Link_4 std_alloc_vec_Vec_as_slice_Link_2(const Vec_Slot *self);
 SMALL Result_Vec_AllocId std_alloc_vec_Vec_with_capacity_Link_3(uint64_t capacity);
 SMALL Result std_alloc_vec_Vec_extend_from_slice_Link_2(Vec_Slot *self, slice_Link_4 other);
-SMALL void std_alloc_vec_Vec_drop_Link_11(Vec_Slot given_1);
+SMALL void std_alloc_vec_Vec_drop_Link_12(Vec_Slot given_1);
 SMALL void std_alloc_vec_Vec_drop_u64_Later_2(Vec_u64_Later given_1);
 SMALL void std_alloc_vec_Vec_drop_u32_Later_2(Vec_u64_Later given_1);
 SMALL void core_mem_drop_2(void);
@@ -10937,7 +11416,7 @@ SMALL void std_alloc_vec_Vec_destroy_empty_Entry_u64_2(Vec_Slot self);
 SMALL void core_slots_Slots_copy_in_Entry_u64(Slots_CacheChange_u64 *self, uint64_t to, slice_Entry_u64 src);
 SMALL void std_alloc_vec_Vec_clear_Entry_u64_3(Vec_Slot *self);
 SMALL void atlas_entries_Destruct_none_drop(void);
-SMALL void std_alloc_vec_Vec_truncate_within_AtlasAllocator_2(Vec_Slot *self, uint64_t n);
+SMALL void std_alloc_vec_Vec_truncate_within_AtlasAllocator_3(Vec_Slot *self, uint64_t n);
 SMALL void std_alloc_vec_Vec_truncate_within_Refusals_2(Vec_Slot *self, uint64_t n);
 SMALL Result_ptr std_heap_GlobalAllocator_grow_CacheChange_u64(const void *self, void *ptr, uint64_t len, uint64_t _old_cap,
         uint64_t new_cap);
@@ -11151,6 +11630,13 @@ SMALL void atlas_search_heap_move_below_FreeBox(slice_FreeBox_2 entries, atlas_s
 SMALL atlas_search_Mask atlas_search_masks_Mask_with(atlas_search_Mask self, uint64_t k);
 SMALL void std_alloc_vec_Vec_truncate_Link_8(Vec_Slot *self, uint64_t n);
 SMALL void core_mem_drop_Link_4(atlas_search_Link x);
+SMALL void std_alloc_vec_Vec_clear_Slot_6(Vec_Slot *self);
+SMALL void std_alloc_vec_Vec_destroy_empty_Slot_4(Vec_Slot self);
+SMALL void std_alloc_vec_Vec_clear_Link_11(Vec_Slot *self);
+SMALL void std_alloc_vec_Vec_destroy_empty_Link_7(Vec_Slot self);
+SMALL bool std_alloc_vec_Vec_grow_amortized_AtlasAllocator(Vec_Slot *self, uint64_t additional);
+SMALL void atlas_pages_atlas_allocator_atlas_AtlasAllocator_Destruct_drop(const atlas_allocator_AtlasAllocator given_1);
+SMALL atlas_pages_PagesError atlas_pages_error_PagesErrorFromAtlasError_from(atlas_model_AtlasError error);
 SMALL std_collections_Later std_collections_later_Later_none(void);
 SMALL Vec_u64_Later std_alloc_vec_Vec_new_u64_Later(std_collections_Later alloc);
 SMALL void guillotiere_c_Destruct_none_drop_Refusals(atlas_cache_Refusals given_1);
@@ -11224,7 +11710,6 @@ SMALL Result_u64_u64 core_slice_reads_slice_T_binary_search_by_key_Change_u32(sl
 SMALL void std_alloc_vec_Vec_truncate_within_Change_3(Vec_Slot *self, uint64_t n);
 SMALL bool std_alloc_room_may_hold_AtlasAllocator(uint64_t n);
 SMALL Result_ptr std_alloc_vec_resize_AtlasAllocator(const void *alloc, void *ptr, uint64_t len, uint64_t old_cap, uint64_t new_cap);
-SMALL bool std_alloc_vec_Vec_grow_amortized_AtlasAllocator(Vec_Slot *self, uint64_t additional);
 SMALL void atlas_cache_atlas_allocator_atlas_AtlasAllocator_Destruct_drop(const atlas_allocator_AtlasAllocator given_1);
 SMALL bool std_alloc_room_may_hold_Refusals(uint64_t n);
 SMALL Result_ptr std_alloc_vec_resize_Refusals(const void *alloc, void *ptr, uint64_t len, uint64_t old_cap, uint64_t new_cap);
@@ -11241,7 +11726,7 @@ SMALL void std_collections_columns_Columns_push_u64_u32(std_collections_Columns_
 SMALL void atlas_entries_Destruct_none_drop_tuple_u64_u32(tuple_u64_u32 given_1);
 SMALL bool std_alloc_vec_Vec_move_to_Link_3(Vec_Slot *self, uint64_t cap);
 SMALL void core_slots_Slots_copy_in_Link_2(Slots_CacheChange_u64 *self, uint64_t to, slice_Link_4 src);
-SMALL void std_alloc_vec_Vec_clear_Link_11(Vec_Slot *self);
+SMALL void std_alloc_vec_Vec_clear_Link_12(Vec_Slot *self);
 SMALL void std_alloc_vec_Vec_destroy_empty_u64_Later_2(Vec_u64_Later self);
 SMALL void std_alloc_vec_Vec_destroy_empty_u32_Later_2(Vec_u64_Later self);
 SMALL void std_alloc_vec_Vec_destroy_empty_Group_Later_2(Vec_u64_Later self);
@@ -11250,7 +11735,7 @@ SMALL bool std_alloc_room_may_hold_Entry_u64(uint64_t n);
 SMALL Result_ptr std_alloc_vec_resize_Entry_u64(const void *alloc, void *ptr, uint64_t len, uint64_t old_cap, uint64_t new_cap);
 SMALL void core_ptr_copy_drop_copy_bits_Entry_u64(void *src, void *dst, uint64_t count);
 SMALL void std_alloc_vec_Vec_truncate_Entry_u64_3(Vec_Slot *self, uint64_t n);
-SMALL void std_alloc_vec_opened_drop_run_AtlasAllocator_2(Slots_CacheChange_u64 *row, uint64_t from, uint64_t to);
+SMALL void std_alloc_vec_opened_drop_run_AtlasAllocator_3(Slots_CacheChange_u64 *row, uint64_t from, uint64_t to);
 SMALL void std_alloc_vec_opened_drop_run_Refusals_2(Slots_CacheChange_u64 *row, uint64_t from, uint64_t to);
 SMALL void std_alloc_vec_opened_drop_run_CacheChange_u64_2(Slots_CacheChange_u64 *row, uint64_t from, uint64_t to);
 SMALL uint64_t std_alloc_vec_Vec_capacity_u64_Later(const Vec_u64_Later *self);
@@ -11452,6 +11937,11 @@ SMALL bool atlas_search_cells_Cell_is_cut_wide(atlas_search_Cell self);
 SMALL uint32_t atlas_search_cells_middle(uint32_t first, uint32_t end);
 SMALL void std_alloc_vec_Vec_truncate_within_Link_8(Vec_Slot *self, uint64_t n);
 SMALL void guillotiere_Destruct_none_drop_Link(atlas_search_Link given_1);
+SMALL void std_alloc_vec_Vec_truncate_Slot_6(Vec_Slot *self, uint64_t n);
+SMALL void atlas_pages_Destruct_none_drop(void);
+SMALL void std_alloc_vec_Vec_truncate_Link_11(Vec_Slot *self, uint64_t n);
+SMALL uint64_t std_alloc_vec_least_capacity_AtlasAllocator(void);
+SMALL void atlas_pages_atlas_store_store_Store_Destruct_drop(const atlas_store_Store given_1);
 SMALL uint32_t core_slots_Slots_take_u32(Slots_CacheChange_u64 *self, uint64_t i);
 SMALL void core_mem_drop_u32(uint32_t x);
 SMALL std_collections_Group core_slots_Slots_take_Group(Slots_CacheChange_u64 *self, uint64_t i);
@@ -11516,7 +12006,6 @@ SMALL void atlas_cache_Destruct_none_drop_u32(uint32_t given_1);
 SMALL void std_alloc_vec_opened_drop_run_Change_3(Slots_CacheChange_u64 *row, uint64_t from, uint64_t to);
 SMALL Result_ptr std_heap_GlobalAllocator_grow_AtlasAllocator(const void *self, void *ptr, uint64_t len, uint64_t _old_cap,
         uint64_t new_cap);
-SMALL uint64_t std_alloc_vec_least_capacity_AtlasAllocator(void);
 SMALL void atlas_cache_atlas_store_store_Store_Destruct_drop(const atlas_store_Store given_1);
 SMALL Result_ptr std_heap_GlobalAllocator_grow_Refusals(const void *self, void *ptr, uint64_t len, uint64_t _old_cap, uint64_t new_cap);
 SMALL uint64_t std_alloc_vec_least_capacity_Refusals(void);
@@ -11533,11 +12022,11 @@ SMALL void std_alloc_vec_Vec_push_reserved_u32_Later(Vec_u64_Later *self, uint32
 SMALL bool std_alloc_room_may_hold_Link_2(uint64_t n);
 SMALL Result_ptr std_alloc_vec_resize_Link_3(const void *alloc, void *ptr, uint64_t len, uint64_t old_cap, uint64_t new_cap);
 SMALL void core_ptr_copy_drop_copy_bits_Link_2(void *src, void *dst, uint64_t count);
-SMALL void std_alloc_vec_Vec_truncate_Link_11(Vec_Slot *self, uint64_t n);
+SMALL void std_alloc_vec_Vec_truncate_Link_12(Vec_Slot *self, uint64_t n);
 SMALL void std_collections_std_collections_later_Later_Destruct_drop_2(std_collections_Later given_1);
 SMALL Result_ptr std_heap_GlobalAllocator_grow_Entry_u64(const void *self, void *ptr, uint64_t len, uint64_t _old_cap, uint64_t new_cap);
 SMALL void std_alloc_vec_Vec_truncate_within_Entry_u64_3(Vec_Slot *self, uint64_t n);
-SMALL void core_mem_drop_AtlasAllocator_2(const atlas_allocator_AtlasAllocator x);
+SMALL void core_mem_drop_AtlasAllocator_3(const atlas_allocator_AtlasAllocator x);
 SMALL void core_mem_drop_Refusals_2(atlas_cache_Refusals x);
 SMALL void core_mem_drop_CacheChange_u64_2(const atlas_cache_CacheChange_u64 x);
 SMALL slice_Bucket_2 std_alloc_vec_Vec_as_mut_slice_Bucket_Later(Vec_u64_Later *self);
@@ -11583,7 +12072,7 @@ SMALL slice_Option_Rectangle_2 std_alloc_vec_lends_VecDerefSliceMut_deref_mut_Op
 SMALL Result_SheetError atlas_sheet_places_find_in(guillotiere_SimpleAtlasAllocator *packer, slice_tuple_u64_Size order,
         atlas_sheet_Spacing spacing, slice_Option_Rectangle_2 places);
 SMALL void std_alloc_vec_Vec_drop_FreeBox_3(Vec_Slot given_1);
-SMALL void std_alloc_vec_Vec_drop_Link_12(Vec_Slot given_1);
+SMALL void std_alloc_vec_Vec_drop_Link_13(Vec_Slot given_1);
 SMALL Result std_alloc_vec_Vec_extend_from_slice_tuple_u64_Size(Vec_Slot *self, slice_tuple_u64_Size other);
 SMALL void std_alloc_vec_Vec_drop_tuple_u64_Size_2(Vec_Slot given_1);
 SMALL bool std_alloc_vec_Vec_grow_amortized_Placed(Vec_Slot *self, uint64_t additional);
@@ -11728,6 +12217,9 @@ SMALL bool guillotiere_simple_boxes_FreeBoxEntry_is_fork(const guillotiere_FreeB
 SMALL void atlas_search_heap_hang_left_FreeBox(slice_FreeBox_2 entries, atlas_search_Link above, atlas_search_Link less);
 SMALL void atlas_search_heap_swap_below_FreeBox(slice_FreeBox_2 entries, atlas_search_Link above);
 SMALL void std_alloc_vec_opened_drop_run_Link_8(Slots_CacheChange_u64 *row, uint64_t from, uint64_t to);
+SMALL void std_alloc_vec_Vec_truncate_within_Slot_6(Vec_Slot *self, uint64_t n);
+SMALL void std_alloc_vec_Vec_truncate_within_Link_11(Vec_Slot *self, uint64_t n);
+SMALL void atlas_pages_atlas_search_table_Table_Destruct_drop(const atlas_search_Table given_1);
 SMALL void guillotiere_c_Destruct_none_drop_u32(uint32_t given_1);
 SMALL void std_collections_Destruct_none_drop_Group(std_collections_Group given_1);
 SMALL void std_collections_Destruct_none_drop_Bucket(std_collections_Bucket given_1);
@@ -11794,7 +12286,7 @@ SMALL void std_alloc_vec_Vec_put_Bucket_Later(Vec_u64_Later *self, std_collectio
 SMALL void std_alloc_vec_Vec_put_u64_Later(Vec_u64_Later *self, uint64_t x);
 SMALL void std_alloc_vec_Vec_put_u32_Later(Vec_u64_Later *self, uint32_t x);
 SMALL Result_ptr std_heap_GlobalAllocator_grow_Link_2(const void *self, void *ptr, uint64_t len, uint64_t _old_cap, uint64_t new_cap);
-SMALL void std_alloc_vec_Vec_truncate_within_Link_11(Vec_Slot *self, uint64_t n);
+SMALL void std_alloc_vec_Vec_truncate_within_Link_12(Vec_Slot *self, uint64_t n);
 SMALL void std_collections_core_option_Option_Destruct_drop_2(Option given_1);
 SMALL void std_alloc_vec_opened_drop_run_Entry_u64_3(Slots_CacheChange_u64 *row, uint64_t from, uint64_t to);
 SMALL void atlas_cache_Destruct_none_drop_Refusals(atlas_cache_Refusals given_1);
@@ -11837,8 +12329,8 @@ SMALL Result_Option_Rectangle_SheetError atlas_sheet_places_place_unless(guillot
 SMALL Option_Size atlas_sheet_places_refused_by(atlas_model_Size sprite, Option_Rectangle found);
 SMALL void std_alloc_vec_Vec_clear_FreeBox_3(Vec_Slot *self);
 SMALL void std_alloc_vec_Vec_destroy_empty_FreeBox_3(Vec_Slot self);
-SMALL void std_alloc_vec_Vec_clear_Link_12(Vec_Slot *self);
-SMALL void std_alloc_vec_Vec_destroy_empty_Link_7(Vec_Slot self);
+SMALL void std_alloc_vec_Vec_clear_Link_13(Vec_Slot *self);
+SMALL void std_alloc_vec_Vec_destroy_empty_Link_8(Vec_Slot self);
 SMALL bool std_alloc_vec_Vec_grow_tuple_u64_Size(Vec_Slot *self, uint64_t additional);
 SMALL void core_slots_Slots_copy_in_tuple_u64_Size(Slots_CacheChange_u64 *self, uint64_t to, slice_tuple_u64_Size src);
 SMALL void std_alloc_vec_Vec_clear_tuple_u64_Size_2(Vec_Slot *self);
@@ -11961,6 +12453,8 @@ SMALL tuple_slice_Allocation_slice_Allocation core_slice_split_at_mut_inner_Allo
 SMALL void core_mem_swap_Allocation(atlas_model_Allocation *x, atlas_model_Allocation *y);
 SMALL void atlas_store_Destruct_none_drop_Link(atlas_search_Link given_1);
 SMALL void core_mem_drop_Link_8(atlas_search_Link x);
+SMALL void std_alloc_vec_opened_drop_run_Slot_6(Slots_CacheChange_u64 *row, uint64_t from, uint64_t to);
+SMALL void std_alloc_vec_opened_drop_run_Link_10(Slots_CacheChange_u64 *row, uint64_t from, uint64_t to);
 SMALL void std_alloc_vec_Vec_truncate_within_bool_3(Vec_Slot *self, uint64_t n);
 SMALL void core_hash_U64Hash_hash_FoldHasher(const uint64_t *given_1, FoldHasher *given_2);
 SMALL bool std_collections_hash_map_equivalent_RefEquivalent_equivalent_u64(const uint64_t **given_1, const uint64_t *given_2);
@@ -12012,7 +12506,7 @@ SMALL tuple_slice_Change_slice_Change core_slice_slice_T_split_at_mut_Change(sli
 SMALL void core_slice_edits_mirror_Change(slice_Change_2 front, uint64_t low, slice_Change_2 back, uint64_t n);
 SMALL void core_mem_drop_Refusals_3(atlas_cache_Refusals x);
 SMALL array_u8_4 core_int_u32_to_le_bytes(uint32_t given_1);
-SMALL void std_alloc_vec_opened_drop_run_Link_10(Slots_CacheChange_u64 *row, uint64_t from, uint64_t to);
+SMALL void std_alloc_vec_opened_drop_run_Link_11(Slots_CacheChange_u64 *row, uint64_t from, uint64_t to);
 SMALL void core_mem_drop_Entry_u64_3(atlas_entries_Entry_u64 x);
 SMALL void std_alloc_vec_Vec_truncate_Group_Later_3(Vec_u64_Later *self, uint64_t n);
 SMALL Result std_alloc_vec_Vec_extend_with_Group_Later(Vec_u64_Later *self, uint64_t n, std_collections_Group x);
@@ -12052,7 +12546,7 @@ SMALL bool core_cmp_declared_OptionPartialEq_eq_Size(const Option_Size *self, co
 SMALL Result_Option_Rectangle_SheetError atlas_sheet_places_place(guillotiere_SimpleAtlasAllocator *packer, atlas_model_Size sprite,
         atlas_sheet_Spacing spacing);
 SMALL void std_alloc_vec_Vec_truncate_FreeBox_3(Vec_Slot *self, uint64_t n);
-SMALL void std_alloc_vec_Vec_truncate_Link_12(Vec_Slot *self, uint64_t n);
+SMALL void std_alloc_vec_Vec_truncate_Link_13(Vec_Slot *self, uint64_t n);
 SMALL bool std_alloc_vec_Vec_grow_amortized_tuple_u64_Size(Vec_Slot *self, uint64_t additional);
 SMALL void core_ptr_copy_drop_copy_bits_tuple_u64_Size(void *src, void *dst, uint64_t count);
 SMALL void std_alloc_vec_Vec_truncate_tuple_u64_Size_2(Vec_Slot *self, uint64_t n);
@@ -12152,6 +12646,8 @@ SMALL tuple_Slots_Allocation_u64 core_slice_sort_unstable_partition_slots_Alloca
 SMALL tuple_Slots_CacheChange_u64 core_core_slice_sort_small_network_16_FnOnce_call_once_Allocation(Slots_CacheChange_u64 given_2);
 SMALL tuple_Slots_CacheChange_u64 core_core_slice_sort_small_network_12_FnOnce_call_once_Allocation(Slots_CacheChange_u64 given_2);
 SMALL tuple_Slots_CacheChange_u64 core_core_slice_sort_small_network_8_FnOnce_call_once_Allocation(Slots_CacheChange_u64 given_2);
+SMALL void core_mem_drop_Slot_6(atlas_store_Slot x);
+SMALL void core_mem_drop_Link_10(atlas_search_Link x);
 SMALL void std_alloc_vec_opened_drop_run_bool_3(Slots_CacheChange_u64 *row, uint64_t from, uint64_t to);
 SMALL void core_hash_fold_FoldHasherHasher_write_u64(FoldHasher *given_1, uint64_t given_2);
 SMALL bool core_cmp_numbers_U64PartialEq_eq(const uint64_t *given_1, const uint64_t *given_2);
@@ -12191,7 +12687,7 @@ SMALL void core_slots_lends_with_slots_Change_3(slice_Change_2 given_1, void *gi
 SMALL tuple_slice_Change_slice_Change core_slice_split_at_mut_inner_Change(slice_Change_2 s, uint64_t mid);
 SMALL void core_mem_swap_Change(atlas_model_Change *x, atlas_model_Change *y);
 SMALL void std_alloc_Destruct_none_drop_Refusals(atlas_cache_Refusals given_1);
-SMALL void core_mem_drop_Link_10(atlas_entries_Link x);
+SMALL void core_mem_drop_Link_11(atlas_entries_Link x);
 SMALL void std_alloc_Destruct_none_drop_Entry_u64(atlas_entries_Entry_u64 given_1);
 SMALL void std_alloc_vec_Vec_truncate_within_Group_Later_3(Vec_u64_Later *self, uint64_t n);
 SMALL bool std_alloc_vec_Vec_grow_Group_Later(Vec_u64_Later *self, uint64_t additional);
@@ -12227,7 +12723,7 @@ SMALL uint32_t core_convert_U32FromU16_from(uint16_t given_1);
 SMALL uint32_t core_int_u32_max(uint32_t given_1, uint32_t given_2);
 SMALL Result_Option_Rectangle_SheetError atlas_sheet_places_request(guillotiere_SimpleAtlasAllocator *packer, atlas_model_Size size);
 SMALL void std_alloc_vec_Vec_truncate_within_FreeBox_3(Vec_Slot *self, uint64_t n);
-SMALL void std_alloc_vec_Vec_truncate_within_Link_12(Vec_Slot *self, uint64_t n);
+SMALL void std_alloc_vec_Vec_truncate_within_Link_13(Vec_Slot *self, uint64_t n);
 SMALL uint64_t std_alloc_vec_least_capacity_tuple_u64_Size(void);
 SMALL void std_alloc_vec_Vec_truncate_within_tuple_u64_Size_2(Vec_Slot *self, uint64_t n);
 SMALL Result_ptr std_heap_GlobalAllocator_grow_Placed(const void *self, void *ptr, uint64_t len, uint64_t _old_cap, uint64_t new_cap);
@@ -12316,6 +12812,8 @@ SMALL uint64_t core_slice_sort_unstable_cycle_Allocation_0(Slots_CacheChange_u64
 SMALL tuple_Slots_CacheChange_u64 core_slice_sort_small_network_16_Allocation(Slots_CacheChange_u64 row);
 SMALL tuple_Slots_CacheChange_u64 core_slice_sort_small_network_12_Allocation(Slots_CacheChange_u64 row);
 SMALL tuple_Slots_CacheChange_u64 core_slice_sort_small_network_8_Allocation(Slots_CacheChange_u64 row);
+SMALL void atlas_pages_Destruct_none_drop_Slot(atlas_store_Slot given_1);
+SMALL void atlas_pages_Destruct_none_drop_Link(atlas_search_Link given_1);
 SMALL void core_mem_drop_bool_3(bool x);
 SMALL void core_hash_Hasher_write_u64_FoldHasher(FoldHasher *given_1, uint64_t given_2);
 SMALL tuple_Slots_CacheChange_u64_Slots_CacheChange_u64 core_slice_edits_front_waits_CacheChange_u64(Slots_CacheChange_u64 spare,
@@ -12386,7 +12884,7 @@ SMALL void core_slice_sort_runs_settle_tuple_u64_Size_ByKey_sort_by_key_Self_ref
 SMALL Result_ptr std_heap_GlobalAllocator_grow_Option_Rectangle(const void *self, void *ptr, uint64_t len, uint64_t _old_cap,
         uint64_t new_cap);
 SMALL void std_alloc_vec_opened_drop_run_FreeBox_3(Slots_CacheChange_u64 *row, uint64_t from, uint64_t to);
-SMALL void std_alloc_vec_opened_drop_run_Link_11(Slots_CacheChange_u64 *row, uint64_t from, uint64_t to);
+SMALL void std_alloc_vec_opened_drop_run_Link_12(Slots_CacheChange_u64 *row, uint64_t from, uint64_t to);
 SMALL void std_alloc_vec_opened_drop_run_tuple_u64_Size_2(Slots_CacheChange_u64 *row, uint64_t from, uint64_t to);
 SMALL Option_ref_Size core_iter_slices_IterIterator_next_Size(Iter_Size *self);
 SMALL Option_Size core_option_more_Option_ref_T_copied_Size(Option_ref_Size self);
@@ -12526,7 +13024,7 @@ SMALL Run core_slice_sort_runs_next_run_tuple_u64_Size_ByKey_sort_by_key_Self_re
 SMALL Run core_slice_sort_runs_join_tuple_u64_Size_ByKey_sort_by_key_Self_ref_Key_Reverse_u64(slice_tuple_u64_Size_2 s, uint64_t low,
         Run left, Run right, Sorter_tuple_u64_Size_ByKey_sort_by_key_Self_ref_Key_Reverse_u64 *sorter);
 SMALL void core_mem_drop_FreeBox_3(guillotiere_FreeBox x);
-SMALL void core_mem_drop_Link_11(atlas_search_Link x);
+SMALL void core_mem_drop_Link_12(atlas_search_Link x);
 SMALL void core_mem_drop_tuple_u64_Size_2(tuple_u64_Size x);
 SMALL bool core_slice_slice_T_is_empty_Size(slice_Size given_1);
 SMALL const atlas_model_Size *core_option_Option_unwrap_ref_Size(Option_ref_Size self);
@@ -13766,6 +14264,296 @@ SMALL bool guillotiere_c_simple_guillotiere_simple_is_empty(const guillotiere_si
     }
     at_2 = guillotiere_c_simple_handle_SimpleReader_lent(simple);
     return guillotiere_simple_SimpleAtlasAllocator_is_empty(at_2);
+}
+
+/* Makes a paged atlas, which has no page yet, with the default options, where the handle holds nothing. Pages are made of this
+ * size, as many as are needed, but at most `most`. `DONE`; `BAD_CALL` if a side isn't above 0; `MEMORY`; `OCCUPIED`, before
+ * all others, if the handle holds one already.
+ * crates/guillotiere_c/src/paged.rt
+ */
+SMALL uint32_t guillotiere_c_paged_guillotiere_paged_new(uint32_t width, uint32_t height, uint32_t most, guillotiere_paged *paged) {
+    const atlas_model_AllocatorOptions *at_6;
+    at_6 = (const atlas_model_AllocatorOptions *)&constant_1;
+    return guillotiere_c_paged_start(width, height, at_6, most, paged);
+}
+
+/* The same with these options, of the atlas of each page. `DONE`; `BAD_CALL` if a side isn't above 0 or the options aren't
+ * valid; `MEMORY`; `OCCUPIED`, before all others, if the handle holds one already.
+ * crates/guillotiere_c/src/paged.rt
+ */
+SMALL uint32_t guillotiere_c_paged_guillotiere_paged_with_options(uint32_t width, uint32_t height, const guillotiere_options *options,
+        uint32_t most, guillotiere_paged *paged) {
+    atlas_model_AllocatorOptions allocatoroptions_7;
+    allocatoroptions_7 = guillotiere_c_plain_options_for(options);
+    return guillotiere_c_paged_start(width, height, &allocatoroptions_7, most, paged);
+}
+
+/* Frees a paged atlas, with all its memory; the handle holds nothing then.
+ * crates/guillotiere_c/src/paged.rt
+ */
+SMALL void guillotiere_c_paged_guillotiere_paged_free(guillotiere_paged *paged) {
+    Box_AtlasAllocator box_3;
+    bool is_4;
+    is_4 = guillotiere_c_paged_handle_PagedHandle_holds(paged);
+    if (!is_4) {
+        return;
+    }
+    box_3 = guillotiere_c_paged_handle_PagedHandle_take(paged);
+    std_alloc_boxed_Box_drop_PagedAtlas(box_3);
+}
+
+/* Asks for a box of this size, rounded up by the options, on the first page that has room for it. Where none has, a page is
+ * added, as the last one. `DONE`: `granted` has its page, its id and its rectangle, which overlaps no other live box of that
+ * page. `NO_ROOM` if there are as many pages as there may be, or the size has no room on an empty page; `SLOTS` if that page
+ * has too few of them, of 16777216; `MEMORY`; `EMPTY`. Takes one search on each page up to that one.
+ * crates/guillotiere_c/src/paged.rt
+ */
+SMALL uint32_t guillotiere_c_paged_guillotiere_paged_allocate(guillotiere_paged *paged, uint32_t width, uint32_t height,
+        guillotiere_page_allocation *granted) {
+    Box_AtlasAllocator box_6;
+    Result_Option_PageAllocation_AtlasError result_7;
+    bool is_8;
+    atlas_pages_PagedAtlas *at_13;
+    atlas_model_Size size_16;
+    is_8 = guillotiere_c_paged_handle_PagedHandle_holds(paged);
+    if (!is_8) {
+        return 7u;
+    }
+    box_6 = guillotiere_c_paged_handle_PagedHandle_take(paged);
+    at_13 = std_alloc_boxed_deref_mut_BoxDerefMut_deref_mut_PagedAtlas(&box_6);
+    size_16 = atlas_model_geometry_size2(width, height);
+    result_7 = guillotiere_c_paged_request(at_13, size_16);
+    guillotiere_c_paged_handle_PagedHandle_put(paged, box_6);
+    return guillotiere_c_paged_write_granted(result_7, granted);
+}
+
+/* Frees the box of an id that is live on a page: it joins the free space next to it. The page stays, also where nothing is
+ * left on it. Takes no memory. `DONE`; `NOT_LIVE`, also if there is no such page; `EMPTY`.
+ * crates/guillotiere_c/src/paged.rt
+ */
+SMALL uint32_t guillotiere_c_paged_guillotiere_paged_deallocate(guillotiere_paged *paged, uint32_t page, uint32_t id) {
+    Box_AtlasAllocator box_5;
+    Result_AtlasError result_6;
+    bool is_7;
+    atlas_pages_PagedAtlas *at_12;
+    atlas_model_AllocId allocid_15;
+    is_7 = guillotiere_c_paged_handle_PagedHandle_holds(paged);
+    if (!is_7) {
+        return 7u;
+    }
+    box_5 = guillotiere_c_paged_handle_PagedHandle_take(paged);
+    at_12 = std_alloc_boxed_deref_mut_BoxDerefMut_deref_mut_PagedAtlas(&box_5);
+    allocid_15 = atlas_model_allocation_AllocId_deserialize(id);
+    result_6 = guillotiere_c_paged_free(at_12, page, allocid_15);
+    guillotiere_c_paged_handle_PagedHandle_put(paged, box_5);
+    return guillotiere_c_plain_status_of_done(result_6);
+}
+
+/* The rectangle of an id that is live on a page. `DONE`: it is in `found`. `NOT_LIVE`, also if there is no such page; `EMPTY`.
+ * crates/guillotiere_c/src/paged.rt
+ */
+SMALL uint32_t guillotiere_c_paged_guillotiere_paged_get(const guillotiere_paged *paged, uint32_t page, uint32_t id,
+        guillotiere_rectangle *found) {
+    const atlas_pages_PagedAtlas *at_5;
+    Option_Rectangle option_6;
+    bool is_8;
+    atlas_model_AllocId allocid_11;
+    uint32_t n_12;
+    guillotiere_rectangle plainrectangle_13;
+    is_8 = guillotiere_c_paged_handle_PagedReader_holds(paged);
+    if (!is_8) {
+        return 7u;
+    }
+    at_5 = guillotiere_c_paged_handle_PagedReader_lent(paged);
+    atlas_pages_paged_PagedAtlas_prove_kept(at_5, page);
+    allocid_11 = atlas_model_allocation_AllocId_deserialize(id);
+    option_6 = atlas_pages_paged_PagedAtlas_get(at_5, page, allocid_11);
+    if (option_6.tag == 1u /* Some */) {
+        plainrectangle_13 = guillotiere_c_plain_plain_rectangle(option_6.Some.field_0);
+        *found = plainrectangle_13;
+        n_12 = 0u;
+    } else {
+        n_12 = 3u;
+    }
+    return n_12;
+}
+
+/* Makes a page larger; every live id keeps its rectangle, and pages that are added later are as before. `DONE`; `NO_PAGE`;
+ * `BAD_CALL` if a side shrinks; `SLOTS`; `MEMORY`; `EMPTY`.
+ * crates/guillotiere_c/src/paged.rt
+ */
+SMALL uint32_t guillotiere_c_paged_guillotiere_paged_grow(guillotiere_paged *paged, uint32_t page, uint32_t width, uint32_t height) {
+    Box_AtlasAllocator box_6;
+    uint32_t n_7;
+    bool is_8;
+    atlas_pages_PagedAtlas *at_13;
+    atlas_model_Size size_16;
+    is_8 = guillotiere_c_paged_handle_PagedHandle_holds(paged);
+    if (!is_8) {
+        return 7u;
+    }
+    box_6 = guillotiere_c_paged_handle_PagedHandle_take(paged);
+    at_13 = std_alloc_boxed_deref_mut_BoxDerefMut_deref_mut_PagedAtlas(&box_6);
+    size_16 = atlas_model_geometry_size2(width, height);
+    n_7 = guillotiere_c_paged_enlarge(at_13, page, size_16);
+    guillotiere_c_paged_handle_PagedHandle_put(paged, box_6);
+    return n_7;
+}
+
+/* Drops the pages behind the last one with a live id, with their memory, and writes how many are left. A page that such a one
+ * follows stays, though nothing is on it. No rectangle moves. Takes no memory. `DONE`; `EMPTY`.
+ * crates/guillotiere_c/src/paged.rt
+ */
+SMALL uint32_t guillotiere_c_paged_guillotiere_paged_shrink(guillotiere_paged *paged, uint32_t *left) {
+    Box_AtlasAllocator box_4;
+    bool is_5;
+    uint32_t n_10;
+    atlas_pages_PagedAtlas *at_11;
+    is_5 = guillotiere_c_paged_handle_PagedHandle_holds(paged);
+    if (!is_5) {
+        return 7u;
+    }
+    box_4 = guillotiere_c_paged_handle_PagedHandle_take(paged);
+    at_11 = std_alloc_boxed_deref_mut_BoxDerefMut_deref_mut_PagedAtlas(&box_4);
+    n_10 = guillotiere_c_paged_shorten(at_11);
+    *left = n_10;
+    guillotiere_c_paged_handle_PagedHandle_put(paged, box_4);
+    return 0u;
+}
+
+/* Frees all boxes. The pages stay, with their sizes; `guillotiere_paged_shrink` drops them. Takes no memory. `DONE`; `EMPTY`.
+ * crates/guillotiere_c/src/paged.rt
+ */
+SMALL uint32_t guillotiere_c_paged_guillotiere_paged_clear(guillotiere_paged *paged) {
+    Box_AtlasAllocator box_3;
+    bool is_4;
+    atlas_pages_PagedAtlas *at_10;
+    is_4 = guillotiere_c_paged_handle_PagedHandle_holds(paged);
+    if (!is_4) {
+        return 7u;
+    }
+    box_3 = guillotiere_c_paged_handle_PagedHandle_take(paged);
+    at_10 = std_alloc_boxed_deref_mut_BoxDerefMut_deref_mut_PagedAtlas(&box_3);
+    guillotiere_c_paged_free_all(at_10);
+    guillotiere_c_paged_handle_PagedHandle_put(paged, box_3);
+    return 0u;
+}
+
+/* How many pages there are. `DONE`; `EMPTY`.
+ * crates/guillotiere_c/src/paged.rt
+ */
+SMALL uint32_t guillotiere_c_paged_guillotiere_paged_page_count(const guillotiere_paged *paged, uint32_t *pages) {
+    const atlas_pages_PagedAtlas *at_3;
+    bool is_4;
+    uint32_t n_6;
+    is_4 = guillotiere_c_paged_handle_PagedReader_holds(paged);
+    if (!is_4) {
+        return 7u;
+    }
+    at_3 = guillotiere_c_paged_handle_PagedReader_lent(paged);
+    n_6 = atlas_pages_paged_PagedAtlas_page_count(at_3);
+    *pages = n_6;
+    return 0u;
+}
+
+/* The size of a page, counted from 0. `DONE`; `NO_PAGE`; `EMPTY`.
+ * crates/guillotiere_c/src/paged.rt
+ */
+SMALL uint32_t guillotiere_c_paged_guillotiere_paged_page_size(const guillotiere_paged *paged, uint32_t page, guillotiere_size *size) {
+    const atlas_pages_PagedAtlas *at_4;
+    Option_Size option_5;
+    bool is_7;
+    uint32_t n_9;
+    guillotiere_size plainsize_10;
+    is_7 = guillotiere_c_paged_handle_PagedReader_holds(paged);
+    if (!is_7) {
+        return 7u;
+    }
+    at_4 = guillotiere_c_paged_handle_PagedReader_lent(paged);
+    option_5 = atlas_pages_paged_PagedAtlas_page_size(at_4, page);
+    if (option_5.tag == 1u /* Some */) {
+        plainsize_10 = guillotiere_c_plain_plain_size(option_5.Some.field_0);
+        *size = plainsize_10;
+        n_9 = 0u;
+    } else {
+        n_9 = 22u;
+    }
+    return n_9;
+}
+
+/* The areas of all live and of all free boxes of a page, counted from 0, in one pass over its slots. `DONE`; `NO_PAGE`;
+ * `EMPTY`.
+ * crates/guillotiere_c/src/paged.rt
+ */
+SMALL uint32_t guillotiere_c_paged_guillotiere_paged_areas(const guillotiere_paged *paged, uint32_t page, guillotiere_areas *areas) {
+    slice_AtlasAllocator slice_4;
+    const atlas_allocator_AtlasAllocator *at_5;
+    bool is_6;
+    const atlas_pages_PagedAtlas *at_8;
+    Option_ref_AtlasAllocator option_9;
+    uint32_t n_11;
+    uint64_t n_12;
+    uint64_t n_13;
+    is_6 = guillotiere_c_paged_handle_PagedReader_holds(paged);
+    if (!is_6) {
+        return 7u;
+    }
+    at_8 = guillotiere_c_paged_handle_PagedReader_lent(paged);
+    slice_4 = atlas_pages_paged_PagedAtlas_pages(at_8);
+    option_9 = core_slice_slice_T_get_AtlasAllocator_u64_ref_AtlasAllocator(slice_4, (uint64_t)page);
+    if (option_9.tag == 1u /* Some */) {
+        at_5 = option_9.Some.field_0;
+        n_12 = atlas_allocator_atlas_AtlasAllocator_allocated_area(at_5);
+        n_13 = atlas_allocator_atlas_AtlasAllocator_free_area(at_5);
+        *areas = new_guillotiere_areas(n_12, n_13);
+        n_11 = 0u;
+    } else {
+        n_11 = 22u;
+    }
+    return n_11;
+}
+
+/* Writes the live boxes of a page, counted from 0, by rising slot, which is the low 24 bits of the id: as many as there is
+ * room for, and into `count` how many there are. What `found` has after them stays. `DONE`; `NO_PAGE`; `MEMORY`; `EMPTY`.
+ * crates/guillotiere_c/src/paged.rt
+ */
+SMALL uint32_t guillotiere_c_paged_guillotiere_paged_live(const guillotiere_paged *paged, uint32_t page, slice_PlainAllocation found,
+        uint64_t *count) {
+    uint32_t result;
+    slice_AtlasAllocator slice_5;
+    const atlas_allocator_AtlasAllocator *at_6;
+    Vec_Slot vec_7;
+    bool is_8;
+    const atlas_pages_PagedAtlas *at_10;
+    Option_ref_AtlasAllocator option_11;
+    Result_Vec_Allocation_AtlasError result_13;
+    slice_Allocation slice_15;
+    uint64_t n_23;
+    is_8 = guillotiere_c_paged_handle_PagedReader_holds(paged);
+    if (!is_8) {
+        return 7u;
+    }
+    at_10 = guillotiere_c_paged_handle_PagedReader_lent(paged);
+    slice_5 = atlas_pages_paged_PagedAtlas_pages(at_10);
+    option_11 = core_slice_slice_T_get_AtlasAllocator_u64_ref_AtlasAllocator(slice_5, (uint64_t)page);
+    if (option_11.tag == 1u /* Some */) {
+        at_6 = option_11.Some.field_0;
+    } else {
+        return 22u;
+    }
+    result_13 = atlas_allocator_atlas_AtlasAllocator_allocations(at_6);
+    if (result_13.tag == 0u /* Ok */) {
+        vec_7 = result_13.is.Ok.field_0;
+    } else {
+        return 5u;
+    }
+    slice_15 = std_alloc_vec_derefs_VecDerefSlice_deref_Allocation(&vec_7);
+    guillotiere_c_writing_write_allocations(slice_15, new_slice_PlainAllocation(found.at, found.len));
+    n_23 = std_alloc_vec_Vec_len_Allocation(&vec_7);
+    *count = n_23;
+    result = 0u;
+    std_alloc_vec_Vec_drop_Allocation(vec_7);
+    return result;
 }
 
 /* Makes a cache that holds nothing and has no page yet, where the handle holds nothing. Keys are any numbers of 64 bits;
@@ -15925,6 +16713,243 @@ SMALL bool guillotiere_simple_SimpleAtlasAllocator_is_empty(const guillotiere_Si
     slice_2 = std_alloc_vec_derefs_VecDerefSlice_deref_FreeBox(&self->boxes.entries);
     rectangle_7 = atlas_model_geometry_RectangleFromSize_from(self->size);
     return guillotiere_simple_is_listed(slice_2, &rectangle_7);
+}
+
+/* Makes a paged atlas where the handle holds nothing.
+ * crates/guillotiere_c/src/paged.rt
+ */
+SMALL uint32_t guillotiere_c_paged_start(uint32_t width, uint32_t height, const atlas_model_AllocatorOptions *options, uint32_t most,
+        guillotiere_paged *paged) {
+    uint32_t result;
+    Result_PagedAtlas_PagesError result_7;
+    atlas_pages_PagedAtlas pagedatlas_8;
+    atlas_model_Size size_12;
+    Result_Box_PagedAtlas_AllocFailed_PagedAtlas result_13;
+    uint32_t n_23;
+    if (guillotiere_c_paged_handle_PagedHandle_holds(paged)) {
+        return 29u;
+    }
+    size_12 = atlas_model_geometry_size2(width, height);
+    result_7 = atlas_pages_paged_PagedAtlas_with_options(size_12, options, most);
+    if (result_7.tag == 0u /* Ok */) {
+        pagedatlas_8 = result_7.is.Ok.field_0;
+    } else {
+        return 2u;
+    }
+    result_13 = std_alloc_boxed_Box_new_PagedAtlas(pagedatlas_8);
+    if (result_13.tag == 0u /* Ok */) {
+        guillotiere_c_paged_handle_PagedHandle_put(paged, result_13.is.Ok.field_0);
+        return 0u;
+    }
+    n_23 = 5u;
+    result = n_23;
+    if (result_13.tag == 1u /* Err */) {
+        std_alloc_vec_Vec_drop_AtlasAllocator(result_13.is.Err.field_0.value.pages);
+    }
+    return result;
+}
+
+/* Whether it holds a paged atlas.
+ * crates/guillotiere_c/src/paged_handle.rt
+ */
+SMALL bool guillotiere_c_paged_handle_PagedHandle_holds(guillotiere_paged *self) {
+    return !(self->at == NULL);
+}
+
+/* Takes the paged atlas out; the handle holds nothing then. Requires that it holds a paged atlas.
+ * crates/guillotiere_c/src/paged_handle.rt
+ */
+SMALL Box_AtlasAllocator guillotiere_c_paged_handle_PagedHandle_take(guillotiere_paged *self) {
+    guillotiere_paged pagedhandle_5;
+    guillotiere_c_Held_AtlasAllocator held_6;
+    guillotiere_paged pagedhandle_7;
+    pagedhandle_5 = guillotiere_c_paged_handle_PagedHandle_none();
+    pagedhandle_7 = core_mem_replace_PagedHandle(self, pagedhandle_5);
+    held_6 = guillotiere_c_paged_handle_PagedHandle_open(pagedhandle_7);
+    return guillotiere_c_held_release_AtlasAllocator(held_6);
+}
+
+/* std_alloc::boxed::Box::drop */
+SMALL void std_alloc_boxed_Box_drop_PagedAtlas(Box_AtlasAllocator given_1) {
+    tuple_PagedAtlas_Vacant_PagedAtlas tuple_5;
+    tuple_5 = std_alloc_boxed_Box_take_value_PagedAtlas(given_1);
+    std_alloc_room_vacant_Vacant_free_PagedAtlas(tuple_5.field_1);
+    core_mem_drop_PagedAtlas(tuple_5.field_0);
+    core_mem_drop();
+}
+
+/* std_alloc/src/boxed/deref_mut.rt */
+SMALL atlas_pages_PagedAtlas *std_alloc_boxed_deref_mut_BoxDerefMut_deref_mut_PagedAtlas(Box_AtlasAllocator *self) {
+    atlas_pages_PagedAtlas *at_2;
+    at_2 = (atlas_pages_PagedAtlas *)self->ptr;
+    return at_2;
+}
+
+/* Requests a box; what the export's contract needs of the answer.
+ * crates/guillotiere_c/src/paged.rt
+ */
+SMALL Result_Option_PageAllocation_AtlasError guillotiere_c_paged_request(atlas_pages_PagedAtlas *paged, atlas_model_Size size) {
+    return atlas_pages_paged_PagedAtlas_allocate(paged, size);
+}
+
+/* Puts a paged atlas in. Requires that the handle holds nothing.
+ * crates/guillotiere_c/src/paged_handle.rt
+ */
+SMALL void guillotiere_c_paged_handle_PagedHandle_put(guillotiere_paged *self, Box_AtlasAllocator paged) {
+    Box_AtlasAllocator box_3;
+    const atlas_pages_PagedAtlas *at_6;
+    guillotiere_paged pagedhandle_9;
+    guillotiere_c_Held_AtlasAllocator held_10;
+    guillotiere_paged pagedhandle_12;
+    box_3 = paged;
+    at_6 = std_alloc_boxed_methods_BoxDeref_deref_PagedAtlas(&box_3);
+    atlas_pages_paged_PagedAtlas_prove_kept(at_6, 0u);
+    held_10 = guillotiere_c_held_hold_AtlasAllocator(box_3);
+    pagedhandle_9 = guillotiere_c_paged_handle_PagedHandle_close(held_10);
+    pagedhandle_12 = core_mem_replace_PagedHandle(self, pagedhandle_9);
+    guillotiere_c_paged_handle_PagedHandle_forget(pagedhandle_12);
+}
+
+/* Writes what a request was granted.
+ * crates/guillotiere_c/src/paged.rt
+ */
+SMALL uint32_t guillotiere_c_paged_write_granted(Result_Option_PageAllocation_AtlasError answer, guillotiere_page_allocation *granted) {
+    uint32_t n_5;
+    guillotiere_page_allocation plainpageallocation_6;
+    if (answer.tag == 0u /* Ok */) {
+        if (answer.is.Ok.field_0.tag == 1u /* Some */) {
+            plainpageallocation_6 = guillotiere_c_plain_paged_plain_page_allocation(answer.is.Ok.field_0.Some.field_0);
+            *granted = plainpageallocation_6;
+            n_5 = 0u;
+        } else {
+            n_5 = 1u;
+        }
+    } else {
+        n_5 = guillotiere_c_plain_status_of(answer.is.Err.field_0);
+    }
+    return n_5;
+}
+
+/* Frees a box; what the export's contract needs of the answer.
+ * crates/guillotiere_c/src/paged.rt
+ */
+SMALL Result_AtlasError guillotiere_c_paged_free(atlas_pages_PagedAtlas *paged, uint32_t page, atlas_model_AllocId id) {
+    return atlas_pages_paged_PagedAtlas_deallocate(paged, page, id);
+}
+
+/* Whether it holds a paged atlas.
+ * crates/guillotiere_c/src/paged_handle.rt
+ */
+SMALL bool guillotiere_c_paged_handle_PagedReader_holds(const guillotiere_paged *self) {
+    return !(self->at == NULL);
+}
+
+/* The paged atlas. Requires that it holds one.
+ * crates/guillotiere_c/src/paged_handle.rt
+ */
+SMALL const atlas_pages_PagedAtlas *guillotiere_c_paged_handle_PagedReader_lent(const guillotiere_paged *self) {
+    const atlas_pages_PagedAtlas *at_2;
+    at_2 = (atlas_pages_PagedAtlas *)self->at;
+    return at_2;
+}
+
+/* States what always holds of the pages, and does nothing: they are no more than there may be, and the rectangles of live ids of a
+ * page lie apart and within it.
+ * crates/atlas_pages/src/paged.rt
+ */
+SMALL void atlas_pages_paged_PagedAtlas_prove_kept(const atlas_pages_PagedAtlas *self, uint32_t page) {
+    slice_AtlasAllocator slice_4;
+    slice_4 = std_alloc_vec_derefs_VecDerefSlice_deref_AtlasAllocator(&self->pages);
+    guillotiere_pages_prove_page(slice_4, (uint64_t)page);
+}
+
+/* The rectangle of an id that is live on this page, in pixels; None for every other id and page.
+ * crates/atlas_pages/src/paged.rt
+ */
+SMALL Option_Rectangle atlas_pages_paged_PagedAtlas_get(const atlas_pages_PagedAtlas *self, uint32_t page, atlas_model_AllocId id) {
+    Option_ref_AtlasAllocator option_5;
+    slice_AtlasAllocator slice_6;
+    Option_Rectangle option_9;
+    slice_6 = std_alloc_vec_derefs_VecDerefSlice_deref_AtlasAllocator(&self->pages);
+    option_5 = core_slice_slice_T_get_AtlasAllocator_u64_ref_AtlasAllocator(slice_6, (uint64_t)page);
+    if (option_5.tag == 1u /* Some */) {
+        option_9 = atlas_allocator_atlas_AtlasAllocator_get(option_5.Some.field_0, id);
+    } else {
+        option_9 = new_Option_Rectangle_None();
+    }
+    return option_9;
+}
+
+/* Makes a page larger; what the export's contract needs of the answer.
+ * crates/guillotiere_c/src/paged.rt
+ */
+SMALL uint32_t guillotiere_c_paged_enlarge(atlas_pages_PagedAtlas *paged, uint32_t page, atlas_model_Size size) {
+    Result_PagesError result_5;
+    uint32_t n_7;
+    result_5 = atlas_pages_paged_PagedAtlas_grow(paged, page, size);
+    if (result_5.tag == 0u /* Ok */) {
+        n_7 = 0u;
+    } else {
+        n_7 = guillotiere_c_plain_paged_status_of_pages_error(result_5.Err.field_0);
+    }
+    return n_7;
+}
+
+/* Lets the last pages go; what the export's contract needs of the answer.
+ * crates/guillotiere_c/src/paged.rt
+ */
+SMALL uint32_t guillotiere_c_paged_shorten(atlas_pages_PagedAtlas *paged) {
+    return atlas_pages_paged_PagedAtlas_shrink(paged);
+}
+
+/* Frees all boxes; what the export's contract needs of it.
+ * crates/guillotiere_c/src/paged.rt
+ */
+SMALL void guillotiere_c_paged_free_all(atlas_pages_PagedAtlas *paged) {
+    atlas_pages_paged_PagedAtlas_clear(paged);
+}
+
+/* How many pages there are.
+ * crates/atlas_pages/src/paged.rt
+ */
+SMALL uint32_t atlas_pages_paged_PagedAtlas_page_count(const atlas_pages_PagedAtlas *self) {
+    uint64_t n_2;
+    n_2 = std_alloc_vec_Vec_len_Allocation(&self->pages);
+    return atlas_pages_paged_number(n_2, self->most);
+}
+
+/* The size of a page, in pixels; None if there is no such page.
+ * crates/atlas_pages/src/paged.rt
+ */
+SMALL Option_Size atlas_pages_paged_PagedAtlas_page_size(const atlas_pages_PagedAtlas *self, uint32_t page) {
+    ControlFlow_ref_AtlasAllocator controlflow_6;
+    Option_ref_AtlasAllocator option_7;
+    slice_AtlasAllocator slice_8;
+    const atlas_allocator_AtlasAllocator *at_11;
+    atlas_model_Size size_12;
+    slice_8 = std_alloc_vec_derefs_VecDerefSlice_deref_AtlasAllocator(&self->pages);
+    option_7 = core_slice_slice_T_get_AtlasAllocator_u64_ref_AtlasAllocator(slice_8, (uint64_t)page);
+    controlflow_6 = core_option_OptionTry_branch_ref_AtlasAllocator(option_7);
+    if (controlflow_6.tag == 0u /* Continue */) {
+        at_11 = controlflow_6.Continue.field_0;
+    } else {
+        return core_option_OptionFromResidualNoValue_from_residual_Size();
+    }
+    size_12 = atlas_allocator_atlas_AtlasAllocator_size(at_11);
+    return new_Option_Size_Some(size_12);
+}
+
+/* The atlases of the pages, by their numbers: what is on a page is told by its `iter`, `free_iter`, `areas` and the like.
+ * crates/atlas_pages/src/paged.rt
+ */
+SMALL slice_AtlasAllocator atlas_pages_paged_PagedAtlas_pages(const atlas_pages_PagedAtlas *self) {
+    return std_alloc_vec_derefs_VecDerefSlice_deref_AtlasAllocator(&self->pages);
+}
+
+/* core::slice::slice+T::get */
+SMALL Option_ref_AtlasAllocator core_slice_slice_T_get_AtlasAllocator_u64_ref_AtlasAllocator(slice_AtlasAllocator given_1,
+        uint64_t given_2) {
+    return core_slice_index_UsizeSliceIndexRefSlice_pick_AtlasAllocator(given_2, given_1);
 }
 
 /* Whether it holds a cache.
@@ -18575,6 +19600,251 @@ SMALL bool guillotiere_simple_is_listed(slice_FreeBox entries, const atlas_model
     return false;
 }
 
+/* No page yet. Pages are made of this size, in pixels, and with these options, and there are at most so many. `EmptySize`,
+ * `Alignment` or `Thresholds` if the size is empty or the options aren't valid. Takes no memory.
+ * crates/atlas_pages/src/paged.rt
+ */
+SMALL Result_PagedAtlas_PagesError atlas_pages_paged_PagedAtlas_with_options(atlas_model_Size page_size,
+        const atlas_model_AllocatorOptions *options, uint32_t most) {
+    ControlFlow_ErrResidual_PagesError controlflow_7;
+    Result_PagesError result_8;
+    Vec_Slot vec_9;
+    result_8 = atlas_pages_paged_steps_check_start(page_size, options);
+    controlflow_7 = core_result_ResultTry_branch_PagesError(result_8);
+    if (!(controlflow_7.tag == 0u /* Continue */)) {
+        return core_result_ResultFromResidualErrResidual_from_residual_PagedAtlas_PagesError_PagesError(controlflow_7.Break.field_0);
+    }
+    vec_9 = std_alloc_vec_Vec_new_CacheChange_u64();
+    return new_Result_PagedAtlas_PagesError_Ok(new_atlas_pages_PagedAtlas(vec_9, page_size, *options, most));
+}
+
+/* std_alloc/src/boxed/methods.rt */
+SMALL Result_Box_PagedAtlas_AllocFailed_PagedAtlas std_alloc_boxed_Box_new_PagedAtlas(atlas_pages_PagedAtlas x) {
+    Result_Box_PagedAtlas_AllocFailed_PagedAtlas result;
+    Result_Vacant_AtlasAllocator result_4;
+    Box_AtlasAllocator box_7;
+    Result_Box_PagedAtlas_AllocFailed_PagedAtlas result_14;
+    result_4 = std_alloc_room_vacant_Vacant_take_PagedAtlas();
+    if (result_4.tag == 0u /* Ok */) {
+        box_7 = std_alloc_boxed_Box_write_into_PagedAtlas(result_4.Ok.field_0, x);
+        return new_Result_Box_PagedAtlas_AllocFailed_PagedAtlas_Ok(box_7);
+    }
+    result_14 = new_Result_Box_PagedAtlas_AllocFailed_PagedAtlas_Err(new_AllocFailed_PagedAtlas(x));
+    result = result_14;
+    if (result_4.tag == 1u /* Err */) {
+        guillotiere_c_Destruct_none_drop();
+    }
+    return result;
+}
+
+/* A handle that holds nothing.
+ * crates/guillotiere_c/src/paged_handle.rt
+ */
+SMALL guillotiere_paged guillotiere_c_paged_handle_PagedHandle_none(void) {
+    return new_guillotiere_paged(NULL);
+}
+
+/* core/src/mem.rt */
+SMALL guillotiere_paged core_mem_replace_PagedHandle(guillotiere_paged *dest, guillotiere_paged src) {
+    guillotiere_paged *at_3;
+    guillotiere_paged pagedhandle_4;
+    guillotiere_paged pagedhandle_5;
+    at_3 = dest;
+    pagedhandle_4 = *at_3;
+    *at_3 = src;
+    pagedhandle_5 = pagedhandle_4;
+    return pagedhandle_5;
+}
+
+/* What it holds, taken apart. Requires that it holds a paged atlas.
+ * crates/guillotiere_c/src/paged_handle.rt
+ */
+SMALL guillotiere_c_Held_AtlasAllocator guillotiere_c_paged_handle_PagedHandle_open(guillotiere_paged handle) {
+    return new_guillotiere_c_Held_AtlasAllocator(handle.at);
+}
+
+/* std_alloc/src/boxed/methods.rt */
+SMALL tuple_PagedAtlas_Vacant_PagedAtlas std_alloc_boxed_Box_take_value_PagedAtlas(Box_AtlasAllocator b) {
+    atlas_pages_PagedAtlas *at_4;
+    atlas_pages_PagedAtlas pagedatlas_6;
+    at_4 = (atlas_pages_PagedAtlas *)b.ptr;
+    pagedatlas_6 = *at_4;
+    return new_tuple_PagedAtlas_Vacant_PagedAtlas(pagedatlas_6, new_Vacant_AtlasAllocator((void *)at_4));
+}
+
+/* std_alloc/src/room/vacant.rt */
+SMALL void std_alloc_room_vacant_Vacant_free_PagedAtlas(Vacant_AtlasAllocator self) {
+    Vacant_AtlasAllocator vacant_2;
+    vacant_2 = self;
+    std_heap_GlobalAllocator_deallocate((const void *)&nothing, vacant_2.ptr, sizeof(atlas_pages_PagedAtlas), 8u);
+}
+
+/* core/src/mem.rt */
+SMALL void core_mem_drop_PagedAtlas(atlas_pages_PagedAtlas x) {
+    guillotiere_c_atlas_pages_paged_PagedAtlas_Destruct_drop(x);
+}
+
+/* Grants a request on the first page that has room for it. Where none has, a page is added. None if then there are as many
+ * pages as there may be, or if the request has no room on an empty page. `Slots` if the page has too few of them, `Memory` if
+ * memory is refused. Unless something is granted, nothing changes. One search on each page up to that one, and
+ * there the request; where none has room, the making of a page.
+ * crates/atlas_pages/src/paged.rt
+ */
+SMALL Result_Option_PageAllocation_AtlasError atlas_pages_paged_PagedAtlas_allocate(atlas_pages_PagedAtlas *self, atlas_model_Size size) {
+    Option_u64 option_4;
+    slice_AtlasAllocator slice_5;
+    Result_Option_PageAllocation_AtlasError result_8;
+    slice_5 = std_alloc_vec_derefs_VecDerefSlice_deref_AtlasAllocator(&self->pages);
+    option_4 = guillotiere_pages_page_with_room(slice_5, size);
+    if (option_4.tag == 1u /* Some */) {
+        result_8 = atlas_pages_paged_PagedAtlas_allocate_there(self, option_4.Some.field_0, size);
+    } else {
+        result_8 = atlas_pages_paged_PagedAtlas_allocate_anew(self, size);
+    }
+    return result_8;
+}
+
+/* std_alloc/src/boxed/methods.rt */
+SMALL const atlas_pages_PagedAtlas *std_alloc_boxed_methods_BoxDeref_deref_PagedAtlas(const Box_AtlasAllocator *self) {
+    return std_alloc_boxed_Box_as_ref_PagedAtlas(self);
+}
+
+/* A handle that holds what was taken apart.
+ * crates/guillotiere_c/src/paged_handle.rt
+ */
+SMALL guillotiere_paged guillotiere_c_paged_handle_PagedHandle_close(guillotiere_c_Held_AtlasAllocator held) {
+    return new_guillotiere_paged(held.at);
+}
+
+/* Drops a handle. Requires that it holds nothing, so that nothing is lost.
+ * crates/guillotiere_c/src/paged_handle.rt
+ */
+SMALL void guillotiere_c_paged_handle_PagedHandle_forget(guillotiere_paged handle) {
+    (void)handle;
+}
+
+/* A live box on a page as C has it.
+ * crates/guillotiere_c/src/plain_paged.rt
+ */
+SMALL guillotiere_page_allocation guillotiere_c_plain_paged_plain_page_allocation(atlas_pages_PageAllocation allocation) {
+    atlas_pages_PageAllocation pageallocation_2;
+    uint32_t n_3;
+    uint32_t n_4;
+    guillotiere_rectangle plainrectangle_6;
+    pageallocation_2 = allocation;
+    n_3 = pageallocation_2.page;
+    n_4 = atlas_model_allocation_AllocId_serialize(&pageallocation_2.id);
+    plainrectangle_6 = guillotiere_c_plain_plain_rectangle(pageallocation_2.rectangle);
+    return new_guillotiere_page_allocation(n_3, n_4, plainrectangle_6);
+}
+
+/* Frees the box of an id of a page. `NotLive` if there is no such page, or the id isn't live there; then nothing changes. The page
+ * stays, also where nothing is left on it. Takes no memory, and the time of a freeing on one page.
+ * crates/atlas_pages/src/paged.rt
+ */
+SMALL Result_AtlasError atlas_pages_paged_PagedAtlas_deallocate(atlas_pages_PagedAtlas *self, uint32_t page, atlas_model_AllocId id) {
+    uint64_t n_4;
+    n_4 = std_alloc_vec_Vec_len_Allocation(&self->pages);
+    if (n_4 <= (uint64_t)page) {
+        return new_Result_AtlasError_Err(new_atlas_model_AtlasError_NotLive());
+    }
+    return atlas_pages_paged_steps_free_at(&self->pages, (uint64_t)page, id);
+}
+
+/* std_alloc/src/vec/derefs.rt */
+SMALL slice_AtlasAllocator std_alloc_vec_derefs_VecDerefSlice_deref_AtlasAllocator(const Vec_Slot *self) {
+    return std_alloc_vec_Vec_as_slice_AtlasAllocator(self);
+}
+
+/* Says that the rectangles of live ids of a page lie within it and apart from one another, and does nothing.
+ * crates/guillotiere/src/pages.rt
+ */
+SMALL void guillotiere_pages_prove_page(slice_AtlasAllocator pages, uint64_t page) {
+    if (page < pages.len) {
+        atlas_allocator_atlas_AtlasAllocator_prove_sound(((atlas_allocator_AtlasAllocator *)pages.at + page));
+    }
+}
+
+/* Makes a page larger: it has this size then, in pixels, and no rectangle moves. `NoPage` if there is no such page, `Shrinks` if a
+ * side is less than its present one, `Slots` or `Memory`, as `AtlasAllocator::grow` says. After an error nothing has changed. Later
+ * pages are made of the size that `new` was told. Takes the time of a growth of one atlas.
+ * crates/atlas_pages/src/paged.rt
+ */
+SMALL Result_PagesError atlas_pages_paged_PagedAtlas_grow(atlas_pages_PagedAtlas *self, uint32_t page, atlas_model_Size size) {
+    return atlas_pages_paged_steps_grow_at(&self->pages, (uint64_t)page, size);
+}
+
+/* The status of an error of pages.
+ * crates/guillotiere_c/src/plain_paged.rt
+ */
+SMALL uint32_t guillotiere_c_plain_paged_status_of_pages_error(atlas_pages_PagesError error) {
+    uint32_t n_3;
+    if (error.tag == 3u /* NoPage */) {
+        n_3 = 22u;
+    } else if (error.tag == 5u /* Refused */) {
+        n_3 = guillotiere_c_plain_status_of(error.Refused.field_0);
+    } else {
+        n_3 = 2u;
+    }
+    return n_3;
+}
+
+/* The pages behind the last one with a live id go, with their memory: how many are left. A page that such a one follows stays,
+ * though nothing is on it. No rectangle moves. Takes no memory; one step for each page.
+ * crates/atlas_pages/src/paged.rt
+ */
+SMALL uint32_t atlas_pages_paged_PagedAtlas_shrink(atlas_pages_PagedAtlas *self) {
+    uint64_t n_2;
+    slice_AtlasAllocator slice_3;
+    slice_3 = std_alloc_vec_derefs_VecDerefSlice_deref_AtlasAllocator(&self->pages);
+    n_2 = atlas_pages_paged_steps_busy_pages(slice_3);
+    std_alloc_vec_Vec_truncate_AtlasAllocator(&self->pages, n_2);
+    return atlas_pages_paged_number(n_2, self->most);
+}
+
+/* All boxes go. The pages stay, with their sizes; `shrink` lets them go. Takes no memory, and a start for each page.
+ * crates/atlas_pages/src/paged.rt
+ */
+SMALL void atlas_pages_paged_PagedAtlas_clear(atlas_pages_PagedAtlas *self) {
+    atlas_pages_paged_steps_clear_list(&self->pages);
+}
+
+/* A page's number, or how many pages there are, as a `u32`.
+ * crates/atlas_pages/src/paged.rt
+ */
+SMALL uint32_t atlas_pages_paged_number(uint64_t page, uint32_t most) {
+    (void)most;
+    return (uint32_t)page;
+}
+
+/* core/src/option.rt */
+SMALL ControlFlow_ref_AtlasAllocator core_option_OptionTry_branch_ref_AtlasAllocator(Option_ref_AtlasAllocator self) {
+    ControlFlow_ref_AtlasAllocator controlflow_3;
+    if (self.tag == 1u /* Some */) {
+        controlflow_3 = new_ControlFlow_ref_AtlasAllocator_Continue(self.Some.field_0);
+    } else {
+        controlflow_3 = new_ControlFlow_ref_AtlasAllocator_Break();
+    }
+    return controlflow_3;
+}
+
+/* core/src/option.rt */
+SMALL Option_Size core_option_OptionFromResidualNoValue_from_residual_Size(void) {
+    return new_Option_Size_None();
+}
+
+/* core::slice::index::UsizeSliceIndexRefSlice::pick */
+SMALL Option_ref_AtlasAllocator core_slice_index_UsizeSliceIndexRefSlice_pick_AtlasAllocator(uint64_t given_1,
+        slice_AtlasAllocator given_2) {
+    Option_ref_AtlasAllocator option_5;
+    if (given_1 < given_2.len) {
+        option_5 = new_Option_ref_AtlasAllocator_Some(((atlas_allocator_AtlasAllocator *)given_2.at + given_1));
+    } else {
+        option_5 = new_Option_ref_AtlasAllocator_None();
+    }
+    return option_5;
+}
+
 /* No pages and no entries. Takes no memory. An error says what is wrong with the options.
  * crates/atlas_cache/src/cache.rt
  */
@@ -18672,7 +19942,7 @@ SMALL void guillotiere_c_cache_handle_CacheHandle_forget(guillotiere_cache handl
 
 /* std_alloc/src/vec/ends.rt */
 SMALL void std_alloc_vec_Vec_clear_AtlasAllocator(Vec_Slot *self) {
-    std_alloc_vec_Vec_truncate_AtlasAllocator(self, 0u);
+    std_alloc_vec_Vec_truncate_AtlasAllocator_2(self, 0u);
 }
 
 /* Frees an empty Vec, also where `T` is not `Drop`.
@@ -21400,6 +22670,194 @@ SMALL bool atlas_model_geometry_RectanglePartialEq_eq(const atlas_model_Rectangl
     return core_cmp_Ordering_and_eq_Point(is_7, &given_1->max_, &given_2->max_);
 }
 
+/* That a size isn't empty, and that options are valid.
+ * crates/atlas_pages/src/paged/steps.rt
+ */
+SMALL Result_PagesError atlas_pages_paged_steps_check_start(atlas_model_Size size, const atlas_model_AllocatorOptions *options) {
+    atlas_model_Size size_3;
+    bool is_4;
+    bool is_13;
+    size_3 = size;
+    is_4 = atlas_model_geometry_Size_is_positive(&size_3);
+    if (!is_4) {
+        return new_Result_PagesError_Err(new_atlas_pages_PagesError_EmptySize());
+    }
+    is_13 = atlas_model_geometry_Size_is_positive(&options->alignment);
+    if (!is_13) {
+        return new_Result_PagesError_Err(new_atlas_pages_PagesError_Alignment());
+    }
+    if ((int32_t)options->large_size_threshold < (int32_t)options->small_size_threshold) {
+        return new_Result_PagesError_Err(new_atlas_pages_PagesError_Thresholds());
+    }
+    return new_Result_PagesError_Ok();
+}
+
+/* core/src/result.rt */
+SMALL ControlFlow_ErrResidual_PagesError core_result_ResultTry_branch_PagesError(Result_PagesError self) {
+    ControlFlow_ErrResidual_PagesError controlflow_4;
+    if (self.tag == 0u /* Ok */) {
+        controlflow_4 = new_ControlFlow_ErrResidual_PagesError_Continue();
+    } else {
+        controlflow_4 = new_ControlFlow_ErrResidual_PagesError_Break(new_ErrResidual_PagesError(self.Err.field_0));
+    }
+    return controlflow_4;
+}
+
+/* core/src/result.rt */
+SMALL Result_PagedAtlas_PagesError core_result_ResultFromResidualErrResidual_from_residual_PagedAtlas_PagesError_PagesError(ErrResidual_PagesError residual) {
+    atlas_pages_PagesError pageserror_2;
+    pageserror_2 = core_convert_AnyFrom_from_PagesError(residual.field_0);
+    return new_Result_PagedAtlas_PagesError_Err(pageserror_2);
+}
+
+/* The handle comes back where there was no memory.
+ * std_alloc/src/room/vacant.rt
+ */
+SMALL Result_Vacant_AtlasAllocator std_alloc_room_vacant_Vacant_take_PagedAtlas(void) {
+    Result_ptr result_4;
+    Result_Vacant_AtlasAllocator result_6;
+    result_4 = std_heap_GlobalAllocator_allocate((const void *)&nothing, sizeof(atlas_pages_PagedAtlas), 8u);
+    if (result_4.tag == 0u /* Ok */) {
+        result_6 = new_Result_Vacant_AtlasAllocator_Ok(new_Vacant_AtlasAllocator(result_4.Ok.field_0));
+    } else {
+        result_6 = new_Result_Vacant_AtlasAllocator_Err();
+    }
+    return result_6;
+}
+
+/* std_alloc/src/boxed/methods.rt */
+SMALL Box_AtlasAllocator std_alloc_boxed_Box_write_into_PagedAtlas(Vacant_AtlasAllocator room, atlas_pages_PagedAtlas x) {
+    atlas_pages_PagedAtlas *at_3;
+    at_3 = (atlas_pages_PagedAtlas *)room.ptr;
+    *at_3 = x;
+    return new_Box_AtlasAllocator((void *)at_3);
+}
+
+/* guillotiere_c::atlas_pages++paged++PagedAtlas+Destruct::drop */
+SMALL void guillotiere_c_atlas_pages_paged_PagedAtlas_Destruct_drop(atlas_pages_PagedAtlas given_1) {
+    std_alloc_vec_Vec_drop_AtlasAllocator(given_1.pages);
+}
+
+/* The first page on which a request has room, by `can_fit`; None if it has room on none.
+ * crates/guillotiere/src/pages.rt
+ */
+SMALL Option_u64 guillotiere_pages_page_with_room(slice_AtlasAllocator pages, atlas_model_Size size) {
+    uint64_t n_3;
+    uint64_t n_4;
+    n_3 = 0u;
+    n_4 = pages.len;
+    for (;;) {
+        if (!(n_3 < n_4)) {
+            break;
+        }
+        if (guillotiere_pages_has_room(((atlas_allocator_AtlasAllocator *)pages.at + n_3), size)) {
+            return new_Option_u64_Some(n_3);
+        }
+        n_3 = n_3 + 1u;
+    }
+    return new_Option_u64_None();
+}
+
+/* The same on a page that has room.
+ * crates/atlas_pages/src/paged.rt
+ */
+SMALL Result_Option_PageAllocation_AtlasError atlas_pages_paged_PagedAtlas_allocate_there(atlas_pages_PagedAtlas *self, uint64_t page,
+        atlas_model_Size size) {
+    Result_Option_Allocation_AtlasError result_4;
+    result_4 = atlas_pages_paged_steps_grant_at(&self->pages, page, size);
+    return atlas_pages_paged_at_page(page, self->most, result_4);
+}
+
+/* The same on a page that is added.
+ * crates/atlas_pages/src/paged.rt
+ */
+SMALL Result_Option_PageAllocation_AtlasError atlas_pages_paged_PagedAtlas_allocate_anew(atlas_pages_PagedAtlas *self,
+        atlas_model_Size size) {
+    uint64_t n_3;
+    Result_Option_Allocation_AtlasError result_4;
+    n_3 = std_alloc_vec_Vec_len_Allocation(&self->pages);
+    if ((uint64_t)self->most <= n_3) {
+        return new_Result_Option_PageAllocation_AtlasError_Ok(new_Option_PageAllocation_None());
+    }
+    result_4 = atlas_pages_paged_steps_add_page(&self->pages, self->page_size, &self->options, size);
+    return atlas_pages_paged_at_page(n_3, self->most, result_4);
+}
+
+/* std_alloc/src/boxed/methods.rt */
+SMALL const atlas_pages_PagedAtlas *std_alloc_boxed_Box_as_ref_PagedAtlas(const Box_AtlasAllocator *self) {
+    const atlas_pages_PagedAtlas *at_2;
+    at_2 = (atlas_pages_PagedAtlas *)self->ptr;
+    return at_2;
+}
+
+/* `free_on` in a list.
+ * crates/atlas_pages/src/paged/steps.rt
+ */
+SMALL Result_AtlasError atlas_pages_paged_steps_free_at(Vec_Slot *pages, uint64_t page, atlas_model_AllocId id) {
+    slice_AtlasAllocator_2 slice_4;
+    slice_4 = std_alloc_vec_lends_VecDerefSliceMut_deref_mut_AtlasAllocator(pages);
+    return atlas_pages_paged_steps_free_on(slice_4, page, id);
+}
+
+/* std_alloc/src/vec/methods.rt */
+SMALL slice_AtlasAllocator std_alloc_vec_Vec_as_slice_AtlasAllocator(const Vec_Slot *self) {
+    slice_AtlasAllocator slice_2;
+    slice_2 = new_slice_AtlasAllocator((const atlas_allocator_AtlasAllocator *)self->ptr, self->len);
+    return slice_2;
+}
+
+/* `grow_on` in a list.
+ * crates/atlas_pages/src/paged/steps.rt
+ */
+SMALL Result_PagesError atlas_pages_paged_steps_grow_at(Vec_Slot *pages, uint64_t page, atlas_model_Size size) {
+    slice_AtlasAllocator_2 slice_4;
+    slice_4 = std_alloc_vec_lends_VecDerefSliceMut_deref_mut_AtlasAllocator(pages);
+    return atlas_pages_paged_steps_grow_on(slice_4, page, size);
+}
+
+/* How many pages there are up to the last on which an id is live.
+ * crates/atlas_pages/src/paged/steps.rt
+ */
+SMALL uint64_t atlas_pages_paged_steps_busy_pages(slice_AtlasAllocator pages) {
+    uint64_t n_2;
+    uint64_t n_3;
+    uint64_t n_4;
+    bool is_10;
+    n_2 = 0u;
+    n_3 = 0u;
+    n_4 = pages.len;
+    for (;;) {
+        if (!(n_3 < n_4)) {
+            break;
+        }
+        is_10 = atlas_allocator_atlas_AtlasAllocator_is_empty(((atlas_allocator_AtlasAllocator *)pages.at + n_3));
+        if (!is_10) {
+            n_2 = n_3 + 1u;
+        }
+        n_3 = n_3 + 1u;
+    }
+    return n_2;
+}
+
+/* std_alloc/src/vec/ends.rt */
+SMALL void std_alloc_vec_Vec_truncate_AtlasAllocator(Vec_Slot *self, uint64_t n) {
+    uint64_t n_3;
+    n_3 = std_alloc_vec_Vec_len_Allocation(self);
+    if (n_3 <= n) {
+        return;
+    }
+    std_alloc_vec_Vec_truncate_within_AtlasAllocator(self, n);
+}
+
+/* `clear_all` of a list.
+ * crates/atlas_pages/src/paged/steps.rt
+ */
+SMALL void atlas_pages_paged_steps_clear_list(Vec_Slot *pages) {
+    slice_AtlasAllocator_2 slice_3;
+    slice_3 = std_alloc_vec_lends_VecDerefSliceMut_deref_mut_AtlasAllocator(pages);
+    atlas_pages_paged_steps_clear_all(slice_3);
+}
+
 /* core/src/hash/build.rt */
 SMALL BuildHasherDefault_FoldHasher core_hash_build_BuildHasherDefault_new_FoldHasher(void) {
     FoldHasher foldhasher_1;
@@ -21454,13 +22912,13 @@ SMALL void atlas_cache_cache_TextureCache_prove_kept_u64_BuildHasherDefault_Fold
 }
 
 /* std_alloc/src/vec/ends.rt */
-SMALL void std_alloc_vec_Vec_truncate_AtlasAllocator(Vec_Slot *self, uint64_t n) {
+SMALL void std_alloc_vec_Vec_truncate_AtlasAllocator_2(Vec_Slot *self, uint64_t n) {
     uint64_t n_3;
     n_3 = std_alloc_vec_Vec_len_Allocation(self);
     if (n_3 <= n) {
         return;
     }
-    std_alloc_vec_Vec_truncate_within_AtlasAllocator(self, n);
+    std_alloc_vec_Vec_truncate_within_AtlasAllocator_2(self, n);
 }
 
 /* Frees the block, and returns the handle.
@@ -23646,11 +25104,6 @@ SMALL Option_u32 atlas_search_choice_rounded_side(uint32_t side, uint32_t alignm
     return option_10;
 }
 
-/* core/src/option.rt */
-SMALL Option_Size core_option_OptionFromResidualNoValue_from_residual_Size(void) {
-    return new_Option_Size_None();
-}
-
 /* The list of a size.
  * crates/atlas_search/src/bands.rt
  */
@@ -24624,6 +26077,139 @@ SMALL bool core_cmp_Ordering_and_eq_Point(bool found, const atlas_model_Point *a
     return is_5;
 }
 
+/* core::convert::AnyFrom::from */
+SMALL atlas_pages_PagesError core_convert_AnyFrom_from_PagesError(atlas_pages_PagesError given_1) {
+    return given_1;
+}
+
+/* Whether a request has room on a page.
+ * crates/guillotiere/src/pages.rt
+ */
+SMALL bool guillotiere_pages_has_room(const atlas_allocator_AtlasAllocator *page, atlas_model_Size size) {
+    return atlas_allocator_atlas_AtlasAllocator_can_fit(page, size);
+}
+
+/* `grant_on` in a list.
+ * crates/atlas_pages/src/paged/steps.rt
+ */
+SMALL Result_Option_Allocation_AtlasError atlas_pages_paged_steps_grant_at(Vec_Slot *pages, uint64_t page, atlas_model_Size size) {
+    slice_AtlasAllocator_2 slice_4;
+    slice_4 = std_alloc_vec_lends_VecDerefSliceMut_deref_mut_AtlasAllocator(pages);
+    return atlas_pages_paged_steps_grant_on(slice_4, page, size);
+}
+
+/* The answer to a request to a page, with the page's number.
+ * crates/atlas_pages/src/paged.rt
+ */
+SMALL Result_Option_PageAllocation_AtlasError atlas_pages_paged_at_page(uint64_t page, uint32_t most,
+        Result_Option_Allocation_AtlasError answer) {
+    atlas_model_Allocation allocation_4;
+    Result_Option_PageAllocation_AtlasError result_6;
+    uint32_t n_7;
+    if (answer.tag == 0u /* Ok */) {
+        if (answer.is.Ok.field_0.tag == 1u /* Some */) {
+            allocation_4 = answer.is.Ok.field_0.Some.field_0;
+            n_7 = atlas_pages_paged_number(page, most);
+            result_6 = new_Result_Option_PageAllocation_AtlasError_Ok(new_Option_PageAllocation_Some(new_atlas_pages_PageAllocation(n_7,
+                    allocation_4.id, allocation_4.rectangle)));
+        } else {
+            result_6 = new_Result_Option_PageAllocation_AtlasError_Ok(new_Option_PageAllocation_None());
+        }
+    } else {
+        result_6 = new_Result_Option_PageAllocation_AtlasError_Err(answer.is.Err.field_0);
+    }
+    return result_6;
+}
+
+/* A page with a first box on it comes last; None if the request has no room there.
+ * crates/atlas_pages/src/paged/steps.rt
+ */
+SMALL Result_Option_Allocation_AtlasError atlas_pages_paged_steps_add_page(Vec_Slot *pages, atlas_model_Size page_size,
+        const atlas_model_AllocatorOptions *options, atlas_model_Size size) {
+    atlas_allocator_AtlasAllocator atlasallocator_6;
+    atlas_model_Allocation allocation_7;
+    Option_tuple_AtlasAllocator_Allocation option_14;
+    ControlFlow_ErrResidual_AtlasError_Option_tuple_AtlasAllocator_Allocation controlflow_15;
+    Result_Option_tuple_AtlasAllocator_Allocation_AtlasError result_16;
+    Option_tuple_AtlasAllocator_Allocation option_17;
+    ControlFlow_ErrResidual_AllocFailed_AtlasAllocator controlflow_19;
+    Result_AllocFailed_AtlasAllocator result_20;
+    (void)std_alloc_vec_Vec_allocator_FreeBox(pages);
+    result_16 = atlas_pages_paged_steps_page_for(page_size, options, size);
+    controlflow_15 = core_result_ResultTry_branch_Option_tuple_AtlasAllocator_Allocation_AtlasError(result_16);
+    if (controlflow_15.tag == 0u /* Continue */) {
+        option_17 = controlflow_15.is.Continue.field_0;
+    } else {
+        return core_result_ResultFromResidualErrResidual_from_residual_Option_Allocation_AtlasError_AtlasError(controlflow_15.is.Break.field_0);
+    }
+    option_14 = option_17;
+    if (option_14.tag == 1u /* Some */) {
+        atlasallocator_6 = option_14.Some.field_0.field_0;
+        allocation_7 = option_14.Some.field_0.field_1;
+    } else {
+        return new_Result_Option_Allocation_AtlasError_Ok(new_Option_Allocation_None());
+    }
+    result_20 = std_alloc_vec_Vec_push_AtlasAllocator(pages, atlasallocator_6);
+    controlflow_19 = core_result_ResultTry_branch_AllocFailed_AtlasAllocator(result_20);
+    if (!(controlflow_19.tag == 0u /* Continue */)) {
+        return core_result_ResultFromResidualErrResidual_from_residual_Option_Allocation_AllocFailed_AtlasAllocator_AtlasError(controlflow_19.Break.field_0);
+    }
+    return new_Result_Option_Allocation_AtlasError_Ok(new_Option_Allocation_Some(allocation_7));
+}
+
+/* std_alloc/src/vec/lends.rt */
+SMALL slice_AtlasAllocator_2 std_alloc_vec_lends_VecDerefSliceMut_deref_mut_AtlasAllocator(Vec_Slot *self) {
+    slice_AtlasAllocator_2 slice_2;
+    slice_2 = new_slice_AtlasAllocator_2((atlas_allocator_AtlasAllocator *)self->ptr, self->len);
+    return slice_2;
+}
+
+/* Frees the box of an id of a page.
+ * crates/atlas_pages/src/paged/steps.rt
+ */
+SMALL Result_AtlasError atlas_pages_paged_steps_free_on(slice_AtlasAllocator_2 pages, uint64_t page, atlas_model_AllocId id) {
+    return atlas_allocator_atlas_AtlasAllocator_deallocate((pages.at + page), id);
+}
+
+/* A page grows, if there is such a page and no side shrinks.
+ * crates/atlas_pages/src/paged/steps.rt
+ */
+SMALL Result_PagesError atlas_pages_paged_steps_grow_on(slice_AtlasAllocator_2 pages, uint64_t page, atlas_model_Size size) {
+    if (pages.len <= page) {
+        return new_Result_PagesError_Err(new_atlas_pages_PagesError_NoPage());
+    }
+    return atlas_pages_paged_steps_grow_page((pages.at + page), size);
+}
+
+/* std_alloc/src/vec/ends.rt */
+SMALL void std_alloc_vec_Vec_truncate_within_AtlasAllocator(Vec_Slot *self, uint64_t n) {
+    uint64_t n_3;
+    Slots_CacheChange_u64 slots_4;
+    tuple_Slots_CacheChange_u64_Spare_CacheChange_u64 tuple_7;
+    n_3 = std_alloc_vec_Vec_len_Allocation(self);
+    tuple_7 = std_alloc_vec_Vec_detach_CacheChange_u64(self, n_3);
+    slots_4 = tuple_7.field_0;
+    std_alloc_vec_opened_drop_run_AtlasAllocator(&slots_4, n, n_3);
+    std_alloc_vec_Vec_attach_CacheChange_u64(self, slots_4, tuple_7.field_1, n);
+}
+
+/* All boxes of all pages go.
+ * crates/atlas_pages/src/paged/steps.rt
+ */
+SMALL void atlas_pages_paged_steps_clear_all(slice_AtlasAllocator_2 pages) {
+    uint64_t n_2;
+    uint64_t n_3;
+    n_2 = 0u;
+    n_3 = pages.len;
+    for (;;) {
+        if (!(n_2 < n_3)) {
+            break;
+        }
+        atlas_pages_paged_steps_clear_page((pages.at + n_2));
+        n_2 = n_2 + 1u;
+    }
+}
+
 /* core/src/hash/fold.rt */
 SMALL FoldHasher core_hash_fold_FoldHasherDefault_default(void) {
     return new_FoldHasher(UINT64_C(2611923443488327891));
@@ -24743,14 +26329,14 @@ SMALL void atlas_cache_rooms_Rooms_prove_kept(const atlas_cache_Rooms *self) {
 }
 
 /* std_alloc/src/vec/ends.rt */
-SMALL void std_alloc_vec_Vec_truncate_within_AtlasAllocator(Vec_Slot *self, uint64_t n) {
+SMALL void std_alloc_vec_Vec_truncate_within_AtlasAllocator_2(Vec_Slot *self, uint64_t n) {
     uint64_t n_3;
     Slots_CacheChange_u64 slots_4;
     tuple_Slots_CacheChange_u64_Spare_CacheChange_u64 tuple_7;
     n_3 = std_alloc_vec_Vec_len_Allocation(self);
     tuple_7 = std_alloc_vec_Vec_detach_CacheChange_u64(self, n_3);
     slots_4 = tuple_7.field_0;
-    std_alloc_vec_opened_drop_run_AtlasAllocator(&slots_4, n, n_3);
+    std_alloc_vec_opened_drop_run_AtlasAllocator_2(&slots_4, n, n_3);
     std_alloc_vec_Vec_attach_CacheChange_u64(self, slots_4, tuple_7.field_1, n);
 }
 
@@ -25701,11 +27287,6 @@ SMALL void std_alloc_vec_Vec_drop_Allocation_4(Vec_Slot given_1) {
     std_alloc_vec_Vec_destroy_empty_Allocation_3(vec_2);
 }
 
-/* std_alloc/src/vec/derefs.rt */
-SMALL slice_AtlasAllocator std_alloc_vec_derefs_VecDerefSlice_deref_AtlasAllocator(const Vec_Slot *self) {
-    return std_alloc_vec_Vec_as_slice_AtlasAllocator(self);
-}
-
 /* A copy of each atlas.
  * crates/atlas_cache/src/rooms/copying.rt
  */
@@ -25975,7 +27556,7 @@ SMALL void std_alloc_vec_Vec_drop_Link_6(Vec_Slot given_1) {
 
 /* std_alloc/src/vec/ends.rt */
 SMALL void std_alloc_vec_Vec_clear_AtlasAllocator_2(Vec_Slot *self) {
-    std_alloc_vec_Vec_truncate_AtlasAllocator_2(self, 0u);
+    std_alloc_vec_Vec_truncate_AtlasAllocator_3(self, 0u);
 }
 
 /* Frees an empty Vec, also where `T` is not `Drop`.
@@ -26219,13 +27800,6 @@ SMALL bool std_alloc_vec_Vec_grow_amortized_CacheChange_u64(Vec_Slot *self, uint
     n_11 = std_alloc_vec_least_capacity_CacheChange_u64();
     n_12 = std_alloc_vec_grown(n_8, n_3 + additional, n_11);
     return std_alloc_vec_Vec_move_to_CacheChange_u64(self, n_12);
-}
-
-/* std_alloc/src/vec/methods.rt */
-SMALL slice_AtlasAllocator std_alloc_vec_Vec_as_slice_AtlasAllocator(const Vec_Slot *self) {
-    slice_AtlasAllocator slice_2;
-    slice_2 = new_slice_AtlasAllocator((const atlas_allocator_AtlasAllocator *)self->ptr, self->len);
-    return slice_2;
 }
 
 /* core::int::i32::max */
@@ -28919,6 +30493,157 @@ SMALL void std_alloc_vec_Vec_truncate_within_Link_4(Vec_Slot *self, uint64_t n) 
     std_alloc_vec_Vec_attach_CacheChange_u64(self, slots_4, tuple_7.field_1, n);
 }
 
+/* Asks a page for a box.
+ * crates/atlas_pages/src/paged/steps.rt
+ */
+SMALL Result_Option_Allocation_AtlasError atlas_pages_paged_steps_grant_on(slice_AtlasAllocator_2 pages, uint64_t page,
+        atlas_model_Size size) {
+    return atlas_allocator_atlas_AtlasAllocator_allocate((pages.at + page), size);
+}
+
+/* A new page with a first box on it; None if the request has no room there.
+ * crates/atlas_pages/src/paged/steps.rt
+ */
+SMALL Result_Option_tuple_AtlasAllocator_Allocation_AtlasError atlas_pages_paged_steps_page_for(atlas_model_Size page_size,
+        const atlas_model_AllocatorOptions *options, atlas_model_Size size) {
+    Result_Option_tuple_AtlasAllocator_Allocation_AtlasError result;
+    atlas_allocator_AtlasAllocator atlasallocator_5;
+    ControlFlow_ErrResidual_AtlasError_AtlasAllocator controlflow_11;
+    Result_AtlasAllocator_AtlasError result_12;
+    atlas_allocator_AtlasAllocator atlasallocator_13;
+    Option_Allocation option_14;
+    ControlFlow_ErrResidual_AtlasError_Option_Allocation controlflow_15;
+    Result_Option_Allocation_AtlasError result_16;
+    Option_Allocation option_18;
+    Result_Option_tuple_AtlasAllocator_Allocation_AtlasError result_19;
+    atlas_store_Store store_24;
+    atlas_store_Store store_32;
+    result_12 = atlas_allocator_atlas_AtlasAllocator_with_options(page_size, options);
+    controlflow_11 = core_result_ResultTry_branch_AtlasAllocator_AtlasError(result_12);
+    if (controlflow_11.tag == 0u /* Continue */) {
+        atlasallocator_13 = controlflow_11.is.Continue.field_0;
+    } else {
+        return core_result_ResultFromResidualErrResidual_from_residual_Option_tuple_AtlasAllocator_Allocation_AtlasError_AtlasError(controlflow_11.is.Break.field_0);
+    }
+    atlasallocator_5 = atlasallocator_13;
+    result_16 = atlas_pages_paged_steps_first_on(&atlasallocator_5, size);
+    controlflow_15 = core_result_ResultTry_branch_Option_Allocation_AtlasError(result_16);
+    if (controlflow_15.tag == 0u /* Continue */) {
+        option_18 = controlflow_15.is.Continue.field_0;
+    } else {
+        result = core_result_ResultFromResidualErrResidual_from_residual_Option_tuple_AtlasAllocator_Allocation_AtlasError_AtlasError(controlflow_15.is.Break.field_0);
+        store_24 = atlasallocator_5.store;
+        std_alloc_vec_Vec_drop_Slot_6(store_24.slots);
+        std_alloc_vec_Vec_drop_Link_11(store_24.lists.heads);
+        return result;
+    }
+    option_14 = option_18;
+    if (option_14.tag == 1u /* Some */) {
+        result_19.tag = 0u;
+        result_19.is.Ok.field_0.tag = 1u;
+        result_19.is.Ok.field_0.Some.field_0.field_0 = atlasallocator_5;
+        result_19.is.Ok.field_0.Some.field_0.field_1 = option_14.Some.field_0;
+    } else {
+        result_19.tag = 0u;
+        result_19.is.Ok.field_0.tag = 0u;
+        store_32 = atlasallocator_5.store;
+        std_alloc_vec_Vec_drop_Slot_6(store_32.slots);
+        std_alloc_vec_Vec_drop_Link_11(store_32.lists.heads);
+    }
+    return result_19;
+}
+
+/* core/src/result.rt */
+SMALL ControlFlow_ErrResidual_AtlasError_Option_tuple_AtlasAllocator_Allocation core_result_ResultTry_branch_Option_tuple_AtlasAllocator_Allocation_AtlasError(const Result_Option_tuple_AtlasAllocator_Allocation_AtlasError self) {
+    ControlFlow_ErrResidual_AtlasError_Option_tuple_AtlasAllocator_Allocation controlflow_4;
+    if (self.tag == 0u /* Ok */) {
+        controlflow_4.tag = 0u;
+        controlflow_4.is.Continue.field_0 = self.is.Ok.field_0;
+    } else {
+        controlflow_4.tag = 1u;
+        controlflow_4.is.Break.field_0 = new_ErrResidual_AtlasError(self.is.Err.field_0);
+    }
+    return controlflow_4;
+}
+
+/* std_alloc/src/vec/methods.rt */
+SMALL Result_AllocFailed_AtlasAllocator std_alloc_vec_Vec_push_AtlasAllocator(Vec_Slot *self, const atlas_allocator_AtlasAllocator value) {
+    Result_AllocFailed_AtlasAllocator result;
+    bool is_3;
+    is_3 = std_alloc_vec_Vec_grow_AtlasAllocator(self, 1u);
+    if (!is_3) {
+        result.tag = 1u;
+        result.Err.field_0.value = value;
+        return result;
+    }
+    std_alloc_vec_Vec_put_AtlasAllocator(self, value);
+    result.tag = 0u;
+    return result;
+}
+
+/* core/src/result.rt */
+SMALL ControlFlow_ErrResidual_AllocFailed_AtlasAllocator core_result_ResultTry_branch_AllocFailed_AtlasAllocator(const Result_AllocFailed_AtlasAllocator self) {
+    ControlFlow_ErrResidual_AllocFailed_AtlasAllocator controlflow_4;
+    if (self.tag == 0u /* Ok */) {
+        controlflow_4.tag = 0u;
+    } else {
+        controlflow_4.tag = 1u;
+        controlflow_4.Break.field_0.field_0 = self.Err.field_0;
+    }
+    return controlflow_4;
+}
+
+/* core/src/result.rt */
+SMALL Result_Option_Allocation_AtlasError core_result_ResultFromResidualErrResidual_from_residual_Option_Allocation_AllocFailed_AtlasAllocator_AtlasError(const ErrResidual_AllocFailed_AtlasAllocator residual) {
+    atlas_model_AtlasError atlaserror_2;
+    atlaserror_2 = atlas_model_error_AtlasErrorFromAllocFailed_from_AtlasAllocator(residual.field_0);
+    return new_Result_Option_Allocation_AtlasError_Err(atlaserror_2);
+}
+
+/* An atlas grows, if no side shrinks.
+ * crates/atlas_pages/src/paged/steps.rt
+ */
+SMALL Result_PagesError atlas_pages_paged_steps_grow_page(atlas_allocator_AtlasAllocator *page, atlas_model_Size size) {
+    bool is_7;
+    ControlFlow_ErrResidual_AtlasError controlflow_11;
+    Result_AtlasError result_12;
+    atlas_allocator_atlas_AtlasAllocator_prove_sound(page);
+    is_7 = atlas_allocator_atlas_AtlasAllocator_can_grow_to(page, size);
+    if (!is_7) {
+        return new_Result_PagesError_Err(new_atlas_pages_PagesError_Shrinks());
+    }
+    result_12 = atlas_allocator_atlas_AtlasAllocator_grow(page, size);
+    controlflow_11 = core_result_ResultTry_branch_AtlasError(result_12);
+    if (!(controlflow_11.tag == 0u /* Continue */)) {
+        return core_result_ResultFromResidualErrResidual_from_residual_AtlasError_PagesError(controlflow_11.Break.field_0);
+    }
+    return new_Result_PagesError_Ok();
+}
+
+/* Drops the values from `from` up to `to`, in that order.
+ * std_alloc/src/vec/opened.rt
+ */
+SMALL void std_alloc_vec_opened_drop_run_AtlasAllocator(Slots_CacheChange_u64 *row, uint64_t from, uint64_t to) {
+    uint64_t n_4;
+    atlas_allocator_AtlasAllocator atlasallocator_7;
+    n_4 = from;
+    for (;;) {
+        if (!(n_4 < to)) {
+            break;
+        }
+        atlasallocator_7 = core_slots_Slots_take_AtlasAllocator(row, n_4);
+        core_mem_drop_AtlasAllocator_2(atlasallocator_7);
+        n_4 = n_4 + 1u;
+    }
+}
+
+/* All boxes of an atlas go.
+ * crates/atlas_pages/src/paged/steps.rt
+ */
+SMALL void atlas_pages_paged_steps_clear_page(atlas_allocator_AtlasAllocator *page) {
+    (void)atlas_allocator_atlas_AtlasAllocator_clear(page);
+}
+
 /* Whether neither side of a size passes that of another.
  * crates/atlas_cache/src/options.rt
  */
@@ -28964,19 +30689,10 @@ SMALL atlas_entries_Recency atlas_entries_recency_Recency_new(void) {
     return new_atlas_entries_Recency(vec_2, new_atlas_entries_Link(4294967295u, 4294967295u), 4294967295u, 0u, 0u);
 }
 
-/* Says that the rectangles of live ids of a page lie within it and apart from one another, and does nothing.
- * crates/guillotiere/src/pages.rt
- */
-SMALL void guillotiere_pages_prove_page(slice_AtlasAllocator pages, uint64_t page) {
-    if (page < pages.len) {
-        atlas_allocator_atlas_AtlasAllocator_prove_sound(((atlas_allocator_AtlasAllocator *)pages.at + page));
-    }
-}
-
 /* Drops the values from `from` up to `to`, in that order.
  * std_alloc/src/vec/opened.rt
  */
-SMALL void std_alloc_vec_opened_drop_run_AtlasAllocator(Slots_CacheChange_u64 *row, uint64_t from, uint64_t to) {
+SMALL void std_alloc_vec_opened_drop_run_AtlasAllocator_2(Slots_CacheChange_u64 *row, uint64_t from, uint64_t to) {
     uint64_t n_4;
     atlas_allocator_AtlasAllocator atlasallocator_7;
     n_4 = from;
@@ -29805,7 +31521,7 @@ SMALL Option_u32 atlas_cache_rooms_Rooms_remove_page(atlas_cache_Rooms *self) {
     if (!is_7) {
         return new_Option_u32_None();
     }
-    std_alloc_vec_Vec_truncate_AtlasAllocator_2(&self->pages, n_2);
+    std_alloc_vec_Vec_truncate_AtlasAllocator_3(&self->pages, n_2);
     std_alloc_vec_Vec_truncate_Refusals_2(&self->refused, n_2);
     n_15 = atlas_cache_rooms_number(n_2, self->options.pages);
     return new_Option_u32_Some(n_15);
@@ -30091,33 +31807,6 @@ SMALL Result_Vec_AllocId std_alloc_vec_Vec_with_capacity_AtlasAllocator(uint64_t
     return new_Result_Vec_AllocId_Ok(vec_3);
 }
 
-/* std_alloc/src/vec/methods.rt */
-SMALL Result_AllocFailed_AtlasAllocator std_alloc_vec_Vec_push_AtlasAllocator(Vec_Slot *self, const atlas_allocator_AtlasAllocator value) {
-    Result_AllocFailed_AtlasAllocator result;
-    bool is_3;
-    is_3 = std_alloc_vec_Vec_grow_AtlasAllocator(self, 1u);
-    if (!is_3) {
-        result.tag = 1u;
-        result.Err.field_0.value = value;
-        return result;
-    }
-    std_alloc_vec_Vec_put_AtlasAllocator(self, value);
-    result.tag = 0u;
-    return result;
-}
-
-/* core/src/result.rt */
-SMALL ControlFlow_ErrResidual_AllocFailed_AtlasAllocator core_result_ResultTry_branch_AllocFailed_AtlasAllocator(const Result_AllocFailed_AtlasAllocator self) {
-    ControlFlow_ErrResidual_AllocFailed_AtlasAllocator controlflow_4;
-    if (self.tag == 0u /* Ok */) {
-        controlflow_4.tag = 0u;
-    } else {
-        controlflow_4.tag = 1u;
-        controlflow_4.Break.field_0.field_0 = self.Err.field_0;
-    }
-    return controlflow_4;
-}
-
 /* core/src/result.rt */
 SMALL Result_Vec_AllocId core_result_ResultFromResidualErrResidual_from_residual_Vec_AtlasAllocator_AllocFailed_AtlasAllocator(const ErrResidual_AllocFailed_AtlasAllocator residual) {
     std_alloc_room_AllocErrorFromAllocFailed_from_AtlasAllocator(residual.field_0);
@@ -30275,7 +31964,7 @@ SMALL Result_Vec_AllocId std_alloc_vec_Vec_from_slice_Link_2(slice_Link_4 items)
         result_14 = new_Result_Vec_AllocId_Ok(vec_3);
     } else {
         result_14 = new_Result_Vec_AllocId_Err();
-        std_alloc_vec_Vec_drop_Link_11(vec_3);
+        std_alloc_vec_Vec_drop_Link_12(vec_3);
     }
     return result_14;
 }
@@ -30349,13 +32038,13 @@ SMALL void std_alloc_vec_Vec_destroy_empty_Link_5(Vec_Slot self) {
 }
 
 /* std_alloc/src/vec/ends.rt */
-SMALL void std_alloc_vec_Vec_truncate_AtlasAllocator_2(Vec_Slot *self, uint64_t n) {
+SMALL void std_alloc_vec_Vec_truncate_AtlasAllocator_3(Vec_Slot *self, uint64_t n) {
     uint64_t n_3;
     n_3 = std_alloc_vec_Vec_len_Allocation(self);
     if (n_3 <= n) {
         return;
     }
-    std_alloc_vec_Vec_truncate_within_AtlasAllocator_2(self, n);
+    std_alloc_vec_Vec_truncate_within_AtlasAllocator_3(self, n);
 }
 
 /* atlas_cache::Destruct++none::drop */
@@ -33479,6 +35168,92 @@ SMALL void std_alloc_vec_opened_drop_run_Link_4(Slots_CacheChange_u64 *row, uint
     }
 }
 
+/* core/src/result.rt */
+SMALL Result_Option_tuple_AtlasAllocator_Allocation_AtlasError core_result_ResultFromResidualErrResidual_from_residual_Option_tuple_AtlasAllocator_Allocation_AtlasError_AtlasError(ErrResidual_AtlasError residual) {
+    Result_Option_tuple_AtlasAllocator_Allocation_AtlasError result;
+    atlas_model_AtlasError atlaserror_2;
+    atlaserror_2 = core_convert_AnyFrom_from_AtlasError(residual.field_0);
+    result.tag = 1u;
+    result.is.Err.field_0 = atlaserror_2;
+    return result;
+}
+
+/* What is granted on an empty page of this atlas.
+ * crates/atlas_pages/src/paged/steps.rt
+ */
+SMALL Result_Option_Allocation_AtlasError atlas_pages_paged_steps_first_on(atlas_allocator_AtlasAllocator *page, atlas_model_Size size) {
+    return atlas_allocator_atlas_AtlasAllocator_allocate(page, size);
+}
+
+/* std_alloc::vec::Vec::drop */
+SMALL void std_alloc_vec_Vec_drop_Slot_6(Vec_Slot given_1) {
+    Vec_Slot vec_2;
+    vec_2 = given_1;
+    std_alloc_vec_Vec_clear_Slot_6(&vec_2);
+    std_alloc_vec_Vec_destroy_empty_Slot_4(vec_2);
+}
+
+/* std_alloc::vec::Vec::drop */
+SMALL void std_alloc_vec_Vec_drop_Link_11(Vec_Slot given_1) {
+    Vec_Slot vec_2;
+    vec_2 = given_1;
+    std_alloc_vec_Vec_clear_Link_11(&vec_2);
+    std_alloc_vec_Vec_destroy_empty_Link_7(vec_2);
+}
+
+/* Makes room for `additional` more elements, and returns whether it could.
+ * std_alloc/src/vec/methods.rt
+ */
+SMALL bool std_alloc_vec_Vec_grow_AtlasAllocator(Vec_Slot *self, uint64_t additional) {
+    uint64_t n_3;
+    uint64_t n_5;
+    n_3 = std_alloc_vec_Vec_capacity_Slot(self);
+    n_5 = std_alloc_vec_Vec_len_Allocation(self);
+    if (additional <= (n_3 - n_5)) {
+        return true;
+    }
+    return std_alloc_vec_Vec_grow_amortized_AtlasAllocator(self, additional);
+}
+
+/* Appends x. There is spare capacity.
+ * std_alloc/src/vec/methods.rt
+ */
+SMALL void std_alloc_vec_Vec_put_AtlasAllocator(Vec_Slot *self, const atlas_allocator_AtlasAllocator x) {
+    uint64_t n_3;
+    n_3 = self->len;
+    *((atlas_allocator_AtlasAllocator *)self->ptr + n_3) = x;
+    self->len = n_3 + 1u;
+}
+
+/* `Memory`, whatever was asked for.
+ * crates/atlas_model/src/error.rt
+ */
+SMALL atlas_model_AtlasError atlas_model_error_AtlasErrorFromAllocFailed_from_AtlasAllocator(const AllocFailed_AtlasAllocator _error) {
+    atlas_model_AtlasError result;
+    result = new_atlas_model_AtlasError_Memory();
+    atlas_pages_atlas_allocator_atlas_AtlasAllocator_Destruct_drop(_error.value);
+    return result;
+}
+
+/* core/src/result.rt */
+SMALL Result_PagesError core_result_ResultFromResidualErrResidual_from_residual_AtlasError_PagesError(ErrResidual_AtlasError residual) {
+    atlas_pages_PagesError pageserror_2;
+    pageserror_2 = atlas_pages_error_PagesErrorFromAtlasError_from(residual.field_0);
+    return new_Result_PagesError_Err(pageserror_2);
+}
+
+/* core/src/slots/moves.rt */
+SMALL atlas_allocator_AtlasAllocator core_slots_Slots_take_AtlasAllocator(Slots_CacheChange_u64 *self, uint64_t i) {
+    atlas_allocator_AtlasAllocator atlasallocator_3;
+    atlasallocator_3 = *((atlas_allocator_AtlasAllocator *)self->ptr + i);
+    return atlasallocator_3;
+}
+
+/* core/src/mem.rt */
+SMALL void core_mem_drop_AtlasAllocator_2(const atlas_allocator_AtlasAllocator x) {
+    atlas_pages_atlas_allocator_atlas_AtlasAllocator_Destruct_drop(x);
+}
+
 /* std_collections/src/columns/methods.rt */
 SMALL std_collections_Columns_u64_u32 std_collections_columns_Columns_new_u64_u32(void) {
     Vec_u64_Later vec_2;
@@ -33507,13 +35282,6 @@ SMALL std_collections_IndexTable std_collections_index_table_IndexTable_new(void
     result.buckets = vec_3;
     result.growth_left = 0u;
     return result;
-}
-
-/* core/src/slots/moves.rt */
-SMALL atlas_allocator_AtlasAllocator core_slots_Slots_take_AtlasAllocator(Slots_CacheChange_u64 *self, uint64_t i) {
-    atlas_allocator_AtlasAllocator atlasallocator_3;
-    atlasallocator_3 = *((atlas_allocator_AtlasAllocator *)self->ptr + i);
-    return atlasallocator_3;
 }
 
 /* core/src/slots/moves.rt */
@@ -34466,30 +36234,6 @@ SMALL bool std_alloc_vec_Vec_move_to_AtlasAllocator(Vec_Slot *self, uint64_t cap
     return is_12;
 }
 
-/* Makes room for `additional` more elements, and returns whether it could.
- * std_alloc/src/vec/methods.rt
- */
-SMALL bool std_alloc_vec_Vec_grow_AtlasAllocator(Vec_Slot *self, uint64_t additional) {
-    uint64_t n_3;
-    uint64_t n_5;
-    n_3 = std_alloc_vec_Vec_capacity_Slot(self);
-    n_5 = std_alloc_vec_Vec_len_Allocation(self);
-    if (additional <= (n_3 - n_5)) {
-        return true;
-    }
-    return std_alloc_vec_Vec_grow_amortized_AtlasAllocator(self, additional);
-}
-
-/* Appends x. There is spare capacity.
- * std_alloc/src/vec/methods.rt
- */
-SMALL void std_alloc_vec_Vec_put_AtlasAllocator(Vec_Slot *self, const atlas_allocator_AtlasAllocator x) {
-    uint64_t n_3;
-    n_3 = self->len;
-    *((atlas_allocator_AtlasAllocator *)self->ptr + n_3) = x;
-    self->len = n_3 + 1u;
-}
-
 /* std_alloc::room::AllocErrorFromAllocFailed::from */
 SMALL void std_alloc_room_AllocErrorFromAllocFailed_from_AtlasAllocator(const AllocFailed_AtlasAllocator given_1) {
     atlas_cache_atlas_allocator_atlas_AtlasAllocator_Destruct_drop(given_1.value);
@@ -34645,10 +36389,10 @@ SMALL Result std_alloc_vec_Vec_extend_from_slice_Link_2(Vec_Slot *self, slice_Li
 }
 
 /* std_alloc::vec::Vec::drop */
-SMALL void std_alloc_vec_Vec_drop_Link_11(Vec_Slot given_1) {
+SMALL void std_alloc_vec_Vec_drop_Link_12(Vec_Slot given_1) {
     Vec_Slot vec_2;
     vec_2 = given_1;
-    std_alloc_vec_Vec_clear_Link_11(&vec_2);
+    std_alloc_vec_Vec_clear_Link_12(&vec_2);
     std_alloc_vec_Vec_destroy_empty_Link_5(vec_2);
 }
 
@@ -34737,14 +36481,14 @@ SMALL void atlas_entries_Destruct_none_drop(void) {
 }
 
 /* std_alloc/src/vec/ends.rt */
-SMALL void std_alloc_vec_Vec_truncate_within_AtlasAllocator_2(Vec_Slot *self, uint64_t n) {
+SMALL void std_alloc_vec_Vec_truncate_within_AtlasAllocator_3(Vec_Slot *self, uint64_t n) {
     uint64_t n_3;
     Slots_CacheChange_u64 slots_4;
     tuple_Slots_CacheChange_u64_Spare_CacheChange_u64 tuple_7;
     n_3 = std_alloc_vec_Vec_len_Allocation(self);
     tuple_7 = std_alloc_vec_Vec_detach_CacheChange_u64(self, n_3);
     slots_4 = tuple_7.field_0;
-    std_alloc_vec_opened_drop_run_AtlasAllocator_2(&slots_4, n, n_3);
+    std_alloc_vec_opened_drop_run_AtlasAllocator_3(&slots_4, n, n_3);
     std_alloc_vec_Vec_attach_CacheChange_u64(self, slots_4, tuple_7.field_1, n);
 }
 
@@ -37817,6 +39561,62 @@ SMALL void core_mem_drop_Link_4(atlas_search_Link x) {
     guillotiere_Destruct_none_drop_Link(x);
 }
 
+/* std_alloc/src/vec/ends.rt */
+SMALL void std_alloc_vec_Vec_clear_Slot_6(Vec_Slot *self) {
+    std_alloc_vec_Vec_truncate_Slot_6(self, 0u);
+}
+
+/* Frees an empty Vec, also where `T` is not `Drop`.
+ * std_alloc/src/vec/methods.rt
+ */
+SMALL void std_alloc_vec_Vec_destroy_empty_Slot_4(Vec_Slot self) {
+    std_alloc_vec_Vec_free_block_Slot(self);
+    atlas_pages_Destruct_none_drop();
+}
+
+/* std_alloc/src/vec/ends.rt */
+SMALL void std_alloc_vec_Vec_clear_Link_11(Vec_Slot *self) {
+    std_alloc_vec_Vec_truncate_Link_11(self, 0u);
+}
+
+/* Frees an empty Vec, also where `T` is not `Drop`.
+ * std_alloc/src/vec/methods.rt
+ */
+SMALL void std_alloc_vec_Vec_destroy_empty_Link_7(Vec_Slot self) {
+    std_alloc_vec_Vec_free_block_Link(self);
+    atlas_pages_Destruct_none_drop();
+}
+
+/* The part of `grow` that asks the allocator, apart so that the test is inlined.
+ * std_alloc/src/vec/methods.rt
+ */
+SMALL bool std_alloc_vec_Vec_grow_amortized_AtlasAllocator(Vec_Slot *self, uint64_t additional) {
+    uint64_t n_3;
+    uint64_t n_8;
+    uint64_t n_11;
+    uint64_t n_12;
+    n_3 = std_alloc_vec_Vec_len_Allocation(self);
+    if ((UINT64_C(18446744073709551615) - n_3) < additional) {
+        return false;
+    }
+    n_8 = std_alloc_vec_Vec_capacity_Slot(self);
+    n_11 = std_alloc_vec_least_capacity_AtlasAllocator();
+    n_12 = std_alloc_vec_grown(n_8, n_3 + additional, n_11);
+    return std_alloc_vec_Vec_move_to_AtlasAllocator(self, n_12);
+}
+
+/* atlas_pages::atlas_allocator++atlas++AtlasAllocator+Destruct::drop */
+SMALL void atlas_pages_atlas_allocator_atlas_AtlasAllocator_Destruct_drop(const atlas_allocator_AtlasAllocator given_1) {
+    atlas_pages_atlas_store_store_Store_Destruct_drop(given_1.store);
+}
+
+/* `Refused`
+ * crates/atlas_pages/src/error.rt
+ */
+SMALL atlas_pages_PagesError atlas_pages_error_PagesErrorFromAtlasError_from(atlas_model_AtlasError error) {
+    return new_atlas_pages_PagesError_Refused(error);
+}
+
 /* std_collections/src/later.rt */
 SMALL std_collections_Later std_collections_later_Later_none(void) {
     return new_std_collections_Later(new_Option_None());
@@ -38697,24 +40497,6 @@ SMALL Result_ptr std_alloc_vec_resize_AtlasAllocator(const void *alloc, void *pt
     return result_12;
 }
 
-/* The part of `grow` that asks the allocator, apart so that the test is inlined.
- * std_alloc/src/vec/methods.rt
- */
-SMALL bool std_alloc_vec_Vec_grow_amortized_AtlasAllocator(Vec_Slot *self, uint64_t additional) {
-    uint64_t n_3;
-    uint64_t n_8;
-    uint64_t n_11;
-    uint64_t n_12;
-    n_3 = std_alloc_vec_Vec_len_Allocation(self);
-    if ((UINT64_C(18446744073709551615) - n_3) < additional) {
-        return false;
-    }
-    n_8 = std_alloc_vec_Vec_capacity_Slot(self);
-    n_11 = std_alloc_vec_least_capacity_AtlasAllocator();
-    n_12 = std_alloc_vec_grown(n_8, n_3 + additional, n_11);
-    return std_alloc_vec_Vec_move_to_AtlasAllocator(self, n_12);
-}
-
 /* atlas_cache::atlas_allocator++atlas++AtlasAllocator+Destruct::drop */
 SMALL void atlas_cache_atlas_allocator_atlas_AtlasAllocator_Destruct_drop(const atlas_allocator_AtlasAllocator given_1) {
     atlas_cache_atlas_store_store_Store_Destruct_drop(given_1.store);
@@ -38905,8 +40687,8 @@ SMALL void core_slots_Slots_copy_in_Link_2(Slots_CacheChange_u64 *self, uint64_t
 }
 
 /* std_alloc/src/vec/ends.rt */
-SMALL void std_alloc_vec_Vec_clear_Link_11(Vec_Slot *self) {
-    std_alloc_vec_Vec_truncate_Link_11(self, 0u);
+SMALL void std_alloc_vec_Vec_clear_Link_12(Vec_Slot *self) {
+    std_alloc_vec_Vec_truncate_Link_12(self, 0u);
 }
 
 /* Frees an empty Vec, also where `T` is not `Drop`.
@@ -39013,7 +40795,7 @@ SMALL void std_alloc_vec_Vec_truncate_Entry_u64_3(Vec_Slot *self, uint64_t n) {
 /* Drops the values from `from` up to `to`, in that order.
  * std_alloc/src/vec/opened.rt
  */
-SMALL void std_alloc_vec_opened_drop_run_AtlasAllocator_2(Slots_CacheChange_u64 *row, uint64_t from, uint64_t to) {
+SMALL void std_alloc_vec_opened_drop_run_AtlasAllocator_3(Slots_CacheChange_u64 *row, uint64_t from, uint64_t to) {
     uint64_t n_4;
     atlas_allocator_AtlasAllocator atlasallocator_7;
     n_4 = from;
@@ -39022,7 +40804,7 @@ SMALL void std_alloc_vec_opened_drop_run_AtlasAllocator_2(Slots_CacheChange_u64 
             break;
         }
         atlasallocator_7 = core_slots_Slots_take_AtlasAllocator(row, n_4);
-        core_mem_drop_AtlasAllocator_2(atlasallocator_7);
+        core_mem_drop_AtlasAllocator_3(atlasallocator_7);
         n_4 = n_4 + 1u;
     }
 }
@@ -39612,14 +41394,14 @@ PART Result_Vec_Size_SheetError atlas_sheet_places_find_places(slice_Size sprite
         result = core_result_ResultFromResidualErrResidual_from_residual_Vec_tuple_u64_Size_SheetError_SheetError(controlflow_23.Break.field_0);
         freeboxes_32 = simpleatlasallocator_10.boxes;
         std_alloc_vec_Vec_drop_FreeBox_3(freeboxes_32.entries);
-        std_alloc_vec_Vec_drop_Link_12(freeboxes_32.table.heads);
+        std_alloc_vec_Vec_drop_Link_13(freeboxes_32.table.heads);
         std_alloc_vec_Vec_drop_Option_Rectangle(vec_7);
         return result;
     }
     result = new_Result_Vec_Size_SheetError_Ok(vec_7);
     freeboxes_42 = simpleatlasallocator_10.boxes;
     std_alloc_vec_Vec_drop_FreeBox_3(freeboxes_42.entries);
-    std_alloc_vec_Vec_drop_Link_12(freeboxes_42.table.heads);
+    std_alloc_vec_Vec_drop_Link_13(freeboxes_42.table.heads);
     return result;
 }
 
@@ -42258,6 +44040,57 @@ SMALL void guillotiere_Destruct_none_drop_Link(atlas_search_Link given_1) {
     (void)given_1;
 }
 
+/* std_alloc/src/vec/ends.rt */
+SMALL void std_alloc_vec_Vec_truncate_Slot_6(Vec_Slot *self, uint64_t n) {
+    uint64_t n_3;
+    n_3 = std_alloc_vec_Vec_len_Allocation(self);
+    if (n_3 <= n) {
+        return;
+    }
+    std_alloc_vec_Vec_truncate_within_Slot_6(self, n);
+}
+
+/* atlas_pages::Destruct++none::drop */
+SMALL void atlas_pages_Destruct_none_drop(void) {
+}
+
+/* std_alloc/src/vec/ends.rt */
+SMALL void std_alloc_vec_Vec_truncate_Link_11(Vec_Slot *self, uint64_t n) {
+    uint64_t n_3;
+    n_3 = std_alloc_vec_Vec_len_Allocation(self);
+    if (n_3 <= n) {
+        return;
+    }
+    std_alloc_vec_Vec_truncate_within_Link_11(self, n);
+}
+
+/* The least capacity after a growth, as in Rust: 8 for elements of at most one byte, 4 for those
+ * of up to 1,024 bytes, and else 1. The borrow checker covers `size_of::<T>()` only in a product,
+ * so this asks `may_hold`: `isize::MAX` elements fit a block only if each has at most one byte.
+ * std_alloc/src/vec.rt
+ */
+SMALL uint64_t std_alloc_vec_least_capacity_AtlasAllocator(void) {
+    uint64_t n_2;
+    uint64_t n_5;
+    if (std_alloc_room_may_hold_AtlasAllocator(UINT64_C(9223372036854775807))) {
+        n_2 = 8u;
+    } else {
+        if (std_alloc_room_may_hold_AtlasAllocator(UINT64_C(9223372036854775807) / 1024u)) {
+            n_5 = 4u;
+        } else {
+            n_5 = 1u;
+        }
+        n_2 = n_5;
+    }
+    return n_2;
+}
+
+/* atlas_pages::atlas_store++store++Store+Destruct::drop */
+SMALL void atlas_pages_atlas_store_store_Store_Destruct_drop(const atlas_store_Store given_1) {
+    std_alloc_vec_Vec_drop_Slot_6(given_1.slots);
+    atlas_pages_atlas_search_table_Table_Destruct_drop(given_1.lists);
+}
+
 /* core/src/slots/moves.rt */
 SMALL uint32_t core_slots_Slots_take_u32(Slots_CacheChange_u64 *self, uint64_t i) {
     uint32_t n_3;
@@ -42952,27 +44785,6 @@ SMALL Result_ptr std_heap_GlobalAllocator_grow_AtlasAllocator(const void *self, 
     return result_13;
 }
 
-/* The least capacity after a growth, as in Rust: 8 for elements of at most one byte, 4 for those
- * of up to 1,024 bytes, and else 1. The borrow checker covers `size_of::<T>()` only in a product,
- * so this asks `may_hold`: `isize::MAX` elements fit a block only if each has at most one byte.
- * std_alloc/src/vec.rt
- */
-SMALL uint64_t std_alloc_vec_least_capacity_AtlasAllocator(void) {
-    uint64_t n_2;
-    uint64_t n_5;
-    if (std_alloc_room_may_hold_AtlasAllocator(UINT64_C(9223372036854775807))) {
-        n_2 = 8u;
-    } else {
-        if (std_alloc_room_may_hold_AtlasAllocator(UINT64_C(9223372036854775807) / 1024u)) {
-            n_5 = 4u;
-        } else {
-            n_5 = 1u;
-        }
-        n_2 = n_5;
-    }
-    return n_2;
-}
-
 /* atlas_cache::atlas_store++store++Store+Destruct::drop */
 SMALL void atlas_cache_atlas_store_store_Store_Destruct_drop(const atlas_store_Store given_1) {
     std_alloc_vec_Vec_drop_Slot_5(given_1.slots);
@@ -43170,13 +44982,13 @@ SMALL void core_ptr_copy_drop_copy_bits_Link_2(void *src, void *dst, uint64_t co
 }
 
 /* std_alloc/src/vec/ends.rt */
-SMALL void std_alloc_vec_Vec_truncate_Link_11(Vec_Slot *self, uint64_t n) {
+SMALL void std_alloc_vec_Vec_truncate_Link_12(Vec_Slot *self, uint64_t n) {
     uint64_t n_3;
     n_3 = std_alloc_vec_Vec_len_Allocation(self);
     if (n_3 <= n) {
         return;
     }
-    std_alloc_vec_Vec_truncate_within_Link_11(self, n);
+    std_alloc_vec_Vec_truncate_within_Link_12(self, n);
 }
 
 /* std_collections::std_collections++later++Later+Destruct::drop */
@@ -43214,7 +45026,7 @@ SMALL void std_alloc_vec_Vec_truncate_within_Entry_u64_3(Vec_Slot *self, uint64_
 }
 
 /* core/src/mem.rt */
-SMALL void core_mem_drop_AtlasAllocator_2(const atlas_allocator_AtlasAllocator x) {
+SMALL void core_mem_drop_AtlasAllocator_3(const atlas_allocator_AtlasAllocator x) {
     atlas_cache_atlas_allocator_atlas_AtlasAllocator_Destruct_drop(x);
 }
 
@@ -43828,11 +45640,11 @@ SMALL void std_alloc_vec_Vec_drop_FreeBox_3(Vec_Slot given_1) {
 }
 
 /* std_alloc::vec::Vec::drop */
-SMALL void std_alloc_vec_Vec_drop_Link_12(Vec_Slot given_1) {
+SMALL void std_alloc_vec_Vec_drop_Link_13(Vec_Slot given_1) {
     Vec_Slot vec_2;
     vec_2 = given_1;
-    std_alloc_vec_Vec_clear_Link_12(&vec_2);
-    std_alloc_vec_Vec_destroy_empty_Link_7(vec_2);
+    std_alloc_vec_Vec_clear_Link_13(&vec_2);
+    std_alloc_vec_Vec_destroy_empty_Link_8(vec_2);
 }
 
 /* std_alloc/src/vec/ends.rt */
@@ -45919,6 +47731,35 @@ SMALL void std_alloc_vec_opened_drop_run_Link_8(Slots_CacheChange_u64 *row, uint
     }
 }
 
+/* std_alloc/src/vec/ends.rt */
+SMALL void std_alloc_vec_Vec_truncate_within_Slot_6(Vec_Slot *self, uint64_t n) {
+    uint64_t n_3;
+    Slots_CacheChange_u64 slots_4;
+    tuple_Slots_CacheChange_u64_Spare_CacheChange_u64 tuple_7;
+    n_3 = std_alloc_vec_Vec_len_Allocation(self);
+    tuple_7 = std_alloc_vec_Vec_detach_CacheChange_u64(self, n_3);
+    slots_4 = tuple_7.field_0;
+    std_alloc_vec_opened_drop_run_Slot_6(&slots_4, n, n_3);
+    std_alloc_vec_Vec_attach_CacheChange_u64(self, slots_4, tuple_7.field_1, n);
+}
+
+/* std_alloc/src/vec/ends.rt */
+SMALL void std_alloc_vec_Vec_truncate_within_Link_11(Vec_Slot *self, uint64_t n) {
+    uint64_t n_3;
+    Slots_CacheChange_u64 slots_4;
+    tuple_Slots_CacheChange_u64_Spare_CacheChange_u64 tuple_7;
+    n_3 = std_alloc_vec_Vec_len_Allocation(self);
+    tuple_7 = std_alloc_vec_Vec_detach_CacheChange_u64(self, n_3);
+    slots_4 = tuple_7.field_0;
+    std_alloc_vec_opened_drop_run_Link_10(&slots_4, n, n_3);
+    std_alloc_vec_Vec_attach_CacheChange_u64(self, slots_4, tuple_7.field_1, n);
+}
+
+/* atlas_pages::atlas_search++table++Table+Destruct::drop */
+SMALL void atlas_pages_atlas_search_table_Table_Destruct_drop(const atlas_search_Table given_1) {
+    std_alloc_vec_Vec_drop_Link_11(given_1.heads);
+}
+
 /* guillotiere_c::Destruct++none::drop */
 SMALL void guillotiere_c_Destruct_none_drop_u32(uint32_t given_1) {
     (void)given_1;
@@ -46628,14 +48469,14 @@ SMALL Result_ptr std_heap_GlobalAllocator_grow_Link_2(const void *self, void *pt
 }
 
 /* std_alloc/src/vec/ends.rt */
-SMALL void std_alloc_vec_Vec_truncate_within_Link_11(Vec_Slot *self, uint64_t n) {
+SMALL void std_alloc_vec_Vec_truncate_within_Link_12(Vec_Slot *self, uint64_t n) {
     uint64_t n_3;
     Slots_CacheChange_u64 slots_4;
     tuple_Slots_CacheChange_u64_Spare_CacheChange_u64 tuple_7;
     n_3 = std_alloc_vec_Vec_len_Allocation(self);
     tuple_7 = std_alloc_vec_Vec_detach_CacheChange_u64(self, n_3);
     slots_4 = tuple_7.field_0;
-    std_alloc_vec_opened_drop_run_Link_10(&slots_4, n, n_3);
+    std_alloc_vec_opened_drop_run_Link_11(&slots_4, n, n_3);
     std_alloc_vec_Vec_attach_CacheChange_u64(self, slots_4, tuple_7.field_1, n);
 }
 
@@ -47203,14 +49044,14 @@ SMALL void std_alloc_vec_Vec_destroy_empty_FreeBox_3(Vec_Slot self) {
 }
 
 /* std_alloc/src/vec/ends.rt */
-SMALL void std_alloc_vec_Vec_clear_Link_12(Vec_Slot *self) {
-    std_alloc_vec_Vec_truncate_Link_12(self, 0u);
+SMALL void std_alloc_vec_Vec_clear_Link_13(Vec_Slot *self) {
+    std_alloc_vec_Vec_truncate_Link_13(self, 0u);
 }
 
 /* Frees an empty Vec, also where `T` is not `Drop`.
  * std_alloc/src/vec/methods.rt
  */
-SMALL void std_alloc_vec_Vec_destroy_empty_Link_7(Vec_Slot self) {
+SMALL void std_alloc_vec_Vec_destroy_empty_Link_8(Vec_Slot self) {
     std_alloc_vec_Vec_free_block_Link(self);
     atlas_sheet_Destruct_none_drop();
 }
@@ -48817,6 +50658,40 @@ SMALL void core_mem_drop_Link_8(atlas_search_Link x) {
     atlas_search_Destruct_none_drop_Link(x);
 }
 
+/* Drops the values from `from` up to `to`, in that order.
+ * std_alloc/src/vec/opened.rt
+ */
+SMALL void std_alloc_vec_opened_drop_run_Slot_6(Slots_CacheChange_u64 *row, uint64_t from, uint64_t to) {
+    uint64_t n_4;
+    atlas_store_Slot slot_7;
+    n_4 = from;
+    for (;;) {
+        if (!(n_4 < to)) {
+            break;
+        }
+        slot_7 = core_slots_Slots_take_Slot(row, n_4);
+        core_mem_drop_Slot_6(slot_7);
+        n_4 = n_4 + 1u;
+    }
+}
+
+/* Drops the values from `from` up to `to`, in that order.
+ * std_alloc/src/vec/opened.rt
+ */
+SMALL void std_alloc_vec_opened_drop_run_Link_10(Slots_CacheChange_u64 *row, uint64_t from, uint64_t to) {
+    uint64_t n_4;
+    atlas_search_Link link_7;
+    n_4 = from;
+    for (;;) {
+        if (!(n_4 < to)) {
+            break;
+        }
+        link_7 = core_slots_Slots_take_Link(row, n_4);
+        core_mem_drop_Link_10(link_7);
+        n_4 = n_4 + 1u;
+    }
+}
+
 /* std_alloc/src/vec/ends.rt */
 SMALL void std_alloc_vec_Vec_truncate_within_bool_3(Vec_Slot *self, uint64_t n) {
     uint64_t n_3;
@@ -49388,7 +51263,7 @@ SMALL array_u8_4 core_int_u32_to_le_bytes(uint32_t given_1) {
 /* Drops the values from `from` up to `to`, in that order.
  * std_alloc/src/vec/opened.rt
  */
-SMALL void std_alloc_vec_opened_drop_run_Link_10(Slots_CacheChange_u64 *row, uint64_t from, uint64_t to) {
+SMALL void std_alloc_vec_opened_drop_run_Link_11(Slots_CacheChange_u64 *row, uint64_t from, uint64_t to) {
     uint64_t n_4;
     atlas_entries_Link link_7;
     n_4 = from;
@@ -49397,7 +51272,7 @@ SMALL void std_alloc_vec_opened_drop_run_Link_10(Slots_CacheChange_u64 *row, uin
             break;
         }
         link_7 = core_slots_Slots_take_Link_2(row, n_4);
-        core_mem_drop_Link_10(link_7);
+        core_mem_drop_Link_11(link_7);
         n_4 = n_4 + 1u;
     }
 }
@@ -50050,13 +51925,13 @@ SMALL void std_alloc_vec_Vec_truncate_FreeBox_3(Vec_Slot *self, uint64_t n) {
 }
 
 /* std_alloc/src/vec/ends.rt */
-SMALL void std_alloc_vec_Vec_truncate_Link_12(Vec_Slot *self, uint64_t n) {
+SMALL void std_alloc_vec_Vec_truncate_Link_13(Vec_Slot *self, uint64_t n) {
     uint64_t n_3;
     n_3 = std_alloc_vec_Vec_len_Allocation(self);
     if (n_3 <= n) {
         return;
     }
-    std_alloc_vec_Vec_truncate_within_Link_12(self, n);
+    std_alloc_vec_Vec_truncate_within_Link_13(self, n);
 }
 
 /* The part of `grow` that asks the allocator, apart so that the test is inlined.
@@ -51289,6 +53164,16 @@ SMALL tuple_Slots_CacheChange_u64 core_core_slice_sort_small_network_8_FnOnce_ca
     return core_slice_sort_small_network_8_Allocation(given_2);
 }
 
+/* core/src/mem.rt */
+SMALL void core_mem_drop_Slot_6(atlas_store_Slot x) {
+    atlas_pages_Destruct_none_drop_Slot(x);
+}
+
+/* core/src/mem.rt */
+SMALL void core_mem_drop_Link_10(atlas_search_Link x) {
+    atlas_pages_Destruct_none_drop_Link(x);
+}
+
 /* Drops the values from `from` up to `to`, in that order.
  * std_alloc/src/vec/opened.rt
  */
@@ -51725,7 +53610,7 @@ SMALL void std_alloc_Destruct_none_drop_Refusals(atlas_cache_Refusals given_1) {
 }
 
 /* core/src/mem.rt */
-SMALL void core_mem_drop_Link_10(atlas_entries_Link x) {
+SMALL void core_mem_drop_Link_11(atlas_entries_Link x) {
     std_alloc_Destruct_none_drop_Link_2(x);
 }
 
@@ -52195,14 +54080,14 @@ SMALL void std_alloc_vec_Vec_truncate_within_FreeBox_3(Vec_Slot *self, uint64_t 
 }
 
 /* std_alloc/src/vec/ends.rt */
-SMALL void std_alloc_vec_Vec_truncate_within_Link_12(Vec_Slot *self, uint64_t n) {
+SMALL void std_alloc_vec_Vec_truncate_within_Link_13(Vec_Slot *self, uint64_t n) {
     uint64_t n_3;
     Slots_CacheChange_u64 slots_4;
     tuple_Slots_CacheChange_u64_Spare_CacheChange_u64 tuple_7;
     n_3 = std_alloc_vec_Vec_len_Allocation(self);
     tuple_7 = std_alloc_vec_Vec_detach_CacheChange_u64(self, n_3);
     slots_4 = tuple_7.field_0;
-    std_alloc_vec_opened_drop_run_Link_11(&slots_4, n, n_3);
+    std_alloc_vec_opened_drop_run_Link_12(&slots_4, n, n_3);
     std_alloc_vec_Vec_attach_CacheChange_u64(self, slots_4, tuple_7.field_1, n);
 }
 
@@ -53424,6 +55309,16 @@ SMALL tuple_Slots_CacheChange_u64 core_slice_sort_small_network_8_Allocation(Slo
     return new_tuple_Slots_CacheChange_u64(slots_4);
 }
 
+/* atlas_pages::Destruct++none::drop */
+SMALL void atlas_pages_Destruct_none_drop_Slot(atlas_store_Slot given_1) {
+    (void)given_1;
+}
+
+/* atlas_pages::Destruct++none::drop */
+SMALL void atlas_pages_Destruct_none_drop_Link(atlas_search_Link given_1) {
+    (void)given_1;
+}
+
 /* core/src/mem.rt */
 SMALL void core_mem_drop_bool_3(bool x) {
     guillotiere_c_Destruct_none_drop_bool(x);
@@ -54042,7 +55937,7 @@ SMALL Result_Option_Vec_Option_Placed_SheetError atlas_sheet_places_find_all(sli
             result = core_result_ResultFromResidualErrResidual_from_residual_Option_Vec_Option_Placed_SheetError_SheetError(controlflow_33.is.Break.field_0);
             freeboxes_46 = simpleatlasallocator_10.boxes;
             std_alloc_vec_Vec_drop_FreeBox_3(freeboxes_46.entries);
-            std_alloc_vec_Vec_drop_Link_12(freeboxes_46.table.heads);
+            std_alloc_vec_Vec_drop_Link_13(freeboxes_46.table.heads);
             std_alloc_vec_Vec_drop_Rectangle_4(vec_7);
             return result;
         }
@@ -54054,7 +55949,7 @@ SMALL Result_Option_Vec_Option_Placed_SheetError atlas_sheet_places_find_all(sli
             result = new_Result_Option_Vec_Option_Placed_SheetError_Ok(new_Option_Vec_Option_Placed_None());
             freeboxes_59 = simpleatlasallocator_10.boxes;
             std_alloc_vec_Vec_drop_FreeBox_3(freeboxes_59.entries);
-            std_alloc_vec_Vec_drop_Link_12(freeboxes_59.table.heads);
+            std_alloc_vec_Vec_drop_Link_13(freeboxes_59.table.heads);
             std_alloc_vec_Vec_drop_Rectangle_4(vec_7);
             return result;
         }
@@ -54063,7 +55958,7 @@ SMALL Result_Option_Vec_Option_Placed_SheetError atlas_sheet_places_find_all(sli
     result = new_Result_Option_Vec_Option_Placed_SheetError_Ok(new_Option_Vec_Option_Placed_Some(vec_7));
     freeboxes_64 = simpleatlasallocator_10.boxes;
     std_alloc_vec_Vec_drop_FreeBox_3(freeboxes_64.entries);
-    std_alloc_vec_Vec_drop_Link_12(freeboxes_64.table.heads);
+    std_alloc_vec_Vec_drop_Link_13(freeboxes_64.table.heads);
     return result;
 }
 
@@ -54299,7 +56194,7 @@ SMALL void std_alloc_vec_opened_drop_run_FreeBox_3(Slots_CacheChange_u64 *row, u
 /* Drops the values from `from` up to `to`, in that order.
  * std_alloc/src/vec/opened.rt
  */
-SMALL void std_alloc_vec_opened_drop_run_Link_11(Slots_CacheChange_u64 *row, uint64_t from, uint64_t to) {
+SMALL void std_alloc_vec_opened_drop_run_Link_12(Slots_CacheChange_u64 *row, uint64_t from, uint64_t to) {
     uint64_t n_4;
     atlas_search_Link link_7;
     n_4 = from;
@@ -54308,7 +56203,7 @@ SMALL void std_alloc_vec_opened_drop_run_Link_11(Slots_CacheChange_u64 *row, uin
             break;
         }
         link_7 = core_slots_Slots_take_Link(row, n_4);
-        core_mem_drop_Link_11(link_7);
+        core_mem_drop_Link_12(link_7);
         n_4 = n_4 + 1u;
     }
 }
@@ -56124,7 +58019,7 @@ SMALL void core_mem_drop_FreeBox_3(guillotiere_FreeBox x) {
 }
 
 /* core/src/mem.rt */
-SMALL void core_mem_drop_Link_11(atlas_search_Link x) {
+SMALL void core_mem_drop_Link_12(atlas_search_Link x) {
     atlas_sheet_Destruct_none_drop_Link(x);
 }
 
@@ -60129,6 +62024,90 @@ uint32_t guillotiere_simple_slots(const guillotiere_simple *simple, guillotiere_
 bool guillotiere_simple_is_empty(const guillotiere_simple *simple) {
     if (simple == NULL) return false;
     return guillotiere_c_simple_guillotiere_simple_is_empty(simple);
+}
+
+uint32_t guillotiere_paged_new(int32_t width, int32_t height, uint32_t most, guillotiere_paged *paged) {
+    if (paged == NULL) return GUILLOTIERE_NULL_POINTER;
+    return guillotiere_c_paged_guillotiere_paged_new((uint32_t)width, (uint32_t)height, most, paged);
+}
+
+uint32_t guillotiere_paged_with_options(int32_t width, int32_t height, const guillotiere_options *options, uint32_t most,
+        guillotiere_paged *paged) {
+    if (options == NULL) return GUILLOTIERE_NULL_POINTER;
+    if (paged == NULL) return GUILLOTIERE_NULL_POINTER;
+    return guillotiere_c_paged_guillotiere_paged_with_options((uint32_t)width, (uint32_t)height, options, most, paged);
+}
+
+void guillotiere_paged_free(guillotiere_paged *paged) {
+    if (paged == NULL) return;
+    guillotiere_c_paged_guillotiere_paged_free(paged);
+}
+
+uint32_t guillotiere_paged_allocate(guillotiere_paged *paged, int32_t width, int32_t height, guillotiere_page_allocation *granted) {
+    if (paged == NULL) return GUILLOTIERE_NULL_POINTER;
+    if (granted == NULL) return GUILLOTIERE_NULL_POINTER;
+    return guillotiere_c_paged_guillotiere_paged_allocate(paged, (uint32_t)width, (uint32_t)height, granted);
+}
+
+uint32_t guillotiere_paged_deallocate(guillotiere_paged *paged, uint32_t page, uint32_t id) {
+    if (paged == NULL) return GUILLOTIERE_NULL_POINTER;
+    return guillotiere_c_paged_guillotiere_paged_deallocate(paged, page, id);
+}
+
+uint32_t guillotiere_paged_get(const guillotiere_paged *paged, uint32_t page, uint32_t id, guillotiere_rectangle *found) {
+    if (paged == NULL) return GUILLOTIERE_NULL_POINTER;
+    if (found == NULL) return GUILLOTIERE_NULL_POINTER;
+    return guillotiere_c_paged_guillotiere_paged_get(paged, page, id, found);
+}
+
+uint32_t guillotiere_paged_grow(guillotiere_paged *paged, uint32_t page, int32_t width, int32_t height) {
+    if (paged == NULL) return GUILLOTIERE_NULL_POINTER;
+    return guillotiere_c_paged_guillotiere_paged_grow(paged, page, (uint32_t)width, (uint32_t)height);
+}
+
+uint32_t guillotiere_paged_shrink(guillotiere_paged *paged, uint32_t *left) {
+    if (paged == NULL) return GUILLOTIERE_NULL_POINTER;
+    if (left == NULL) return GUILLOTIERE_NULL_POINTER;
+    return guillotiere_c_paged_guillotiere_paged_shrink(paged, left);
+}
+
+uint32_t guillotiere_paged_clear(guillotiere_paged *paged) {
+    if (paged == NULL) return GUILLOTIERE_NULL_POINTER;
+    return guillotiere_c_paged_guillotiere_paged_clear(paged);
+}
+
+uint32_t guillotiere_paged_page_count(const guillotiere_paged *paged, uint32_t *pages) {
+    if (paged == NULL) return GUILLOTIERE_NULL_POINTER;
+    if (pages == NULL) return GUILLOTIERE_NULL_POINTER;
+    return guillotiere_c_paged_guillotiere_paged_page_count(paged, pages);
+}
+
+uint32_t guillotiere_paged_page_size(const guillotiere_paged *paged, uint32_t page, guillotiere_size *size) {
+    if (paged == NULL) return GUILLOTIERE_NULL_POINTER;
+    if (size == NULL) return GUILLOTIERE_NULL_POINTER;
+    return guillotiere_c_paged_guillotiere_paged_page_size(paged, page, size);
+}
+
+uint32_t guillotiere_paged_areas(const guillotiere_paged *paged, uint32_t page, guillotiere_areas *areas) {
+    if (paged == NULL) return GUILLOTIERE_NULL_POINTER;
+    if (areas == NULL) return GUILLOTIERE_NULL_POINTER;
+    return guillotiere_c_paged_guillotiere_paged_areas(paged, page, areas);
+}
+
+uint32_t guillotiere_paged_live(const guillotiere_paged *paged, uint32_t page, guillotiere_allocation *found, size_t found_len,
+        size_t *count) {
+    slice_PlainAllocation all_found;
+    uint64_t wide_count = 0;
+    uint32_t answer;
+    if (paged == NULL) return GUILLOTIERE_NULL_POINTER;
+    if (found == NULL && found_len != 0) return GUILLOTIERE_NULL_POINTER;
+    all_found.at = found != NULL ? found : (guillotiere_allocation *)&nothing;
+    all_found.len = found_len;
+    if (count == NULL) return GUILLOTIERE_NULL_POINTER;
+    wide_count = *count;
+    answer = guillotiere_c_paged_guillotiere_paged_live(paged, page, all_found, &wide_count);
+    *count = (size_t)wide_count;
+    return answer;
 }
 
 uint32_t guillotiere_cache_new(const guillotiere_cache_options *options, guillotiere_cache *cache) {
