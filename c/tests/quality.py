@@ -1,4 +1,4 @@
-"""guillotiere.c under other tools: ThreadSanitizer, MemorySanitizer, the front end of clang for MSVC, valgrind and GCC's analyzer, which
+"""guillotiere.c under other tools: ThreadSanitizer, MemorySanitizer, the front end of clang for MSVC, valgrind and Clang's analyzer, which
 take long, and as a module of WebAssembly.
 """
 import os
@@ -26,15 +26,17 @@ def check_undefined_reads(file):
     linked.run_program(file, 'clang', 'tests/digest.c', flags, [str(linked.CALLS // 20)])
 
 
+# What Clang's analyzer reports, which knows no contract: that a power of two is shifted by the exponent of a side of 0. An `Allowed::Powers`
+# without a positive side is refused before, and the contract of `exponent_of` asks for one.
+REPORTED = [('return 1u << exponent;', 'core.UndefinedBinaryOperatorResult')]
+
+
 def check_analyzed(file):
-    """GCC's analyzer has nothing to say."""
-    made = os.path.join(file.folder, 'analyzed.o')
-    # Functions in place of their calls, as where it is compiled for speed: else it takes too much memory.
-    told = outcome(['gcc', '-std=c99', '-O0', '-D__OPTIMIZE__', '-fanalyzer', '-I' + HEADERS, '-c', '-o', made, file.source])
+    """Clang's analyzer reports what is known, and nothing else. (GCC's has no end on a file of this size: an hour, and 6 GB.)"""
+    told = outcome(['clang', '--analyze', '--analyzer-output', 'text', '-std=c99', '-O0', '-I' + HEADERS, '-o', os.devnull, file.source])
     expect(told.returncode, 0, 'the status')
-    found = re.findall(r'warning: .*', told.stdout)
-    if found:
-        raise Failure('%d reports: %s' % (len(found), '\n'.join(found[:5])))
+    found = re.findall(r'warning: .*?\[(\S+)\]\n\s*(.*)\n', told.stdout)
+    expect([(line, which) for which, line in found], REPORTED, 'the reports')
 
 
 def check_msvc(file, words):
@@ -87,5 +89,5 @@ def test_watched(suite, file):
 
 
 def test_analyzed(suite, file):
-    if suite.has(['gcc'], "GCC's analyzer"):
-        suite.run("GCC's analyzer", check_analyzed, file)
+    if suite.has(['clang'], "Clang's analyzer"):
+        suite.run("Clang's analyzer", check_analyzed, file)
