@@ -25151,7 +25151,7 @@ SMALL atlas_search_Mask atlas_search_table_Table_row(const atlas_search_Table *s
  * crates/atlas_search/src/masks.rt
  */
 SMALL atlas_search_Mask atlas_search_masks_Mask_from(atlas_search_Mask self, uint64_t k) {
-    return new_atlas_search_Mask((self.bits >> k) << k);
+    return new_atlas_search_Mask((self.bits >> (k & 63u)) << (k & 63u));
 }
 
 /* The rows of a column with lists that may have a slot: each that has one.
@@ -29681,7 +29681,7 @@ SMALL uint64_t atlas_search_masks_Mask_first(atlas_search_Mask self) {
  * crates/atlas_search/src/masks.rt
  */
 SMALL atlas_search_Mask atlas_search_masks_Mask_below(atlas_search_Mask self, uint64_t k) {
-    return new_atlas_search_Mask(self.bits & ((UINT64_C(1) << k) - 1u));
+    return new_atlas_search_Mask(self.bits & ((UINT64_C(1) << (k & 63u)) - 1u));
 }
 
 /* Shows lists of a row to a search.
@@ -39543,7 +39543,7 @@ SMALL void atlas_search_heap_move_below_FreeBox(slice_FreeBox_2 entries, atlas_s
  * crates/atlas_search/src/masks.rt
  */
 SMALL atlas_search_Mask atlas_search_masks_Mask_with(atlas_search_Mask self, uint64_t k) {
-    return new_atlas_search_Mask(self.bits | (UINT64_C(1) << k));
+    return new_atlas_search_Mask(self.bits | (UINT64_C(1) << (k & 63u)));
 }
 
 /* std_alloc/src/vec/ends.rt */
@@ -44203,7 +44203,7 @@ SMALL bool std_collections_index_table_group_Group_is_overflowed(const std_colle
     uint8_t n_4;
     n_3 = std_collections_index_table_group_Group_overflow(self);
     n_4 = std_collections_index_table_group_overflow_bit(hash);
-    return ((n_3 >> (uint32_t)n_4) & 1u) != 0u;
+    return ((n_3 >> ((uint32_t)n_4 & 31u)) & 1u) != 0u;
 }
 
 /* std_collections/src/index_table/probe.rt */
@@ -47048,7 +47048,7 @@ SMALL uint32_t atlas_sheet_search_exponent_of(uint32_t side) {
  * crates/atlas_sheet/src/search.rt
  */
 SMALL uint32_t atlas_sheet_search_power(uint32_t exponent) {
-    return 1u << exponent;
+    return 1u << (exponent & 31u);
 }
 
 /* A sprite as it is given, as wide as it can lie, or as high.
@@ -47335,7 +47335,7 @@ SMALL bool atlas_store_slots_entry_SlotEntry_is_fork(const atlas_store_Slot *sel
  * crates/atlas_search/src/masks.rt
  */
 SMALL atlas_search_Mask atlas_search_masks_Mask_without(atlas_search_Mask self, uint64_t k) {
-    return new_atlas_search_Mask(self.bits & (uint64_t)~(UINT64_C(1) << k));
+    return new_atlas_search_Mask(self.bits & (uint64_t)~(UINT64_C(1) << (k & 63u)));
 }
 
 /* Hangs a heap below the top of another one that comes before it. On the way down the right each passed entry's left goes
@@ -48411,7 +48411,7 @@ SMALL void std_collections_index_table_group_Group_mark_overflow(std_collections
     array_u8_4 array_14;
     n_8 = std_collections_index_table_group_Group_overflow(self);
     n_10 = std_collections_index_table_group_overflow_bit(hash);
-    array_14 = core_int_u32_to_le_bytes(n_8 | (1u << (uint32_t)n_10));
+    array_14 = core_int_u32_to_le_bytes(n_8 | (1u << ((uint32_t)n_10 & 31u)));
     n_4 = *((uint8_t *)(void *)&array_14 + 1u);
     n_5 = *((uint8_t *)(void *)&array_14 + 2u);
     n_6 = *((uint8_t *)(void *)&array_14 + 3u);

@@ -292,6 +292,9 @@ class Values:
         if sign == 'Signed' and operator in ('Div', 'Rem', 'Shr'):
             words[0] = '(int%d_t)%s' % (bits, one.operand())
             words[1] = '(int%d_t)%s' % (bits, words[1]) if operator != 'Shr' else words[1]
+        if operator in ('Shl', 'Shr') and other.number is None:
+            # Below that by the contract; so said, C has no shift without a meaning, whatever is given.
+            words[1] = '(%s & %du)' % (words[1], max(bits, 32) - 1)
         text = '%s %s %s' % (words[0], SIGNS[operator], words[1])
         stride = self.stride(one, other) if operator == 'Mul' else None
         if bits < 32 or '(int' in words[0][:4]:

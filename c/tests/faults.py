@@ -21,6 +21,7 @@ FAULTS = [
     ('values.py', "sign == 'Signed' and bits > of.kind[1]", "sign == 'Never' and bits > of.kind[1]"),
     ('values.py', "        if bits < 32 or '(int' in words[0][:4]:\n", "        if '(int' in words[0][:4]:\n"),
     ('values.py', "            words[0] = wide(one)\n", "            pass\n"),
+    ('values.py', "max(bits, 32) - 1)", "max(bits, 32) // 2 - 1)"),
     ('values.py', "number(bytes_.number // size, 64)", "number(bytes_.number, 64)"),
     ('values.py', "reads = frozenset([local, MEMORY] if local in self.lent else [local])", "reads = frozenset([local])"),
     ('values.py', "        reads = at.reads | {MEMORY}\n        if self.shapes",

@@ -26,17 +26,13 @@ def check_undefined_reads(file):
     linked.run_program(file, 'clang', 'tests/digest.c', flags, [str(linked.CALLS // 20)])
 
 
-# What Clang's analyzer reports, which knows no contract: that a power of two is shifted by the exponent of a side of 0. An `Allowed::Powers`
-# without a positive side is refused before, and the contract of `exponent_of` asks for one.
-REPORTED = [('return 1u << exponent;', 'core.UndefinedBinaryOperatorResult')]
-
-
 def check_analyzed(file):
-    """Clang's analyzer reports what is known, and nothing else. (GCC's has no end on a file of this size: an hour, and 6 GB.)"""
+    """Clang's analyzer has nothing to say. (GCC's has no end on a file of this size: an hour, and 6 GB.)"""
     told = outcome(['clang', '--analyze', '--analyzer-output', 'text', '-std=c99', '-O0', '-I' + HEADERS, '-o', os.devnull, file.source])
     expect(told.returncode, 0, 'the status')
-    found = re.findall(r'warning: .*?\[(\S+)\]\n\s*(.*)\n', told.stdout)
-    expect([(line, which) for which, line in found], REPORTED, 'the reports')
+    found = re.findall(r'warning: .*', told.stdout)
+    if found:
+        raise Failure('%d reports: %s' % (len(found), '\n'.join(found[:5])))
 
 
 def check_msvc(file, words):
